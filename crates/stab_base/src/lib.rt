@@ -1,0 +1,10 @@
+//! Numbers, byte strings and row ids that every crate of the service speaks of.
+#![tactic(auto)]
+
+mod bytes;
+mod numbers;
+mod row;
+
+pub use bytes::Bytes;
+pub use numbers::{ClientNo, GateNo, StoreNo, TableNo, Version, WriteNo};
+pub use row::RowId;

@@ -4,7 +4,9 @@
 mod bytes;
 mod numbers;
 mod row;
+mod sequence;
 
 pub use bytes::Bytes;
 pub use numbers::{ClientNo, GateNo, StoreNo, TableNo, Version, WriteNo};
 pub use row::RowId;
+pub use sequence::Sequence;

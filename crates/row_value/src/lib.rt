@@ -1,0 +1,11 @@
+//! Values that a table's rows hold, their schema, and whether a row fits it.
+#![tactic(auto)]
+
+mod content;
+mod fit;
+mod schema;
+
+pub use content::{Cell, Cells, Content, Objects};
+pub use fit::{FitFault, fits};
+pub use schema::{Column, ColumnKind, Columns, Schema, Scheme};
+pub use stab_base::{Bytes, ClientNo, GateNo, RowId, Sequence, StoreNo, TableNo, Version, WriteNo};

@@ -77,3 +77,10 @@ impl fmt::Display for RowId {
         f.write_str(self.write_text(&mut buffer))
     }
 }
+
+impl fmt::Debug for RowId {
+    fn fmt<W: fmt::Write>(&self, f: &mut fmt::Formatter<W>) -> fmt::Result {
+        let mut buffer = [0u8; 36];
+        f.write_str(self.write_text(&mut buffer))
+    }
+}

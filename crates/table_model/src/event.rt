@@ -1,0 +1,37 @@
+use row_value::{ClientNo, Content, GateNo, RowId, Schema, Sequence, StoreNo, TableNo};
+
+/// The tables that a client opens, in the order in which it names them.
+pub type Tables = Sequence<TableNo>;
+
+/// One line of a script. The first three are declarations.
+#[derive(Debug, Drop)]
+pub enum Event {
+    /// There is a Store of this number.
+    Store {
+        store: StoreNo,
+    },
+    /// There is a live table.
+    Table {
+        table: TableNo,
+        schema: Schema,
+    },
+    /// There is a client, by a gateway or wired to the Stores, which opens these tables.
+    Client {
+        client: ClientNo,
+        gate: Option<GateNo>,
+        tables: Tables,
+    },
+    /// The client writes a row whole.
+    Write {
+        client: ClientNo,
+        table: TableNo,
+        row: RowId,
+        content: Content,
+    },
+    /// The client shows a row.
+    Show {
+        client: ClientNo,
+        table: TableNo,
+        row: RowId,
+    },
+}

@@ -1,5 +1,5 @@
 -- When a content is a row of a table.
-use Rattle.std.specs.Prelude.{◌≡◌, ℕ, suc, Bool, true, false, List, [], ◌∷◌, length, Option, Some, None, position, zip, min, not, ◌==◌, Result, Ok, Err, if◌then◌else◌}
+use Rattle.std.specs.Prelude.{◌≡◌, ℕ, suc, Bool, true, false, List, [], ◌∷◌, length, Option, Some, None, position, zip, min, not, ◌==◌, nat_lt, ◌+◌, ◌-◌, take, unwrap_or, slice_get, Result, Ok, Err, if◌then◌else◌}
 use Rattle.row_value.specs.declared.schema.ColumnKind.{ColumnKind}
 use Rattle.row_value.specs.declared.schema.ColumnKind.TheVariants as kinds
 use Rattle.row_value.specs.declared.schema.Column.{Column}
@@ -11,11 +11,15 @@ use Rattle.row_value.specs.declared.content.Content.TheVariants.{Gone, Row}
 use Rattle.row_value.specs.declared.fit.FitFault.{FitFault}
 use Rattle.row_value.specs.declared.fit.FitFault.TheVariants.{BadCell, BadObject}
 
-abbrev pub columns_of : Schema → List Column
-columns_of schema = schema.columns
+abbrev pub is_object : ColumnKind → Bool
+is_object kinds.Int = false
+is_object kinds.Bool = false
+is_object kinds.Text = false
+is_object kinds.Object = true
 
-abbrev pub IsInt : Column → Type 0
-IsInt column = column.kind ≡ kinds.Int
+-- how many columns stand before the first object column
+abbrev pub cell_count : List Column → ℕ
+cell_count columns = unwrap_or (position (λ column. is_object column.kind) columns) (length columns)
 
 -- whether a cell is of a column's kind
 abbrev pub is_of : ColumnKind → Cell → Bool
@@ -37,15 +41,17 @@ misfit columns some = elim (position (λ p. not (is_of p.0.kind p.1)) (zip colum
   | Some place ↦ Some place
 ]
 
-abbrev pub object_fault : ℕ → List (List ℕ) → Result (Unit {0}) FitFault
-object_fault columns [] = Ok tt
-object_fault columns (object ∷ more) = Err (BadObject columns (length object))
+-- one object for each column from `count` on: the first that is missing, or the first too many
+abbrev pub objects_fit : ℕ → ℕ → List (List ℕ) → Result (Unit {0}) FitFault
+objects_fit count columns objects =
+    if nat_lt (length objects) (columns - count) then Err (BadObject (count + length objects) 0)
+    else (elim (slice_get objects (columns - count)) [ None ↦ Ok tt | Some object ↦ Err (BadObject columns (length object)) ])
 
-abbrev pub cells_then : Option ℕ → Result (Unit {0}) FitFault → Result (Unit {0}) FitFault
-cells_then None rest = rest
-cells_then (Some column) rest = Err (BadCell column)
-
--- cells first, then objects; a table of numbers has no column for an object
+-- cells first, then objects
 abbrev pub fit_of : Schema → Content → Result (Unit {0}) FitFault
 fit_of schema Gone = Ok tt
-fit_of schema (Row some objects) = cells_then (misfit schema.columns some) (object_fault (length schema.columns) objects)
+fit_of schema (Row some objects) =
+    elim (misfit (take (cell_count schema.columns) schema.columns) some) [
+      | None ↦ objects_fit (cell_count schema.columns) (length schema.columns) objects
+      | Some column ↦ Err (BadCell column)
+    ]

@@ -1,8 +1,7 @@
-ghost use Rattle.std.specs.Prelude.{◌≡◌, ◌<◌, ◌^◌, length, not, zip, position};
-ghost use Rattle.std.specs.List.{AllByRecursion};
-ghost use Rattle.row_value.specs.Fit.{is_of, misfit, fit_of, IsInt, columns_of};
+ghost use Rattle.std.specs.Prelude.{◌≡◌, ◌<◌, ◌≤◌, IfSome, length, not, zip, position};
+ghost use Rattle.row_value.specs.Fit.{is_of, is_object, cell_count, misfit, objects_fit, fit_of};
 
-use crate::content::{Cell, Content};
+use crate::content::{Cell, Content, Objects};
 use crate::schema::{Column, ColumnKind, Schema};
 use thiserror::Error;
 
@@ -13,8 +12,9 @@ pub enum FitFault {
     /// columns.
     #[error("column {column} has no cell of its kind")]
     BadCell { column: usize },
-    /// An object where the table has no column for it: the number of columns, and the object's length in bytes.
-    #[error("there is no column {column} for an object of {len} bytes")]
+    /// The first object column whose object is missing, with length 0. One object too many names the number of
+    /// columns and the object's length in bytes.
+    #[error("column {column} is not one for an object of {len} bytes")]
     BadObject { column: usize, len: usize },
 }
 
@@ -48,22 +48,63 @@ fn first_misfit(columns: &[Column], cells: &[Cell]) -> Option<usize>
     }
 }
 
-/// Whether a content is a row of this table, whose columns are all numbers. A deleted row always is.
+fn is_object(kind: ColumnKind) -> bool
+    ensures { result ≡ is_object kind }
+{
+    match kind {
+        ColumnKind::Object => true,
+        ColumnKind::Int | ColumnKind::Bool | ColumnKind::Text => false,
+    }
+}
+
+fn first_object(columns: &[Column]) -> Option<usize>
+    ensures value { result ≡ position (λ column. is_object column.kind) columns.now }
+    ensures within { IfSome result (λ place. place < length columns.now) }
+{
+    columns.iter().position(|column| is_object(column.kind))
+}
+
+fn cell_count(columns: &[Column]) -> usize
+    ensures count { result ≡ cell_count columns.now }
+    ensures within { result ≤ length columns.now }
+{
+    match first_object(columns) {
+        Some(place) => place,
+        None => columns.len(),
+    }
+}
+
+fn objects_fit(count: usize, columns: usize, objects: &Objects) -> Result<(), FitFault>
+    requires { count ≤ columns }
+    ensures { result ≡ objects_fit count columns objects.now }
+{
+    if objects.len() < columns - count {
+        return Err(FitFault::BadObject {
+            column: count + objects.len(),
+            len: 0,
+        });
+    }
+    match objects.get(columns - count) {
+        None => Ok(()),
+        Some(object) => Err(FitFault::BadObject {
+            column: columns,
+            len: object.len(),
+        }),
+    }
+}
+
+/// Whether a content is a row of this table: a cell for each cell column, of its kind, and an object for each object
+/// column. A deleted row always is. The sizes of text and objects aren't looked at.
 pub fn fits(schema: &Schema, content: &Content) -> Result<(), FitFault>
-    requires { AllByRecursion IsInt (columns_of schema.now) }
     ensures { result ≡ fit_of schema.now content.now }
 {
     let Content::Row { cells, objects } = content else {
         return Ok(());
     };
-    if let Some(column) = first_misfit(schema.columns.as_slice(), cells.as_slice()) {
-        return Err(FitFault::BadCell { column });
-    }
-    match objects.get(0) {
-        None => Ok(()),
-        Some(object) => Err(FitFault::BadObject {
-            column: schema.columns.len(),
-            len: object.len(),
-        }),
+    let columns = schema.columns.as_slice();
+    let count = cell_count(columns);
+    match first_misfit(&columns[..count], cells.as_slice()) {
+        Some(column) => Err(FitFault::BadCell { column }),
+        None => objects_fit(count, columns.len(), objects),
     }
 }

@@ -26,6 +26,8 @@ pub enum Refusal {
     BadCell { column: usize },
     /// 11: the first object column that the values don't fit, and the object's length in bytes.
     BadObject { column: usize, len: usize },
+    /// 18: the table isn't there.
+    NoTable,
     /// 27: nothing is shown of the row.
     NoRow,
 }

@@ -1,0 +1,4 @@
+mod Shapes
+pub mod Writes
+mod Origins
+mod Showings

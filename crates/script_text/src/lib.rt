@@ -1,0 +1,6 @@
+//! The text of scripts and transcripts.
+#![tactic(auto)]
+
+mod print;
+
+pub use print::{ESCAPED, line_text};

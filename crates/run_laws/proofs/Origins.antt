@@ -1,22 +1,19 @@
 -- The writes of a client are numbered 1, 2, 3 and so on.
-use Rattle.std.proofs.Common.{◌≡◌, ◌⊎◌, ℕ, ◌+◌, Bool, true, false, eqb, cond, List, [], ◌∷◌, ◌++◌, length, Option, Some, None, Result, Ok, Err, refl, ap, subst, inl, append-nil}
+use Rattle.std.proofs.Common.{◌≡◌, ◌⊎◌, ℕ, ◌+◌, Bool, true, false, eqb, cond, List, [], ◌∷◌, ◌++◌, length, Option, Some, None, refl, ap, subst, inl, append-nil}
 use Rattle.std.specs.Prelude.{MatchBool}
-use Rattle.row_value.specs.declared.schema.Schema.{Schema}
 use Rattle.row_value.specs.declared.content.Content.{Content}
-use Rattle.row_value.specs.declared.fit.FitFault.{FitFault}
-use Rattle.row_value.specs.declared.fit.FitFault.TheVariants as faults
-use Rattle.row_value.specs.Fit.{fit_of}
 use Rattle.table_model.specs.declared.event.Event.{Event}
 use Rattle.table_model.specs.declared.event.Event.TheVariants as events
 use Rattle.table_model.specs.declared.line.Write.{Write}
 use Rattle.table_model.specs.declared.line.Shown.{Shown}
 use Rattle.table_model.specs.declared.line.Answer.{Answer}
+use Rattle.table_model.specs.declared.line.Refusal.{Refusal}
 use Rattle.table_model.specs.declared.line.Refusal.TheVariants as refusals
 use Rattle.table_model.specs.declared.line.Answer.TheVariants as answers
 use Rattle.table_model.specs.declared.line.TextLine.{TextLine}
 use Rattle.table_model.specs.declared.line.TextLine.TheVariants as text
 use Rattle.table_model.specs.Writes.{last_write, writes_of}
-use Rattle.run_laws.specs.Turns.{lines_of, lines_for, turns_from, wrote, written, show, shown_of, schema_of}
+use Rattle.run_laws.specs.Turns.{lines_of, lines_for, turns_from, wrote, written, refusal_at, show, shown_of, schema_of}
 use Rattle.run_laws.specs.Sound.{Among, Numbered}
 use Rattle.run_laws.proofs.Writes.{writes_of-append}
 use Rattle.std.proofs.lemmas.Bool.{eqb-true}
@@ -49,19 +46,10 @@ a_write client author table row content before rest h =
     (λ is. ap (λ (c : ℕ). length (writes_of c before) + 1) (eqb-true author client is))
     (subst (λ (ws : List Write). Numbered client ws rest) (writes_of-append client before (wrote author table row content before)) h)
 
-written_goes : (fit : Result (Unit {0}) FitFault) (client author table : ℕ) (row : List ℕ) (content : Content) (before : List TextLine)
-    → Goes client before (written fit author table row content before)
-written_goes (Ok done) client author table row content before = a_write client author table row content before
-written_goes (Err (faults.BadCell column)) client author table row content before = an_answer client before (answers.Refused (refusals.BadCell column))
-written_goes (Err (faults.BadObject column len)) client author table row content before = an_answer client before (answers.Refused (refusals.BadObject column len))
-
-write_goes : (schema : Option Schema) (client author table : ℕ) (row : List ℕ) (content : Content) (before : List TextLine)
-    → Goes client before (elim schema [
-      | None ↦ text.Answer (answers.Refused refusals.NoTable) ∷ []
-      | Some schema ↦ written (fit_of schema content) author table row content before
-    ])
-write_goes None client author table row content before = an_answer client before (answers.Refused refusals.NoTable)
-write_goes (Some schema) client author table row content before = written_goes (fit_of schema content) client author table row content before
+written_goes : (refusal : Option Refusal) (client author table : ℕ) (row : List ℕ) (content : Content) (before : List TextLine)
+    → Goes client before (written refusal author table row content before)
+written_goes None client author table row content before = a_write client author table row content before
+written_goes (Some refusal) client author table row content before = an_answer client before (answers.Refused refusal)
 
 show_goes : (what : Option Shown) (client : ℕ) (before : List TextLine) → Goes client before (show what)
 show_goes None client before = an_answer client before (answers.Refused refusals.NoRow)
@@ -71,7 +59,7 @@ event_goes : (client : ℕ) (past : List Event) (before : List TextLine) (event 
 event_goes client past before (events.Store store) = no_lines client before
 event_goes client past before (events.Table table schema) = no_lines client before
 event_goes client past before (events.Client number gate tables) = no_lines client before
-event_goes client past before (events.Write author table row content) = write_goes (schema_of past table) client author table row content before
+event_goes client past before (events.Write author table row content) = written_goes (refusal_at (schema_of past table) content) client author table row content before
 event_goes client past before (events.Show reader table row) = show_goes (shown_of (last_write reader table row before)) client before
 
 pub all_numbered : (client : ℕ) (past : List Event) (before : List TextLine) (script : List Event)

@@ -1,25 +1,21 @@
 -- Each turn has the shape of its event.
-use Rattle.std.proofs.Common.{ℕ, ◌+◌, List, [], ◌∷◌, ◌++◌, length, Option, Some, None, Result, Ok, Err, refl}
-use Rattle.row_value.specs.declared.schema.Schema.{Schema}
+use Rattle.std.proofs.Common.{ℕ, ◌+◌, List, [], ◌∷◌, ◌++◌, length, Option, Some, None, refl}
 use Rattle.row_value.specs.declared.content.Content.{Content}
-use Rattle.row_value.specs.declared.fit.FitFault.{FitFault}
-use Rattle.row_value.specs.declared.fit.FitFault.TheVariants as faults
-use Rattle.row_value.specs.Fit.{fit_of}
 use Rattle.table_model.specs.declared.event.Event.{Event}
 use Rattle.table_model.specs.declared.event.Event.TheVariants as events
 use Rattle.table_model.specs.declared.line.Shown.{Shown}
+use Rattle.table_model.specs.declared.line.Refusal.{Refusal}
 use Rattle.table_model.specs.declared.line.Refusal.TheVariants as refusals
 use Rattle.table_model.specs.declared.line.Answer.TheVariants as answers
 use Rattle.table_model.specs.declared.line.Fact.TheVariants as facts
 use Rattle.table_model.specs.declared.line.TextLine.{TextLine}
-use Rattle.table_model.specs.declared.line.TextLine.TheVariants as text
 use Rattle.table_model.specs.Writes.{last_write, writes_of}
-use Rattle.run_laws.specs.Turns.{lines_for, turns_from, written, show, shown_of, schema_of}
+use Rattle.run_laws.specs.Turns.{lines_for, turns_from, written, refusal_at, show, shown_of, schema_of}
 use Rattle.run_laws.specs.Sound.{IsShaped, IsAnswered, Shape}
 
-written_shaped : (fit : Result (Unit {0}) FitFault) (client table : ℕ) (row : List ℕ) (content : Content) (before : List TextLine)
-    → IsAnswered (events.Write client table row content) (written fit client table row content before)
-written_shaped (Ok done) client table row content before = (
+written_shaped : (refusal : Option Refusal) (client table : ℕ) (row : List ℕ) (content : Content) (before : List TextLine)
+    → IsAnswered (events.Write client table row content) (written refusal client table row content before)
+written_shaped None client table row content before = (
   answers.Number (length (writes_of client before) + 1),
   facts.Wrote (record {
     client = client;
@@ -32,16 +28,7 @@ written_shaped (Ok done) client table row content before = (
   refl,
   tt,
 )
-written_shaped (Err (faults.BadCell column)) client table row content before = (answers.Refused (refusals.BadCell column), [], refl, tt)
-written_shaped (Err (faults.BadObject column len)) client table row content before = (answers.Refused (refusals.BadObject column len), [], refl, tt)
-
-write_shaped : (schema : Option Schema) (client table : ℕ) (row : List ℕ) (content : Content) (before : List TextLine)
-    → IsAnswered (events.Write client table row content) (elim schema [
-      | None ↦ text.Answer (answers.Refused refusals.NoTable) ∷ []
-      | Some schema ↦ written (fit_of schema content) client table row content before
-    ])
-write_shaped None client table row content before = (answers.Refused refusals.NoTable, [], refl, tt)
-write_shaped (Some schema) client table row content before = written_shaped (fit_of schema content) client table row content before
+written_shaped (Some refusal) client table row content before = (answers.Refused refusal, [], refl, tt)
 
 show_shaped : (what : Option Shown) (client table : ℕ) (row : List ℕ) → IsAnswered (events.Show client table row) (show what)
 show_shaped None client table row = (answers.Refused refusals.NoRow, [], refl, tt)
@@ -51,7 +38,7 @@ turn_shaped : (past : List Event) (before : List TextLine) (event : Event) → I
 turn_shaped past before (events.Store store) = refl
 turn_shaped past before (events.Table table schema) = refl
 turn_shaped past before (events.Client client gate tables) = refl
-turn_shaped past before (events.Write client table row content) = write_shaped (schema_of past table) client table row content before
+turn_shaped past before (events.Write client table row content) = written_shaped (refusal_at (schema_of past table) content) client table row content before
 turn_shaped past before (events.Show client table row) = show_shaped (shown_of (last_write client table row before)) client table row
 
 pub all_shaped : (past : List Event) (before : List TextLine) (script : List Event) → Shape (turns_from past before script)

@@ -1,5 +1,5 @@
 -- What one event makes of what went before: the lines that it writes.
-use Rattle.std.specs.Prelude.{ℕ, ◌+◌, ◌==◌, List, [], ◌∷◌, ◌++◌, length, Option, Some, None, Result, Ok, Err, if◌then◌else◌}
+use Rattle.std.specs.Prelude.{ℕ, ◌+◌, ◌==◌, List, [], ◌∷◌, ◌++◌, length, Option, Some, None, Ok, Err, if◌then◌else◌}
 use Rattle.std.specs.List.{flat_map}
 use Rattle.row_value.specs.declared.schema.Schema.{Schema}
 use Rattle.row_value.specs.declared.content.Content.{Content}
@@ -28,14 +28,22 @@ pub record Turn : Type 0 where
 abbrev pub lines_of : List Turn → List TextLine
 lines_of turns = flat_map (λ (turn : Turn). turn.lines) turns
 
--- the schema that the first declaration of a table gives it
+abbrev pub or_else : {X : Type 0} → Option X → Option X → Option X
+or_else None other = other
+or_else (Some x) other = Some x
+
+-- the schema that an event gives a table
+abbrev pub declares : Event → ℕ → Option Schema
+declares (events.Store store) table = None
+declares (events.Table number schema) table = if number == table then Some schema else None
+declares (events.Client client gate tables) table = None
+declares (events.Write client number row content) table = None
+declares (events.Show client number row) table = None
+
+-- the schema that the last declaration of a table gives it
 abbrev pub schema_of : List Event → ℕ → Option Schema
 schema_of [] table = None
-schema_of (events.Table number schema ∷ past) table = if number == table then Some schema else schema_of past table
-schema_of (events.Store store ∷ past) table = schema_of past table
-schema_of (events.Client client gate tables ∷ past) table = schema_of past table
-schema_of (events.Write client number row content ∷ past) table = schema_of past table
-schema_of (events.Show client number row ∷ past) table = schema_of past table
+schema_of (event ∷ past) table = or_else (schema_of past table) (declares event table)
 
 abbrev pub refused : Refusal → List TextLine
 refused refusal = text.Answer (answers.Refused refusal) ∷ []
@@ -53,10 +61,18 @@ wrote client table row content before =
     } in
     text.Answer (answers.Number write.number) ∷ text.Fact (facts.Wrote write) ∷ []
 
-abbrev pub written : Result (Unit {0}) FitFault → ℕ → ℕ → List ℕ → Content → List TextLine → List TextLine
-written (Ok done) client table row content before = wrote client table row content before
-written (Err (faults.BadCell column)) client table row content before = refused (refusals.BadCell column)
-written (Err (faults.BadObject column len)) client table row content before = refused (refusals.BadObject column len)
+abbrev pub refusal_of : FitFault → Refusal
+refusal_of (faults.BadCell column) = refusals.BadCell column
+refusal_of (faults.BadObject column len) = refusals.BadObject column len
+
+-- why a content isn't written to a table of this schema
+abbrev pub refusal_at : Option Schema → Content → Option Refusal
+refusal_at None content = Some refusals.NoTable
+refusal_at (Some schema) content = elim (fit_of schema content) [ Ok done ↦ None | Err fault ↦ Some (refusal_of fault) ]
+
+abbrev pub written : Option Refusal → ℕ → ℕ → List ℕ → Content → List TextLine → List TextLine
+written None client table row content before = wrote client table row content before
+written (Some refusal) client table row content before = refused refusal
 
 -- what a client shows of a row, from lines alone: its own last write
 abbrev pub shown_of : Option Write → Option Shown
@@ -72,10 +88,8 @@ abbrev pub lines_for : List Event → List TextLine → Event → List TextLine
 lines_for past before (events.Store store) = []
 lines_for past before (events.Table table schema) = []
 lines_for past before (events.Client client gate tables) = []
-lines_for past before (events.Write client table row content) = elim (schema_of past table) [
-  | None ↦ refused refusals.NoTable
-  | Some schema ↦ written (fit_of schema content) client table row content before
-]
+lines_for past before (events.Write client table row content) =
+    written (refusal_at (schema_of past table) content) client table row content before
 lines_for past before (events.Show client table row) = show (shown_of (last_write client table row before))
 
 -- the turns of events behind these events and these lines

@@ -22,7 +22,7 @@ is_by client write = write.client == client
 
 -- whether a write is of this client on this row of this table
 abbrev pub is_on : ℕ → ℕ → List ℕ → Write → Bool
-is_on client table row write = (write.client == client) && ((write.table == table) && is_eq (slice_cmp nat_cmp write.row row))
+is_on client table row write = (write.client == client) && (write.table == table) && is_eq (slice_cmp nat_cmp write.row row)
 
 -- the writes of one client, in the order of its lines
 abbrev pub writes_of : ℕ → List TextLine → List Write

@@ -1,4 +1,7 @@
+ghost use Rattle.std.specs.Prelude.{◌≡◌, IfOk};
+
 use row_value::{ClientNo, Content, RowId, TableNo, Version, WriteNo};
+use std::alloc::AllocError;
 
 /// A write of a client: its number among the client's writes, the version of the row that the client had read, and
 /// what it wrote.
@@ -13,10 +16,19 @@ pub struct Write {
 }
 
 /// What a client shows of a row.
-#[derive(Debug, Drop)]
+#[derive(Debug, Drop, Clone)]
 pub enum Shown {
     /// Its own write of this number, which no Store has answered yet.
     Mine { number: WriteNo, content: Content },
+}
+
+impl Shown {
+    /// A copy.
+    pub fn copy(&self) -> Result<Self, AllocError>
+        ensures { IfOk result (λ made. made ≡ self.now) }
+    {
+        self.clone()
+    }
 }
 
 /// Why a line of the script isn't done. Each has a number, which its text begins with.

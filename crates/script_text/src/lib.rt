@@ -3,4 +3,4 @@
 
 mod print;
 
-pub use print::{ESCAPED, line_text};
+pub use print::{ESCAPED, line_text, stop_text};

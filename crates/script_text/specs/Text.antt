@@ -1,5 +1,5 @@
 -- The text of each line of a transcript, without its newline.
-use Rattle.std.specs.Prelude.{ℕ, true, false, List, ◌∷◌, ◌++◌, codes}
+use Rattle.std.specs.Prelude.{ℕ, true, false, List, [], ◌∷◌, ◌++◌, codes}
 use Rattle.std.specs.List.{flat_map}
 use Rattle.std.specs.Fmt.{decimal, signed_decimal}
 use Rattle.uuid.specs.Text.{hyphenated_text, lower}
@@ -57,3 +57,11 @@ fact_text (facts.Wrote write) = write_text write
 abbrev pub text_of : TextLine → List ℕ
 text_of (lines.Answer answer) = answer_text answer
 text_of (lines.Fact fact) = fact_text fact
+
+-- the text of a line that says why a run stopped: the status that the program ends with, the line of the script, a code
+abbrev pub stop_text : ℕ → ℕ → ℕ → List ℕ
+stop_text status line code = codes "stop " ++ (decimal status ++ (codes " " ++ (decimal line ++ (codes " " ++ decimal code))))
+
+-- the text of a whole transcript: each line ends with a newline
+abbrev pub transcript_text : List TextLine → List ℕ
+transcript_text told = flat_map (λ (line : TextLine). text_of line ++ 10 ∷ []) told

@@ -1,7 +1,7 @@
 ghost use Rattle.std.specs.Prelude.{◌≡◌, ◌++◌, IfOk, OnOk};
 ghost use Rattle.std.specs.List.{flat_map};
 ghost use Rattle.std.specs.String.{string_bytes};
-ghost use Rattle.script_text.specs.Text.{cell_text, object_text, content_text, refusal_text, answer_text, write_text, fact_text, text_of};
+ghost use Rattle.script_text.specs.Text.{cell_text, object_text, content_text, refusal_text, answer_text, write_text, fact_text, text_of, stop_text};
 
 use percent_encoding::{AsciiSet, NON_ALPHANUMERIC, ascii_set, percent_encode};
 use row_value::{Bytes, Cell, Cells, Content, Objects};
@@ -119,5 +119,15 @@ pub fn line_text(alloc: Global, line: &TextLine) -> Result<Bytes, AllocError>
         TextLine::Answer(answer) => put_answer(alloc, &mut out, answer)?,
         TextLine::Fact(Fact::Wrote(write)) => put_write(alloc, &mut out, write)?,
     }
+    Ok(Bytes::from_vec(out.into_bytes()))
+}
+
+/// The text of the line that ends a transcript whose run stopped, without its newline: the status that the program ends
+/// with, the number of the script's line, and a code, in decimal.
+pub fn stop_text(alloc: Global, status: u8, line: u64, code: u32) -> Result<Bytes, AllocError>
+    ensures { IfOk result (λ text. text ≡ stop_text status line code) }
+{
+    let mut out = String::new(alloc);
+    write!(&mut out, "stop {status} {line} {code}")?;
     Ok(Bytes::from_vec(out.into_bytes()))
 }

@@ -1,10 +1,10 @@
 -- The end of the input, and a last line without a newline.
-use Rattle.std.proofs.Common.{◌≡◌, ℕ, ◌+◌, ◌<◌, List, [], ◌++◌, length, Option, None, Some, sym, ap, ◌∙◌, subst, append-nil}
+use Rattle.std.proofs.Common.{◌≡◌, ℕ, ◌+◌, ◌<◌, List, [], ◌++◌, length, Option, None, Some, Ok, refl, sym, ap, ◌∙◌, subst, append-nil}
 use Rattle.std.specs.Prelude.{IfSome, IfNone, MatchOption}
 use Rattle.std.specs.Global.{Vec}
 use Rattle.std.specs.Io.KnownBytes.{Keeps, IsAtEnd}
 use Rattle.stab_io.specs.Lines.{Line, End, next_of}
-use Rattle.stab_io.specs.Reading.{Reading, ahead, IsNextLine, ComesNext, IsUnfinished}
+use Rattle.stab_io.specs.Reading.{Reading, ahead, IsNextLine, ComesNext, IsUnfinished, IsDue}
 use Rattle.stab_io.proofs.NextLine.{held_last, is_end}
 
 -- what `last_line` says of its answer
@@ -41,3 +41,17 @@ last_found start now after (Some more) left_now (Some line) used limits keeps en
 
 pub unfinished_still : (before after : Reading) → after.held ≡ before.held → after.used ≡ before.used → after.limits ≡ before.limits → IsUnfinished before → IsUnfinished after
 unfinished_still before after held used limits h = rw (held, used, limits) h
+
+pub last_due : (start now after : Reading) (left left_now : Option (List ℕ)) (found : Option (Vec ℕ)) → now.used ≡ start.used → now.limits ≡ start.limits
+    → Keeps (ahead start left) (ahead now left_now) → IsAtEnd left_now → IsUnfinished now → IsLast now after found
+    → IfSome (ahead start left) (λ bytes. IsDue start.limits (next_of start.limits start.used bytes) (Ok found))
+last_due start now after None left_now found used limits keeps end plain last = tt
+last_due start now after (Some more) left_now None used limits keeps end plain last =
+    let all = all_held start now (Some more) left_now keeps end in
+    let next : next_of start.limits start.used (start.held ++ more) ≡ End = subst (λ bytes. next_of start.limits start.used bytes ≡ End) (sym (all.0 ∙ last.0)) (is_end start.limits start.used) in
+    rw next refl
+last_due start now after (Some more) left_now (Some line) used limits keeps end plain last =
+    let all = all_held start now (Some more) left_now keeps end in
+    let next : next_of start.limits start.used (start.held ++ more) ≡ Line now.held [] =
+    rw (all.0, ← used, ← limits) (held_last now.limits now.used now.held plain.0 last.1 plain.1 plain.2) in
+    rw next last.0

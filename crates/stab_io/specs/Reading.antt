@@ -1,9 +1,10 @@
-use Rattle.std.specs.Prelude.{◌≡◌, ℕ, ◌+◌, ◌≤◌, List, ◌++◌, length, Option, None, Some, Result, Ok, Err, IfSome, IsSomeAnd}
+use Rattle.std.specs.Prelude.{◌≡◌, ℕ, ◌+◌, ◌≤◌, List, ◌++◌, length, Option, None, Some, Result, Ok, Err, IfSome, IsSomeAnd, IsOkAnd}
+use Rattle.std.specs.Global.{Vec}
 use Rattle.std.specs.Io.KnownBytes.{prepend_known}
 use Rattle.stab_io.specs.declared.limits.Limits.{Limits}
 use Rattle.stab_io.specs.declared.line_fault.LineFault.{LineFault}
 use Rattle.stab_io.specs.declared.line_fault.LineFault.TheVariants.{Read, LineLimit, InputLimit, Memory}
-use Rattle.stab_io.specs.Lines.{HasNoNewline, Next, Line, LineTooLong, InputTooLong, next_of}
+use Rattle.stab_io.specs.Lines.{HasNoNewline, Next, Line, End, LineTooLong, InputTooLong, next_of}
 
 -- a reader: the bytes of the lines answered, newlines counted; the bytes taken and not answered; the refusal that it
 -- answers again; and its limits
@@ -64,3 +65,10 @@ Refuses reader Memory = Unit {0}
 Refuses reader Read = ⊥
 Refuses reader (LineLimit len) = (len ≡ reader.limits.line + 1) × ((more : List ℕ) → next_of reader.limits reader.used (reader.held ++ more) ≡ LineTooLong)
 Refuses reader (InputLimit len) = (len ≡ reader.limits.input + 1) × ((more : List ℕ) → next_of reader.limits reader.used (reader.held ++ more) ≡ InputTooLong)
+
+-- the answer that is due where that comes next
+abbrev pub IsDue : Limits → Next → Result (Option (Vec ℕ)) LineFault → Type 0
+IsDue limits (Line text rest) answer = IsOkAnd answer (λ found. IsSomeAnd found (λ line. line.items ≡ text))
+IsDue limits End answer = answer ≡ Ok None
+IsDue limits LineTooLong answer = answer ≡ Err (LineLimit (limits.line + 1))
+IsDue limits InputTooLong answer = answer ≡ Err (InputLimit (limits.input + 1))

@@ -4,7 +4,7 @@ ghost use Rattle.std.specs.Io.KnownBytes.{Keeps, IsAtEnd};
 ghost use Rattle.stab_io.specs.declared.line_fault.LineFault.TheVariants as faults;
 ghost use Rattle.stab_io.specs.Faults.{Rose};
 ghost use Rattle.stab_io.specs.Lines.{HasNoNewline, Line, End, LineTooLong, InputTooLong, next_of};
-ghost use Rattle.stab_io.specs.Reading.{ahead, IsNextLine, ComesNext, CountsAll, IsUnfinished, stop_of, stop_after, CutsLine, Refuses};
+ghost use Rattle.stab_io.specs.Reading.{ahead, IsNextLine, ComesNext, CountsAll, IsUnfinished, stop_of, stop_after, CutsLine, Refuses, IsDue};
 
 use crate::limits::{INPUT_LIMIT, LINE_LIMIT, Limits};
 use crate::line_fault::LineFault;
@@ -72,6 +72,11 @@ impl LineReader {
             → (len ≡ self.old.limits.line + 1) × ComesNext self.old (S.left source.old) LineTooLong }
         ensures input_limit { (len : ℕ) → self.old.stopped ≡ None → result ≡ Err (LineFault.InputLimit len)
             → (len ≡ self.old.limits.input + 1) × ComesNext self.old (S.left source.old) InputTooLong }
+
+        // Where the source doesn't fail and memory isn't refused, the answer is the one that is due.
+        ensures due { self.old.stopped ≡ None → result ≢ Err LineFault.Read → result ≢ Err LineFault.Memory
+            → IfSome (ahead self.old (S.left source.old)) (λ bytes.
+            IsDue self.old.limits (next_of self.old.limits self.old.used bytes) result) }
 
         // The source failed, and every line that it gave whole has been answered.
         ensures read { self.old.stopped ≡ None → result ≡ Err LineFault.Read

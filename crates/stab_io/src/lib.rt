@@ -19,3 +19,6 @@ pub use lines::LineReader;
 pub use memory::{GIVEN_AT_ONCE, MemSink, MemSource};
 pub use sink::Sink;
 pub use source::{Failed, Source};
+
+#[cfg(test)]
+mod tests;

@@ -112,7 +112,7 @@ impl LineReader {
         }
     }
 
-    fn with_limits(alloc: Global, limits: Limits) -> LineReader
+    pub(crate) fn with_limits(alloc: Global, limits: Limits) -> LineReader
         requires line { limits.line < 2 ^ 62 }
         requires input { limits.input < 2 ^ 62 }
         ensures { result ≡ record { used = 0; held = []; stopped = None; limits = limits } }

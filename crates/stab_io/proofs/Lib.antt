@@ -1,0 +1,5 @@
+pub mod Known
+pub mod NextLine
+pub mod Refusals
+pub mod Endings
+pub mod LineLaws

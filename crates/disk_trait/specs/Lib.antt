@@ -1,0 +1,3 @@
+pub mod Image
+pub mod Calls
+pub mod Depots

@@ -1,0 +1,3 @@
+pub mod Lists
+mod Repairs
+mod Behind

@@ -1,0 +1,35 @@
+//! Why a vault didn't do what it was asked for.
+ghost use Rattle.std.specs.Prelude.{◌≡◌};
+ghost use Rattle.vault.specs.declared.fault.VaultFault.TheVariants.{Disk, Memory};
+
+use disk_trait::DiskFault;
+use std::alloc::AllocError;
+use thiserror::Error;
+
+#[derive(Debug, Drop, Clone, Copy, PartialEq, Eq, Error)]
+pub enum VaultFault {
+    /// The disk failed in this call. From now on the vault is down.
+    #[error("the disk failed")]
+    Disk,
+    /// The disk failed in an earlier call. A vault is down until its disk was restarted and looked at again.
+    #[error("the vault is down")]
+    Down,
+    #[error("out of memory")]
+    Memory,
+}
+
+impl From<AllocError> for VaultFault {
+    ghost from_gives = { λ _ e. e ≡ Memory };
+
+    fn from(_: AllocError) -> Self {
+        VaultFault::Memory
+    }
+}
+
+impl From<DiskFault> for VaultFault {
+    ghost from_gives = { λ _ e. e ≡ Disk };
+
+    fn from(_: DiskFault) -> Self {
+        VaultFault::Disk
+    }
+}

@@ -1,0 +1,10 @@
+//! A list of payloads on a disk. Each is there wholly or not at all, whenever a crash comes.
+#![tactic(auto)]
+
+mod fault;
+mod record;
+mod scan;
+mod steps;
+
+pub use fault::VaultFault;
+pub use record::PAYLOAD_MAX;

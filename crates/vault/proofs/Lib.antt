@@ -1,3 +1,4 @@
 pub mod Lists
 mod Repairs
 mod Behind
+mod Found

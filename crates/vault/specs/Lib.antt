@@ -1,3 +1,4 @@
 pub mod File
 pub mod Head
 pub mod Scan
+pub mod Cause

@@ -3,7 +3,7 @@ ghost use Rattle.std.specs.Prelude.{◌≡◌};
 ghost use Rattle.vault.specs.declared.fault.VaultFault.TheVariants.{Disk, Memory};
 
 use disk_trait::DiskFault;
-use std::alloc::AllocError;
+use std::alloc::{AllocError, AllocFailed};
 use thiserror::Error;
 
 #[derive(Debug, Drop, Clone, Copy, PartialEq, Eq, Error)]
@@ -22,6 +22,14 @@ impl From<AllocError> for VaultFault {
     ghost from_gives = { λ _ e. e ≡ Memory };
 
     fn from(_: AllocError) -> Self {
+        VaultFault::Memory
+    }
+}
+
+impl<T: Drop> From<AllocFailed<T>> for VaultFault {
+    ghost from_gives = { λ _ e. e ≡ Memory };
+
+    fn from(_: AllocFailed<T>) -> Self {
         VaultFault::Memory
     }
 }

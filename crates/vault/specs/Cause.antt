@@ -1,0 +1,11 @@
+-- When a vault answers `Disk`.
+use Rattle.std.specs.Prelude.{◌≡◌, ℕ, ◌<◌, Result, Ok, Err}
+use Rattle.vault.specs.declared.fault.VaultFault.{VaultFault}
+use Rattle.vault.specs.declared.fault.VaultFault.TheVariants.{Disk, Down, Memory}
+
+-- `Disk` exactly where the count of faults rose
+abbrev pub IsCounted : {T : Type 0} → ℕ → ℕ → Result T VaultFault → Type 0
+IsCounted before after (Ok x) = after ≡ before
+IsCounted before after (Err Disk) = before < after
+IsCounted before after (Err Down) = after ≡ before
+IsCounted before after (Err Memory) = after ≡ before

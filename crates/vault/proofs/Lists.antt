@@ -65,7 +65,7 @@ module _ (be p rest : List ℕ) (four : length be ≡ 4) (is : from_be_bytes w32
       ap (λ (b : Bool). if b then behind most (drop (5 + length_in one) one) else one) opens
       ∙ ap (λ (r : List ℕ). behind most r) rest_is
 
-joined : (p : List ℕ) (ps : List (List ℕ)) (rest : List ℕ) → records (p ∷ ps) ++ rest ≡ 165 ∷ (to_be_bytes w32 (length p) ++ (p ++ (records ps ++ rest)))
+pub joined : (p : List ℕ) (ps : List (List ℕ)) (rest : List ℕ) → records (p ∷ ps) ++ rest ≡ 165 ∷ (to_be_bytes w32 (length p) ++ (p ++ (records ps ++ rest)))
 joined p ps rest = let be = to_be_bytes w32 (length p) in ap (λ (l : List ℕ). 165 ∷ l) (append_assoc be (p ++ records ps) rest ∙ ap (λ (l : List ℕ). be ++ l) (append_assoc p (records ps) rest))
 
 -- records, and then something: their payloads are found first

@@ -2,3 +2,4 @@ pub mod File
 pub mod Head
 pub mod Scan
 pub mod Cause
+pub mod Standing

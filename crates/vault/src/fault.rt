@@ -1,8 +1,9 @@
 //! Why a vault didn't do what it was asked for.
 ghost use Rattle.std.specs.Prelude.{◌≡◌};
 ghost use Rattle.vault.specs.declared.fault.VaultFault.TheVariants.{Disk, Memory};
+ghost use Rattle.vault.specs.Cause.{fault_of};
 
-use disk_trait::DiskFault;
+use disk_trait::{DiskFault, RoomFault};
 use std::alloc::{AllocError, AllocFailed};
 use thiserror::Error;
 
@@ -39,5 +40,16 @@ impl From<DiskFault> for VaultFault {
 
     fn from(_: DiskFault) -> Self {
         VaultFault::Disk
+    }
+}
+
+impl From<RoomFault> for VaultFault {
+    ghost from_gives = { λ f e. e ≡ fault_of f };
+
+    fn from(fault: RoomFault) -> Self {
+        match fault {
+            RoomFault::Failed => VaultFault::Disk,
+            RoomFault::Memory => VaultFault::Memory,
+        }
     }
 }

@@ -5,6 +5,8 @@ mod fault;
 mod record;
 mod scan;
 mod steps;
+mod vault;
 
 pub use fault::VaultFault;
 pub use record::PAYLOAD_MAX;
+pub use vault::Vault;

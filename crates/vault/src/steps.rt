@@ -1,10 +1,12 @@
 //! The runs of disk calls that a vault is made of. Before each all that is seen is on the disk, and after `Ok`
 //! again.
-ghost use Rattle.std.specs.Prelude.{◌≡◌, ◌+◌, ◌<◌, ◌≤◌, ◌++◌, ◌∷◌, [], true, List, ℕ, length, take, drop, OnOk};
+ghost use Rattle.std.specs.Prelude.{◌≡◌, ◌+◌, ◌<◌, ◌≤◌, ◌++◌, ◌∷◌, [], true, List, ℕ, length, take, drop, OnOk, IsErrOf};
 ghost use Rattle.disk_trait.specs.Image.{settled};
-ghost use Rattle.disk_trait.specs.Calls.{HasCause, Spends, Burns, LeavesOnly};
+ghost use Rattle.disk_trait.specs.Calls.{HasCause, Spends, Burns, LeavesOnly, SameFile};
+ghost use Rattle.vault.specs.Cause.{IsCounted};
 ghost use Rattle.vault.specs.File.{payloads_of, records, StandsFor, IsShut, EndsAt, IsBehindGate, FindsFirst};
 
+use crate::VaultFault;
 use crate::record::{CLOSED, OPEN};
 use disk_trait::{Disk, DiskFault, cut_durably, write_durably};
 
@@ -67,4 +69,20 @@ pub(crate) fn wipe<D: Disk>(disk: &mut D) -> Result<(), DiskFault>
     disk.cut(0)?;
     disk.write_at(0, &[CLOSED])?;
     disk.sync()
+}
+
+/// Makes room for the calls of a format and of an opening, and wipes the file.
+pub(crate) fn format_disk<D: Disk>(disk: &mut D) -> Result<(), VaultFault>
+    ensures written { OnOk result ((D.state disk.new).seen ≡ 0 ∷ []) }
+    ensures durable { OnOk result ((D.state disk.new).pending ≡ settled (D.state disk.new).seen) }
+    ensures room { OnOk result (1 ≤ (D.state disk.new).room) }
+    ensures calls { OnOk result (4 ≤ (D.state disk.new).calls) }
+    ensures bytes { OnOk result (1 ≤ (D.state disk.new).bytes) }
+    ensures memory { IsErrOf result VaultFault.Memory → SameFile (D.state disk.old) (D.state disk.new) }
+    ensures up { IsErrOf result VaultFault.Down → ⊥ }
+    ensures cause { IsCounted (D.state disk.old).faults (D.state disk.new).faults result }
+{
+    disk.room(1, 7, 2)?;
+    wipe(disk)?;
+    Ok(())
 }

@@ -6,15 +6,12 @@ use Rattle.disk_trait.specs.declared.fuse.FuseDisk.{FuseDisk}
 use Rattle.disk_trait.specs.declared.fuse.Setting.{Setting}
 use Rattle.disk_trait.specs.declared.fuse.Setting.TheVariants.{Unset, Set, Blown}
 
--- the disk inside, and the fuse's own stops
+-- the disk inside, and how the fuse is set
 abbrev pub inner_of : {D : Type 0} → FuseDisk D → D
 inner_of f = f.inner
 
 abbrev pub setting_of : {D : Type 0} → FuseDisk D → Setting
 setting_of f = f.setting
-
-abbrev pub stops_of : {D : Type 0} → FuseDisk D → ℕ
-stops_of f = f.stops
 
 abbrev pub is_set : Setting → Bool
 is_set Unset = false
@@ -52,6 +49,9 @@ fused s setting stops = record {
   moment = s.moment;
 }
 
+abbrev pub behind : {D : Type 0} → (D → DiskState) → FuseDisk D → DiskState
+behind state f = fused (state f.inner) f.setting f.stops
+
 -- a fuse counts its stops among the faults
 pub stops_within : (faults stops : ℕ) → stops ≤ faults + stops
 stops_within faults stops = omega arith
@@ -68,3 +68,7 @@ pub record IsArmed (calls : ℕ) (old new : DiskState) : Type 0 where
   pub moment : new.moment ≡ old.moment
   pub passes : new.passes ≡ calls
   pub is_armed : old.stops + 1 < 2 ^ 64 → new.is_armed ≡ true
+
+-- the next write, cut or sync is stopped
+abbrev pub Stops : DiskState → Type 0
+Stops s = (s.is_armed ≡ true) × (s.passes ≡ 0)

@@ -62,12 +62,12 @@ fn burn(setting: &mut Setting, stops: &mut u64) -> Option<u64>
 
 impl<D: Disk> FuseDisk<D> {
     ghost use Rattle.disk_trait.specs.Calls.{Elapses};
-    ghost use Rattle.disk_trait.specs.Fuse.{inner_of, setting_of, stops_of, fused, IsArmed};
+    ghost use Rattle.disk_trait.specs.Fuse.{behind, inner_of, setting_of, fused, IsArmed};
 
     /// A disk with a fuse that isn't set.
     pub fn new(disk: D) -> FuseDisk<D>
         ensures inner { inner_of result ≡ disk }
-        ensures state { ⟦<FuseDisk<D> as Disk>⟧.state result ≡ fused (D.state disk) Setting.Unset 0 }
+        ensures state { behind D.state result ≡ fused (D.state disk) Setting.Unset 0 }
     {
         FuseDisk {
             inner: disk,
@@ -88,10 +88,10 @@ impl<D: Disk> FuseDisk<D> {
     /// bytes, or all where it has fewer; a cut or sync that follows does nothing. It fails, and so does each
     /// later one, which does nothing, until the restart.
     pub fn stop_after(&mut self, calls: u32, pick: u64)
-        ensures armed { IsArmed calls (⟦<FuseDisk<D> as Disk>⟧.state self.old) (⟦<FuseDisk<D> as Disk>⟧.state self.new) }
+        ensures armed { IsArmed calls (behind D.state self.old) (behind D.state self.new) }
         ensures inner { inner_of self.new ≡ inner_of self.old }
         ensures setting { setting_of self.new ≡ Setting.Set calls pick }
-        ensures time { Elapses (⟦<FuseDisk<D> as Disk>⟧.state self.old) (⟦<FuseDisk<D> as Disk>⟧.state self.new) (⟦<FuseDisk<D> as Disk>⟧.images self.old) (⟦<FuseDisk<D> as Disk>⟧.images self.new) }
+        ensures time { Elapses (behind D.state self.old) (behind D.state self.new) (D.images (inner_of self.old)) (D.images (inner_of self.new)) }
     {
         self.setting = Setting::Set {
             passes: calls,
@@ -101,9 +101,12 @@ impl<D: Disk> FuseDisk<D> {
 }
 
 impl<D: Disk> Disk for FuseDisk<D> {
-    ghost use Rattle.disk_trait.specs.Fuse.{fused, stops_within};
+    ghost use Rattle.std.specs.Prelude.{◌≤◌, ◌≢◌, length, take, OnOk};
+    ghost use Rattle.disk_trait.specs.Image.{LeavesLess, settled, touched, shortened, overwritten};
+    ghost use Rattle.disk_trait.specs.Calls.{Elapses, HasCause, Spends, Burns};
+    ghost use Rattle.disk_trait.specs.Fuse.{behind, inner_of, setting_of, stops_within, Stops};
 
-    ghost state = { λ f. fused (D.state f.inner) f.setting f.stops };
+    ghost state = { behind D.state };
 
     ghost images = { λ f. D.images f.inner };
 
@@ -131,7 +134,21 @@ impl<D: Disk> Disk for FuseDisk<D> {
         self.inner.read_at(at, into)
     }
 
-    fn write_at(&mut self, at: u64, bytes: &[u8]) -> Result<(), DiskFault> {
+    fn write_at(&mut self, at: u64, bytes: &[u8]) -> Result<(), DiskFault>
+        requires start { at ≤ length (behind D.state self.old).seen }
+        requires room { at + length bytes.now ≤ (behind D.state self.old).room }
+        requires calls { 0 < (behind D.state self.old).calls }
+        requires bytes { length bytes.now ≤ (behind D.state self.old).bytes }
+        ensures written { OnOk result ((behind D.state self.new).seen ≡ overwritten (behind D.state self.old).seen at bytes.now) }
+        ensures crash { LeavesLess (behind D.state self.new).pending (touched at (length bytes.now) (behind D.state self.old).pending) }
+        ensures spent { Spends 1 (length bytes.now) (behind D.state self.old) (behind D.state self.new) }
+        ensures time { Elapses (behind D.state self.old) (behind D.state self.new) (D.images (inner_of self.old)) (D.images (inner_of self.new)) }
+        ensures cause { HasCause (behind D.state self.old) (behind D.state self.new) result }
+        ensures fuse { Burns 1 (behind D.state self.old) (behind D.state self.new) result }
+        ensures lands { Stops (behind D.state self.old) → setting_of self.old ≢ Setting.Blown → (D.state (inner_of self.new)).faults ≡ (D.state (inner_of self.old)).faults → (behind D.state self.new).seen ≡ overwritten (behind D.state self.old).seen at (take (landing (setting_of self.old)) bytes.now) }
+        ensures blown { Stops (behind D.state self.old) → setting_of self.new ≡ Setting.Blown }
+        ensures nothing_more { Stops (behind D.state self.old) → setting_of self.old ≡ Setting.Blown → inner_of self.new ≡ inner_of self.old }
+    {
         match burn(&mut self.setting, &mut self.stops) {
             None => self.inner.write_at(at, bytes),
             Some(0) => Err(DiskFault::Failed),
@@ -143,14 +160,36 @@ impl<D: Disk> Disk for FuseDisk<D> {
         }
     }
 
-    fn cut(&mut self, len: u64) -> Result<(), DiskFault> {
+    fn cut(&mut self, len: u64) -> Result<(), DiskFault>
+        requires len { len ≤ length (behind D.state self.old).seen }
+        requires calls { 0 < (behind D.state self.old).calls }
+        ensures cut { OnOk result ((behind D.state self.new).seen ≡ take len (behind D.state self.old).seen) }
+        ensures crash { LeavesLess (behind D.state self.new).pending (shortened len (behind D.state self.old).pending) }
+        ensures spent { Spends 1 0 (behind D.state self.old) (behind D.state self.new) }
+        ensures time { Elapses (behind D.state self.old) (behind D.state self.new) (D.images (inner_of self.old)) (D.images (inner_of self.new)) }
+        ensures cause { HasCause (behind D.state self.old) (behind D.state self.new) result }
+        ensures fuse { Burns 1 (behind D.state self.old) (behind D.state self.new) result }
+        ensures blown { Stops (behind D.state self.old) → setting_of self.new ≡ Setting.Blown }
+        ensures nothing { Stops (behind D.state self.old) → inner_of self.new ≡ inner_of self.old }
+    {
         match burn(&mut self.setting, &mut self.stops) {
             None => self.inner.cut(len),
             Some(_) => Err(DiskFault::Failed),
         }
     }
 
-    fn sync(&mut self) -> Result<(), DiskFault> {
+    fn sync(&mut self) -> Result<(), DiskFault>
+        requires { 0 < (behind D.state self.old).calls }
+        ensures seen { OnOk result ((behind D.state self.new).seen ≡ (behind D.state self.old).seen) }
+        ensures durable { OnOk result ((behind D.state self.new).pending ≡ settled (behind D.state self.old).seen) }
+        ensures crash { LeavesLess (behind D.state self.new).pending (behind D.state self.old).pending }
+        ensures spent { Spends 1 0 (behind D.state self.old) (behind D.state self.new) }
+        ensures time { Elapses (behind D.state self.old) (behind D.state self.new) (D.images (inner_of self.old)) (D.images (inner_of self.new)) }
+        ensures cause { HasCause (behind D.state self.old) (behind D.state self.new) result }
+        ensures fuse { Burns 1 (behind D.state self.old) (behind D.state self.new) result }
+        ensures blown { Stops (behind D.state self.old) → setting_of self.new ≡ Setting.Blown }
+        ensures nothing { Stops (behind D.state self.old) → inner_of self.new ≡ inner_of self.old }
+    {
         match burn(&mut self.setting, &mut self.stops) {
             None => self.inner.sync(),
             Some(_) => Err(DiskFault::Failed),

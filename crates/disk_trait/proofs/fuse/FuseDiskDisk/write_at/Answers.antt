@@ -1,4 +1,4 @@
-use Rattle.std.proofs.Common.{rules, ◌≡◌, ◌≤◌, length, take, arith, length-take}
+use Rattle.std.proofs.Common.{◌≤◌, length, take, arith, length-take}
 use Rattle.disk_trait.specs.Image.{touched}
 use Rattle.disk_trait.proofs.Images.{less_trans, less_touched}
 use Rattle.disk_trait.proofs.fuse.FuseDiskDisk.write_at.Goals as goal

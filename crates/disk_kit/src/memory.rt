@@ -74,6 +74,8 @@ impl MemDisk {
 impl Disk for MemDisk {
     ghost use Rattle.std.specs.Prelude.{◌^◌};
     ghost use Rattle.std.specs.Vec.{vec_capacity};
+    ghost use Rattle.disk_trait.specs.Image.{IsImage};
+    ghost use Rattle.disk_trait.specs.Calls.{Elapses, Spends};
     ghost use Rattle.disk_kit.specs.Memory.{memory_state, memory_images, held_in};
     ghost use Rattle.disk_kit.specs.Laws.{counts_since, only_since, file_bounded, none_stopped, room_at_most};
 
@@ -143,7 +145,17 @@ impl Disk for MemDisk {
     }
 
     /// Of the images it picks the one in which all writes and cuts since the sync have landed whole.
-    fn restart(&mut self, pick: u64) {
+    fn restart(&mut self, pick: u64)
+        ensures landed { (memory_state self.new).seen ≡ (memory_state self.old).seen }
+        ensures image { IsImage (memory_state self.old).pending (memory_state self.new).seen }
+        ensures settled { (memory_state self.new).pending ≡ settled (memory_state self.new).seen }
+        ensures unchanged { (memory_state self.old).pending ≡ settled (memory_state self.old).seen → (memory_state self.new).seen ≡ (memory_state self.old).seen }
+        ensures spent { Spends 1 0 (memory_state self.old) (memory_state self.new) }
+        ensures time { Elapses (memory_state self.old) (memory_state self.new) (memory_images self.old) (memory_images self.new) }
+        ensures faults { (memory_state self.new).faults ≡ (memory_state self.old).faults }
+        ensures stops { (memory_state self.new).stops ≡ (memory_state self.old).stops }
+        ensures disarmed { (memory_state self.new).is_armed ≡ false }
+    {
         if !self.is_settled {
             self.calls.push(Call::Sync).unwrap();
             self.is_settled = true;

@@ -54,14 +54,32 @@ impl MemDepot {
 impl Depot for MemDepot {
     type Disk = MemDisk;
 
-    ghost use Rattle.std.specs.Prelude.{Some};
-    ghost use Rattle.disk_kit.specs.Depot.{depot_state, disk_back};
+    ghost use Rattle.std.specs.Prelude.{◌+◌, ◌-◌, ◌^◌, ◌==◌, ◌||◌, [], None, Some, Contains, min, IfOk, OnOk, OnErr, IsErrOf};
+    ghost use Rattle.disk_trait.specs.Image.{settled};
+    ghost use Rattle.disk_trait.specs.Depots.{DepotCause, Tells};
+    ghost use Rattle.disk_kit.specs.Memory.{memory_state};
+    ghost use Rattle.disk_kit.specs.Depot.{depot_state, disk_back, failing_of, asked_of};
 
     ghost state = { depot_state };
 
     ghost returned = { λ d. Some (disk_back d) };
 
-    fn disk(&mut self, number: u32) -> Result<MemDisk, DepotFault> {
+    fn disk(&mut self, number: u32) -> Result<MemDisk, DepotFault>
+        requires { (depot_state self.old).is_out number ≡ false }
+        ensures empty { IfOk result (λ disk. (memory_state disk).seen ≡ []) }
+        ensures listed { IsErrOf result DepotFault.Failed → Contains (failing_of self.old) (asked_of self.old) }
+        ensures not_listed { OnOk result (Contains (failing_of self.old) (asked_of self.old) → (depot_state self.old).faults + 1 ≡ 2 ^ 64) }
+        ensures asked { OnOk result (asked_of self.new ≡ min (asked_of self.old + 1) (2 ^ 64 - 1)) }
+        ensures failed_asked { IsErrOf result DepotFault.Failed → asked_of self.new ≡ min (asked_of self.old + 1) (2 ^ 64 - 1) }
+        ensures not_asked { IsErrOf result DepotFault.Memory → asked_of self.new ≡ asked_of self.old }
+        ensures out { OnOk result ((k : ℕ) → (depot_state self.new).is_out k ≡ ((k == number) || (depot_state self.old).is_out k)) }
+        ensures told { OnOk result (Tells (Some (disk_back self.old)) (Some (disk_back self.new)) number None) }
+        ensures no_faults { IfOk result (λ disk. (memory_state disk).faults ≡ 0) }
+        ensures durable { IfOk result (λ disk. (memory_state disk).pending ≡ settled (memory_state disk).seen) }
+        ensures refused { OnErr result ((k : ℕ) → (depot_state self.new).is_out k ≡ (depot_state self.old).is_out k) }
+        ensures kept { OnErr result (Some (disk_back self.new) ≡ Some (disk_back self.old)) }
+        ensures cause { DepotCause (depot_state self.old) (depot_state self.new) result }
+    {
         if self.faults < u64::MAX && self.failing.contains(&self.asked) {
             self.asked = self.asked.saturating_add(1);
             self.faults += 1;

@@ -4,7 +4,9 @@
 mod depot;
 mod disk;
 mod durable;
+mod fuse;
 
 pub use depot::{Depot, DepotFault};
 pub use disk::{Disk, DiskFault, RoomFault};
 pub use durable::{cut_durably, write_durably};
+pub use fuse::{FuseDisk, Setting};

@@ -1,11 +1,12 @@
 -- A vault between calls, in lists of payloads. Nothing above a vault needs more than these words.
-use Rattle.std.specs.Prelude.{◌≡◌, ℕ, ◌+◌, ◌*◌, ◌^◌, ◌<◌, ◌≤◌, min, Bool, false, true, List, [], ◌∷◌, ◌++◌, length, Result, OnOk}
+use Rattle.std.specs.Prelude.{◌≡◌, ℕ, ◌+◌, ◌*◌, ◌^◌, ◌<◌, ◌≤◌, min, Bool, false, true, List, [], ◌∷◌, ◌++◌, length, Result}
 use Rattle.std.specs.Vec.{vec_capacity, vec_len}
 use Rattle.disk_trait.specs.Image.{IsImage, settled}
 use Rattle.disk_trait.specs.Calls.{DiskState, LeavesOnly}
 use Rattle.vault.specs.declared.record.TheConstants.{PAYLOAD_MAX}
 use Rattle.vault.specs.declared.fault.VaultFault.{VaultFault}
 use Rattle.vault.specs.declared.vault.Vault.{Vault}
+use Rattle.vault.specs.Cause.{BurnsFuse}
 use Rattle.vault.specs.File.{payloads_of, records, places_from, EndsAt, StandsFor, StandsForOne, FindsFirst}
 
 -- The payloads of a vault, in the order in which they were appended. While a vault is down they are those that
@@ -16,6 +17,10 @@ payloads state vault = payloads_of (state vault.disk).seen
 -- how often its disk has failed, the stops of a fuse among them
 abbrev pub faults : {D : Type 0} → (D → DiskState) → Vault D → ℕ
 faults state vault = (state vault.disk).faults
+
+-- how many of these were stops of a fuse
+abbrev pub stops : {D : Type 0} → (D → DiskState) → Vault D → ℕ
+stops state vault = (state vault.disk).stops
 
 abbrev pub disk_of : {D : Type 0} → Vault D → D
 disk_of vault = vault.disk
@@ -87,16 +92,10 @@ pub record Stays {D : Type 0} (state : D → DiskState) (old new : Vault D) : Ty
   pub sound : IsSound state old → IsSound state new
   pub room : (openings appends bytes : ℕ) → HasRoom state old openings appends bytes → HasRoom state new openings appends bytes
 
--- What a fuse does to a run of so many calls. One that isn't set stops nothing; one that is set lets so many
--- calls pass, and fails the next.
-pub record Burns {D T : Type 0} (state : D → DiskState) (calls : ℕ) (old new : Vault D) (result : Result T VaultFault) : Type 0 where
-  pub later : (state old.disk).stops ≤ (state new.disk).stops
-  pub one : (state new.disk).stops ≤ (state old.disk).stops + 1
-  pub unarmed : (state old.disk).is_armed ≡ false → ((state new.disk).is_armed ≡ false) × ((state new.disk).stops ≡ (state old.disk).stops)
-  pub passed : (state old.disk).is_armed ≡ true → calls ≤ (state old.disk).passes → (state new.disk).stops ≡ (state old.disk).stops
-  pub passes_left : (state old.disk).is_armed ≡ true → calls ≤ (state old.disk).passes → OnOk result (((state new.disk).is_armed ≡ true) × ((state new.disk).passes + calls ≡ (state old.disk).passes))
-  pub stopped : (state old.disk).is_armed ≡ true → (state old.disk).passes < calls → OnOk result ⊥
+-- What a fuse does to a run of so many calls.
+abbrev pub Burns : {D T : Type 0} → (D → DiskState) → ℕ → Vault D → Vault D → Result T VaultFault → Type 0
+Burns state calls old new result = BurnsFuse calls (state old.disk) (state new.disk) result
 
--- a set fuse lets fewer calls pass
+-- A set fuse lets fewer calls pass, and then stops the next.
 abbrev pub StopsWithin : {D : Type 0} → (D → DiskState) → Vault D → ℕ → Type 0
 StopsWithin state vault calls = ((state vault.disk).is_armed ≡ true) × ((state vault.disk).passes < calls)

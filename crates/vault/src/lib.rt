@@ -2,6 +2,7 @@
 #![tactic(auto)]
 
 mod fault;
+mod fused;
 mod record;
 mod scan;
 mod steps;

@@ -3,7 +3,7 @@
 ghost use Rattle.std.specs.Prelude.{◌≡◌, ◌+◌, ◌<◌, ◌≤◌, ◌++◌, ◌∷◌, [], true, List, ℕ, length, take, drop, OnOk, IsErrOf};
 ghost use Rattle.disk_trait.specs.Image.{settled};
 ghost use Rattle.disk_trait.specs.Calls.{HasCause, Spends, Burns, LeavesOnly, SameFile};
-ghost use Rattle.vault.specs.Cause.{IsCounted};
+ghost use Rattle.vault.specs.Cause.{IsCounted, BurnsFuse};
 ghost use Rattle.vault.specs.File.{payloads_of, records, StandsFor, IsShut, EndsAt, IsBehindGate, FindsFirst};
 
 use crate::VaultFault;
@@ -65,6 +65,7 @@ pub(crate) fn wipe<D: Disk>(disk: &mut D) -> Result<(), DiskFault>
     ensures durable { OnOk result ((D.state disk.new).pending ≡ settled (D.state disk.new).seen) }
     ensures cause { HasCause (D.state disk.old) (D.state disk.new) result }
     ensures spent { Spends 3 1 (D.state disk.old) (D.state disk.new) }
+    ensures fuse { Burns 3 (D.state disk.old) (D.state disk.new) result }
 {
     disk.cut(0)?;
     disk.write_at(0, &[CLOSED])?;
@@ -80,6 +81,7 @@ pub(crate) fn format_disk<D: Disk>(disk: &mut D) -> Result<(), VaultFault>
     ensures bytes { OnOk result (1 ≤ (D.state disk.new).bytes) }
     ensures memory { IsErrOf result VaultFault.Memory → SameFile (D.state disk.old) (D.state disk.new) }
     ensures up { IsErrOf result VaultFault.Down → ⊥ }
+    ensures fuse { BurnsFuse 3 (D.state disk.old) (D.state disk.new) result }
     ensures cause { IsCounted (D.state disk.old).faults (D.state disk.new).faults result }
 {
     disk.room(1, 7, 2)?;

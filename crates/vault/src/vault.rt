@@ -1,9 +1,9 @@
 //! The vault: what its calls promise in lists of payloads.
-ghost use Rattle.std.specs.Prelude.{◌≡◌, ◌↔◌, ◌+◌, ◌*◌, ◌<◌, ◌≤◌, ◌++◌, ◌∷◌, [], ℕ, length, OnOk, OnErr, IsErrOf, slice_get, Some};
+ghost use Rattle.std.specs.Prelude.{◌≡◌, ◌↔◌, ◌+◌, ◌*◌, ◌<◌, ◌≤◌, ◌++◌, ◌∷◌, [], false, ℕ, length, OnOk, OnErr, IsErrOf, slice_get, Some};
 ghost use Rattle.disk_trait.specs.Calls.{Elapses};
 ghost use Rattle.vault.specs.Cause.{IsCounted};
 ghost use Rattle.vault.specs.File.{IsBeforeOrAfter};
-ghost use Rattle.vault.specs.Standing.{payloads, faults, disk_of, IsDown, IsUp, IsSound, IsSynced, IsLookedAt, IsOpened, HasRoom, Leaves, LeavesFound, IsRestarted, SameFuse, Stays, Burns, StopsWithin};
+ghost use Rattle.vault.specs.Standing.{payloads, faults, stops, disk_of, IsDown, IsUp, IsSound, IsSynced, IsLookedAt, IsOpened, HasRoom, Leaves, LeavesFound, IsRestarted, SameFuse, Stays, Burns, StopsWithin};
 
 use crate::fault::VaultFault;
 use crate::record::{PAYLOAD_MAX, write_frame};
@@ -18,7 +18,7 @@ use std::alloc::Global;
 /// looked at again.
 #[derive(Drop)]
 pub struct Vault<D: Disk> {
-    disk: D,
+    pub(crate) disk: D,
     // where the gate of each record stands
     places: Vec<u64>,
     // where the standing gate is
@@ -63,6 +63,7 @@ impl<D: Disk + Drop> Vault<D> {
         ensures unchanged { IsErrOf result VaultFault.Down → self.new ≡ self.old }
         ensures disk { IsErrOf result VaultFault.Disk → IsDown self.new }
         ensures cause { IsCounted (faults D.state self.old) (faults D.state self.new) result }
+        ensures fuse { IsUp self.old → Burns D.state 3 self.old self.new result }
     {
         if self.is_down {
             return Err(VaultFault::Down);
@@ -121,6 +122,8 @@ impl<D: Disk + Drop> Vault<D> {
         ensures synced { IsSynced D.state self.new }
         ensures same { IsUp self.old → IsSynced D.state self.old → payloads D.state self.new ≡ payloads D.state self.old }
         ensures faults { faults D.state self.new ≡ faults D.state self.old }
+        ensures stops { stops D.state self.new ≡ stops D.state self.old }
+        ensures unset { (D.state (disk_of self.new)).is_armed ≡ false }
         ensures time { Elapses (D.state (disk_of self.old)) (D.state (disk_of self.new)) (D.images (disk_of self.old)) (D.images (disk_of self.new)) }
     {
         self.disk.restart(pick);

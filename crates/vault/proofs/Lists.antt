@@ -1,12 +1,12 @@
 -- Bytes and the payloads that they stand for.
-use Rattle.std.proofs.Common.{◌≡◌, ◌≢◌, inl, inr, ℕ, zero, suc, ◌+◌, ◌-◌, ◌<◌, ◌≤◌, ◌^◌, Bool, true, false, List, [], ◌∷◌, ◌++◌, length, get_or, take, drop, slice_index, refl, sym, ◌∙◌, ap, subst, arith, rules, append_assoc, length-append, length-take, length-drop, take-append-drop, if◌then◌else◌}
-use Rattle.std.proofs.lemmas.List.{take_all, drop_all, take_at, drop_at, drop_more, drop-drop, append-nil}
+use Rattle.std.proofs.Common.{◌≡◌, inl, inr, ℕ, zero, suc, ◌+◌, ◌-◌, ◌<◌, ◌≤◌, Bool, true, false, List, [], ◌∷◌, ◌++◌, length, take, drop, slice_index, refl, sym, ◌∙◌, ap, subst, arith, append_assoc, length-append, length-take, length-drop, take-append-drop, if◌then◌else◌}
+use Rattle.std.proofs.lemmas.List.{take_at, drop_at, drop-drop, append-nil}
 use Rattle.std.proofs.lemmas.Bool.{cases_eq}
 use Rattle.std.proofs.lemmas.Bool.Decides.{nat_tests}
 use Rattle.std.proofs.lemmas.Nat.{from_be_bytes-to_be_bytes_4}
 use Rattle.std.specs.Int.{w32, to_be_bytes, from_be_bytes}
 use Rattle.vault.specs.declared.record.TheConstants.{PAYLOAD_MAX}
-use Rattle.vault.specs.File.{length_in, begins_record, decode, behind, payloads_of, rest_of, IsShut, StandsFor, records, places_from, frame_of, AllShort, HasFront, EndsAt}
+use Rattle.vault.specs.File.{length_in, begins_record, decode, behind, payloads_of, rest_of, IsShut, StandsFor, records, places_from, AllShort, HasFront, EndsAt}
 
 pub length-records : (ps : List (List ℕ)) → length ps ≤ length (records ps)
 length-records [] = omega arith

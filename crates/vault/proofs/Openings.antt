@@ -1,6 +1,6 @@
 -- A file that ends with a closed gate, as an opened vault has it.
-use Rattle.std.proofs.Common.{◌≡◌, ℕ, ◌+◌, ◌≤◌, List, [], ◌∷◌, ◌++◌, length, refl, sym, ◌∙◌, ap, subst, arith, length-append}
-use Rattle.vault.specs.File.{payloads_of, records, places_from, AllShort, StandsFor, EndsAt}
+use Rattle.std.proofs.Common.{◌≡◌, ℕ, ◌+◌, List, [], ◌∷◌, ◌++◌, length, sym, ◌∙◌, ap, subst, arith, length-append}
+use Rattle.vault.specs.File.{payloads_of, records, places_from, AllShort, EndsAt}
 use Rattle.vault.proofs.Lists.{places-push}
 use Rattle.vault.proofs.Repairs.{closed_stands, closed_ends}
 

@@ -1,5 +1,5 @@
 -- While nothing is written, a crash leaves what is there.
-use Rattle.std.proofs.Common.{◌≡◌, ◌≤◌, ℕ, List, sym, ◌∙◌, subst}
+use Rattle.std.proofs.Common.{◌≡◌, ℕ, List, sym, ◌∙◌, subst}
 use Rattle.disk_trait.specs.Image.{Pending, IsImage, settled}
 use Rattle.disk_trait.specs.Calls.{DiskState, Elapses, SameFile, LeavesOnly}
 use Rattle.disk_trait.proofs.Images.{settled_only}

@@ -1,10 +1,10 @@
 -- While the end of a file is repaired, each image stands for the same payloads.
-use Rattle.std.proofs.Common.{◌≡◌, ◌≢◌, inl, inr, ℕ, ◌+◌, ◌-◌, ◌<◌, ◌≤◌, min, false, List, [], ◌∷◌, ◌++◌, length, take, drop, slice_index, refl, sym, ◌∙◌, ap, subst, arith, rules, length-drop, length-take, length-append}
+use Rattle.std.proofs.Common.{◌≡◌, inl, inr, ℕ, ◌+◌, ◌-◌, ◌<◌, ◌≤◌, min, List, [], ◌∷◌, ◌++◌, length, take, drop, slice_index, refl, sym, ◌∙◌, ap, subst, arith, length-drop, length-take, length-append}
 use Rattle.std.proofs.lemmas.List.{take-take, take_at, drop_at, drop_all, append-nil, places}
 use Rattle.std.proofs.lemmas.Bool.{cases_lt}
 use Rattle.disk_trait.specs.Image.{IsImage, settled, touched, shortened, overwritten}
 use Rattle.disk_trait.proofs.Images.{touched_front, shortened_front}
-use Rattle.vault.specs.File.{begins_record, decode, payloads_of, IsShut, StandsFor, records, AllShort, HasFront, EndsAt}
+use Rattle.vault.specs.File.{decode, payloads_of, IsShut, StandsFor, records, AllShort, HasFront, EndsAt}
 use Rattle.vault.proofs.Lists.{shut_last, same_front, stands_at, gate_within, found_first}
 
 -- a file that ends with a closed gate

@@ -1,10 +1,10 @@
 -- What layers above a vault need of it, in lists of payloads.
-use Rattle.std.proofs.Common.{◌≡◌, ◌≤◌, ◌+◌, ◌*◌, ◌<◌, min, ℕ, List, [], ◌∷◌, ◌++◌, length, refl, sym, ◌∙◌, ap, subst, arith}
-use Rattle.disk_trait.specs.Image.{Pending, IsImage, settled}
-use Rattle.disk_trait.specs.Calls.{DiskState, Elapses, LeavesOnly}
+use Rattle.std.proofs.Common.{◌≡◌, ◌≤◌, ℕ, List, refl, sym, subst, arith}
+use Rattle.disk_trait.specs.Image.{IsImage}
+use Rattle.disk_trait.specs.Calls.{DiskState}
 use Rattle.disk_trait.proofs.Moments.{leaves_then, leaves_weaker}
-use Rattle.vault.specs.File.{payloads_of, records, StandsFor, StandsForOne}
-use Rattle.vault.specs.Standing.{payloads, IsSound, IsUp, IsOpened, IsRestarted, HasRoom, Leaves}
+use Rattle.vault.specs.File.{StandsFor, StandsForOne}
+use Rattle.vault.specs.Standing.{payloads, IsSound, IsOpened, IsRestarted, HasRoom, Leaves}
 use Rattle.vault.specs.declared.vault.Vault.{Vault}
 use Rattle.vault.proofs.Repairs.{closed_stands}
 use Rattle.vault.proofs.Quiet.{still}

@@ -1,5 +1,5 @@
 -- A vault between calls, in lists of payloads. Nothing above a vault needs more than these words.
-use Rattle.std.specs.Prelude.{◌≡◌, ℕ, ◌+◌, ◌*◌, ◌^◌, ◌<◌, ◌≤◌, min, Bool, false, true, List, [], ◌∷◌, ◌++◌, length, Result}
+use Rattle.std.specs.Prelude.{◌≡◌, ℕ, ◌+◌, ◌*◌, ◌^◌, ◌<◌, ◌≤◌, min, false, true, List, [], ◌∷◌, ◌++◌, length, Result}
 use Rattle.std.specs.Vec.{vec_capacity, vec_len}
 use Rattle.disk_trait.specs.Image.{IsImage, settled}
 use Rattle.disk_trait.specs.Calls.{DiskState, LeavesOnly}

@@ -3,11 +3,13 @@
 
 mod fault;
 mod fused;
+mod laws;
 mod record;
 mod scan;
 mod steps;
 mod vault;
 
 pub use fault::VaultFault;
+pub use laws::what_files_stand_for;
 pub use record::PAYLOAD_MAX;
 pub use vault::Vault;

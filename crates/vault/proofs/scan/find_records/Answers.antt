@@ -1,5 +1,5 @@
 use Rattle.std.proofs.Common.{◌≡◌, ◌+◌, ◌++◌, ◌∷◌, [], ◌∙◌, ap, subst, sym, List, ℕ, drop, false, rules}
-use Rattle.vault.specs.File.{begins_record, payloads_of, EndsAt, places_from}
+use Rattle.vault.specs.File.{begins_record}
 use Rattle.vault.specs.Scan.{BeginsRecord, Finds, HasFound}
 use Rattle.vault.proofs.Found.{one_more, all_found, same_then, time_then}
 use Rattle.vault.proofs.scan.find_records.Goals as goal

@@ -1,8 +1,8 @@
-use Rattle.std.proofs.Common.{◌≡◌, ◌+◌, ◌≤◌, ◌∙◌, ap, subst, min, List, ℕ, length, take, drop}
+use Rattle.std.proofs.Common.{◌≡◌, ◌+◌, ◌∙◌, ap, subst, min, ℕ, length, take}
 use Rattle.disk_trait.specs.Image.{IsImage, settled, touched, shortened}
 use Rattle.disk_trait.proofs.Moments.{leaves_then, leaves_weaker}
-use Rattle.vault.specs.File.{payloads_of, StandsFor, HasFront, EndsAt, FindsFirst}
-use Rattle.vault.proofs.Repairs.{end, cut_stands, cut_keeps, cut_seen, set_stands, set_keeps}
+use Rattle.vault.specs.File.{payloads_of, StandsFor, FindsFirst}
+use Rattle.vault.proofs.Repairs.{cut_stands, cut_keeps, cut_seen, set_stands, set_keeps}
 use Rattle.vault.proofs.steps.close_gate.Goals as goal
 
 pub returns-in_err-cut_durably-clause-any_moment : goal.returns-in_err-cut_durably-clause-any_moment

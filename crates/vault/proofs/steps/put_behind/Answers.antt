@@ -1,6 +1,6 @@
-use Rattle.std.proofs.Common.{◌+◌, ◌≡◌, List, length, take, inl}
+use Rattle.std.proofs.Common.{◌+◌, length, inl}
 use Rattle.disk_trait.specs.Image.{IsImage, settled, touched}
-use Rattle.disk_trait.proofs.Moments.{leaves_then, leaves_weaker}
+use Rattle.disk_trait.proofs.Moments.{leaves_then}
 use Rattle.vault.specs.File.{IsBehindGate}
 use Rattle.vault.proofs.Behind.{first_images, second_images}
 use Rattle.vault.proofs.steps.put_behind.Goals as goal

@@ -1,6 +1,6 @@
-use Rattle.std.proofs.Common.{◌≡◌, ◌++◌, ◌∷◌, [], ◌+◌, List, ℕ, length, take, refl, sym, ◌∙◌, ap, subst, rules, arith, inl}
+use Rattle.std.proofs.Common.{◌≡◌, ◌++◌, ◌∷◌, [], ◌+◌, List, ℕ, length, take, refl, sym, ◌∙◌, ap, subst, rules, arith}
 use Rattle.disk_trait.proofs.Moments.{leaves_weaker}
-use Rattle.vault.specs.File.{payloads_of, places_from, frame_of, StandsForOne, IsBeforeOrAfter, IsBehindGate}
+use Rattle.vault.specs.File.{places_from, frame_of, StandsForOne, IsBeforeOrAfter, IsBehindGate}
 use Rattle.vault.specs.Standing.{payloads}
 use Rattle.vault.proofs.Behind.{appended_file, appended_stands, appended_short, appended_size, behind_lists, before_lists}
 use Rattle.vault.proofs.Openings.{closed_at, places_grow}

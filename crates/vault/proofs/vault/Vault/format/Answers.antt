@@ -1,4 +1,4 @@
-use Rattle.std.proofs.Common.{◌≡◌, [], ◌∷◌, ap, sym, ◌∙◌, refl, arith, length}
+use Rattle.std.proofs.Common.{◌≡◌, [], ap, sym, ◌∙◌, refl, arith}
 use Rattle.vault.specs.File.{places_from, StandsForOne}
 use Rattle.vault.proofs.Openings.{closed_at}
 use Rattle.vault.proofs.Quiet.{still}

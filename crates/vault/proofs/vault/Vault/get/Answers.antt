@@ -1,9 +1,9 @@
-use Rattle.std.proofs.Common.{◌≡◌, ◌+◌, ◌<◌, ◌≤◌, List, ℕ, [], length, get_or, take, drop, Some, refl, sym, ◌∙◌, ap, subst, rules, arith}
+use Rattle.std.proofs.Common.{◌≡◌, ◌+◌, ◌<◌, ◌≤◌, List, ℕ, [], length, get_or, take, drop, Some, refl, sym, ◌∙◌, ap, subst, arith}
 use Rattle.std.proofs.lemmas.Option.{slice_get-get_or}
 use Rattle.vault.specs.File.{payloads_of, StandsForOne}
 use Rattle.vault.specs.Standing.{payloads}
 use Rattle.vault.proofs.Quiet.{quiet}
-use Rattle.vault.proofs.Spots.{IsHeld, held}
+use Rattle.vault.proofs.Spots.{held}
 use Rattle.vault.proofs.vault.Vault.get.Goals as goal
 
 pub span-at-requires-clause-index : goal.span-at-requires-clause-index

@@ -1,4 +1,4 @@
-use Rattle.std.proofs.Common.{◌≡◌, List, ℕ, length, refl, sym, ap, subst, ◌∙◌, arith}
+use Rattle.std.proofs.Common.{◌≡◌, refl, sym, ap, ◌∙◌, arith}
 use Rattle.disk_trait.proofs.Moments.{leaves_weaker}
 use Rattle.vault.specs.File.{payloads_of, places_from, StandsFor, StandsForOne}
 use Rattle.vault.specs.Standing.{payloads}

@@ -1,4 +1,4 @@
-use Rattle.std.proofs.Common.{◌≡◌, ◌∙◌, ap, List, ℕ, length, rules}
+use Rattle.std.proofs.Common.{◌≡◌, ◌∙◌, ap, length, rules}
 use Rattle.vault.specs.Standing.{payloads}
 use Rattle.vault.proofs.Lists.{length-places}
 use Rattle.vault.proofs.vault.Vault.records.Goals as goal

@@ -1,5 +1,5 @@
-use Rattle.std.proofs.Common.{◌≡◌, List, ℕ, refl}
-use Rattle.vault.specs.File.{payloads_of, StandsForOne}
+use Rattle.std.proofs.Common.{◌≡◌, refl}
+use Rattle.vault.specs.File.{StandsForOne}
 use Rattle.vault.specs.Standing.{payloads}
 use Rattle.vault.proofs.Quiet.{still, quiet}
 use Rattle.vault.proofs.vault.Vault.reserve.Goals as goal

@@ -1,12 +1,17 @@
-//! Numbers, byte strings and row ids that every crate of the service speaks of.
+//! Numbers, byte strings and row ids that every crate of the service speaks of, and how they are spelled.
 #![tactic(auto)]
 
 mod bytes;
+mod codec;
 mod numbers;
 mod row;
 mod sequence;
 
 pub use bytes::Bytes;
+pub use codec::{
+    TakeFault, counted_bytes_are_read_again, number_is_read_again, put_bytes, put_u8, put_u32,
+    put_u64, take_bytes, take_u8, take_u32, take_u64,
+};
 pub use numbers::{ClientNo, GateNo, StoreNo, TableNo, Version, WriteNo};
 pub use row::RowId;
 pub use sequence::Sequence;

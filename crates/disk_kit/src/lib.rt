@@ -1,0 +1,9 @@
+//! Disks in memory, and a depot of them.
+#![tactic(auto)]
+
+mod depot;
+mod edits;
+mod memory;
+
+pub use depot::MemDepot;
+pub use memory::{Call, MemDisk};

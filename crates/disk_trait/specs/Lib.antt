@@ -1,0 +1,4 @@
+pub mod Image
+pub mod Calls
+pub mod Depots
+pub mod Fuse

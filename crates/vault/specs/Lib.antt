@@ -1,0 +1,5 @@
+pub mod File
+pub mod Head
+pub mod Scan
+pub mod Cause
+pub mod Standing

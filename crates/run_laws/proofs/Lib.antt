@@ -2,3 +2,4 @@ mod Shapes
 pub mod Writes
 mod Origins
 mod Showings
+pub mod Newest

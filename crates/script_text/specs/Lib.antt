@@ -1,0 +1,7 @@
+pub mod Faults
+pub mod Names
+pub mod Words
+pub mod Verbs
+pub mod Places
+pub mod Reading
+pub mod Grammar

@@ -1,8 +1,11 @@
 pub mod CellLemmas
+pub mod FaultLaws
 pub mod IntLemmas
 pub mod LineLemmas
 pub mod PlaceLemmas
 pub mod Readings
+pub mod Rights
 pub mod Sets
+pub mod Spelled
 pub mod Steps
 pub mod WordLemmas

@@ -161,15 +161,15 @@ scheme_at-ok word scheme e = elim (cases_Bool (bytes_eq word (codes "eventual"))
   | inr other ↦ absurd (two_errors (bytes_eq word (codes "strong") || bytes_eq word (codes "causal")) scheme Unbuilt NoName (rw other at e))
 ]
 
-text-64 : decimal 64 ≡ codes "64"
+pub text-64 : decimal 64 ≡ codes "64"
 unfolding digits
 text-64 = refl
 
-text-1024 : decimal 1024 ≡ codes "1024"
+pub text-1024 : decimal 1024 ≡ codes "1024"
 unfolding digits
 text-1024 = refl
 
-text-65536 : decimal 65536 ≡ codes "65536"
+pub text-65536 : decimal 65536 ≡ codes "65536"
 unfolding digits
 text-65536 = refl
 

@@ -3,6 +3,7 @@
 
 mod declared;
 mod fault;
+mod laws;
 mod lines;
 mod parse;
 mod places;
@@ -12,4 +13,5 @@ mod words;
 
 pub use declared::Declared;
 pub use fault::{BadLine, ScriptFault};
+pub use laws::{fault_apart, one_event, one_fault, passed_apart};
 pub use parse::parse_line;

@@ -23,7 +23,7 @@ use Rattle.table_model.specs.declared.line.TextLine.{TextLine}
 use Rattle.table_model.specs.declared.line.TextLine.TheVariants as lines
 use Rattle.script_text.specs.Text.{cell_text, content_text, text_of}
 use Rattle.script_text.specs.OneForm.{IsNumberCell, HasContentText, HasWriteText, HasText}
-use Rattle.script_text.proofs.Words.{IsAbove, led, led_same, led_above, decimal_above, signed_above, row_above, signed_first}
+use Rattle.script_text.proofs.Above.{IsAbove, led, led_same, led_above, decimal_above, signed_above, row_above, signed_first}
 
 abbrev pub cell_word : Cell → List ℕ
 cell_word (cells.Int n) = signed_decimal n

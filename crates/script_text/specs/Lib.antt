@@ -1,2 +1,9 @@
+pub mod Faults
+pub mod Names
+pub mod Words
+pub mod Verbs
+pub mod Places
+pub mod Reading
+pub mod Grammar
 pub mod Text
 pub mod OneForm

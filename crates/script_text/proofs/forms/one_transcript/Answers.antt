@@ -3,7 +3,7 @@ use Rattle.std.specs.List.{AllByRecursion}
 use Rattle.table_model.specs.declared.line.TextLine.{TextLine}
 use Rattle.script_text.specs.Text.{text_of, transcript_text}
 use Rattle.script_text.specs.OneForm.{HasText}
-use Rattle.script_text.proofs.Words.{peel}
+use Rattle.script_text.proofs.Above.{peel}
 use Rattle.script_text.proofs.LineWords.{line_same, text_above}
 use Rattle.script_text.proofs.forms.one_transcript.Goals as goal
 

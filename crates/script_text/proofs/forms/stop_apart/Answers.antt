@@ -3,7 +3,7 @@ use Rattle.std.specs.Fmt.{decimal}
 use Rattle.std.proofs.lemmas.Fmt.{decimal_injective}
 use Rattle.std.specs.List.{AllByRecursion}
 use Rattle.script_text.specs.Text.{stop_text}
-use Rattle.script_text.proofs.Words.{IsAbove, led, led_same, decimal_above}
+use Rattle.script_text.proofs.Above.{IsAbove, led, led_same, decimal_above}
 use Rattle.script_text.proofs.forms.stop_apart.Goals as goal
 
 words : ℕ → ℕ → ℕ → List (List ℕ)

@@ -1,0 +1,50 @@
+-- What a script has declared so far, and whether an event was read.
+use Rattle.std.specs.Prelude.{ℕ, ◌==◌, length, Bool, true, false, List, [], is_some, map, Vec}
+use Rattle.std.specs.Ordering.{nat_cmp}
+use Rattle.std.specs.Cmp.Lexicographic.{slice_cmp}
+use Rattle.std.specs.List.{list_any}
+use Rattle.std.specs.Map.{lookup}
+use Rattle.std.specs.BTreeMap.{is_at, insert_entry}
+use Rattle.std.specs.BTreeSet.{BTreeSet, insert_key}
+use Rattle.row_value.specs.declared.schema.Schema.{Schema}
+use Rattle.table_model.specs.declared.event.Event.{Event}
+use Rattle.table_model.specs.declared.event.Event.TheVariants as events
+
+-- the keys of a set of texts
+abbrev pub texts_of : {A : Type 0} → BTreeSet (Vec ℕ A) → List (List ℕ)
+texts_of texts = map (λ v. v.items) texts.keys
+
+-- numbers in rising order, tables with their schema, table names in the order of their bytes
+pub record Names : Type 0 where
+  pub stores : List ℕ
+  pub tables : List (ℕ × Schema)
+  pub names : List (List ℕ)
+  pub clients : List ℕ
+  pub started : Bool
+
+abbrev pub no_names : Names
+no_names = record { stores = []; tables = []; names = []; clients = []; started = false }
+
+-- the event's declaration is added, or that an event was read
+abbrev pub with_event : Names → Event → Names
+with_event n (events.Store store) = record n { stores = insert_key nat_cmp n.stores store }
+with_event n (events.Table table schema) =
+    record n { tables = insert_entry nat_cmp n.tables table schema; names = insert_key (slice_cmp nat_cmp) n.names schema.name }
+with_event n (events.Client client gate tables) = record n { clients = insert_key nat_cmp n.clients client }
+with_event n (events.Write client table row content) = record n { started = true }
+with_event n (events.Show client table row) = record n { started = true }
+
+abbrev pub has_store : Names → ℕ → Bool
+has_store n store = list_any (is_at (nat_cmp store)) n.stores
+
+abbrev pub has_table : Names → ℕ → Bool
+has_table n table = is_some (lookup (is_at (nat_cmp table)) n.tables)
+
+abbrev pub has_name : Names → List ℕ → Bool
+has_name n name = list_any (is_at (slice_cmp nat_cmp name)) n.names
+
+abbrev pub has_client : Names → ℕ → Bool
+has_client n client = list_any (is_at (nat_cmp client)) n.clients
+
+abbrev pub has_no_store : Names → Bool
+has_no_store n = length n.stores == 0

@@ -1,0 +1,208 @@
+-- What a word says at its place in a line, or the code of its fault there.
+use Rattle.std.specs.Prelude.{◌≡◌, ℕ, Bool, false, ◌==◌, ◌&&◌, ◌||◌, ◌^◌, nat_le, nat_lt, not, List, [], ◌∷◌, length, codes, Option, Some, None, Result, Ok, Err, is_ok, if◌then◌else◌, ℤ}
+use Rattle.std.specs.List.{slice_split, list_all, list_any, before_first, after_first, position_or_len}
+use Rattle.std.specs.Borrow.{Bor}
+use Rattle.std.specs.Int.Signed.{mag}
+use Rattle.std.specs.Fmt.{signed_decimal}
+use Rattle.std.specs.Str.{bytes_eq, is_utf8}
+use Rattle.std.specs.Str.Parse.{digits_value, signed_digits_value}
+use Rattle.percent_encoding.specs.Percent.{percent_decode}
+use Rattle.stab_base.specs.Row.{row_of}
+use Rattle.row_value.specs.declared.schema.ColumnKind.{ColumnKind}
+use Rattle.row_value.specs.declared.schema.ColumnKind.TheVariants as kinds
+use Rattle.row_value.specs.declared.schema.Scheme.{Scheme}
+use Rattle.row_value.specs.declared.schema.Scheme.TheVariants as schemes
+use Rattle.script_text.specs.declared.fault.ValueFault.{ValueFault}
+use Rattle.script_text.specs.declared.fault.ValueFault.TheVariants as faults
+use Rattle.script_text.specs.declared.fault.Code.{Code}
+use Rattle.script_text.specs.declared.fault.Code.TheVariants.{NoNumber, NoName, NoRow, NoValue, NotDeclared, Twice, Unbuilt}
+use Rattle.script_text.specs.Names.{Names, has_store, has_table, has_name, has_client}
+use Rattle.script_text.specs.Words.{is_number, is_length, is_name, is_hex}
+
+infixl 10 ◌>>=◌
+abbrev pub ◌>>=◌ : {A B E : Type 0} → Result A E → (A → Result B E) → Result B E
+(Ok x) >>= f = f x
+(Err e) >>= f = Err e
+
+-- what borrowed words are
+abbrev pub seen : Result (Bor (List ℕ)) Code → Result (List ℕ) Code
+seen (Ok word) = Ok word.now
+seen (Err code) = Err code
+
+abbrev pub seen_parts : Option (Bor (List ℕ) × Bor (List ℕ)) → Option (List ℕ × List ℕ)
+seen_parts None = None
+seen_parts (Some p) = Some (p.0.now, p.1.now)
+
+abbrev pub seen_column : Option (Bor (List ℕ) × ColumnKind) → Option (List ℕ × ColumnKind)
+seen_column None = None
+seen_column (Some p) = Some (p.0.now, p.1)
+
+-- a value's judgement, where memory sufficed
+abbrev pub Judges : Result ℤ ValueFault → Result ℤ Code → Type 0
+Judges (Ok z) judged = judged ≡ Ok z
+Judges (Err faults.Memory) judged = Unit {0}
+Judges (Err (faults.Code code)) judged = judged ≡ Err code
+
+-- the number that digits spell, where it is below 2 ^ 32, as every number that is declared
+unfoldable pub small : List ℕ → Option ℕ
+small digits = if nat_lt (digits_value 10 digits) (2 ^ 32) then Some (digits_value 10 digits) else None
+
+-- the letter of a kind of node, or of tables, and a number from 1
+unfoldable pub node_at : ℕ → List ℕ → Result (Option ℕ) Code
+node_at letter [] = Err NoName
+node_at letter (c ∷ digits) = if (c == letter) && is_number digits then Ok (small digits) else Err NoName
+
+-- only the number 1 is built
+abbrev pub built : ℕ → Result ℕ Code
+built n = if n == 1 then Ok n else Err Unbuilt
+
+-- the number of something that is declared
+abbrev pub known : (ℕ → Bool) → Option ℕ → Result ℕ Code
+known has None = Err NotDeclared
+known has (Some n) = if has n then built n else Err NotDeclared
+
+-- the number of something that isn't
+abbrev pub fresh : (ℕ → Bool) → Option ℕ → Result ℕ Code
+fresh has None = Err Unbuilt
+fresh has (Some n) = if has n then Err Twice else built n
+
+-- the number of a table that a client opens: of the 64 that there may be
+abbrev pub opened : (ℕ → Bool) → Option ℕ → Result ℕ Code
+opened has None = Err Unbuilt
+opened has (Some n) = if nat_lt 64 n then Err Unbuilt else known has (Some n)
+
+unfoldable pub client_at : Names → List ℕ → Result ℕ Code
+client_at names word = node_at 67 word >>= known (has_client names)
+
+unfoldable pub table_at : Names → List ℕ → Result ℕ Code
+table_at names word = node_at 84 word >>= known (has_table names)
+
+unfoldable pub new_store_at : Names → List ℕ → Result ℕ Code
+new_store_at names word = node_at 83 word >>= fresh (has_store names)
+
+unfoldable pub new_table_at : Names → List ℕ → Result ℕ Code
+new_table_at names word = node_at 84 word >>= fresh (has_table names)
+
+unfoldable pub new_client_at : Names → List ℕ → Result ℕ Code
+new_client_at names word = node_at 67 word >>= fresh (has_client names)
+
+-- `-`; a gateway is a form that isn't built
+unfoldable pub gate_at : List ℕ → Result (Unit {0}) Code
+gate_at word = if bytes_eq word (codes "-") then Ok tt else (node_at 71 word >>= λ n. Err Unbuilt)
+
+abbrev pub is_comma : ℕ → Bool
+is_comma b = b == 44
+
+-- one table that a client opens
+unfoldable pub opened_at : Names → List ℕ → Result ℕ Code
+opened_at names word = node_at 84 word >>= opened (has_table names)
+
+-- a table; `-` and two tables or more, joined by commas, are forms that aren't built
+unfoldable pub tables_at : Names → List ℕ → Result ℕ Code
+tables_at names word =
+    if bytes_eq word (codes "-") then Err Unbuilt
+    else if list_any is_comma word
+    then (if list_all (λ part. is_ok (node_at 84 part)) (slice_split is_comma word) then Err Unbuilt else Err NoName)
+    else opened_at names word
+
+unfoldable pub new_name_at : Names → List ℕ → Result (List ℕ) Code
+new_name_at names word = if not (is_name word) then Err NoName else if has_name names word then Err Twice else Ok word
+
+unfoldable pub scheme_at : List ℕ → Result Scheme Code
+scheme_at word =
+    if bytes_eq word (codes "eventual") then Ok schemes.Eventual
+    else if bytes_eq word (codes "strong") || bytes_eq word (codes "causal") then Err Unbuilt
+    else Err NoName
+
+unfoldable pub chunk_at : List ℕ → Result ℕ Code
+chunk_at word =
+    if bytes_eq word (codes "64") then Ok 64
+    else if bytes_eq word (codes "1024") then Ok 1024
+    else if bytes_eq word (codes "65536") then Ok 65536
+    else Err NoNumber
+
+abbrev pub is_colon : ℕ → Bool
+is_colon b = b == 58
+
+-- what stands before and behind the first colon
+unfoldable pub parts_of : List ℕ → Option (List ℕ × List ℕ)
+parts_of word =
+    if nat_lt (position_or_len is_colon word) (length word)
+    then Some (before_first is_colon word, after_first is_colon word) else None
+
+unfoldable pub kind_of : List ℕ → Option ColumnKind
+kind_of word =
+    if bytes_eq word (codes "int") then Some kinds.Int
+    else if bytes_eq word (codes "bool") then Some kinds.Bool
+    else if bytes_eq word (codes "text") then Some kinds.Text
+    else if bytes_eq word (codes "object") then Some kinds.Object
+    else None
+
+abbrev pub named : List ℕ → Option ColumnKind → Option (List ℕ × ColumnKind)
+named name None = None
+named name (Some kind) = if is_name name then Some (name, kind) else None
+
+-- the name and the kind of a column, with a colon between them
+unfoldable pub column_of : List ℕ → Option (List ℕ × ColumnKind)
+column_of word = elim (parts_of word) [ None ↦ None | Some p ↦ named p.0 (kind_of p.1) ]
+
+abbrev pub number_column : Option (List ℕ × ColumnKind) → Result (List ℕ) Code
+number_column None = Err NoName
+number_column (Some p) = elim p.1 [ kinds.Int ↦ Ok p.0 | kinds.Bool ↦ Err Unbuilt | kinds.Text ↦ Err Unbuilt | kinds.Object ↦ Err Unbuilt ]
+
+-- the name of a column of numbers; the other kinds aren't built
+unfoldable pub column_at : List ℕ → Result (List ℕ) Code
+column_at word = number_column (column_of word)
+
+abbrev pub second_column : List ℕ → Option (List ℕ × ColumnKind) → Code
+second_column first None = NoName
+second_column first (Some p) = if bytes_eq p.0 first then Twice else Unbuilt
+
+-- a second column isn't built
+unfoldable pub second_column_at : List ℕ → List ℕ → Code
+second_column_at first word = second_column first (column_of word)
+
+abbrev pub found_row : Option (List ℕ) → Result (List ℕ) Code
+found_row None = Err NoRow
+found_row (Some row) = Ok row
+
+unfoldable pub row_at : List ℕ → Result (List ℕ) Code
+row_at word = found_row (row_of word)
+
+-- the number of 64 bits with a sign whose one text the word is
+unfoldable pub int_of : List ℕ → Option ℤ
+int_of word =
+    let z = signed_digits_value 10 word in
+    if nat_lt (mag z) (2 ^ 63) && bytes_eq (signed_decimal z) word then Some z else None
+
+-- a length up to 33,554,432
+unfoldable pub is_repeat_length : List ℕ → Bool
+is_repeat_length digits = is_length digits && nat_le (digits_value 10 digits) 33554432
+
+-- such a length, and one byte or more to repeat
+unfoldable pub is_repeat : List ℕ → Bool
+is_repeat word = elim (parts_of word) [
+  | None ↦ false
+  | Some p ↦ is_repeat_length p.0 && not (length p.1 == 0) && is_hex p.1
+]
+
+unfoldable pub is_text_value : List ℕ → Bool
+is_text_value text = is_utf8 (percent_decode text)
+
+-- a text or an object
+unfoldable pub is_long_value : List ℕ → Bool
+is_long_value word = elim (parts_of word) [
+  | None ↦ false
+  | Some p ↦
+      if bytes_eq p.0 (codes "t") then is_text_value p.1
+      else if bytes_eq p.0 (codes "h") then is_hex p.1
+      else bytes_eq p.0 (codes "r") && is_repeat p.1
+]
+
+abbrev pub found_value : Bool → Option ℤ → Result ℤ Code
+found_value other None = if other then Err Unbuilt else Err NoValue
+found_value other (Some z) = Ok z
+
+-- a number; the other values aren't built
+unfoldable pub value_at : List ℕ → Result ℤ Code
+value_at word = found_value (bytes_eq word (codes "true") || bytes_eq word (codes "false") || is_long_value word) (int_of word)

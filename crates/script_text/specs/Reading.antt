@@ -1,0 +1,165 @@
+-- Words read from left to right: the event that they spell, or the first word at fault.
+use Rattle.std.specs.Prelude.{◌≡◌, ℕ, ◌+◌, List, [], ◌∷◌, ◌++◌, Option, Some, None, Result, Ok, Err, if◌then◌else◌}
+use Rattle.std.specs.Str.{is_utf8}
+use Rattle.row_value.specs.declared.schema.ColumnKind.TheVariants as kinds
+use Rattle.row_value.specs.declared.content.Cell.{Cell}
+use Rattle.row_value.specs.declared.content.Cell.TheVariants as cells
+use Rattle.row_value.specs.declared.content.Content.TheVariants.{Row}
+use Rattle.table_model.specs.declared.event.Event.{Event}
+use Rattle.table_model.specs.declared.event.Event.TheVariants as events
+use Rattle.script_text.specs.declared.fault.Code.{Code}
+use Rattle.script_text.specs.declared.fault.Code.TheVariants.{NoVerb, Missing, Surplus, NotDeclared, NotUtf8, Late, Unbuilt}
+use Rattle.script_text.specs.declared.fault.BadLine.{BadLine}
+use Rattle.script_text.specs.declared.fault.ScriptFault.{ScriptFault}
+use Rattle.script_text.specs.declared.fault.ScriptFault.TheVariants as faults
+use Rattle.script_text.specs.declared.lines.TableWords.{TableWords}
+use Rattle.row_value.specs.declared.schema.Scheme.{Scheme}
+use Rattle.script_text.specs.declared.verb.Verb.{Verb}
+use Rattle.script_text.specs.declared.verb.Verb.TheVariants as verbs
+use Rattle.script_text.specs.Faults.{bad}
+use Rattle.script_text.specs.Verbs.{verb_of, is_unbuilt}
+use Rattle.script_text.specs.Names.{Names, has_no_store}
+use Rattle.std.specs.Borrow.{Bor}
+use Rattle.script_text.specs.Words.{texts, words_of, is_comment}
+use Rattle.script_text.specs.Places.{◌>>=◌, client_at, table_at, new_store_at, new_table_at, new_client_at, gate_at, tables_at, new_name_at, scheme_at, chunk_at, column_at, second_column_at, row_at, value_at}
+
+-- the next word and the words behind it
+unfoldable pub next_in : ℕ → List (List ℕ) → Result (List ℕ × List (List ℕ)) BadLine
+next_in at [] = Err (bad Missing at)
+next_in at (word ∷ words) = Ok (word, words)
+
+abbrev pub seen_next : Result (Bor (List ℕ) × Bor (List (Bor (List ℕ)))) BadLine → Result (List ℕ × List (List ℕ)) BadLine
+seen_next (Ok next) = Ok (next.0.now, texts next.1.now)
+seen_next (Err fault) = Err fault
+
+-- a word's code is a fault at its place
+abbrev pub placed : {X : Type 0} → ℕ → Result X Code → Result X BadLine
+placed at (Ok x) = Ok x
+placed at (Err code) = Err (bad code at)
+
+-- the next word at its place, and then what follows
+unfoldable pub word_in : {X Y : Type 0} → ℕ → (List ℕ → Result X Code) → List (List ℕ) → (X → List (List ℕ) → Result Y BadLine) → Result Y BadLine
+word_in at place words next = do
+  a ← next_in at words
+  x ← placed at (place a.0)
+  next x a.1
+
+unfoldable pub end_in : ℕ → List (List ℕ) → Result (Unit {0}) BadLine
+end_in at [] = Ok tt
+end_in at (word ∷ words) = Err (bad Surplus at)
+
+unfoldable pub store_in : Names → List (List ℕ) → Result Event BadLine
+store_in names words =
+    word_in 1 (new_store_at names) words (λ store a.
+    end_in 2 a >>= λ done. Ok (events.Store store))
+
+unfoldable pub columns_end_in : ℕ → List ℕ → List (List ℕ) → Result (Unit {0}) BadLine
+columns_end_in at first [] = Ok tt
+columns_end_in at first (word ∷ words) = Err (bad (second_column_at first word) at)
+
+-- a table of one column of numbers
+abbrev pub made_table : ℕ → List ℕ → Scheme → ℕ → List ℕ → Event
+made_table table name scheme chunk column =
+    events.Table table (record { name = name; scheme = scheme; chunk = chunk; columns = record { name = column; kind = kinds.Int } ∷ [] })
+
+abbrev pub table_event : TableWords → Event
+table_event words = made_table words.table words.name.now words.scheme words.chunk words.column.now
+
+abbrev pub seen_table : Result TableWords BadLine → Result Event BadLine
+seen_table (Ok words) = Ok (table_event words)
+seen_table (Err fault) = Err fault
+
+unfoldable pub table_in : Names → List (List ℕ) → Result Event BadLine
+table_in names words =
+    word_in 1 (new_table_at names) words (λ table a.
+    word_in 2 (new_name_at names) a (λ name b.
+    word_in 3 scheme_at b (λ scheme c.
+    word_in 4 chunk_at c (λ chunk d.
+    word_in 5 column_at d (λ column e.
+    columns_end_in 6 column e >>= λ done. Ok (made_table table name scheme chunk column))))))
+
+-- a client that opens one table
+abbrev pub client_event : ℕ × ℕ → Event
+client_event numbers = events.Client numbers.0 None (numbers.1 ∷ [])
+
+abbrev pub seen_client : Result (ℕ × ℕ) BadLine → Result Event BadLine
+seen_client (Ok numbers) = Ok (client_event numbers)
+seen_client (Err fault) = Err fault
+
+unfoldable pub client_in : Names → List (List ℕ) → Result Event BadLine
+client_in names words =
+    word_in 1 (new_client_at names) words (λ client a.
+    word_in 2 gate_at a (λ gate b.
+    word_in 3 (tables_at names) b (λ table c.
+    end_in 4 c >>= λ done. Ok (client_event (client, table)))))
+
+unfoldable pub cell_in : ℕ → List ℕ → Result Cell BadLine
+cell_in at word = do
+  number ← placed at (value_at word)
+  Ok (cells.Int number)
+
+unfoldable pub cells_in : ℕ → List (List ℕ) → Result (List Cell) BadLine
+cells_in at [] = Ok []
+cells_in at (word ∷ words) = do
+  cell ← cell_in at word
+  more ← cells_in (at + 1) words
+  Ok (cell ∷ more)
+
+abbrev pub with_front : List Cell → Result (List Cell) BadLine → Result (List Cell) BadLine
+with_front front (Ok more) = Ok (front ++ more)
+with_front front (Err fault) = Err fault
+
+-- one value or more
+unfoldable pub some_cells_in : ℕ → List (List ℕ) → Result (List Cell) BadLine
+some_cells_in at words = do
+  a ← next_in at words
+  cells_in at words
+
+unfoldable pub write_in : Names → List (List ℕ) → Result Event BadLine
+write_in names words =
+    word_in 1 (client_at names) words (λ client a.
+    word_in 2 (table_at names) a (λ table b.
+    word_in 3 row_at b (λ row c.
+    some_cells_in 4 c >>= λ row_cells. Ok (events.Write client table row (Row row_cells [])))))
+
+unfoldable pub show_in : Names → List (List ℕ) → Result Event BadLine
+show_in names words =
+    word_in 1 (client_at names) words (λ client a.
+    word_in 2 (table_at names) a (λ table b.
+    word_in 3 row_at b (λ row c.
+    end_in 4 c >>= λ done. Ok (events.Show client table row))))
+
+-- a line, where memory sufficed
+abbrev pub Reads : {X : Type 0} → Result X ScriptFault → Result X BadLine → Type 0
+Reads (Ok x) read = read ≡ Ok x
+Reads (Err (faults.BadLine fault)) read = read ≡ Err fault
+Reads (Err faults.Memory) read = Unit {0}
+
+-- declarations stand before every event
+abbrev pub in_time : Names → Result Event BadLine → Result Event BadLine
+in_time names read = if names.started then Err (bad Late 0) else read
+
+abbrev pub built_in : Names → Verb → List (List ℕ) → Result Event BadLine
+built_in names verbs.Store words = in_time names (store_in names words)
+built_in names verbs.Table words = if has_no_store names then Err (bad NotDeclared 0) else in_time names (table_in names words)
+built_in names verbs.Client words = in_time names (client_in names words)
+built_in names verbs.Write words = write_in names words
+built_in names verbs.Show words = show_in names words
+
+abbrev pub with_verb : Names → List ℕ → List (List ℕ) → Option Verb → Result Event BadLine
+with_verb names first words None = if is_unbuilt first then Err (bad Unbuilt 0) else Err (bad NoVerb 0)
+with_verb names first words (Some verb) = built_in names verb words
+
+unfoldable pub event_in : Names → List ℕ → List (List ℕ) → Result Event BadLine
+event_in names first words = with_verb names first words (verb_of first)
+
+abbrev pub words_in : Names → List (List ℕ) → Result (Option Event) BadLine
+words_in names [] = Ok None
+words_in names (first ∷ words) = event_in names first words >>= λ event. Ok (Some event)
+
+-- a line as bytes
+unfoldable pub line_in : Names → List ℕ → Result (Option Event) BadLine
+line_in names line =
+    if is_comment line then Ok None
+    else if is_utf8 line then words_in names (words_of line)
+    else Err (bad NotUtf8 0)

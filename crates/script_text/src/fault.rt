@@ -1,0 +1,101 @@
+ghost use Rattle.std.specs.Prelude.{◌≡◌};
+ghost use Rattle.script_text.specs.declared.fault.ScriptFault.TheVariants as faults;
+ghost use Rattle.script_text.specs.declared.fault.ValueFault.TheVariants as values;
+ghost use Rattle.script_text.specs.Faults.{bad};
+
+use std::alloc::{AllocError, AllocFailed};
+use thiserror::Error;
+
+/// What is wrong with a word. The numbers are those that a script's author is shown.
+#[derive(Debug, Clone, Copy, PartialEq, Eq)]
+pub(crate) enum Code {
+    /// The line begins with no verb.
+    NoVerb = 1,
+    /// There is no such word.
+    Missing = 2,
+    /// The line has ended before it.
+    Surplus = 3,
+    /// It isn't a number of its range.
+    NoNumber = 4,
+    /// It hasn't the form of a node, a table or a name, or is no scheme, no kind or no choice.
+    NoName = 5,
+    /// It isn't the id of a row.
+    NoRow = 6,
+    /// It isn't a value.
+    NoValue = 7,
+    /// What it names isn't declared.
+    NotDeclared = 8,
+    /// What it declares is declared already.
+    Twice = 9,
+    /// The line isn't UTF-8.
+    NotUtf8 = 10,
+    /// It declares behind an event.
+    Late = 11,
+    /// It belongs to a form that isn't built yet.
+    Unbuilt = 12,
+}
+
+/// Why a value gives none.
+#[derive(Debug, Drop)]
+pub(crate) enum ValueFault {
+    Code(Code),
+    Memory,
+}
+
+impl From<AllocError> for ValueFault {
+    ghost from_gives = { λ _ e. e ≡ values.Memory };
+
+    fn from(_e: AllocError) -> ValueFault {
+        ValueFault::Memory
+    }
+}
+
+/// The first word at fault, counted from 0, and the code of its fault, from 1 to 12.
+#[derive(Debug, Clone, Copy, PartialEq, Eq)]
+pub struct BadLine {
+    pub code: u32,
+    pub word: usize,
+}
+
+pub(crate) fn bad(code: Code, word: usize) -> BadLine
+    ensures { result ≡ bad code word }
+{
+    BadLine {
+        code: code as u32,
+        word,
+    }
+}
+
+/// Why a line gives no event.
+#[derive(Debug, Drop, Clone, Copy, PartialEq, Eq, Error)]
+pub enum ScriptFault {
+    /// The line is in no grammar.
+    #[error("code {} at word {}", .0.code, .0.word)]
+    BadLine(BadLine),
+    #[error("out of memory")]
+    Memory,
+}
+
+impl From<BadLine> for ScriptFault {
+    ghost from_gives = { λ f e. e ≡ faults.BadLine f };
+
+    fn from(fault: BadLine) -> ScriptFault {
+        ScriptFault::BadLine(fault)
+    }
+}
+
+impl From<AllocError> for ScriptFault {
+    ghost from_gives = { λ _ e. e ≡ faults.Memory };
+
+    fn from(_e: AllocError) -> ScriptFault {
+        ScriptFault::Memory
+    }
+}
+
+impl<T: Drop> From<AllocFailed<T>> for ScriptFault {
+    ghost from_gives = { λ _ e. e ≡ faults.Memory };
+
+    fn from(_e: AllocFailed<T>) -> ScriptFault {
+        ScriptFault::Memory
+    }
+}

@@ -1,0 +1,262 @@
+ghost use Rattle.std.specs.Prelude.{◌≡◌, ◌<◌, ◌+◌, ◌^◌, length, List, ℕ, Err, Ok, IfOk};
+ghost use Rattle.script_text.specs.Words.{texts};
+ghost use Rattle.script_text.specs.Places.{seen};
+ghost use Rattle.script_text.specs.Reading.{Reads, seen_next, seen_table, seen_client, table_event, client_event, placed, next_in, end_in, columns_end_in, store_in, table_in, client_in, cell_in, cells_in, some_cells_in, write_in, show_in, built_in, event_in};
+
+use crate::declared::Declared;
+use crate::fault::{BadLine, Code, ScriptFault, ValueFault, bad};
+use crate::places::{
+    chunk_at, client_at, gate_at, new_client_at, new_name_at, new_store_at, new_table_at, row_at,
+    scheme_at, table_at, tables_at,
+};
+use crate::values::{column_at, second_column_at, value_at};
+use crate::verb::{Verb, is_unbuilt, verb_of};
+use row_value::{Bytes, Cell, Cells, Column, ColumnKind, Content, Schema, Scheme, Sequence};
+use std::alloc::{AllocError, Global};
+use table_model::Event;
+
+#[tactic(auto, unfolding(crate::specs::Reading::next_in))]
+fn next_word<'a>(words: &'a [&'a str], at: usize) -> Result<(&'a str, &'a [&'a str]), BadLine>
+    ensures { seen_next result ≡ next_in at (texts words.now) }
+{
+    match words {
+        [] => Err(bad(Code::Missing, at)),
+        [word, rest @ ..] => Ok((*word, rest)),
+    }
+}
+
+#[tactic(auto, unfolding(crate::specs::Reading::end_in))]
+fn end(words: &[&str], at: usize) -> Result<(), BadLine>
+    ensures { result ≡ end_in at (texts words.now) }
+{
+    if words.is_empty() {
+        Ok(())
+    } else {
+        Err(bad(Code::Surplus, at))
+    }
+}
+
+fn placed<T: Drop>(at: usize, judged: Result<T, Code>) -> Result<T, BadLine>
+    ensures { result ≡ placed at judged }
+{
+    match judged {
+        Ok(value) => Ok(value),
+        Err(code) => Err(bad(code, at)),
+    }
+}
+
+#[tactic(auto, unfolding(crate::specs::Reading::show_in, crate::specs::Reading::word_in))]
+fn show_line(names: &Declared, words: &[&str]) -> Result<Event, BadLine>
+    ensures { result ≡ show_in names.now (texts words.now) }
+{
+    let (word, rest) = next_word(words, 1)?;
+    let client = placed(1, client_at(names, word))?;
+    let (word, rest) = next_word(rest, 2)?;
+    let table = placed(2, table_at(names, word))?;
+    let (word, rest) = next_word(rest, 3)?;
+    let row = placed(3, row_at(word))?;
+    end(rest, 4)?;
+    Ok(Event::Show { client, table, row })
+}
+
+#[tactic(auto, unfolding(crate::specs::Reading::store_in, crate::specs::Reading::word_in))]
+fn store_line(names: &Declared, words: &[&str]) -> Result<Event, BadLine>
+    ensures { result ≡ store_in names.now (texts words.now) }
+{
+    let (word, rest) = next_word(words, 1)?;
+    let store = placed(1, new_store_at(names, word))?;
+    end(rest, 2)?;
+    Ok(Event::Store { store })
+}
+
+#[tactic(auto, unfolding(crate::specs::Reading::columns_end_in))]
+fn columns_end(first: &str, words: &[&str], at: usize) -> Result<(), BadLine>
+    ensures { result ≡ columns_end_in at first.now (texts words.now) }
+{
+    match words {
+        [] => Ok(()),
+        [word, ..] => Err(bad(second_column_at(first, word), at)),
+    }
+}
+
+// What stands in a line that declares a table of one column of numbers.
+#[derive(Clone, Copy)]
+struct TableWords<'a> {
+    table: u32,
+    name: &'a str,
+    scheme: Scheme,
+    chunk: u32,
+    column: &'a str,
+}
+
+#[tactic(auto, unfolding(crate::specs::Reading::table_in, crate::specs::Reading::word_in))]
+fn table_words<'a>(names: &Declared, words: &'a [&'a str]) -> Result<TableWords<'a>, BadLine>
+    ensures { seen_table result ≡ table_in names.now (texts words.now) }
+{
+    let (word, rest) = next_word(words, 1)?;
+    let table = placed(1, new_table_at(names, word))?;
+    let (word, rest) = next_word(rest, 2)?;
+    let name = placed(2, new_name_at(names, word))?;
+    let (word, rest) = next_word(rest, 3)?;
+    let scheme = placed(3, scheme_at(word))?;
+    let (word, rest) = next_word(rest, 4)?;
+    let chunk = placed(4, chunk_at(word))?;
+    let (word, rest) = next_word(rest, 5)?;
+    let column = placed(5, column_at(word))?;
+    columns_end(column, rest, 6)?;
+    Ok(TableWords {
+        table,
+        name,
+        scheme,
+        chunk,
+        column,
+    })
+}
+
+fn table_event(alloc: Global, words: TableWords) -> Result<Event, AllocError>
+    ensures { IfOk result (λ event. event ≡ table_event words.entry) }
+{
+    let mut columns = Sequence::new(alloc);
+    columns.push(Column {
+        name: Bytes::from_slice(alloc, words.column.as_bytes())?,
+        kind: ColumnKind::Int,
+    })?;
+    Ok(Event::Table {
+        table: words.table,
+        schema: Schema {
+            name: Bytes::from_slice(alloc, words.name.as_bytes())?,
+            scheme: words.scheme,
+            chunk: words.chunk,
+            columns,
+        },
+    })
+}
+
+fn table_line(alloc: Global, names: &Declared, words: &[&str]) -> Result<Event, ScriptFault>
+    ensures { Reads result (table_in names.now (texts words.now)) }
+{
+    let words = table_words(names, words)?;
+    Ok(table_event(alloc, words)?)
+}
+
+#[tactic(auto, unfolding(crate::specs::Reading::client_in, crate::specs::Reading::word_in))]
+fn client_words(names: &Declared, words: &[&str]) -> Result<(u32, u32), BadLine>
+    ensures { seen_client result ≡ client_in names.now (texts words.now) }
+{
+    let (word, rest) = next_word(words, 1)?;
+    let client = placed(1, new_client_at(names, word))?;
+    let (word, rest) = next_word(rest, 2)?;
+    placed(2, gate_at(word))?;
+    let (word, rest) = next_word(rest, 3)?;
+    let table = placed(3, tables_at(names, word))?;
+    end(rest, 4)?;
+    Ok((client, table))
+}
+
+fn client_event(alloc: Global, client: u32, table: u32) -> Result<Event, AllocError>
+    ensures { IfOk result (λ event. event ≡ client_event (client, table)) }
+{
+    let mut tables = Sequence::new(alloc);
+    tables.push(table)?;
+    Ok(Event::Client {
+        client,
+        gate: None,
+        tables,
+    })
+}
+
+fn client_line(alloc: Global, names: &Declared, words: &[&str]) -> Result<Event, ScriptFault>
+    ensures { Reads result (client_in names.now (texts words.now)) }
+{
+    let (client, table) = client_words(names, words)?;
+    Ok(client_event(alloc, client, table)?)
+}
+
+#[tactic(auto, unfolding(crate::specs::Reading::cell_in))]
+fn cell_at(alloc: Global, word: &str, at: usize) -> Result<Cell, ScriptFault>
+    ensures { Reads result (cell_in at word.now) }
+{
+    match value_at(alloc, word) {
+        Ok(number) => Ok(Cell::Int(number)),
+        Err(ValueFault::Code(code)) => Err(ScriptFault::BadLine(bad(code, at))),
+        Err(ValueFault::Memory) => Err(ScriptFault::Memory),
+    }
+}
+
+fn cells_of(alloc: Global, words: &[&str], at: usize) -> Result<Cells, ScriptFault>
+    requires { at < 2 ^ 32 }
+    ensures { Reads result (cells_in at (texts words.now)) }
+{
+    let mut cells = Sequence::new(alloc);
+    for (i, word) in words.iter().enumerate() {
+        cells.push(cell_at(alloc, word, at + i)?)?;
+    }
+    Ok(cells)
+}
+
+#[tactic(auto, unfolding(crate::specs::Reading::some_cells_in))]
+fn some_cells(alloc: Global, words: &[&str], at: usize) -> Result<Cells, ScriptFault>
+    requires { at < 2 ^ 32 }
+    ensures { Reads result (some_cells_in at (texts words.now)) }
+{
+    let _first = next_word(words, at)?;
+    cells_of(alloc, words, at)
+}
+
+#[tactic(auto, unfolding(crate::specs::Reading::write_in, crate::specs::Reading::word_in))]
+fn write_line(alloc: Global, names: &Declared, words: &[&str]) -> Result<Event, ScriptFault>
+    ensures { Reads result (write_in names.now (texts words.now)) }
+{
+    let (word, rest) = next_word(words, 1)?;
+    let client = placed(1, client_at(names, word))?;
+    let (word, rest) = next_word(rest, 2)?;
+    let table = placed(2, table_at(names, word))?;
+    let (word, rest) = next_word(rest, 3)?;
+    let row = placed(3, row_at(word))?;
+    let cells = some_cells(alloc, rest, 4)?;
+    Ok(Event::Write {
+        client,
+        table,
+        row,
+        content: Content::Row {
+            cells,
+            objects: Sequence::new(alloc),
+        },
+    })
+}
+
+fn built_line(
+    alloc: Global,
+    names: &Declared,
+    verb: Verb,
+    words: &[&str],
+) -> Result<Event, ScriptFault>
+    ensures { Reads result (built_in names.now verb (texts words.now)) }
+{
+    match verb {
+        Verb::Write => write_line(alloc, names, words),
+        Verb::Show => Ok(show_line(names, words)?),
+        Verb::Table if names.has_no_store() => Err(bad(Code::NotDeclared, 0).into()),
+        _ if names.has_started() => Err(bad(Code::Late, 0).into()),
+        Verb::Store => Ok(store_line(names, words)?),
+        Verb::Table => table_line(alloc, names, words),
+        Verb::Client => client_line(alloc, names, words),
+    }
+}
+
+/// The event of a line's words, the first of which stands apart.
+#[tactic(auto, unfolding(crate::specs::Reading::event_in))]
+pub(crate) fn event_line(
+    alloc: Global,
+    names: &Declared,
+    first: &str,
+    words: &[&str],
+) -> Result<Event, ScriptFault>
+    ensures { Reads result (event_in names.now first.now (texts words.now)) }
+{
+    match verb_of(first) {
+        Some(verb) => built_line(alloc, names, verb, words),
+        None if is_unbuilt(first) => Err(bad(Code::Unbuilt, 0).into()),
+        None => Err(bad(Code::NoVerb, 0).into()),
+    }
+}

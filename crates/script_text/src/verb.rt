@@ -1,0 +1,85 @@
+ghost use Rattle.std.specs.Prelude.{◌≡◌};
+ghost use Rattle.script_text.specs.Verbs.{verb_of, is_setting_verb, is_row_verb, is_conflict_verb, is_node_verb, is_unbuilt};
+
+/// The first word of a line that is built.
+#[derive(Debug, Clone, Copy, PartialEq, Eq)]
+pub(crate) enum Verb {
+    Store,
+    Table,
+    Client,
+    Write,
+    Show,
+}
+
+#[tactic(auto, unfolding(crate::specs::Verbs::verb_of))]
+pub(crate) fn verb_of(word: &str) -> Option<Verb>
+    ensures { result ≡ verb_of word.now }
+{
+    match word {
+        "store" => Some(Verb::Store),
+        "table" => Some(Verb::Table),
+        "client" => Some(Verb::Client),
+        "write" => Some(Verb::Write),
+        "show" => Some(Verb::Show),
+        _ => None,
+    }
+}
+
+#[tactic(auto, unfolding(crate::specs::Verbs::is_setting_verb))]
+fn is_setting_verb(word: &str) -> bool
+    ensures { result ≡ is_setting_verb word.now }
+{
+    matches!(
+        word,
+        "gate" | "draft" | "link" | "create" | "drop" | "subscribe" | "unsubscribe" | "writesync"
+    )
+}
+
+#[tactic(auto, unfolding(crate::specs::Verbs::is_row_verb))]
+fn is_row_verb(word: &str) -> bool
+    ensures { result ≡ is_row_verb word.now }
+{
+    matches!(
+        word,
+        "update" | "patch" | "delete" | "sum" | "select" | "sync" | "pull"
+    )
+}
+
+#[tactic(auto, unfolding(crate::specs::Verbs::is_conflict_verb))]
+fn is_conflict_verb(word: &str) -> bool
+    ensures { result ≡ is_conflict_verb word.now }
+{
+    matches!(
+        word,
+        "begin_cr" | "conflicts" | "end_cr" | "resolve" | "resolve_all"
+    )
+}
+
+#[tactic(auto, unfolding(crate::specs::Verbs::is_node_verb))]
+fn is_node_verb(word: &str) -> bool
+    ensures { result ≡ is_node_verb word.now }
+{
+    matches!(
+        word,
+        "deliver"
+            | "hold"
+            | "free"
+            | "work"
+            | "do"
+            | "crash"
+            | "start"
+            | "tick"
+            | "settle"
+            | "sshow"
+            | "chunks"
+            | "history"
+    )
+}
+
+/// Whether a word is the first of a line that isn't built yet.
+#[tactic(auto, unfolding(crate::specs::Verbs::is_unbuilt))]
+pub(crate) fn is_unbuilt(word: &str) -> bool
+    ensures { result ≡ is_unbuilt word.now }
+{
+    is_setting_verb(word) || is_row_verb(word) || is_conflict_verb(word) || is_node_verb(word)
+}

@@ -3,3 +3,4 @@ pub mod Writes
 mod Origins
 mod Showings
 pub mod Newest
+pub mod Runs

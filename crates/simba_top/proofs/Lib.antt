@@ -1,2 +1,9 @@
 pub mod Keys
 pub mod Worlds
+pub mod Fronts
+pub mod Grammars
+pub mod Complete
+pub mod Puts
+pub mod Turns
+pub mod Endings
+pub mod Statuses

@@ -1,1 +1,5 @@
 pub mod World
+pub mod Script
+pub mod Ends
+pub mod Stops
+pub mod Stands

@@ -1,0 +1,69 @@
+-- Where the whole input spells a script, no line is bad and no limit is passed.
+use Rattle.std.proofs.Common.{◌≡◌, ◌⊎◌, ℕ, ◌≤◌, List, [], ◌∷◌, length, refl, sym, ap, subst, ◌∙◌, inl, inr, length-append, arith}
+use Rattle.table_model.specs.declared.event.Event.{Event}
+use Rattle.table_model.specs.declared.event.Event.TheVariants as events
+use Rattle.run_laws.specs.Turns.{transcript}
+use Rattle.run_laws.proofs.Runs.{writes_few}
+use Rattle.stab_io.specs.Lines.{Next, Line, End, LineTooLong, InputTooLong}
+use Rattle.script_text.specs.declared.fault.BadLine.{BadLine}
+use Rattle.script_text.specs.Names.{Names, no_names}
+use Rattle.script_text.specs.Grammar.{IsFault}
+use Rattle.simba_top.specs.World.{IsSpent}
+use Rattle.simba_top.specs.Script.{next_in, Behind, Spelled, IsFront, IsWhole}
+use Rattle.simba_top.specs.Ends.{IsBadAt, IsLimitAt}
+use Rattle.simba_top.proofs.Fronts.{Grammar, none_is_end, not_end, same_line, spelled_few, rest_of_front}
+
+-- behind a front of a whole input stands its end, or a line that is no fault
+bad_apart : Grammar → (total : ℕ) (names after : Names) (rest : List ℕ) (lines : List (List ℕ)) (script : List Event) (line left : List ℕ) (fault : BadLine)
+    → Behind total rest lines [] → Spelled names lines script after → next_in total rest ≡ Line line left → IsFault names line fault → ⊥
+bad_apart grammar total names after rest [] script line left fault behind spelled next bad =
+    not_end total line left (subst (λ (b : List ℕ). next_in total b ≡ Line line left) (sym behind) next)
+bad_apart grammar total names after rest (same ∷ lines) script line left fault behind (inl s) next bad =
+    grammar.passed_fault names same fault s.0
+    (subst (λ (l : List ℕ). IsFault names l fault) (same_line total rest line same left behind.0 next behind.1) bad)
+bad_apart grammar total names after rest (same ∷ lines) script line left fault behind (inr s) next bad =
+    grammar.fault_spells names same s.0 fault s.3
+    (subst (λ (l : List ℕ). IsFault names l fault) (same_line total rest line same left behind.0 next behind.1) bad)
+
+pub not_bad : Grammar → (input : List ℕ) (script whole : List Event) (count : ℕ) (fault : BadLine) → IsBadAt input script count fault → IsWhole input whole → ⊥
+not_bad grammar input script whole count fault bad all =
+    let more = rest_of_front grammar input script whole count all.0 bad.names all.1 bad.rest bad.front all.2 in
+    bad_apart grammar (length input) bad.names all.1 bad.rest more.lines more.events bad.line bad.left fault more.behind more.spelled bad.next bad.bad
+
+-- or a line and the end
+no_limit : (total : ℕ) (rest : List ℕ) (lines : List (List ℕ)) (next : Next) → Behind total rest lines [] → next_in total rest ≡ next
+    → (next ≡ LineTooLong) ⊎ (next ≡ InputTooLong) → ⊥
+no_limit total rest [] next behind is which =
+    let e : End ≡ next = sym (none_is_end total) ∙ subst (λ (b : List ℕ). next_in total b ≡ next) (sym behind) is in
+    elim which [ inl l ↦ (let f = e ∙ l in cc f) | inr i ↦ (let f = e ∙ i in cc f) ]
+no_limit total rest (line ∷ lines) next behind is which =
+    let e : Line line behind.0 ≡ next = sym behind.1 ∙ is in
+    elim which [ inl l ↦ (let f = e ∙ l in cc f) | inr i ↦ (let f = e ∙ i in cc f) ]
+
+one_more : (total : ℕ) (rest : List ℕ) (lines : List (List ℕ)) (line left : List ℕ) → Behind total rest lines [] → next_in total rest ≡ Line line left
+    → 1 ≤ length lines
+one_more total rest [] line left behind next =
+    absurd (not_end total line left (subst (λ (b : List ℕ). next_in total b ≡ Line line left) (sym behind) next))
+one_more total rest (same ∷ lines) line left behind next = omega arith
+
+-- a client can't have made its last write: a script has too few lines
+not_spent : (input : List ℕ) (script : List Event) (count : ℕ) (names : Names) (rest : List ℕ) (event : Event)
+    → IsFront input script count names rest → IsSpent (transcript script) event → ⊥
+not_spent input script count names rest (events.Store store) front spent = spent
+not_spent input script count names rest (events.Table table schema) front spent = spent
+not_spent input script count names rest (events.Client client gate tables) front spent = spent
+not_spent input script count names rest (events.Show client table row) front spent = spent
+not_spent input script count names rest (events.Write client table row content) front spent =
+    omega (arith, spent, writes_few client script, spelled_few no_names front.lines script names front.spelled, front.counted, front.few)
+
+pub not_limit : Grammar → (input : List ℕ) (script whole : List Event) (count limit : ℕ) → IsLimitAt input script count limit → IsWhole input whole → ⊥
+not_limit grammar input script whole count limit at all =
+    let more = rest_of_front grammar input script whole count all.0 at.names all.1 at.rest at.front all.2 in
+    elim at.passes [
+      | inl p ↦ no_limit (length input) at.rest more.lines InputTooLong more.behind p.1 (inr refl)
+      | inr (inl p) ↦
+          (let longer = ap (λ (ls : List (List ℕ)). length ls) more.more ∙ length-append at.front.lines more.lines in
+          omega (arith, p.1, longer, at.front.counted, all.2.counted, all.2.few, one_more (length input) at.rest more.lines p.2.0 p.2.1 more.behind p.2.2))
+      | inr (inr (inl p)) ↦ no_limit (length input) at.rest more.lines LineTooLong more.behind p.1 (inl refl)
+      | inr (inr (inr p)) ↦ not_spent input script count at.names at.rest p.2.2 at.front p.2.5
+    ]

@@ -1,0 +1,13 @@
+-- A line has one meaning behind the same names: it is passed over, spells one event, or is at fault.
+use Rattle.script_text.specs.Words.{words_of}
+use Rattle.script_text.proofs.Spelled.{one_event}
+use Rattle.script_text.proofs.FaultLaws.{passed_event, fault_apart}
+use Rattle.simba_top.proofs.Fronts.{Grammar}
+
+pub grammar : Grammar
+grammar = record {
+  one_event = λ names line a b p q. one_event names (words_of line) a b p.2 q.2;
+  passed_spells = passed_event;
+  passed_fault = λ names line fault p q. q.0 p;
+  fault_spells = λ names line event fault. fault_apart names fault line event;
+}

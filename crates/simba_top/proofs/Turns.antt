@@ -1,0 +1,154 @@
+-- A run goes on by one line.
+use Rattle.std.proofs.Common.{◌≡◌, ℕ, ◌+◌, ◌-◌, ◌<◌, Bool, true, false, cond, List, [], ◌∷◌, ◌++◌, length, map, Option, Some, None, refl, sym, ap, subst, ◌∙◌, append-nil, arith}
+use Rattle.std.specs.Prelude.{IfSome, IfNone, IsSomeAnd, MatchOption}
+use Rattle.std.specs.Global.{Vec}
+use Rattle.std.specs.List.{flat_map}
+use Rattle.std.proofs.lemmas.Bool.{eqb-true}
+use Rattle.std.proofs.lemmas.Grind.{flat_map-append}
+use Rattle.std.proofs.lemmas.List.Folds.{flat_map-map}
+use Rattle.table_model.specs.declared.event.Event.{Event}
+use Rattle.table_model.specs.declared.line.TextLine.{TextLine}
+use Rattle.run_laws.specs.Turns.{lines_for, transcript}
+use Rattle.run_laws.proofs.Runs.{transcript-push}
+use Rattle.stab_io.specs.Lines.{Next, Line, End, LineTooLong, InputTooLong, next_of}
+use Rattle.stab_io.specs.Reading.{Reading, ahead, IsNextLine, ComesNext, CountsAll}
+use Rattle.stab_io.specs.declared.limits.Limits.{Limits}
+use Rattle.stab_io.specs.declared.limits.TheConstants.{LINE_LIMIT, INPUT_LIMIT}
+use Rattle.script_text.specs.Names.{Names, no_names, with_event}
+use Rattle.script_text.specs.Grammar.{IsPassed, Spells}
+use Rattle.script_text.specs.Text.{text_of, transcript_text}
+use Rattle.simba_top.specs.declared.turn.Run.{Run}
+use Rattle.simba_top.specs.declared.run.TheConstants.{MOST_LINES}
+use Rattle.simba_top.specs.World.{IsAt}
+use Rattle.simba_top.specs.Script.{next_in, IsFront, IsWhole}
+use Rattle.simba_top.specs.Ends.{text_of_run}
+use Rattle.simba_top.specs.Stands.{IsReady, Stands, HasLine, GoesOn}
+use Rattle.simba_top.specs.declared.world.World.{World}
+use Rattle.simba_top.proofs.Fronts.{front_start, front_passed, front_event}
+
+some_and : {X : Type 0} (o : Option X) (P : X → Type 0) → IsSomeAnd o P → (x : X) × (o ≡ Some x) × P x
+some_and None P h = absurd h
+some_and (Some x) P h = (x, refl, h)
+
+if_some : {X : Type 0} (o : Option X) (x : X) (P : X → Type 0) → o ≡ Some x → IfSome o P → P x
+if_some None x P is h = absurd cc
+if_some (Some y) x P is h = let e : y ≡ x = cc in subst P e h
+
+-- the run at its start
+pub stands_new : (input : List ℕ) (run : Run) → run.reader ≡ record { used = 0; held = []; stopped = None; limits = record { line = LINE_LIMIT; input = INPUT_LIMIT } }
+    → run.names ≡ no_names → run.count ≡ 0 → IsAt [] [] run.world → Stands input [] run (Some input)
+stands_new input run reader names count world = record {
+  rest = input;
+  front = rw (names, count) (front_start input);
+  here = ap (λ (r : Reading). ahead r (Some input)) reader;
+  used = let e = ap (λ (r : Reading). r.used) reader in omega (arith, e);
+  world = world;
+}
+
+-- what comes next in the input, as the reader sees it
+next_same : (input rest : List ℕ) (run : Run) → IsReady run → run.reader.used + length rest ≡ length input
+    → next_in (length input) rest ≡ next_of run.reader.limits run.reader.used rest
+next_same input rest run ready used =
+    let e : length input - length rest ≡ run.reader.used = omega (arith, used) in
+    ap (λ n. next_of (record { line = LINE_LIMIT; input = INPUT_LIMIT }) n rest) e
+    ∙ ap (λ (limits : Limits). next_of limits run.reader.used rest) (sym ready.limits)
+
+-- only the end of the bytes is the end
+over : (none a b : Bool) (text rest : List ℕ) → cond none End (cond a LineTooLong (cond b InputTooLong (Line text rest))) ≡ End → none ≡ true
+over true a b text rest e = refl
+over false true b text rest e = absurd (cc e)
+over false false true text rest e = absurd (cc e)
+over false false false text rest e = absurd (cc e)
+
+end_nil : (limits : Limits) (used : ℕ) (bytes : List ℕ) → next_of limits used bytes ≡ End → bytes ≡ []
+unfolding next_of
+end_nil limits used [] e = refl
+end_nil limits used (b ∷ bytes) e = absurd (let none = eqb-true (length (b ∷ bytes)) 0 (over _ _ _ _ _ e) in omega (arith, none))
+
+module _ (input : List ℕ) (script : List Event) (run : Run) (left : Option (List ℕ)) (ready : IsReady run) (stands : Stands input script run left) where
+  -- what the reader says of the next, where it tells
+  comes_next : (next : Next) → ComesNext run.reader left next → next_in (length input) stands.rest ≡ next
+  comes_next next comes =
+      next_same input stands.rest run ready stands.used
+      ∙ if_some (ahead run.reader left) stands.rest (λ bytes. next_of run.reader.limits run.reader.used bytes ≡ next) stands.here comes
+
+  at_end : ComesNext run.reader left End → IsWhole input script
+  at_end comes =
+      let empty : stands.rest ≡ [] = end_nil run.reader.limits run.reader.used stands.rest
+      (if_some (ahead run.reader left) stands.rest (λ bytes. next_of run.reader.limits run.reader.used bytes ≡ End) stands.here comes) in
+      (run.count, run.names, subst (λ (bytes : List ℕ). IsFront input script run.count run.names bytes) empty stands.front)
+
+  module _ (after : Reading) (left' : Option (List ℕ)) where
+    has_line : (line : List ℕ) → IsNextLine run.reader left line after left' → CountsAll run.reader left after left'
+        → HasLine input script line (record run { reader = after }) left'
+    has_line line next counts =
+        let found = some_and (ahead after left') (λ rest. next_of run.reader.limits run.reader.used stands.rest ≡ Line line rest)
+        (if_some (ahead run.reader left) stands.rest
+        (λ bytes. IsSomeAnd (ahead after left') (λ rest. next_of run.reader.limits run.reader.used bytes ≡ Line line rest)) stands.here next) in
+        let counted : after.used + length found.0 ≡ run.reader.used + length stands.rest =
+        if_some (ahead after left') found.0 (λ rest. after.used + length rest ≡ run.reader.used + length stands.rest) found.1
+        (if_some (ahead run.reader left) stands.rest
+        (λ bytes. IfSome (ahead after left') (λ rest. after.used + length rest ≡ run.reader.used + length bytes)) stands.here counts) in
+        record {
+          before = stands.rest;
+          front = stands.front;
+          rest = found.0;
+          next = next_same input stands.rest run ready stands.used ∙ found.2;
+          here = found.1;
+          used = counted ∙ stands.used;
+          world = stands.world;
+        }
+
+    pub next_found : (found : Option (Vec ℕ)) → IfSome found (λ line. IsNextLine run.reader left line.items after left')
+        → IfNone found (ComesNext run.reader left End) → CountsAll run.reader left after left'
+        → MatchOption found (IsWhole input script) (λ line. HasLine input script line.items (record run { reader = after }) left')
+    next_found None line end counts = at_end end
+    next_found (Some v) line end counts = has_line v.items line counts
+
+-- the lines of one event more, and their text
+step_texts : (script : List Event) (event : Event) (told : List TextLine) (texts : List (List ℕ))
+    → told ≡ lines_for script (transcript script) event → texts ≡ map (λ (line : TextLine). text_of line ++ 10 ∷ []) told
+    → (transcript script ++ told ≡ transcript (script ++ event ∷ []))
+    × (text_of_run (script ++ event ∷ []) ≡ text_of_run script ++ flat_map (λ (text : List ℕ). text) texts)
+step_texts script event told texts is text =
+    let whole : TextLine → List ℕ = λ line. text_of line ++ 10 ∷ [] in
+    let goes : transcript (script ++ event ∷ []) ≡ transcript script ++ told =
+    transcript-push script event ∙ ap (λ (ls : List TextLine). transcript script ++ ls) (sym is) in (
+      sym goes,
+      ap (λ (ls : List TextLine). transcript_text ls) goes
+          ∙ flat_map-append whole (transcript script) told
+          ∙ ap (λ (bytes : List ℕ). text_of_run script ++ bytes)
+          (sym (ap (λ (ts : List (List ℕ)). flat_map (λ (text : List ℕ). text) ts) text ∙ flat_map-map (λ (text : List ℕ). text) whole told)),
+    )
+
+module _ (input : List ℕ) (script : List Event) (line : List ℕ) (run : Run) (left : Option (List ℕ)) (has : HasLine input script line run left) (few : run.count < MOST_LINES) where
+  pub passes_over : IsPassed line → GoesOn input script (record run { count = run.count + 1 }) left []
+  passes_over passed = (
+    script,
+    record {
+      rest = has.rest;
+      front = front_passed input script run.count run.names has.before line has.rest has.front has.next few passed;
+      here = has.here;
+      used = has.used;
+      world = has.world;
+    },
+    sym (append-nil (text_of_run script)),
+  )
+
+  pub carries_out : (event : Event) (names : Names) (world : World) (told : List TextLine) (texts : List (List ℕ)) → Spells run.names line event
+      → names ≡ with_event run.names event
+      → (told ≡ lines_for script (transcript script) event) × IsAt (script ++ event ∷ []) (transcript script ++ told) world
+      → texts ≡ map (λ (line : TextLine). text_of line ++ 10 ∷ []) told
+      → GoesOn input script (record run { names = names; world = world; count = run.count + 1 }) left texts
+  carries_out event names world told texts spells named stepped text =
+      let goes = step_texts script event told texts stepped.0 text in (
+        script ++ event ∷ [],
+        record {
+          rest = has.rest;
+          front = rw named (front_event input script run.count run.names has.before line has.rest has.front has.next few event spells);
+          here = has.here;
+          used = has.used;
+          world = subst (λ (lines : List TextLine). IsAt (script ++ event ∷ []) lines world) goes.0 stepped.1;
+        },
+        goes.1,
+      )

@@ -1,0 +1,11 @@
+use Rattle.std.proofs.Common.{◌≡◌, ℕ, List, Option, Some, None, refl}
+use Rattle.std.specs.Prelude.{IfSome}
+use Rattle.simba_top.proofs.run.run_whole.Goals as goal
+
+known : (o : Option (List ℕ)) (P : List ℕ → Type 0) → ((input : List ℕ) → o ≡ Some input → P input) → IfSome o P
+known None P f = tt
+known (Some input) P f = f input refl
+
+pub returns-clause-stopped : goal.returns-clause-stopped
+returns-clause-stopped g c = known _ _ (λ input is.
+    c.end.ensures.ends input _ _ (c.in-Err.ensures.ends input (rw is (c.new-run.ensures.stands input))))

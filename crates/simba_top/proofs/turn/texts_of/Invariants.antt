@@ -1,0 +1,7 @@
+use Rattle.std.proofs.Common.{◌≡◌, ◌++◌, ◌∷◌, [], map, take}
+use Rattle.table_model.specs.declared.line.TextLine.{TextLine}
+use Rattle.script_text.specs.Text.{text_of}
+use Rattle.simba_top.proofs.turn.texts_of.Given as goal
+
+abbrev pub invariant-loop-line : goal.invariant-loop-line
+invariant-loop-line l = l.texts.items ≡ map (λ (line : TextLine). text_of line ++ 10 ∷ []) (take l.line-index l.line-items)

@@ -1,0 +1,76 @@
+-- How a run over an input ends, and what it has written then.
+use Rattle.std.specs.Prelude.{◌≡◌, ◌⊎◌, ℕ, ◌+◌, ◌<◌, List, [], ◌∷◌, ◌++◌, length, codes, Option}
+use Rattle.std.specs.Io.KnownBytes.{Appends}
+use Rattle.table_model.specs.declared.event.Event.{Event}
+use Rattle.run_laws.specs.Turns.{turns, transcript}
+use Rattle.run_laws.specs.Sound.{IsSound}
+use Rattle.stab_io.specs.Lines.{Line, LineTooLong, InputTooLong, HasNoNewline}
+use Rattle.script_text.specs.declared.fault.BadLine.{BadLine}
+use Rattle.script_text.specs.Names.{Names}
+use Rattle.script_text.specs.Grammar.{Spells, IsFault}
+use Rattle.script_text.specs.Text.{stop_text, transcript_text}
+use Rattle.simba_top.specs.declared.run.TheConstants.{MOST_LINES}
+use Rattle.simba_top.specs.World.{IsSpent}
+use Rattle.simba_top.specs.Script.{next_in, IsFront}
+
+-- the transcript of a script, as bytes
+abbrev pub text_of_run : List Event → List ℕ
+text_of_run script = transcript_text (transcript script)
+
+-- the transcript of a script, and behind it the line that says why the run stopped
+abbrev pub stopped_text : List Event → ℕ → ℕ → ℕ → List ℕ
+stopped_text script status line code = text_of_run script ++ (stop_text status line code ++ 10 ∷ [])
+
+-- the line behind these spells nothing: it is line `count + 1`, and this is its fault
+pub record IsBadAt (input : List ℕ) (script : List Event) (count : ℕ) (fault : BadLine) : Type 0 where
+  pub names : Names
+  pub rest : List ℕ
+  pub front : IsFront input script count names rest
+  pub line : List ℕ
+  pub left : List ℕ
+  pub next : next_in (length input) rest ≡ Line line left
+  pub few : count < MOST_LINES
+  pub bad : IsFault names line fault
+
+-- the line behind these is the first that passes a limit: 1 the input's bytes, 2 its lines, 3 the bytes of a line,
+-- 11 the numbers of a client's writes
+abbrev pub Passes : List ℕ → List Event → ℕ → Names → List ℕ → ℕ → Type 0
+Passes input script count names rest limit =
+    ((limit ≡ 1) × (next_in (length input) rest ≡ InputTooLong))
+    ⊎ (((limit ≡ 2) × (count ≡ MOST_LINES) × ((line : List ℕ) × (left : List ℕ) × (next_in (length input) rest ≡ Line line left)))
+    ⊎ (((limit ≡ 3) × (next_in (length input) rest ≡ LineTooLong))
+    ⊎ ((limit ≡ 11) × (count < MOST_LINES) × ((line : List ℕ) × (left : List ℕ) × (event : Event)
+    × (next_in (length input) rest ≡ Line line left) × Spells names line event × IsSpent (transcript script) event))))
+
+pub record IsLimitAt (input : List ℕ) (script : List Event) (count limit : ℕ) : Type 0 where
+  pub names : Names
+  pub rest : List ℕ
+  pub front : IsFront input script count names rest
+  pub passes : Passes input script count names rest limit
+
+-- the source gave these lines whole and then failed, with these bytes left
+pub record IsCutOff (input : List ℕ) (script : List Event) (left : List ℕ) : Type 0 where
+  pub count : ℕ
+  pub names : Names
+  pub held : List ℕ
+  pub front : IsFront input script count names (held ++ left)
+  pub unfinished : HasNoNewline held
+
+-- where the sink tells its bytes: the transcript of this script was added to them
+abbrev pub Tells : List Event → Option (List ℕ) → Option (List ℕ) → Type 0
+Tells script before after = IsSound (turns script) × Appends before after (text_of_run script)
+
+-- the same, with the line that says why the run stopped
+abbrev pub TellsStop : List Event → ℕ → ℕ → ℕ → Option (List ℕ) → Option (List ℕ) → Type 0
+TellsStop script status line code before after = IsSound (turns script) × Appends before after (stopped_text script status line code)
+
+-- a text that a run over this input may write: the transcript of its first lines, with its stop line where it has one
+abbrev pub IsTextOf : List ℕ → List ℕ → Type 0
+IsTextOf input text = (script : List Event) × IsSound (turns script) × (
+    ((count : ℕ) × (names : Names) × (rest : List ℕ) × IsFront input script count names rest × (text ≡ text_of_run script))
+    ⊎ (((count : ℕ) × (fault : BadLine) × IsBadAt input script count fault × (text ≡ stopped_text script 3 (count + 1) fault.code))
+    ⊎ ((count limit : ℕ) × IsLimitAt input script count limit × (text ≡ stopped_text script 7 (count + 1) limit))))
+
+-- the words are the one word `run`
+abbrev pub AreRun : List (List ℕ) → Type 0
+AreRun words = words ≡ codes "run" ∷ []

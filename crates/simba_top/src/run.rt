@@ -1,0 +1,124 @@
+ghost use Rattle.std.specs.Prelude.{◌≡◌, ◌≢◌, ◌⊎◌, ◌↔◌, ◌+◌, ◌-◌, ◌<◌, ◌^◌, ℕ, List, map, IfSome, IsTrue, OnOk, IfErr, MatchResult};
+ghost use Rattle.std.specs.String.{string_bytes};
+ghost use Rattle.std.specs.Io.KnownBytes.{IsAtEnd};
+ghost use Rattle.table_model.specs.declared.event.Event.{Event as AnEvent};
+ghost use Rattle.script_text.specs.declared.fault.BadLine.{BadLine as ABadLine};
+ghost use Rattle.script_text.specs.Names.{Names};
+ghost use Rattle.stab_io.specs.Faults.{Rose, AppendsFront};
+ghost use Rattle.simba_top.specs.Script.{IsFront, IsWhole};
+ghost use Rattle.simba_top.specs.Ends.{AreRun, IsBadAt, IsLimitAt, IsCutOff, Tells, TellsStop, IsTextOf};
+ghost use Rattle.simba_top.specs.Stops.{status_of};
+ghost use Rattle.simba_top.specs.Stands.{IsDone, Stopped, CountsReads, CountsPuts};
+
+use crate::stop::Stop;
+use crate::turn::Run;
+use stab_io::{Sink, Source};
+use std::alloc::Global;
+
+/// The most lines of a script.
+pub const MOST_LINES: u64 = 1_048_576;
+
+/// The whole program: reads a script from the source, carries it out, and writes its transcript to the sink, one `put`
+/// for each line, the lines of an event when it ends. The answer is the status that the program ends with:
+///
+/// | status | when |
+/// |---|---|
+/// | 0 | the script was read to its end |
+/// | 2 | the words aren't the one word `run`; nothing is read or written |
+/// | 3 | a line is in no grammar; `stop 3 LINE CODE` is written last |
+/// | 4 | the source failed |
+/// | 5 | the sink failed |
+/// | 6 | memory was refused |
+/// | 7 | a limit was passed; `stop 7 LINE LIMIT` is written last |
+pub fn run_simba<S: Source, K: Sink>(
+    alloc: Global,
+    words: &[String],
+    source: &mut S,
+    sink: &mut K,
+) -> u8
+    // 2: exactly where the words aren't valid.
+    ensures words { (result ≡ 2) ↔ (AreRun (map string_bytes words.now) → ⊥) }
+    ensures untouched { result ≡ 2 → (source.new ≡ source.old) × (sink.new ≡ sink.old) }
+
+    // 0: the whole input was read, and its transcript was written.
+    ensures done { result ≡ 0 → IsAtEnd (S.left source.new) × IfSome (S.left source.old) (λ input.
+        (script : List AnEvent) × IsWhole input script × Tells script (K.holds sink.old) (K.holds sink.new)) }
+
+    // 3 and 7: the first line that is in no grammar, or passes a limit, ended the run.
+    ensures bad_line { result ≡ 3 → IfSome (S.left source.old) (λ input.
+        (script : List AnEvent) × (count : ℕ) × (fault : ABadLine) × IsBadAt input script count fault
+        × TellsStop script 3 (count + 1) fault.code (K.holds sink.old) (K.holds sink.new)) }
+    ensures limit { result ≡ 7 → IfSome (S.left source.old) (λ input.
+        (script : List AnEvent) × (count limit : ℕ) × IsLimitAt input script count limit
+        × TellsStop script 7 (count + 1) limit (K.holds sink.old) (K.holds sink.new)) }
+
+    // 4: the source failed; all lines that it gave whole were carried out.
+    ensures read { result ≡ 4 → Rose (S.faults source.old) (S.faults source.new)
+        × IfSome (S.left source.old) (λ input. IfSome (S.left source.new) (λ left.
+        (script : List AnEvent) × IsCutOff input script left × Tells script (K.holds sink.old) (K.holds sink.new))) }
+
+    // 5: the sink failed; what was written is a front of what a run writes.
+    ensures write { result ≡ 5 → Rose (K.faults sink.old) (K.faults sink.new)
+        × IfSome (S.left source.old) (λ input. (text : List ℕ) × IsTextOf input text
+        × AppendsFront (K.holds sink.old) (K.holds sink.new) text) }
+
+    // 6: memory was refused; what was written is the transcript of the first lines.
+    ensures memory { result ≡ 6 → IfSome (S.left source.old) (λ input.
+        (script : List AnEvent) × (count : ℕ) × (names : Names) × (rest : List ℕ) × IsFront input script count names rest
+        × Tells script (K.holds sink.old) (K.holds sink.new)) }
+
+    // There is no other status, and no other fault.
+    ensures statuses { (result ≡ 0) ⊎ ((result ≡ 2) ⊎ ((result ≡ 3) ⊎ ((result ≡ 4) ⊎ ((result ≡ 5) ⊎ ((result ≡ 6) ⊎ (result ≡ 7)))))) }
+    ensures source_faults { result ≢ 4 → S.faults source.new ≡ S.faults source.old }
+    ensures sink_faults { result ≢ 5 → K.faults sink.new ≡ K.faults sink.old }
+
+    // Valid input, where no fault came, gives 0 or want of memory.
+    ensures complete { AreRun (map string_bytes words.now) → IfSome (S.left source.old) (λ input. (script : List AnEvent) → IsWhole input script
+        → S.faults source.new ≡ S.faults source.old → S.faults source.old < 2 ^ 64 - 1
+        → K.faults sink.new ≡ K.faults sink.old → K.faults sink.old < 2 ^ 64 - 1
+        → (result ≡ 0) ⊎ (result ≡ 6)) }
+{
+    if !is_run(words) {
+        return 2;
+    }
+    status_of(run_whole(alloc, source, sink))
+}
+
+fn is_run(words: &[String]) -> bool
+    ensures { IsTrue result ↔ AreRun (map string_bytes words.now) }
+{
+    match words {
+        [word] => word.as_str() == "run",
+        _ => false,
+    }
+}
+
+fn status_of(ended: Result<(), Stop>) -> u8
+    ensures { result ≡ status_of ended }
+{
+    match ended {
+        Ok(()) => 0,
+        Err(Stop::BadLine(_)) => 3,
+        Err(Stop::Read) => 4,
+        Err(Stop::Put) => 5,
+        Err(Stop::Memory) => 6,
+        Err(Stop::Limit(_)) => 7,
+    }
+}
+
+// Carries out the script of the source, and says why it stopped.
+fn run_whole<S: Source, K: Sink>(alloc: Global, source: &mut S, sink: &mut K) -> Result<(), Stop>
+    ensures end { OnOk result (IsAtEnd (S.left source.new)) }
+    ensures done { OnOk result (IfSome (S.left source.old) (λ input. IsDone input (K.holds sink.old) (K.holds sink.new))) }
+    ensures stopped { IfErr result (λ stop. IfSome (S.left source.old) (λ input. Stopped stop input (S.left source.new) (K.holds sink.old) (K.holds sink.new))) }
+    ensures reads { MatchResult result (λ _. S.faults source.new ≡ S.faults source.old)
+        (λ stop. CountsReads stop (S.faults source.old) (S.faults source.new)) }
+    ensures puts { MatchResult result (λ _. K.faults sink.new ≡ K.faults sink.old)
+        (λ stop. CountsPuts stop (K.faults sink.old) (K.faults sink.new)) }
+{
+    let mut run = Run::new(alloc);
+    match run.whole(source, sink) {
+        Ok(()) => Ok(()),
+        Err(stop) => Err(run.end(sink, stop)),
+    }
+}

@@ -15,3 +15,6 @@ pub use declared::Declared;
 pub use fault::{BadLine, ScriptFault};
 pub use laws::{fault_apart, one_event, one_fault, passed_apart};
 pub use parse::parse_line;
+
+#[cfg(test)]
+mod tests;

@@ -20,3 +20,6 @@ pub use forms::{one_form, one_transcript, stop_apart};
 pub use laws::{fault_apart, one_event, one_fault, passed_apart};
 pub use parse::parse_line;
 pub use print::{ESCAPED, line_text, stop_text};
+
+#[cfg(test)]
+mod tests;

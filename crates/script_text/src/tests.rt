@@ -1,0 +1,269 @@
+use crate::{Declared, ScriptFault, parse_line};
+use row_value::{Bytes, Cell, Column, ColumnKind, Content, Schema, Scheme, Sequence};
+use std::alloc::Global;
+use std::process::Abort;
+use std::test::Fail;
+use table_model::Event;
+
+const STORE: &str = "store S1";
+
+const TABLE: &str = "table T1 notes eventual 64 n:int";
+
+const CLIENT: &str = "client C1 - T1";
+
+const WRITE: &str = "write C1 T1 00000000-0000-4000-8000-00000000000a 5 -7";
+
+const SHOW: &str = "show C1 T1 00000000-0000-4000-8000-00000000000A";
+
+fn behind(alloc: Global, lines: &[&str]) -> Result<Declared, Fail> {
+    let mut names = Declared::new(alloc);
+    for line in lines {
+        if let Some(event) = parse_line(alloc, line.as_bytes(), &names)? {
+            names.add(&event)?;
+        }
+    }
+    Ok(names)
+}
+
+// The code and the word of a refusal; 0 and 0 for none.
+fn judged(alloc: Global, line: &[u8], names: &Declared) -> Result<(u32, usize), Fail> {
+    match parse_line(alloc, line, names) {
+        Ok(_) => Ok((0, 0)),
+        Err(ScriptFault::BadLine(fault)) => Ok((fault.code, fault.word)),
+        Err(ScriptFault::Memory) => Err(ScriptFault::Memory.into()),
+    }
+}
+
+fn check(
+    rt: &impl Abort,
+    alloc: Global,
+    names: &Declared,
+    cases: &[(&str, u32, usize)],
+) -> Result<(), Fail> {
+    for (line, code, word) in cases {
+        assert_eq!(rt;
+            judged(alloc, line.as_bytes(), names)?,
+            (*code, *word),
+            "{line}"
+        );
+    }
+    Ok(())
+}
+
+const AT_THE_START: [(&str, u32, usize); 33] = [
+    ("", 0, 0),
+    ("   ", 0, 0),
+    ("# a remark", 0, 0),
+    (" # a remark", 1, 0),
+    ("\t", 1, 0),
+    ("unknown", 1, 0),
+    ("Store S1", 1, 0),
+    ("break C1 T1 0 0", 1, 0),
+    ("gate G1", 12, 0),
+    ("history", 12, 0),
+    ("resolve_all C1 T1 mine", 12, 0),
+    ("  store   S1  ", 0, 0),
+    ("store", 2, 1),
+    ("store S1 S1", 3, 2),
+    ("store S0", 5, 1),
+    ("store S01", 5, 1),
+    ("store G1", 5, 1),
+    ("store S2", 12, 1),
+    ("store S2 S1", 12, 1),
+    ("table", 8, 0),
+    (TABLE, 8, 0),
+    (CLIENT, 8, 3),
+    ("client C1 - T65", 12, 3),
+    ("client C1 - -", 12, 3),
+    ("client C1 - T1,T2", 12, 3),
+    ("client C1 - T1,x", 5, 3),
+    ("client C1 - S1", 5, 3),
+    ("client C1 G1 T1", 12, 2),
+    ("client C1 x T1", 5, 2),
+    ("client C2 - T1", 12, 1),
+    ("client C - T1", 5, 1),
+    ("client C1 -", 2, 3),
+    (SHOW, 8, 1),
+];
+
+#[test]
+fn refusals_at_the_start(rt: HostRuntime) -> Result<(), Fail> {
+    let names = behind(rt.alloc(), &[])?;
+    check(&rt, rt.alloc(), &names, &AT_THE_START)
+}
+
+const BEHIND_A_STORE: [(&str, u32, usize); 18] = [
+    (STORE, 9, 1),
+    ("table T2 notes eventual 64 n:int", 12, 1),
+    ("table t1 notes eventual 64 n:int", 5, 1),
+    ("table T1 Notes eventual 64 n:int", 5, 2),
+    ("table T1 1 eventual 64 n:int", 5, 2),
+    ("table T1 notes strong 64 n:int", 12, 3),
+    ("table T1 notes weak 64 n:int", 5, 3),
+    ("table T1 notes eventual 65 n:int", 4, 4),
+    ("table T1 notes eventual 0064 n:int", 4, 4),
+    ("table T1 notes eventual 65536", 2, 5),
+    ("table T1 notes eventual 65536 n", 5, 5),
+    ("table T1 notes eventual 65536 N:int", 5, 5),
+    ("table T1 notes eventual 65536 n:float", 5, 5),
+    ("table T1 notes eventual 65536 n:bool", 12, 5),
+    ("table T1 notes eventual 65536 n:int m:int", 12, 6),
+    ("table T1 notes eventual 65536 n:int n:text", 9, 6),
+    ("table T1 notes eventual 65536 n:int m", 5, 6),
+    ("table T1 notes eventual 1024 n:int", 0, 0),
+];
+
+#[test]
+fn refusals_behind_a_store(rt: HostRuntime) -> Result<(), Fail> {
+    let names = behind(rt.alloc(), &[STORE])?;
+    check(&rt, rt.alloc(), &names, &BEHIND_A_STORE)
+}
+
+const BEHIND_DECLARATIONS: [(&str, u32, usize); 24] = [
+    (TABLE, 9, 1),
+    (CLIENT, 9, 1),
+    ("write C2 T1 00000000-0000-4000-8000-00000000000a 5", 8, 1),
+    ("write C1 T2 00000000-0000-4000-8000-00000000000a 5", 8, 2),
+    ("write C1 T1 00000000-0000-4000-8000-00000000000 5", 6, 3),
+    ("write C1 T1 00000000-0000-4000-8000-00000000000a", 2, 4),
+    ("write C1 T1 00000000-0000-4000-8000-00000000000a 05", 7, 4),
+    ("write C1 T1 00000000-0000-4000-8000-00000000000a -0", 7, 4),
+    (
+        "write C1 T1 00000000-0000-4000-8000-00000000000a 9223372036854775808",
+        7,
+        4,
+    ),
+    (
+        "write C1 T1 00000000-0000-4000-8000-00000000000a -9223372036854775808",
+        0,
+        0,
+    ),
+    ("write C1 T1 00000000-0000-4000-8000-00000000000a 5 x", 7, 5),
+    (
+        "write C1 T1 00000000-0000-4000-8000-00000000000a true x",
+        12,
+        4,
+    ),
+    (
+        "write C1 T1 00000000-0000-4000-8000-00000000000a 5 t:a%",
+        12,
+        5,
+    ),
+    (
+        "write C1 T1 00000000-0000-4000-8000-00000000000a t:%ff",
+        7,
+        4,
+    ),
+    ("write C1 T1 00000000-0000-4000-8000-00000000000a h:", 12, 4),
+    (
+        "write C1 T1 00000000-0000-4000-8000-00000000000a h:abc",
+        7,
+        4,
+    ),
+    (
+        "write C1 T1 00000000-0000-4000-8000-00000000000a r:33554432:ab",
+        12,
+        4,
+    ),
+    (
+        "write C1 T1 00000000-0000-4000-8000-00000000000a r:33554433:ab",
+        7,
+        4,
+    ),
+    (
+        "write C1 T1 00000000-0000-4000-8000-00000000000a r:3:",
+        7,
+        4,
+    ),
+    ("show C1 T1", 2, 3),
+    ("show C1 T1 x y", 6, 3),
+    ("show C1 T1 00000000-0000-4000-8000-00000000000a y", 3, 4),
+    (
+        "show C4294967297 T1 00000000-0000-4000-8000-00000000000a",
+        8,
+        1,
+    ),
+    ("show C1 t1 00000000-0000-4000-8000-00000000000a", 5, 2),
+];
+
+#[test]
+fn refusals_behind_all_declarations(rt: HostRuntime) -> Result<(), Fail> {
+    let names = behind(rt.alloc(), &[STORE, TABLE, CLIENT])?;
+    check(&rt, rt.alloc(), &names, &BEHIND_DECLARATIONS)
+}
+
+const BEHIND_AN_EVENT: [(&str, u32, usize); 6] = [
+    ("store", 11, 0),
+    ("table", 11, 0),
+    ("client", 11, 0),
+    ("draft", 12, 0),
+    ("# a remark", 0, 0),
+    (WRITE, 0, 0),
+];
+
+#[test]
+fn refusals_behind_an_event(rt: HostRuntime) -> Result<(), Fail> {
+    let names = behind(rt.alloc(), &[STORE, TABLE, CLIENT, SHOW])?;
+    check(&rt, rt.alloc(), &names, &BEHIND_AN_EVENT)
+}
+
+#[test]
+fn a_table_name_is_declared_once(rt: HostRuntime) -> Result<(), Fail> {
+    let alloc = rt.alloc();
+    let mut names = behind(alloc, &[STORE])?;
+    names.add(&Event::Table {
+        table: 2,
+        schema: Schema {
+            name: Bytes::from_slice(alloc, b"notes")?,
+            scheme: Scheme::Eventual,
+            chunk: 64,
+            columns: Sequence::new(alloc),
+        },
+    })?;
+    assert_eq!(rt; judged(alloc, TABLE.as_bytes(), &names)?, (9, 2));
+    Ok(())
+}
+
+#[test]
+fn hostile_lines_are_refused(rt: HostRuntime) -> Result<(), Fail> {
+    let alloc = rt.alloc();
+    let names = behind(alloc, &[STORE, TABLE, CLIENT])?;
+    assert_eq!(rt; judged(alloc, b"store \xff", &names)?, (10, 0));
+    assert_eq!(rt; judged(alloc, b"#\xff", &names)?, (0, 0));
+    let mut line = Vec::from_slice(alloc, b"write C1 T1 00000000-0000-4000-8000-00000000000a 1")?;
+    for _ in 0..2000 {
+        line.push(b'0')?;
+    }
+    assert_eq!(rt; judged(alloc, &line, &names)?, (7, 4));
+    let mut line = Vec::from_slice(alloc, b"show C1")?;
+    for _ in 0..2000 {
+        line.push(b'0')?;
+    }
+    assert_eq!(rt; judged(alloc, &line, &names)?, (8, 1));
+    Ok(())
+}
+
+// The row, how many cells, and the first number of a write.
+fn written(event: &Event) -> Option<([u8; 16], usize, i64)> {
+    match event {
+        Event::Write {
+            row,
+            content: Content::Row { cells, .. },
+            ..
+        } => match cells.as_slice() {
+            [Cell::Int(first), ..] => Some((row.to_bytes(), cells.len(), *first)),
+            _ => None,
+        },
+        _ => None,
+    }
+}
+
+#[test]
+fn a_write_has_its_row_and_its_numbers(rt: HostRuntime) -> Result<(), Fail> {
+    let alloc = rt.alloc();
+    let names = behind(alloc, &[STORE, TABLE, CLIENT])?;
+    let row = [0, 0, 0, 0, 0, 0, 0x40, 0, 0x80, 0, 0, 0, 0, 0, 0, 10];
+    let event = parse_line(alloc, WRITE.as_bytes(), &names)?.ok_or("passed over")?;
+    assert_eq!(rt; written(&event), Some((row, 2, 5)));
+    Ok(())
+}

@@ -7,3 +7,6 @@ mod memory;
 
 pub use depot::MemDepot;
 pub use memory::{Call, MemDisk};
+
+#[cfg(test)]
+mod tests;

@@ -1,7 +1,7 @@
 //! A vault whose disk can be stopped in mid-stream.
 ghost use Rattle.std.specs.Prelude.{◌≡◌};
 ghost use Rattle.disk_trait.specs.Fuse.{behind, inner_of, setting_of, IsArmed};
-ghost use Rattle.disk_trait.specs.declared.fuse.Setting.TheVariants.{Set};
+ghost use Rattle.disk_trait.specs.declared.fuse.FuseSetting.TheVariants.{Set};
 ghost use Rattle.vault.specs.Standing.{payloads, disk_of, IsUp, IsSynced, IsSound, Leaves, Stays};
 
 use crate::Vault;

@@ -6,4 +6,7 @@ mod edits;
 mod memory;
 
 pub use depot::MemDepot;
-pub use memory::{Call, MemDisk};
+pub use memory::MemDisk;
+
+#[cfg(test)]
+mod tests;

@@ -13,7 +13,7 @@ const MOST: u64 = 1 << 60;
 
 /// A call on the record, with the length before it where it may have changed it.
 #[derive(Debug, Clone, Copy, PartialEq, Eq)]
-pub enum Call {
+pub(crate) enum Call {
     /// `count` bytes at `at`, in place of the `over` bytes that stood there, which were saved.
     Write {
         at: usize,

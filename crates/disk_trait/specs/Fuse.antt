@@ -3,39 +3,39 @@ use Rattle.std.specs.Prelude.{◌≡◌, ℕ, ◌+◌, ◌-◌, ◌^◌, ◌≤�
 use Rattle.std.proofs.Common.{arith}
 use Rattle.disk_trait.specs.Calls.{DiskState}
 use Rattle.disk_trait.specs.declared.fuse.FuseDisk.{FuseDisk}
-use Rattle.disk_trait.specs.declared.fuse.Setting.{Setting}
-use Rattle.disk_trait.specs.declared.fuse.Setting.TheVariants.{Unset, Set, Blown}
+use Rattle.disk_trait.specs.declared.fuse.FuseSetting.{FuseSetting}
+use Rattle.disk_trait.specs.declared.fuse.FuseSetting.TheVariants.{Unset, Set, Blown}
 
 -- the disk inside, and how the fuse is set
 abbrev pub inner_of : {D : Type 0} → FuseDisk D → D
 inner_of f = f.inner
 
-abbrev pub setting_of : {D : Type 0} → FuseDisk D → Setting
+abbrev pub setting_of : {D : Type 0} → FuseDisk D → FuseSetting
 setting_of f = f.setting
 
-abbrev pub is_set : Setting → Bool
+abbrev pub is_set : FuseSetting → Bool
 is_set Unset = false
 is_set (Set passes pick) = true
 is_set Blown = true
 
 -- how many calls it still lets pass
-abbrev pub passes_left : Setting → ℕ
+abbrev pub passes_left : FuseSetting → ℕ
 passes_left Unset = 0
 passes_left (Set passes pick) = passes
 passes_left Blown = 0
 
 -- how many bytes of the write that it stops it lets land
-abbrev pub landing : Setting → ℕ
+abbrev pub landing : FuseSetting → ℕ
 landing Unset = 0
 landing (Set passes pick) = pick
 landing Blown = 0
 
 -- it can still count a stop
-abbrev pub is_armed_at : Setting → ℕ → Bool
+abbrev pub is_armed_at : FuseSetting → ℕ → Bool
 is_armed_at setting stops = is_set setting && nat_lt stops (2 ^ 64 - 1)
 
 -- the state of a disk with a fuse before it
-abbrev pub fused : DiskState → Setting → ℕ → DiskState
+abbrev pub fused : DiskState → FuseSetting → ℕ → DiskState
 fused s setting stops = record {
   seen = s.seen;
   pending = s.pending;

@@ -6,7 +6,7 @@ use crate::{Disk, DiskFault, RoomFault};
 
 /// What the fuse does with the next call.
 #[derive(Debug, Clone, Copy, PartialEq, Eq)]
-pub enum Setting {
+pub enum FuseSetting {
     Unset,
     /// Lets `passes` calls pass, and `pick` bytes of the write after them.
     Set { passes: u32, pick: u64 },
@@ -20,12 +20,12 @@ pub enum Setting {
 #[derive(Drop)]
 pub struct FuseDisk<D: Disk> {
     inner: D,
-    setting: Setting,
+    setting: FuseSetting,
     stops: u64,
 }
 
 // The setting and the stops after one call. It answers how many bytes of a write land, if the call is stopped.
-fn burn(setting: &mut Setting, stops: &mut u64) -> Option<u64>
+fn burn(setting: &mut FuseSetting, stops: &mut u64) -> Option<u64>
     ensures passed { IsNone result → stops.new ≡ stops.old }
     ensures unarmed { IsNone result → is_armed_at setting.old stops.old ≡ false → is_armed_at setting.new stops.new ≡ false }
     ensures armed { IsNone result → is_armed_at setting.old stops.old ≡ true → is_armed_at setting.new stops.new ≡ true }
@@ -34,30 +34,26 @@ fn burn(setting: &mut Setting, stops: &mut u64) -> Option<u64>
     ensures was_armed { IfSome result (λ landed. is_armed_at setting.old stops.old ≡ true) }
     ensures none_left { IfSome result (λ landed. passes_left setting.old ≡ 0) }
     ensures landed { IfSome result (λ landed. landed ≡ landing setting.old) }
-    ensures blown { IfSome result (λ landed. setting.new ≡ Setting.Blown) }
+    ensures blown { IfSome result (λ landed. setting.new ≡ FuseSetting.Blown) }
 {
     if *stops == u64::MAX {
         return None;
     }
-    match *setting {
-        Setting::Unset => None,
-        Setting::Set { passes: 0, pick } => {
-            *setting = Setting::Blown;
-            *stops += 1;
-            Some(pick)
-        }
-        Setting::Set { passes, pick } => {
-            *setting = Setting::Set {
+    let landed = match *setting {
+        FuseSetting::Unset => return None,
+        FuseSetting::Set { passes: 0, pick } => pick,
+        FuseSetting::Set { passes, pick } => {
+            *setting = FuseSetting::Set {
                 passes: passes - 1,
                 pick,
             };
-            None
+            return None;
         }
-        Setting::Blown => {
-            *stops += 1;
-            Some(0)
-        }
-    }
+        FuseSetting::Blown => 0,
+    };
+    *setting = FuseSetting::Blown;
+    *stops += 1;
+    Some(landed)
 }
 
 impl<D: Disk> FuseDisk<D> {
@@ -67,11 +63,11 @@ impl<D: Disk> FuseDisk<D> {
     /// A disk with a fuse that isn't set.
     pub fn new(disk: D) -> FuseDisk<D>
         ensures inner { inner_of result ≡ disk }
-        ensures state { behind D.state result ≡ fused (D.state disk) Setting.Unset 0 }
+        ensures state { behind D.state result ≡ fused (D.state disk) FuseSetting.Unset 0 }
     {
         FuseDisk {
             inner: disk,
-            setting: Setting::Unset,
+            setting: FuseSetting::Unset,
             stops: 0,
         }
     }
@@ -90,10 +86,10 @@ impl<D: Disk> FuseDisk<D> {
     pub fn stop_after(&mut self, calls: u32, pick: u64)
         ensures armed { IsArmed calls (behind D.state self.old) (behind D.state self.new) }
         ensures inner { inner_of self.new ≡ inner_of self.old }
-        ensures setting { setting_of self.new ≡ Setting.Set calls pick }
+        ensures setting { setting_of self.new ≡ FuseSetting.Set calls pick }
         ensures time { Elapses (behind D.state self.old) (behind D.state self.new) (D.images (inner_of self.old)) (D.images (inner_of self.new)) }
     {
-        self.setting = Setting::Set {
+        self.setting = FuseSetting::Set {
             passes: calls,
             pick,
         };
@@ -145,9 +141,9 @@ impl<D: Disk> Disk for FuseDisk<D> {
         ensures time { Elapses (behind D.state self.old) (behind D.state self.new) (D.images (inner_of self.old)) (D.images (inner_of self.new)) }
         ensures cause { HasCause (behind D.state self.old) (behind D.state self.new) result }
         ensures fuse { Burns 1 (behind D.state self.old) (behind D.state self.new) result }
-        ensures lands { Stops (behind D.state self.old) → setting_of self.old ≢ Setting.Blown → (D.state (inner_of self.new)).faults ≡ (D.state (inner_of self.old)).faults → (behind D.state self.new).seen ≡ overwritten (behind D.state self.old).seen at (take (landing (setting_of self.old)) bytes.now) }
-        ensures blown { Stops (behind D.state self.old) → setting_of self.new ≡ Setting.Blown }
-        ensures nothing_more { Stops (behind D.state self.old) → setting_of self.old ≡ Setting.Blown → inner_of self.new ≡ inner_of self.old }
+        ensures lands { Stops (behind D.state self.old) → setting_of self.old ≢ FuseSetting.Blown → (D.state (inner_of self.new)).faults ≡ (D.state (inner_of self.old)).faults → (behind D.state self.new).seen ≡ overwritten (behind D.state self.old).seen at (take (landing (setting_of self.old)) bytes.now) }
+        ensures blown { Stops (behind D.state self.old) → setting_of self.new ≡ FuseSetting.Blown }
+        ensures nothing_more { Stops (behind D.state self.old) → setting_of self.old ≡ FuseSetting.Blown → inner_of self.new ≡ inner_of self.old }
     {
         match burn(&mut self.setting, &mut self.stops) {
             None => self.inner.write_at(at, bytes),
@@ -169,7 +165,7 @@ impl<D: Disk> Disk for FuseDisk<D> {
         ensures time { Elapses (behind D.state self.old) (behind D.state self.new) (D.images (inner_of self.old)) (D.images (inner_of self.new)) }
         ensures cause { HasCause (behind D.state self.old) (behind D.state self.new) result }
         ensures fuse { Burns 1 (behind D.state self.old) (behind D.state self.new) result }
-        ensures blown { Stops (behind D.state self.old) → setting_of self.new ≡ Setting.Blown }
+        ensures blown { Stops (behind D.state self.old) → setting_of self.new ≡ FuseSetting.Blown }
         ensures nothing { Stops (behind D.state self.old) → inner_of self.new ≡ inner_of self.old }
     {
         match burn(&mut self.setting, &mut self.stops) {
@@ -187,7 +183,7 @@ impl<D: Disk> Disk for FuseDisk<D> {
         ensures time { Elapses (behind D.state self.old) (behind D.state self.new) (D.images (inner_of self.old)) (D.images (inner_of self.new)) }
         ensures cause { HasCause (behind D.state self.old) (behind D.state self.new) result }
         ensures fuse { Burns 1 (behind D.state self.old) (behind D.state self.new) result }
-        ensures blown { Stops (behind D.state self.old) → setting_of self.new ≡ Setting.Blown }
+        ensures blown { Stops (behind D.state self.old) → setting_of self.new ≡ FuseSetting.Blown }
         ensures nothing { Stops (behind D.state self.old) → inner_of self.new ≡ inner_of self.old }
     {
         match burn(&mut self.setting, &mut self.stops) {
@@ -199,6 +195,6 @@ impl<D: Disk> Disk for FuseDisk<D> {
     /// The fuse is no longer set, and its stops stand.
     fn restart(&mut self, pick: u64) {
         self.inner.restart(pick);
-        self.setting = Setting::Unset;
+        self.setting = FuseSetting::Unset;
     }
 }

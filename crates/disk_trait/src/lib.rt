@@ -9,4 +9,4 @@ mod fuse;
 pub use depot::{Depot, DepotFault};
 pub use disk::{Disk, DiskFault, RoomFault};
 pub use durable::{cut_durably, write_durably};
-pub use fuse::{FuseDisk, Setting};
+pub use fuse::{FuseDisk, FuseSetting};

@@ -45,6 +45,7 @@ impl<D: Disk + Drop> Vault<D> {
         }
     }
 
+    /// The disk, as the vault leaves it.
     pub fn into_disk(self) -> D
         ensures { result ≡ disk_of self }
     {

@@ -1,0 +1,5 @@
+//! Tests of a vault over disks in memory.
+#![tactic(auto)]
+
+#[cfg(test)]
+mod tests;

@@ -7,3 +7,4 @@ pub mod CellReads
 pub mod PieceReads
 pub mod ContentReads
 pub mod Answering
+pub mod Spread

@@ -173,3 +173,11 @@ text_again text rest h = ap text_at (append_assoc (to_be_bytes w32 (length text)
 
 pub text_reads : Reads (λ text. (length text < 2 ^ 32) × IsUtf8 text) counted text_at
 text_reads = record { takes = text_takes; again = text_again }
+
+-- two values with one spelling are the same
+pub one_value : {X : Type 0} (P : X → Type 0) (spell : X → List ℕ) (read : List ℕ → Result (X × List ℕ) ℕ) → Reads P spell read → (x y : X) → P x → P y → spell x ≡ spell y → x ≡ y
+one_value {X} P spell read r x y h k e =
+    let nothing : List ℕ = [] in
+    let first : read (spell x ++ nothing) ≡ Ok (x, nothing) = r.again x nothing h in
+    let second : read (spell x ++ nothing) ≡ Ok (y, nothing) = ap (λ (l : List ℕ). read (l ++ nothing)) e ∙ r.again y nothing k in
+    ap (λ (p : X × List ℕ). p.0) (ok_is (x, nothing) (y, nothing) (sym first ∙ second))

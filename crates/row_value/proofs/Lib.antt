@@ -8,3 +8,4 @@ pub mod PieceReads
 pub mod ContentReads
 pub mod Answering
 pub mod Spread
+pub mod SchemaReads

@@ -13,6 +13,8 @@ mod piece_reader;
 mod piece_writer;
 mod pieces;
 mod schema;
+mod schema_reader;
+mod schema_writer;
 mod spell_fault;
 mod writer;
 
@@ -27,6 +29,8 @@ pub use piece_reader::{take_name, take_piece};
 pub use piece_writer::{put_name, put_piece};
 pub use pieces::{Piece, PieceContent, PieceObject, PieceObjects, Pieces};
 pub use schema::{Column, ColumnKind, Columns, Schema, Scheme};
+pub use schema_reader::{schema_of, take_schema};
+pub use schema_writer::put_schema;
 pub use spell_fault::SpellFault;
 pub use stab_base::{
     Bytes, ChunkName, ClientNo, GateNo, RowId, Sequence, StoreNo, TableNo, Version, WriteNo,

@@ -1,0 +1,233 @@
+use simba_top::run_simba;
+use stab_io::{MemSink, MemSource};
+use std::alloc::Global;
+use std::process::Abort;
+use std::test::Fail;
+
+const FIRST: &str =
+    "store S1\ntable T1 notes eventual 64 n:int\nclient C1 - T1\nwrite C1 T1 00000000-0000-4000-8000-000000000001 5\nshow C1 T1 00000000-0000-4000-8000-000000000001\nshow C1 T1 00000000-0000-4000-8000-000000000002\nwrite C1 T1 00000000-0000-4000-8000-000000000001 6 7\n";
+
+const FIRST_LINES: [&str; 5] = [
+    "ok 1\n",
+    "wrote C1 1 T1 00000000-0000-4000-8000-000000000001 0 5\n",
+    "ok mine 1 5\n",
+    "no 27\n",
+    "no 10 1\n",
+];
+
+const DECLARED: &str = "store S1\ntable T1 notes eventual 64 n:int\nclient C1 - T1\n";
+
+fn texts(alloc: Global, parts: &[&str]) -> Result<Vec<u8>, Fail> {
+    let mut text = Vec::new(alloc);
+    for part in parts {
+        text.extend_from_slice(part.as_bytes())?;
+    }
+    Ok(text)
+}
+
+// The status, and what the sink holds.
+fn ends(
+    alloc: Global,
+    word: &str,
+    script: Vec<u8>,
+    takes: &[u64],
+    puts: &[u64],
+) -> Result<(u8, Vec<u8>), Fail> {
+    let words = vec![in alloc; String::from_str(alloc, word)?]?;
+    let mut source = MemSource::new(script, Vec::from_slice(alloc, takes)?);
+    let mut sink = MemSink::new(alloc, Vec::from_slice(alloc, puts)?);
+    let status = run_simba(alloc, &words, &mut source, &mut sink);
+    Ok((status, sink.into_bytes()))
+}
+
+fn check(
+    rt: &impl Abort,
+    alloc: Global,
+    script: &[&str],
+    status: u8,
+    output: &[&str],
+) -> Result<(), Fail> {
+    let (ended, written) = ends(alloc, "run", texts(alloc, script)?, &[], &[])?;
+    assert_eq!(rt; ended, status);
+    assert!(rt; written.as_slice() == texts(alloc, output)?.as_slice());
+    Ok(())
+}
+
+#[test]
+fn nothing_gives_nothing(rt: HostRuntime) -> Result<(), Fail> {
+    check(&rt, rt.alloc(), &[], 0, &[])
+}
+
+#[test]
+fn the_first_script(rt: HostRuntime) -> Result<(), Fail> {
+    check(&rt, rt.alloc(), &[FIRST], 0, &FIRST_LINES)
+}
+
+#[test]
+fn other_words_are_refused(rt: HostRuntime) -> Result<(), Fail> {
+    for word in ["", "Run", "run ", "live", "-h", "--help"] {
+        let (status, written) = ends(rt.alloc(), word, texts(rt.alloc(), &[FIRST])?, &[], &[])?;
+        assert_eq!(rt; status, 2, "{word}");
+        assert!(rt; written.is_empty());
+    }
+    Ok(())
+}
+
+const BAD_LINES: [(&str, &str); 6] = [
+    ("frob\n", "stop 3 4 1\n"),
+    ("write C1 T1\n", "stop 3 4 2\n"),
+    ("\n# a remark\nshow C1 T1 1\n", "stop 3 6 6\n"),
+    (
+        "show C1 T1 00000000-0000-4000-8000-000000000001 x\n",
+        "stop 3 4 3\n",
+    ),
+    ("client C2 - T1\n", "stop 3 4 12\n"),
+    ("store S1\n", "stop 3 4 9\n"),
+];
+
+#[test]
+fn the_first_bad_line_stops_the_run(rt: HostRuntime) -> Result<(), Fail> {
+    for (line, output) in BAD_LINES {
+        check(&rt, rt.alloc(), &[DECLARED, line, "frob\n"], 3, &[output])?;
+    }
+    Ok(())
+}
+
+#[test]
+fn a_last_line_needs_no_newline(rt: HostRuntime) -> Result<(), Fail> {
+    let show = "show C1 T1 00000000-0000-4000-8000-000000000001";
+    check(&rt, rt.alloc(), &[DECLARED, show], 0, &["no 27\n"])
+}
+
+#[test]
+fn row_ids_are_printed_in_lower_case(rt: HostRuntime) -> Result<(), Fail> {
+    let write = "write  C1 T1   0000000A-00BC-4000-8000-00000000000F -9223372036854775808 ";
+    check(
+        &rt,
+        rt.alloc(),
+        &[DECLARED, write],
+        0,
+        &["ok 1\nwrote C1 1 T1 0000000a-00bc-4000-8000-00000000000f 0 -9223372036854775808\n"],
+    )
+}
+
+// A source of 64 bytes a take that fails at one of its takes: the lines that it gave whole are carried out.
+#[test]
+fn a_source_that_fails(rt: HostRuntime) -> Result<(), Fail> {
+    for (take, lines) in [(0, 0), (1, 0), (2, 2), (3, 3), (4, 4), (5, 5)] {
+        let (status, written) = ends(
+            rt.alloc(),
+            "run",
+            texts(rt.alloc(), &[FIRST])?,
+            &[take],
+            &[],
+        )?;
+        assert_eq!(rt; status, 4, "{take}");
+        assert!(rt;
+            written.as_slice() == texts(rt.alloc(), &FIRST_LINES[..lines])?.as_slice(),
+            "{take}"
+        );
+    }
+    Ok(())
+}
+
+// A sink that fails at one of its puts: the lines before, and half of the one that fails, rounded down.
+#[test]
+fn a_sink_that_fails(rt: HostRuntime) -> Result<(), Fail> {
+    for (put, line) in FIRST_LINES.iter().enumerate() {
+        let (status, written) = ends(
+            rt.alloc(),
+            "run",
+            texts(rt.alloc(), &[FIRST])?,
+            &[],
+            &[put as u64],
+        )?;
+        assert_eq!(rt; status, 5, "{put}");
+        let mut held = texts(rt.alloc(), &FIRST_LINES[..put])?;
+        let half = line.as_bytes();
+        held.extend_from_slice(&half[..half.len() / 2])?;
+        assert!(rt; written.as_slice() == held.as_slice(), "{put}");
+    }
+    Ok(())
+}
+
+#[test]
+fn a_stop_line_that_fails(rt: HostRuntime) -> Result<(), Fail> {
+    let (status, written) = ends(rt.alloc(), "run", texts(rt.alloc(), &["frob"])?, &[], &[0])?;
+    assert_eq!(rt; status, 5);
+    assert!(rt; written.as_slice() == b"stop ".as_slice());
+    Ok(())
+}
+
+fn limited(
+    rt: &impl Abort,
+    alloc: Global,
+    script: Vec<u8>,
+    status: u8,
+    output: &str,
+) -> Result<(), Fail> {
+    let (ended, written) = ends(alloc, "run", script, &[], &[])?;
+    assert_eq!(rt; ended, status, "{output}");
+    assert!(rt; written.as_slice() == output.as_bytes(), "{output}");
+    Ok(())
+}
+
+#[test]
+fn most_lines(rt: HostRuntime) -> Result<(), Fail> {
+    limited(
+        &rt,
+        rt.alloc(),
+        vec![in rt.alloc(); b'\n'; 1_048_576]?,
+        0,
+        "",
+    )?;
+    limited(
+        &rt,
+        rt.alloc(),
+        vec![in rt.alloc(); b'\n'; 1_048_577]?,
+        7,
+        "stop 7 1048577 2\n",
+    )
+}
+
+#[test]
+fn longest_line(rt: HostRuntime) -> Result<(), Fail> {
+    limited(
+        &rt,
+        rt.alloc(),
+        vec![in rt.alloc(); b'#'; 34_603_008]?,
+        0,
+        "",
+    )?;
+    limited(
+        &rt,
+        rt.alloc(),
+        vec![in rt.alloc(); b'#'; 34_603_009]?,
+        7,
+        "stop 7 1 3\n",
+    )
+}
+
+// Two lines of half the most bytes, and then so many more.
+fn two_lines(alloc: Global, more: usize) -> Result<Vec<u8>, Fail> {
+    let mut line = vec![in alloc; b'#'; 33_554_431]?;
+    line.push(b'\n')?;
+    let mut text = Vec::from_slice(alloc, &line)?;
+    text.extend_from_slice(&line)?;
+    for _ in 0..more {
+        text.push(b' ')?;
+    }
+    Ok(text)
+}
+
+#[test]
+fn longest_input(rt: HostRuntime) -> Result<(), Fail> {
+    limited(&rt, rt.alloc(), two_lines(rt.alloc(), 0)?, 0, "")?;
+    limited(
+        &rt,
+        rt.alloc(),
+        two_lines(rt.alloc(), 1)?,
+        7,
+        "stop 7 3 1\n",
+    )
+}

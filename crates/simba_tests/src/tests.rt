@@ -1,3 +1,5 @@
+use run_laws::plain_transcript;
+use script_text::{Declared, line_text, parse_line};
 use simba_top::run_simba;
 use stab_io::{MemSink, MemSource};
 use std::alloc::Global;
@@ -230,4 +232,46 @@ fn longest_input(rt: HostRuntime) -> Result<(), Fail> {
         7,
         "stop 7 3 1\n",
     )
+}
+
+// The transcript of a script by the plain program, as text.
+fn plainly(alloc: Global, script: &[&str]) -> Result<Vec<u8>, Fail> {
+    let mut names = Declared::new(alloc);
+    let mut events = Vec::new(alloc);
+    for line in script {
+        if let Some(event) = parse_line(alloc, line.as_bytes(), &names)? {
+            names.add(&event)?;
+            events.push(event)?;
+        }
+    }
+    let mut text = Vec::new(alloc);
+    for line in plain_transcript(alloc, &events)?.iter() {
+        text.extend_from_slice(line_text(alloc, line)?.as_slice())?;
+        text.push(b'\n')?;
+    }
+    Ok(text)
+}
+
+const MANY: [&str; 9] = [
+    "store S1\n",
+    "table T1 notes eventual 64 n:int\n",
+    "client C1 - T1\n",
+    "write C1 T1 00000000-0000-4000-8000-000000000002 1\n",
+    "write C1 T1 00000000-0000-4000-8000-000000000001 2 3\n",
+    "write C1 T1 00000000-0000-4000-8000-000000000001 -4\n",
+    "write C1 T1 00000000-0000-4000-8000-000000000002 5\n",
+    "show C1 T1 00000000-0000-4000-8000-000000000002\n",
+    "show C1 T1 00000000-0000-4000-8000-000000000003\n",
+];
+
+#[test]
+fn the_plain_program_writes_the_same(rt: HostRuntime) -> Result<(), Fail> {
+    let mut lines = Vec::new(rt.alloc());
+    for line in MANY {
+        lines.push(line.trim_end_matches('\n'))?;
+    }
+    let (status, written) = ends(rt.alloc(), "run", texts(rt.alloc(), &MANY)?, &[], &[])?;
+    assert_eq!(rt; status, 0);
+    assert!(rt; written.as_slice() == plainly(rt.alloc(), &lines)?.as_slice());
+    Ok(())
 }

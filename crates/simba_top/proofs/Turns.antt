@@ -10,7 +10,7 @@ use Rattle.table_model.specs.declared.event.Event.{Event}
 use Rattle.table_model.specs.declared.line.TextLine.{TextLine}
 use Rattle.run_laws.specs.Turns.{lines_for, transcript}
 use Rattle.run_laws.proofs.Runs.{transcript-push}
-use Rattle.stab_io.specs.Lines.{Next, Line, End, LineTooLong, InputTooLong, next_of}
+use Rattle.stab_io.specs.Lines.{Line, End, LineTooLong, InputTooLong, next_of}
 use Rattle.stab_io.specs.Reading.{Reading, ahead, IsNextLine, ComesNext, CountsAll}
 use Rattle.stab_io.specs.declared.limits.Limits.{Limits}
 use Rattle.stab_io.specs.declared.limits.TheConstants.{LINE_LIMIT, INPUT_LIMIT}
@@ -66,12 +66,6 @@ end_nil limits used [] e = refl
 end_nil limits used (b ∷ bytes) e = absurd (let none = eqb-true (length (b ∷ bytes)) 0 (over _ _ _ _ _ e) in omega (arith, none))
 
 module _ (input : List ℕ) (script : List Event) (run : Run) (left : Option (List ℕ)) (ready : IsReady run) (stands : Stands input script run left) where
-  -- what the reader says of the next, where it tells
-  comes_next : (next : Next) → ComesNext run.reader left next → next_in (length input) stands.rest ≡ next
-  comes_next next comes =
-      next_same input stands.rest run ready stands.used
-      ∙ if_some (ahead run.reader left) stands.rest (λ bytes. next_of run.reader.limits run.reader.used bytes ≡ next) stands.here comes
-
   at_end : ComesNext run.reader left End → IsWhole input script
   at_end comes =
       let empty : stands.rest ≡ [] = end_nil run.reader.limits run.reader.used stands.rest

@@ -118,9 +118,9 @@ impl Run {
         ensures puts { MatchResult result (λ _. K.faults sink.new ≡ K.faults sink.old)
             (λ stop. CountsPuts stop (K.faults sink.old) (K.faults sink.new)) }
     {
-        let mut text = stop_text(self.alloc, status, self.count + 1, code)?;
-        text.push(b'\n')?;
-        sink.put(text.as_slice())?;
+        let mut line = stop_text(self.alloc, status, self.count + 1, code)?;
+        line.push(b'\n')?;
+        sink.put(line.as_slice())?;
         Ok(())
     }
 

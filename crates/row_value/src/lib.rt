@@ -16,6 +16,7 @@ mod schema;
 mod schema_reader;
 mod schema_writer;
 mod spell_fault;
+mod utf8;
 mod writer;
 
 pub use cell_reader::take_cell;

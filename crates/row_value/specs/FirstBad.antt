@@ -1,0 +1,15 @@
+-- The first place at which no spelling goes on.
+use Rattle.std.specs.Prelude.{◌≡◌, ℕ, List, ◌∷◌, ◌++◌, length}
+
+-- The bytes in front of the place, which is so many bytes from the end, are the front of the spelling of a value that
+-- has one. With the byte at the place, if there is one, they are the front of none.
+pub record IsFirstBad {X : Type 0} (P : X → Type 0) (spell : X → List ℕ) (bytes : List ℕ) (left : ℕ) : Type 0 where
+  pub front : List ℕ
+  pub rest : List ℕ
+  pub parts : bytes ≡ front ++ rest
+  pub place : length rest ≡ left
+  pub value : X
+  pub more : List ℕ
+  pub fits : P value
+  pub goes_on : spell value ≡ front ++ more
+  pub stops : (b : ℕ) (behind : List ℕ) → rest ≡ b ∷ behind → (x : X) (others : List ℕ) → P x → spell x ≡ front ++ b ∷ others → ⊥

@@ -146,7 +146,7 @@ utf8_takes len bytes text rest fits e =
     let l = t.len in
     let front : take len bytes ≡ t.text = ap (take len) t.parts ∙ take_at t.text a.0 len t.len in
     subst (λ (p : List ℕ × List ℕ). ((length p.0 ≡ len) × IsUtf8 p.0) × (bytes ≡ p.0 ++ p.1)) (ok_is (take len bytes, a.0) (text, rest) a.2)
-      ((ap length front ∙ t.len, subst IsUtf8 (sym front) t.finishes), t.parts ∙ ap (λ (l : List ℕ). l ++ a.0) (sym front))
+    ((ap length front ∙ t.len, subst IsUtf8 (sym front) t.finishes), t.parts ∙ ap (λ (l : List ℕ). l ++ a.0) (sym front))
 
 utf8_again : (len : ℕ) (text rest : List ℕ) → (length text ≡ len) × IsUtf8 text → utf8_at len (text ++ rest) ≡ Ok (text, rest)
 unfolding utf8_at

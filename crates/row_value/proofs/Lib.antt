@@ -13,3 +13,6 @@ pub mod Utf8Places
 pub mod Utf8Chars
 pub mod Utf8Reads
 pub mod Stops
+pub mod FieldStops
+pub mod ValueStops
+pub mod SchemaStops

@@ -66,10 +66,13 @@ after_big b (y ∷ text) big v =
     elim v.0 [
       | first p q ↦ absurd (omega arith)
       | later p q t ↦ absurd (omega arith)
-      | second p q r ↦ (record { one = inr q }, elim (cases_lt b 0xE0) [
-        | inl s ↦ subst (Follows b (y ∷ text)) (sym (tail_1 b (omega arith) s)) (r.0, r.1, closed-IsUtf8 0 b y text (omega arith) v.1)
-        | inr s ↦ third b y text s q.1 r v.1
-      ])
+      | second p q r ↦ (
+        record { one = inr q },
+        elim (cases_lt b 0xE0) [
+          | inl s ↦ subst (Follows b (y ∷ text)) (sym (tail_1 b (omega arith) s)) (r.0, r.1, closed-IsUtf8 0 b y text (omega arith) v.1)
+          | inr s ↦ third b y text s q.1 r v.1
+        ],
+      )
     ]
 
 pub begun : (b : ℕ) (text : List ℕ) → IsUtf8 (b ∷ text) → Lead b × Continues (tail_len b) (second_byte_min b) (second_byte_max b) text
@@ -108,7 +111,7 @@ of_3 b (y ∷ (z ∷ text)) l h f =
     let m = most_is b in
     let k = least_is b in
     let one : IsUtf8 (b ∷ (y ∷ (z ∷ []))) = (StepsThen-IsUtf8 (b ∷ (y ∷ (z ∷ [])))).0
-      (first closed (inr (omega arith)), (second (omega arith, omega arith) (omega arith, omega arith) (f.0, f.1), (later (inr l) (omega arith, omega arith) (omega arith, omega arith), (omega arith, omega arith, omega arith)))) in
+    (first closed (inr (omega arith)), (second (omega arith, omega arith) (omega arith, omega arith) (f.0, f.1), (later (inr l) (omega arith, omega arith) (omega arith, omega arith), (omega arith, omega arith, omega arith)))) in
     IsUtf8-append (b ∷ (y ∷ (z ∷ []))) text one f.2.2
 
 of_4 : (b : ℕ) (text : List ℕ) → 0xF0 ≤ b → b ≤ 0xF4 → Follows b text 3 → IsUtf8 (b ∷ text)
@@ -119,7 +122,7 @@ of_4 b (y ∷ (z ∷ (w ∷ text))) l h f =
     let m = most_is b in
     let k = least_is b in
     let one : IsUtf8 (b ∷ (y ∷ (z ∷ (w ∷ [])))) = (StepsThen-IsUtf8 (b ∷ (y ∷ (z ∷ (w ∷ []))))).0
-      (first closed (inr (omega arith)), (second (omega arith, omega arith) (omega arith, h) (f.0, f.1), (later (inr (omega arith)) (omega arith, omega arith) (omega arith, omega arith), (later (inl l) (omega arith, omega arith) (omega arith, omega arith), (omega arith, omega arith, omega arith))))) in
+    (first closed (inr (omega arith)), (second (omega arith, omega arith) (omega arith, h) (f.0, f.1), (later (inr (omega arith)) (omega arith, omega arith) (omega arith, omega arith), (later (inl l) (omega arith, omega arith) (omega arith, omega arith), (omega arith, omega arith, omega arith))))) in
     IsUtf8-append (b ∷ (y ∷ (z ∷ (w ∷ [])))) text one f.2.2.2
 
 pub built : (b : ℕ) (text : List ℕ) → Lead b → Continues (tail_len b) (second_byte_min b) (second_byte_max b) text → IsUtf8 (b ∷ text)

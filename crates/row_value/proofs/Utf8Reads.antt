@@ -25,10 +25,12 @@ one_of true b e = inl refl
 one_of false b e = inr e
 
 lead_is : (b : ℕ) → leads b ≡ true → Lead b
-lead_is b e = record { one = elim (one_of (ltb b 0x80) (leb 0xC2 b && leb b 0xF4) e) [
+lead_is b e = record {
+  one = elim (one_of (ltb b 0x80) (leb 0xC2 b && leb b 0xF4) e) [
     | inl s ↦ inl (ltb-true _ _ s)
     | inr t ↦ let p = both (leb 0xC2 b) (leb b 0xF4) t in inr (leb-true _ _ p.0, leb-true _ _ p.1)
-  ] }
+  ];
+}
 
 or_true : (a b : Bool) → (a ≡ true) ⊎ (b ≡ true) → (a || b) ≡ true
 or_true true b e = refl
@@ -44,7 +46,7 @@ some_branch false x y e = absurd cc
 
 -- ---- one byte
 
-first_step : (low high left b : ℕ) (next : Inside) → step (inside_of 0 low high) left b ≡ Some next → Lead b × (tail_len b ≤ left) × (inside_of (tail_len b) (second_byte_min b) (second_byte_max b) ≡ next)
+pub first_step : (low high left b : ℕ) (next : Inside) → step (inside_of 0 low high) left b ≡ Some next → Lead b × (tail_len b ≤ left) × (inside_of (tail_len b) (second_byte_min b) (second_byte_max b) ≡ next)
 first_step low high left b next e =
     let s = some_branch (leads b && leb (tail_len b) left) (inside_of (tail_len b) (second_byte_min b) (second_byte_max b)) next e in
     let p = both (leads b) (leb (tail_len b) left) s.0 in
@@ -56,14 +58,14 @@ later_is need low high left b =
     let other : Option Inside = cond (leb low b && leb b high) (Some (inside_of (suc need - 1) 0x80 0xBF)) None in
     ap (λ (t : Bool). cond t first other) (eqb-suc-zero need)
 
-later_step : (need low high left b : ℕ) (next : Inside) → step (inside_of (suc need) low high) left b ≡ Some next → (low ≤ b) × (b ≤ high) × (inside_of need 0x80 0xBF ≡ next)
+pub later_step : (need low high left b : ℕ) (next : Inside) → step (inside_of (suc need) low high) left b ≡ Some next → (low ≤ b) × (b ≤ high) × (inside_of need 0x80 0xBF ≡ next)
 later_step need low high left b next e =
     let s = some_branch (leb low b && leb b high) (inside_of (suc need - 1) 0x80 0xBF) next (sym (later_is need low high left b) ∙ e) in
     let p = both (leb low b) (leb b high) s.0 in
     let n : suc need - 1 ≡ need = omega arith in
     (leb-true _ _ p.0, leb-true _ _ p.1, ap (λ (m : ℕ). inside_of m 0x80 0xBF) (sym n) ∙ s.1)
 
-wrap : (need low high left b : ℕ) (next : Inside) (text : List ℕ) → step (inside_of need low high) left b ≡ Some next → Finishes next text → Continues need low high (b ∷ text)
+pub wrap : (need low high left b : ℕ) (next : Inside) (text : List ℕ) → step (inside_of need low high) left b ≡ Some next → Finishes next text → Continues need low high (b ∷ text)
 wrap zero low high left b next text e f = let s = first_step low high left b next e in built b text s.0 (subst (λ (n : Inside). Finishes n text) (sym s.2) f)
 wrap (suc need) low high left b next text e f = let s = later_step need low high left b next e in (s.0, s.1, subst (λ (n : Inside). Finishes n text) (sym s.2) f)
 
@@ -109,12 +111,12 @@ rest_takes zero inside bytes rest room e = none_left inside bytes rest room cc
 rest_takes (suc left) inside [] rest room e = absurd cc
 rest_takes (suc left) inside (b ∷ bytes) rest room e =
     go (step inside left b) refl (sym (steps inside left b bytes) ∙ e) (λ next. rest_takes left next bytes rest) where
-  go : (o : Option Inside) → step inside left b ≡ o → goes left bytes o ≡ Ok rest → ((next : Inside) → next.need ≤ left → utf8_rest next left bytes ≡ Ok rest → IsRead next left bytes rest) → IsRead inside (suc left) (b ∷ bytes) rest
-  go None is f again = absurd cc
-  go (Some next) is f again =
-      let t = again next (room_left inside.need inside.low inside.high left b next room is) f in
-      let l = t.len in
-      record { text = b ∷ t.text; parts = ap (λ (l : List ℕ). b ∷ l) t.parts; len = omega arith; finishes = wrap inside.need inside.low inside.high left b next t.text is t.finishes }
+      go : (o : Option Inside) → step inside left b ≡ o → goes left bytes o ≡ Ok rest → ((next : Inside) → next.need ≤ left → utf8_rest next left bytes ≡ Ok rest → IsRead next left bytes rest) → IsRead inside (suc left) (b ∷ bytes) rest
+      go None is f again = absurd cc
+      go (Some next) is f again =
+          let t = again next (room_left inside.need inside.low inside.high left b next room is) f in
+          let l = t.len in
+          record { text = b ∷ t.text; parts = ap (λ (l : List ℕ). b ∷ l) t.parts; len = omega arith; finishes = wrap inside.need inside.low inside.high left b next t.text is t.finishes }
 
 pub rest_again : (left : ℕ) (inside : Inside) (text rest : List ℕ) → length text ≡ left → Finishes inside text → utf8_rest inside left (text ++ rest) ≡ Ok rest
 unfolding utf8_rest

@@ -1,5 +1,5 @@
 -- What a reader answers, from what its reading function gives.
-use Rattle.std.proofs.Common.{◌≡◌, ℕ, ◌-◌, ◌≤◌, Bool, true, false, cond, eqb, List, [], ◌∷◌, ◌++◌, length, drop, Result, Ok, Err, refl, sym, ap, subst, ◌∙◌, arith, inl, inr}
+use Rattle.std.proofs.Common.{◌≡◌, ℕ, ◌-◌, cond, eqb, List, [], ◌∷◌, ◌++◌, length, drop, Result, Ok, Err, refl, sym, ap, subst, ◌∙◌, inl, inr}
 use Rattle.std.specs.Prelude.{IfOk}
 use Rattle.std.proofs.lemmas.Bool.{eqb-true}
 use Rattle.std.proofs.lemmas.List.{nil_from_length, append-nil}
@@ -8,7 +8,7 @@ use Rattle.stab_base.proofs.Fields.{IsBytes-drop}
 use Rattle.row_value.specs.declared.spell_fault.SpellFault.{SpellFault}
 use Rattle.row_value.specs.declared.spell_fault.SpellFault.TheVariants.{Bad, Memory}
 use Rattle.row_value.specs.FirstBad.{IsFirstBad, Refuses}
-use Rattle.row_value.specs.Reading.{◌>>=◌, Gives, whole}
+use Rattle.row_value.specs.Reading.{Gives, whole}
 use Rattle.row_value.proofs.Stops.{Stops, err_is, not_ok, bind_err, branch_err}
 use Rattle.row_value.proofs.FieldReads.{bind_ok, ok_is, branch, no_fault, Reads}
 

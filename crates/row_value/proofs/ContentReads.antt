@@ -1,9 +1,8 @@
 -- Objects and contents: what is read is spelled so, and what is spelled so is read.
-use Rattle.std.proofs.Common.{◌≡◌, ℕ, suc, ◌+◌, ◌^◌, ◌<◌, Bool, true, false, cond, eqb, List, [], ◌∷◌, ◌++◌, length, Result, Ok, Err, refl, sym, ap, subst, ◌∙◌, arith, inl, inr, length-append}
-use Rattle.std.specs.List.{flat_map, AllByRecursion}
+use Rattle.std.proofs.Common.{◌≡◌, ℕ, suc, ◌+◌, ◌^◌, ◌<◌, cond, eqb, List, [], ◌∷◌, ◌++◌, length, Ok, Err, refl, sym, ap, subst, ◌∙◌, arith, inl, inr}
+use Rattle.std.specs.List.{AllByRecursion}
 use Rattle.std.specs.Int.{w32, to_be_bytes}
 use Rattle.std.proofs.lemmas.Bool.{eqb-true}
-use Rattle.std.proofs.lemmas.List.{nil_from_length, append-nil}
 use Rattle.std.proofs.lemmas.List.Concat.{flat_map-cons}
 use Rattle.stab_base.specs.Codec.{IsBytes}
 use Rattle.row_value.specs.declared.content.Cell.{Cell}
@@ -12,8 +11,8 @@ use Rattle.row_value.specs.declared.pieces.Piece.TheVariants.{Keep, Fresh}
 use Rattle.row_value.specs.declared.pieces.PieceObject.{PieceObject}
 use Rattle.row_value.specs.declared.pieces.PieceContent.{PieceContent}
 use Rattle.row_value.specs.declared.pieces.PieceContent.TheVariants.{Gone, Row}
-use Rattle.row_value.specs.Spelling.{list_spelling, cell_spelling, HasCellSpelling, piece_spelling, HasPieceSpelling, fresh_in, object_spelling, HasObjectSpelling, pieces_of, CountsFrom, content_spelling, HasRowSpelling, HasContentSpelling}
-use Rattle.row_value.specs.Reading.{◌>>=◌, byte_at, number_at, list_at, after_cell, cell_in, piece_in, after_piece, object_in, after_object, row_at, content_at}
+use Rattle.row_value.specs.Spelling.{list_spelling, cell_spelling, HasCellSpelling, piece_spelling, HasPieceSpelling, fresh_in, object_spelling, HasObjectSpelling, pieces_of, CountsFrom, content_spelling, HasContentSpelling}
+use Rattle.row_value.specs.Reading.{byte_at, number_at, list_at, after_cell, cell_in, piece_in, after_piece, object_in, after_object, row_at, content_at}
 use Rattle.row_value.proofs.FieldReads.{bind_ok, ok_is, branch, no_fault, gives, Reads, rest_fits, two_take, two_again, byte_reads, four_reads}
 use Rattle.row_value.proofs.ListReads.{EachFrom, list_reads, each_of, each_from}
 use Rattle.row_value.proofs.CellReads.{cell_reads}

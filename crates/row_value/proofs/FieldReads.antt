@@ -1,13 +1,13 @@
 -- A field that is read is the field that was written, and what was written is read again.
-use Rattle.std.proofs.Common.{◌≡◌, ℕ, zero, suc, ◌+◌, ◌^◌, ◌<◌, ◌≤◌, Bool, true, false, cond, eqb, ltb, List, [], ◌∷◌, ◌++◌, length, take, drop, Result, Ok, Err, refl, sym, ap, subst, ◌∙◌, append_assoc, arith, ◌⊎◌, inl, inr}
+use Rattle.std.proofs.Common.{◌≡◌, ℕ, ◌^◌, ◌<◌, Bool, true, false, cond, eqb, ltb, List, [], ◌∷◌, ◌++◌, length, take, drop, Result, Ok, Err, refl, sym, ap, subst, ◌∙◌, append_assoc, arith, ◌⊎◌, inl, inr}
 use Rattle.std.specs.Int.{Width, w32, w64, byte_len, from_be_bytes, to_be_bytes}
 use Rattle.std.specs.Str.{IsUtf8}
-use Rattle.std.proofs.lemmas.Bool.{cases_Bool, ltb-false, le-ltb, eqb-true}
-use Rattle.std.proofs.lemmas.List.{take_at, drop_at, take-append-drop, length-append, length-take}
+use Rattle.std.proofs.lemmas.Bool.{le-ltb, eqb-true}
+use Rattle.std.proofs.lemmas.List.{take_at, drop_at, length-append}
 use Rattle.stab_base.specs.declared.codec.TakeFault.{TakeFault}
 use Rattle.stab_base.specs.declared.codec.TakeFault.TheVariants.{Short}
-use Rattle.stab_base.specs.Codec.{IsBytes, counted, number_at as base_number_at}
-use Rattle.stab_base.proofs.Fields.{IsWide, wide32, wide64, IsBytes-drop, number_takes, number_again}
+use Rattle.stab_base.specs.Codec.{IsBytes, counted}
+use Rattle.stab_base.proofs.Fields.{IsWide, wide32, wide64, IsBytes-drop, number_takes}
 use Rattle.row_value.specs.Spelling.{flag_spelling}
 use Rattle.row_value.specs.Utf8.{between, utf8_rest}
 use Rattle.row_value.proofs.Utf8Reads.{rest_takes, rest_again}

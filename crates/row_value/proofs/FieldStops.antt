@@ -1,5 +1,5 @@
 -- Fields and lists: where reading fails, no spelling goes on.
-use Rattle.std.proofs.Common.{◌≡◌, ℕ, zero, suc, ◌+◌, ◌-◌, ◌^◌, ◌<◌, ◌≤◌, Bool, true, false, cond, eqb, ltb, List, [], ◌∷◌, ◌++◌, length, take, drop, get_or, Option, Some, None, Result, Ok, Err, refl, sym, ap, subst, ◌∙◌, append_assoc, arith, inl, inr, length-append}
+use Rattle.std.proofs.Common.{◌≡◌, ℕ, zero, suc, ◌-◌, ◌^◌, ◌<◌, ◌≤◌, Bool, true, false, cond, eqb, ltb, List, [], ◌∷◌, ◌++◌, length, take, drop, get_or, Option, Some, None, Result, Err, refl, sym, ap, subst, ◌∙◌, arith, inl, inr, length-append}
 use Rattle.std.specs.List.{flat_map}
 use Rattle.std.specs.Int.{Width, w32, w64, byte_len, from_be_bytes, to_be_bytes}
 use Rattle.std.specs.Str.{IsUtf8}
@@ -15,13 +15,13 @@ use Rattle.row_value.specs.declared.utf8.Inside.{Inside}
 use Rattle.row_value.specs.FirstBad.{IsFirstBad}
 use Rattle.row_value.specs.Spelling.{flag_spelling, list_spelling}
 use Rattle.row_value.specs.Utf8.{between, step, utf8_rest}
-use Rattle.row_value.specs.Reading.{◌>>=◌, byte_at, number_at, flag_at, utf8_at, text_at, items_at, list_at, exactly_at}
-use Rattle.row_value.proofs.FieldReads.{gives, Reads, rest_fits, four_reads, utf8_reads}
+use Rattle.row_value.specs.Reading.{byte_at, number_at, flag_at, utf8_at, text_at, items_at, list_at, exactly_at}
+use Rattle.row_value.proofs.FieldReads.{gives, Reads, four_reads, utf8_reads}
 use Rattle.row_value.proofs.ListReads.{EachFrom, IsList, items_reads}
 use Rattle.row_value.proofs.Utf8Places.{goes, steps}
 use Rattle.row_value.proofs.Utf8Chars.{Continues}
 use Rattle.row_value.proofs.Utf8Reads.{inside_of, Finishes, first_step, later_step, wrap, room_left, unwrap}
-use Rattle.row_value.proofs.Stops.{Stops, err_is, not_ok, bind_err, branch_err, one_err, head_is, tail_is, moved, behind, no_byte, bad_byte, two_fail, two_fail_made}
+use Rattle.row_value.proofs.Stops.{Stops, err_is, not_ok, bind_err, branch_err, head_is, tail_is, moved, behind, no_byte, bad_byte, two_fail, two_fail_made}
 
 -- ---- numbers
 

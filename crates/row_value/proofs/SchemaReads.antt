@@ -1,5 +1,5 @@
 -- Schemas: what is read is spelled so, and what is spelled so is read.
-use Rattle.std.proofs.Common.{◌≡◌, ℕ, suc, ◌+◌, ◌^◌, ◌<◌, ◌≤◌, ◌/◌, ◌%◌, Bool, true, false, cond, eqb, ltb, ◌||◌, List, [], ◌∷◌, ◌++◌, length, Result, Ok, Err, refl, sym, ap, subst, ◌∙◌, append_assoc, arith, ◌⊎◌, inl, inr}
+use Rattle.std.proofs.Common.{◌≡◌, ℕ, ◌^◌, ◌<◌, ◌≤◌, ◌/◌, ◌%◌, Bool, true, false, cond, eqb, ltb, ◌||◌, List, [], ◌∷◌, ◌++◌, length, Ok, Err, refl, sym, ap, subst, ◌∙◌, append_assoc, arith, ◌⊎◌, inl, inr}
 use Rattle.std.specs.Prelude.{IsUtf8}
 use Rattle.std.specs.List.{flat_map, AllByRecursion}
 use Rattle.std.specs.Int.{w32, to_be_bytes}
@@ -17,8 +17,8 @@ use Rattle.row_value.specs.SchemaSpelling.{kind_code, scheme_code, IsChunkSize, 
 use Rattle.row_value.specs.Reading.{◌>>=◌, byte_at, exactly_at, text_at, items_at}
 use Rattle.row_value.specs.SchemaReading.{scheme_at, low_chunk_at, high_chunk_at, chunk_at, low_count_at, count_at, kind_in, column_in, after_column, columns_at, schema_at}
 use Rattle.row_value.proofs.FieldReads.{bind_ok, ok_is, branch, no_fault, gives, Reads, rest_fits, two_take, two_again, byte_reads, text_reads}
-use Rattle.row_value.proofs.ListReads.{EachFrom, IsList, items_reads}
-use Rattle.row_value.proofs.PieceReads.{exactly_takes, exactly_again}
+use Rattle.row_value.proofs.ListReads.{EachFrom, items_reads}
+use Rattle.row_value.proofs.PieceReads.{exactly_takes}
 
 -- ---- a byte that is one of few
 

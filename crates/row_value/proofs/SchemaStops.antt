@@ -1,7 +1,6 @@
 -- Schemas: where reading fails, no spelling goes on.
-use Rattle.std.proofs.Common.{◌≡◌, ℕ, zero, suc, ◌+◌, ◌^◌, ◌<◌, ◌≤◌, Bool, true, false, cond, eqb, ltb, ◌||◌, List, [], ◌∷◌, ◌++◌, length, drop, Result, Ok, Err, refl, sym, ap, subst, ◌∙◌, append_assoc, arith, ◌⊎◌, inl, inr}
-use Rattle.std.specs.Prelude.{IsUtf8}
-use Rattle.std.specs.List.{flat_map, AllByRecursion}
+use Rattle.std.proofs.Common.{◌≡◌, ℕ, suc, ◌<◌, ◌≤◌, Bool, true, false, cond, eqb, ltb, ◌||◌, List, [], ◌∷◌, ◌++◌, length, drop, Result, Ok, Err, refl, sym, ap, subst, ◌∙◌, arith, ◌⊎◌, inl, inr}
+use Rattle.std.specs.List.{flat_map}
 use Rattle.std.specs.Int.{w32, to_be_bytes}
 use Rattle.std.proofs.lemmas.Bool.{eqb-true, eqb-false, ltb-true, ltb-false, ne_eqb, le-ltb}
 use Rattle.stab_base.specs.Codec.{IsBytes, counted}
@@ -18,10 +17,10 @@ use Rattle.row_value.specs.Reading.{◌>>=◌, byte_at, exactly_at, text_at, ite
 use Rattle.row_value.specs.SchemaReading.{scheme_at, low_chunk_at, high_chunk_at, chunk_at, low_count_at, count_at, kind_in, column_in, after_column, columns_at, schema_at}
 use Rattle.row_value.proofs.FieldReads.{bind_ok, ok_is, branch, no_fault, gives, Reads, text_reads}
 use Rattle.row_value.proofs.PieceReads.{exactly_takes, exactly_again}
-use Rattle.row_value.proofs.ListReads.{EachFrom, IsList, items_reads}
+use Rattle.row_value.proofs.ListReads.{IsList, items_reads}
 use Rattle.row_value.proofs.SchemaReads.{scheme_reads, IsKindNext, kind_reads, chunk_reads, IsColumnCount, small, count_reads, IsColumnNext, column_reads, AreColumns, columns_read, each_are, are_each}
-use Rattle.row_value.proofs.Stops.{Stops, err_is, not_ok, bind_err, branch_err, one_err, head_is, tail_is, moved, behind, no_byte, bad_byte, two_fail, two_fail_made, paired, pair_reads, pair_stop, bind_same, two_then}
-use Rattle.row_value.proofs.FieldStops.{exactly_fails, Given, given, IsText, zeros, text_stop, items_stop}
+use Rattle.row_value.proofs.Stops.{Stops, err_is, not_ok, bind_err, branch_err, head_is, tail_is, moved, behind, no_byte, bad_byte, two_fail, two_fail_made, paired, pair_reads, pair_stop, bind_same, two_then}
+use Rattle.row_value.proofs.FieldStops.{exactly_fails, Given, given, IsText, text_stop, items_stop}
 use Rattle.row_value.proofs.ValueStops.{differ}
 
 abbrev Whatever : {X : Type 0} → X → Type 0

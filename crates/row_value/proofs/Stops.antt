@@ -1,13 +1,9 @@
 -- Where reading fails, no spelling goes on: fields one behind the other, lists, and choices by a first byte.
-use Rattle.std.proofs.Common.{◌≡◌, ℕ, zero, suc, ◌+◌, ◌^◌, ◌<◌, ◌≤◌, Bool, true, false, cond, List, [], ◌∷◌, ◌++◌, length, drop, Result, Ok, Err, refl, sym, ap, subst, ◌∙◌, append_assoc, arith, ◌⊎◌, inl, inr}
-use Rattle.std.specs.List.{flat_map}
-use Rattle.std.specs.Int.{w32, to_be_bytes}
-use Rattle.std.proofs.lemmas.List.Concat.{flat_map-cons}
+use Rattle.std.proofs.Common.{◌≡◌, ℕ, suc, Bool, true, false, cond, List, [], ◌∷◌, ◌++◌, length, Result, Ok, Err, refl, sym, ap, subst, ◌∙◌, append_assoc, ◌⊎◌, inl, inr}
 use Rattle.stab_base.specs.Codec.{IsBytes}
 use Rattle.row_value.specs.FirstBad.{IsFirstBad}
-use Rattle.row_value.specs.Reading.{◌>>=◌, items_at, list_at}
+use Rattle.row_value.specs.Reading.{◌>>=◌}
 use Rattle.row_value.proofs.FieldReads.{ok_is, gives, Reads, rest_fits, two_take, two_again}
-use Rattle.row_value.proofs.ListReads.{EachFrom, IsList, items_reads}
 
 -- where reading fails, and one value at least
 pub record Stops {X : Type 0} (P : X → Type 0) (spell : X → List ℕ) (read : List ℕ → Result (X × List ℕ) ℕ) : Type 0 where

@@ -1,12 +1,12 @@
 -- A text's bytes follow each other as table 3-7 says, and none else is one.
-use Rattle.std.proofs.Common.{◌≡◌, ℕ, zero, suc, ◌+◌, ◌-◌, ◌<◌, ◌≤◌, ◌⊎◌, Bool, true, false, cond, ◌&&◌, ◌||◌, eqb, ltb, leb, List, [], ◌∷◌, ◌++◌, length, take, Option, Some, None, Result, Ok, Err, refl, sym, ap, subst, ◌∙◌, arith, inl, inr}
+use Rattle.std.proofs.Common.{◌≡◌, ℕ, zero, suc, ◌<◌, ◌≤◌, ◌⊎◌, List, [], ◌∷◌, refl, sym, subst, arith, inl, inr}
 use Rattle.std.specs.Str.{IsUtf8}
 use Rattle.std.specs.Str.Lossy.{second_byte_min, second_byte_max}
-use Rattle.std.proofs.lemmas.Bool.{cases_lt, cases_Bool, lt-ltb, le-ltb, ltb-true, ltb-false}
-use Rattle.std.proofs.lemmas.Str.{IsUtf8-nil, IsUtf8-append}
-use Rattle.simdutf8.specs.Steps.{IsContinuation, least_after, most_after, IsClosed, first, second, later, Step, StepsThen}
+use Rattle.std.proofs.lemmas.Bool.{cases_lt, lt-ltb, le-ltb}
+use Rattle.std.proofs.lemmas.Str.{IsUtf8-append}
+use Rattle.simdutf8.specs.Steps.{IsContinuation, least_after, most_after, IsClosed, first, second, later, StepsThen}
 use Rattle.simdutf8.proofs.Chars.{least_is, most_is, StepsThen-IsUtf8, closed-IsUtf8}
-use Rattle.row_value.specs.Utf8.{tail_len, leads}
+use Rattle.row_value.specs.Utf8.{tail_len}
 
 -- so many bytes of a character, the first of them within bounds, and then a text
 abbrev pub Continues : ℕ → ℕ → ℕ → List ℕ → Type 0

@@ -1,8 +1,7 @@
 -- Cells, pieces, objects and contents: where reading fails, no spelling goes on.
-use Rattle.std.proofs.Common.{◌≡◌, ℕ, zero, suc, ◌+◌, ◌^◌, ◌<◌, ◌≤◌, Bool, true, false, cond, eqb, ltb, ◌&&◌, List, [], ◌∷◌, ◌++◌, length, Result, Ok, Err, refl, sym, ap, subst, ◌∙◌, arith, inl, inr}
-use Rattle.std.specs.Prelude.{FitsSigned}
+use Rattle.std.proofs.Common.{◌≡◌, ℕ, suc, ◌^◌, ◌<◌, ◌≤◌, Bool, true, false, cond, eqb, ltb, ◌&&◌, List, [], ◌∷◌, ◌++◌, length, Err, refl, sym, ap, subst, ◌∙◌, arith, inl, inr}
 use Rattle.std.specs.Int.{w32, w64, to_be_bytes, cast_unsigned, cast_signed}
-use Rattle.std.proofs.lemmas.Bool.{eqb-true, eqb-false, ltb-true, ltb-false, lt-ltb, cases_Bool}
+use Rattle.std.proofs.lemmas.Bool.{eqb-true, eqb-false, ltb-true, ltb-false}
 use Rattle.std.proofs.lemmas.Int.{of_z-to_z}
 use Rattle.std.proofs.Math.Facts.{Fits-of_z, sfits_to_z}
 use Rattle.stab_base.specs.Codec.{IsBytes, counted}
@@ -16,11 +15,11 @@ use Rattle.row_value.specs.declared.pieces.PieceContent.{PieceContent}
 use Rattle.row_value.specs.declared.pieces.PieceContent.TheVariants.{Gone, Row}
 use Rattle.row_value.specs.FirstBad.{IsFirstBad}
 use Rattle.row_value.specs.Spelling.{flag_spelling, list_spelling, cell_spelling, HasCellSpelling, name_spelling, HasNameSpelling, piece_spelling, HasPieceSpelling, object_spelling, content_spelling, HasContentSpelling, HasRowSpelling}
-use Rattle.row_value.specs.Reading.{◌>>=◌, byte_at, number_at, flag_at, text_at, list_at, int_at, bool_at, text_cell_at, cell_at, after_cell, cell_in, name_at, keep_at, fresh_at, piece_at, exactly_at, fresh_is_at, piece_in, after_piece, object_in, after_object, row_at, content_at}
-use Rattle.row_value.proofs.FieldReads.{gives, Reads, four_reads, eight_reads}
-use Rattle.row_value.proofs.ListReads.{EachFrom, list_reads, each_of, each_from}
+use Rattle.row_value.specs.Reading.{byte_at, number_at, flag_at, text_at, list_at, int_at, bool_at, text_cell_at, cell_at, after_cell, cell_in, name_at, keep_at, fresh_at, piece_at, exactly_at, fresh_is_at, piece_in, after_piece, object_in, after_object, row_at, content_at}
+use Rattle.row_value.proofs.FieldReads.{gives, four_reads, eight_reads}
+use Rattle.row_value.proofs.ListReads.{each_of, each_from}
 use Rattle.row_value.proofs.CellReads.{cell_reads}
-use Rattle.row_value.proofs.PieceReads.{name_reads, IsNext, next_reads}
+use Rattle.row_value.proofs.PieceReads.{IsNext, next_reads}
 use Rattle.row_value.proofs.ContentReads.{IsObjectNext, object_reads, AreNext, pieces_read, AreCells, AreObjects, cells_read, objects_read, objects_are, are_objects}
 use Rattle.row_value.proofs.Stops.{Stops, err_is, not_ok, bind_err, branch_err, one_err, head_is, tail_is, moved, behind, no_byte, bad_byte, two_fail_made}
 use Rattle.row_value.proofs.FieldStops.{four_stop, eight_stop, flag_stop, exactly_fails, Given, given, IsText, text_stop, list_stop}

@@ -1,5 +1,5 @@
 -- UTF-8 byte by byte (Unicode, table 3-7): where a text of a given length stops being one.
-use Rattle.std.specs.Prelude.{ℕ, zero, suc, ◌-◌, Bool, ◌==◌, ◌&&◌, ◌||◌, nat_lt, nat_le, if◌then◌else◌, List, [], ◌∷◌, length, take, Option, Some, None, Result, Ok, Err}
+use Rattle.std.specs.Prelude.{ℕ, zero, suc, ◌-◌, Bool, ◌==◌, ◌&&◌, ◌||◌, nat_lt, nat_le, if◌then◌else◌, List, [], ◌∷◌, length, Option, Some, None, Result, Ok, Err}
 use Rattle.std.specs.Str.Lossy.{second_byte_min, second_byte_max}
 use Rattle.row_value.specs.declared.utf8.Inside.{Inside}
 

@@ -1,4 +1,4 @@
-use Rattle.std.proofs.Common.{ℕ, arith}
+use Rattle.std.proofs.Common.{arith}
 use Rattle.stab_base.specs.Codec.{IsBytes}
 use Rattle.row_value.specs.Spelling.{HasContentSpelling, content_spelling}
 use Rattle.row_value.specs.Reading.{content_at}

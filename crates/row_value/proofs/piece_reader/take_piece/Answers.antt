@@ -1,4 +1,4 @@
-use Rattle.std.proofs.Common.{ℕ, drop, arith}
+use Rattle.std.proofs.Common.{drop, arith}
 use Rattle.stab_base.specs.Codec.{IsBytes}
 use Rattle.row_value.specs.Spelling.{HasPieceSpelling, piece_spelling}
 use Rattle.row_value.specs.Reading.{piece_at}

@@ -1,4 +1,4 @@
-use Rattle.std.proofs.Common.{◌≡◌, ◌≤◌, ◌+◌, ◌-◌, length, drop, arith}
+use Rattle.std.proofs.Common.{drop, arith}
 use Rattle.row_value.specs.Utf8.{between, utf8_rest}
 use Rattle.row_value.proofs.Utf8Places.{text_on, text_short, text_other, text_done}
 use Rattle.row_value.proofs.utf8.skip_utf8.Goals as goal

@@ -1,5 +1,5 @@
 //! What the spellings keep, as laws.
-ghost use Rattle.std.specs.Prelude.{◌≡◌, ◌++◌, ℕ, List, Ok};
+ghost use Rattle.std.specs.Prelude.{◌≡◌, ◌++◌, ℕ, List, Ok, Err};
 ghost use Rattle.stab_base.specs.Codec.{IsBytes};
 ghost use Rattle.stab_base.specs.declared.chunk_name.ChunkName.{ChunkName};
 ghost use Rattle.row_value.specs.declared.content.Cell.{Cell};
@@ -9,6 +9,7 @@ ghost use Rattle.row_value.specs.Spelling.{HasCellSpelling, cell_spelling, HasNa
 ghost use Rattle.row_value.specs.declared.schema.Schema.{Schema};
 ghost use Rattle.row_value.specs.SchemaSpelling.{HasSchemaSpelling, schema_spelling};
 ghost use Rattle.row_value.specs.SchemaReading.{schema_at};
+ghost use Rattle.row_value.specs.FirstBad.{IsFirstBad};
 ghost use Rattle.row_value.specs.Reading.{cell_at, name_at, piece_at, content_at};
 
 /// Two values with one spelling are the same. (Does nothing: its clauses are laws.)
@@ -41,4 +42,13 @@ pub fn values_were_spelled_so()
         → HasContentSpelling x × (bytes ≡ content_spelling x ++ rest) }
     ensures schema { (bytes rest : List ℕ) (x : Schema) → IsBytes bytes → schema_at bytes ≡ Ok (x, rest)
         → HasSchemaSpelling x × (bytes ≡ schema_spelling x ++ rest) }
+{}
+
+/// A fault of reading is the first place at which no spelling goes on. (Does nothing: its clauses are laws.)
+pub fn faults_are_the_first_bad_places()
+    ensures cell { (bytes : List ℕ) (left : ℕ) → IsBytes bytes → cell_at bytes ≡ Err left → IsFirstBad HasCellSpelling cell_spelling bytes left }
+    ensures name { (bytes : List ℕ) (left : ℕ) → IsBytes bytes → name_at bytes ≡ Err left → IsFirstBad HasNameSpelling name_spelling bytes left }
+    ensures piece { (bytes : List ℕ) (left : ℕ) → IsBytes bytes → piece_at bytes ≡ Err left → IsFirstBad HasPieceSpelling piece_spelling bytes left }
+    ensures content { (bytes : List ℕ) (left : ℕ) → IsBytes bytes → content_at bytes ≡ Err left → IsFirstBad HasContentSpelling content_spelling bytes left }
+    ensures schema { (bytes : List ℕ) (left : ℕ) → IsBytes bytes → schema_at bytes ≡ Err left → IsFirstBad HasSchemaSpelling schema_spelling bytes left }
 {}

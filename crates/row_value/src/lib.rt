@@ -3,9 +3,13 @@
 
 mod content;
 mod fit;
+mod pieces;
 mod schema;
 
 pub use content::{Cell, Cells, Content, Objects};
 pub use fit::{FitFault, fits};
+pub use pieces::{Piece, PieceContent, PieceObject, PieceObjects, Pieces};
 pub use schema::{Column, ColumnKind, Columns, Schema, Scheme};
-pub use stab_base::{Bytes, ClientNo, GateNo, RowId, Sequence, StoreNo, TableNo, Version, WriteNo};
+pub use stab_base::{
+    Bytes, ChunkName, ClientNo, GateNo, RowId, Sequence, StoreNo, TableNo, Version, WriteNo,
+};

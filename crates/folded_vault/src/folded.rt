@@ -1,5 +1,6 @@
 //! What the calls of a folded vault promise, in lists of payloads.
-ghost use Rattle.std.specs.Prelude.{◌≡◌, ◌↔◌, ◌+◌, ◌*◌, ◌<◌, ◌≤◌, ◌++◌, ◌∷◌, [], false, ℕ, List, length, OnOk, OnErr, IsErrOf, IsTrue, slice_get, Some};
+ghost use Rattle.std.specs.Prelude.{◌≡◌, ◌↔◌, ◌+◌, ◌*◌, ◌<◌, ◌≤◌, ◌++◌, ◌∷◌, [], false, ℕ, List, length, OnOk, OnErr, IsErrOf, slice_get, Some};
+ghost use Rattle.std.specs.Bool.{MatchBool};
 ghost use Rattle.disk_trait.specs.Calls.{Elapses};
 ghost use Rattle.vault.specs.Cause.{IsCounted};
 ghost use Rattle.vault.specs.File.{IsBeforeOrAfter};
@@ -49,7 +50,7 @@ impl<D: Disk + Drop, F: Fold + Drop> Folded<D, F> {
 
     /// Whether the disk has failed, and has not been restarted since.
     pub fn is_down(&self) -> bool
-        ensures { IsTrue result ↔ IsDown (vault_of self.now) }
+        ensures { MatchBool result (IsDown (vault_of self.now)) (IsUp (vault_of self.now)) }
     {
         self.vault.is_down()
     }

@@ -1,0 +1,11 @@
+pub mod Places
+pub mod Items
+pub mod FreshOrder
+pub mod FieldReads
+pub mod ListReads
+pub mod CellReads
+pub mod PieceReads
+pub mod ContentReads
+pub mod Answering
+pub mod Spread
+pub mod SchemaReads

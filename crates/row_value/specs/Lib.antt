@@ -1,1 +1,5 @@
 pub mod Fit
+pub mod Spelling
+pub mod Reading
+pub mod SchemaSpelling
+pub mod SchemaReading

@@ -1,15 +1,37 @@
 //! Values that a table's rows hold, their schema, and whether a row fits it.
 #![tactic(auto)]
 
+mod cell_reader;
+mod cell_writer;
 mod content;
+mod content_reader;
+mod content_writer;
+mod field_reader;
 mod fit;
+mod laws;
+mod piece_reader;
+mod piece_writer;
 mod pieces;
 mod schema;
+mod schema_reader;
+mod schema_writer;
+mod spell_fault;
+mod writer;
 
+pub use cell_reader::take_cell;
+pub use cell_writer::put_cell;
 pub use content::{Cell, Cells, Content, Objects};
+pub use content_reader::{content_of, take_content};
+pub use content_writer::put_content;
 pub use fit::{FitFault, fits};
+pub use laws::{one_spelling, values_are_read_again, values_were_spelled_so};
+pub use piece_reader::{take_name, take_piece};
+pub use piece_writer::{put_name, put_piece};
 pub use pieces::{Piece, PieceContent, PieceObject, PieceObjects, Pieces};
 pub use schema::{Column, ColumnKind, Columns, Schema, Scheme};
+pub use schema_reader::{schema_of, take_schema};
+pub use schema_writer::put_schema;
+pub use spell_fault::SpellFault;
 pub use stab_base::{
     Bytes, ChunkName, ClientNo, GateNo, RowId, Sequence, StoreNo, TableNo, Version, WriteNo,
 };

@@ -1,0 +1,24 @@
+use Rattle.row_value.specs.SchemaSpelling.{HasSchemaSpelling, schema_spelling}
+use Rattle.row_value.specs.SchemaReading.{schema_at}
+use Rattle.row_value.proofs.SchemaReads.{schema_reads}
+use Rattle.row_value.specs.Spelling.{HasCellSpelling, cell_spelling, HasNameSpelling, name_spelling, HasPieceSpelling, piece_spelling, HasContentSpelling, content_spelling}
+use Rattle.row_value.specs.Reading.{cell_at, name_at, piece_at, content_at}
+use Rattle.row_value.proofs.CellReads.{cell_reads}
+use Rattle.row_value.proofs.PieceReads.{name_reads, piece_reads}
+use Rattle.row_value.proofs.ContentReads.{content_reads}
+use Rattle.row_value.proofs.laws.values_are_read_again.Goals as goal
+
+pub returns-clause-cell : goal.returns-clause-cell
+returns-clause-cell c = cell_reads.again
+
+pub returns-clause-name : goal.returns-clause-name
+returns-clause-name c = name_reads.again
+
+pub returns-clause-piece : goal.returns-clause-piece
+returns-clause-piece c = piece_reads.again
+
+pub returns-clause-content : goal.returns-clause-content
+returns-clause-content c = content_reads.again
+
+pub returns-clause-schema : goal.returns-clause-schema
+returns-clause-schema c = schema_reads.again

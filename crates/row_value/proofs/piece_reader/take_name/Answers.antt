@@ -1,0 +1,15 @@
+use Rattle.std.proofs.Common.{ℕ, arith}
+use Rattle.stab_base.specs.Codec.{IsBytes}
+use Rattle.row_value.specs.Spelling.{HasNameSpelling, name_spelling}
+use Rattle.row_value.specs.Reading.{name_at}
+use Rattle.row_value.proofs.PieceReads.{name_reads}
+use Rattle.row_value.proofs.Answering.{found, only}
+use Rattle.row_value.proofs.piece_reader.take_name.Goals as goal
+
+pub returns-clause-found : goal.returns-clause-found
+returns-clause-found c =
+    let fits : IsBytes c.args.bytes.now = λ i. omega (arith, c.type_inv.bytes i) in
+    found HasNameSpelling name_spelling name_at name_reads c.args.bytes.now c.args.at c.read_name.result fits c.read_name.ensures.value
+
+pub returns-clause-only : goal.returns-clause-only
+returns-clause-only c = only HasNameSpelling name_spelling name_at name_reads c.args.bytes.now c.args.at c.read_name.result c.read_name.ensures.value

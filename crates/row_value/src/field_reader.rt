@@ -1,0 +1,114 @@
+ghost use Rattle.std.specs.Prelude.{◌≡◌, ◌≤◌, ◌+◌, ◌-◌, ◌<◌, ◌^◌, ◌++◌, ◌∷◌, [], ℕ, List, length, take, drop, IfOk, Ok};
+ghost use Rattle.std.specs.Int.{w32, w64};
+ghost use Rattle.row_value.specs.Reading.{Gives, byte_at, number_at, flag_at, utf8_at, text_at, exactly_at};
+ghost use Rattle.std.specs.Str.{is_utf8};
+
+use crate::spell_fault::SpellFault;
+use stab_base::{Bytes, take_u8, take_u32, take_u64};
+use std::alloc::Global;
+
+#[tactic(auto, unfolding(crate::specs::Reading::byte_at, stab_base::specs::Codec::byte_at))]
+pub(crate) fn take_byte(bytes: &[u8], at: usize) -> Result<(u8, usize), SpellFault>
+    requires { at ≤ length bytes.now }
+    ensures value { Gives bytes.now (λ x. (x.0, drop x.1 bytes.now)) result (byte_at (drop at bytes.now)) }
+    ensures within { IfOk result (λ x. (x.1 ≡ at + 1) × (x.1 ≤ length bytes.now)) }
+{
+    take_u8(bytes, at).map_err(|_| SpellFault::Bad { at: bytes.len() })
+}
+
+pub(crate) fn take_four(bytes: &[u8], at: usize) -> Result<(u32, usize), SpellFault>
+    requires { at ≤ length bytes.now }
+    ensures value { Gives bytes.now (λ x. (x.0, drop x.1 bytes.now)) result (number_at w32 (drop at bytes.now)) }
+    ensures within { IfOk result (λ x. (x.1 ≡ at + 4) × (x.1 ≤ length bytes.now)) }
+{
+    match take_u32(bytes, at) {
+        Ok(found) => Ok(found),
+        Err(_) => Err(SpellFault::Bad { at: bytes.len() }),
+    }
+}
+
+pub(crate) fn take_eight(bytes: &[u8], at: usize) -> Result<(u64, usize), SpellFault>
+    requires { at ≤ length bytes.now }
+    ensures value { Gives bytes.now (λ x. (x.0, drop x.1 bytes.now)) result (number_at w64 (drop at bytes.now)) }
+    ensures within { IfOk result (λ x. (x.1 ≡ at + 8) × (x.1 ≤ length bytes.now)) }
+{
+    match take_u64(bytes, at) {
+        Ok(found) => Ok(found),
+        Err(_) => Err(SpellFault::Bad { at: bytes.len() }),
+    }
+}
+
+#[tactic(auto, unfolding(crate::specs::Reading::flag_at))]
+pub(crate) fn take_flag(bytes: &[u8], at: usize) -> Result<(bool, usize), SpellFault>
+    requires { at ≤ length bytes.now }
+    ensures value { Gives bytes.now (λ x. (x.0, drop x.1 bytes.now)) result (flag_at (drop at bytes.now)) }
+    ensures within { IfOk result (λ x. x.1 ≤ length bytes.now) }
+{
+    let (flag, behind) = take_byte(bytes, at)?;
+    match flag {
+        0 => Ok((false, behind)),
+        1 => Ok((true, behind)),
+        _ => Err(SpellFault::Bad { at }),
+    }
+}
+
+fn is_text(bytes: &[u8]) -> bool
+    ensures { result ≡ is_utf8 bytes.now }
+{
+    match str::from_utf8(bytes) {
+        Ok(_) => true,
+        Err(_) => false,
+    }
+}
+
+#[tactic(auto, using(crate::proofs::Places::after), unfolding(crate::specs::Reading::utf8_at))]
+fn skip_text(bytes: &[u8], at: usize, len: u32) -> Result<usize, SpellFault>
+    requires { at ≤ length bytes.now }
+    ensures value { Gives bytes.now (λ x. (take len (drop at bytes.now), drop x bytes.now)) result (utf8_at len (drop at bytes.now)) }
+    ensures within { IfOk result (λ x. (x ≡ at + len) × (x ≤ length bytes.now)) }
+{
+    let rest = &bytes[at..];
+    let len = len as usize;
+    if rest.len() < len {
+        return Err(SpellFault::Bad { at: bytes.len() });
+    }
+    if !is_text(&rest[..len]) {
+        return Err(SpellFault::Bad { at });
+    }
+    Ok(at + len)
+}
+
+#[tactic(auto, unfolding(crate::specs::Reading::text_at))]
+pub(crate) fn take_text(
+    alloc: Global,
+    bytes: &[u8],
+    at: usize,
+) -> Result<(Bytes, usize), SpellFault>
+    requires { at ≤ length bytes.now }
+    ensures value { Gives bytes.now (λ x. (x.0, drop x.1 bytes.now)) result (text_at (drop at bytes.now)) }
+    ensures within { IfOk result (λ x. x.1 ≤ length bytes.now) }
+{
+    let (len, begin) = take_four(bytes, at)?;
+    let end = skip_text(bytes, begin, len)?;
+    let text = Bytes::from_slice(alloc, &bytes[begin..end])?;
+    Ok((text, end))
+}
+
+/// These bytes and no others.
+pub(crate) fn skip_exactly(bytes: &[u8], at: usize, text: &[u8]) -> Result<usize, SpellFault>
+    requires { at ≤ length bytes.now }
+    ensures value { Gives bytes.now (λ x. drop x bytes.now) result (exactly_at text.now (drop at bytes.now)) }
+    ensures within { IfOk result (λ x. x ≤ length bytes.now) }
+{
+    let mut place = at;
+    for byte in text {
+        if place == bytes.len() {
+            return Err(SpellFault::Bad { at: place });
+        }
+        if bytes[place] != *byte {
+            return Err(SpellFault::Bad { at: place });
+        }
+        place += 1;
+    }
+    Ok(place)
+}

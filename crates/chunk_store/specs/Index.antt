@@ -6,7 +6,7 @@ use Rattle.spare_map.specs.Values.{AllValues, with_values}
 use Rattle.chunk_store.specs.declared.index.ChunkIndex.{ChunkIndex}
 use Rattle.chunk_store.specs.declared.payload.Change.{Change}
 use Rattle.chunk_store.specs.declared.payload.Change.TheVariants.{Put, Gone}
-use Rattle.chunk_store.specs.Payload.{name_cmp, chunks_of}
+use Rattle.chunk_store.specs.Payload.{name_cmp, change_of, chunks_of}
 
 -- the payload of this index is there, and has bytes behind its name
 pub record IsPlace (payloads : List (List ℕ)) (index : ℕ) : Type 0 where
@@ -29,3 +29,6 @@ abbrev pub shape_of : Option (ChunkName × Option (List ℕ)) → Option Change
 shape_of None = None
 shape_of (Some (name, Some bytes)) = Some (Put name)
 shape_of (Some (name, None)) = Some (Gone name)
+
+abbrev pub Says : List ℕ → Option Change → Type 0
+Says payload change = change ≡ shape_of (change_of payload)

@@ -15,7 +15,7 @@ ghost use Rattle.chunk_store.specs.Standing.{vault_of, chunks, chunk_in, IsLooke
 
 use crate::fault::ChunkFault;
 use crate::index::ChunkIndex;
-use crate::payload::{chunk_behind, write_drop, write_put};
+use crate::payload::{Change, chunk_behind, write_drop, write_put};
 use disk_trait::Disk;
 use folded_vault::Folded;
 use stab_base::{Bytes, ChunkName, NUMBER_MAX, Names};
@@ -195,7 +195,7 @@ impl<D: Disk + Drop> ChunkDev<D> {
             return Err(ChunkFault::Down);
         }
         write_put(&mut self.inner.payload, name, bytes);
-        self.inner.append()?;
+        self.inner.append(Some(Change::Put(name)))?;
         Ok(())
     }
 
@@ -227,7 +227,7 @@ impl<D: Disk + Drop> ChunkDev<D> {
             return Err(ChunkFault::Down);
         }
         write_drop(&mut self.inner.payload, name);
-        self.inner.append()?;
+        self.inner.append(Some(Change::Gone(name)))?;
         Ok(())
     }
 

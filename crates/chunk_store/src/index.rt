@@ -14,12 +14,15 @@ pub struct ChunkIndex {
 }
 
 impl Fold for ChunkIndex {
-    ghost use Rattle.std.specs.Prelude.{◌≡◌, ◌+◌, ◌*◌, ◌≤◌, ◌++◌, ◌∷◌, [], ℕ, List, length, OnOk, IsOk};
-    ghost use Rattle.chunk_store.specs.Index.{IsIndex, HasSpare};
+    type Change = Option<Change>;
+
+    ghost use Rattle.chunk_store.specs.Index.{IsIndex, HasSpare, Says};
 
     ghost fits = { IsIndex };
 
     ghost has_spare = { HasSpare };
+
+    ghost says = { Says };
 
     #[tactic(auto, unfolding(crate::specs::Payload::chunks_of))]
     fn start(alloc: Global) -> Self {
@@ -32,8 +35,17 @@ impl Fold for ChunkIndex {
         self.places.reserve(payloads as usize)
     }
 
-    fn note(&mut self, payload: &[u8], index: u64) -> Result<(), AllocError> {
-        match change_in(payload) {
+    fn read(_alloc: Global, payload: &[u8]) -> Result<Option<Change>, AllocError> {
+        Ok(change_in(payload))
+    }
+
+    fn note(
+        &mut self,
+        change: Option<Change>,
+        _payload: &[u8],
+        index: u64,
+    ) -> Result<(), AllocError> {
+        match change {
             None => Ok(()),
             Some(Change::Put(name)) => self.places.insert(name, index),
             Some(Change::Gone(name)) => self.places.remove(name),

@@ -12,7 +12,7 @@ use std::alloc::{AllocError, Global};
 
 /// What a payload does.
 #[derive(Clone, Copy)]
-pub(crate) enum Change {
+pub enum Change {
     /// The name's chunk is the bytes behind the name.
     Put(ChunkName),
     /// The name has no chunk.

@@ -15,7 +15,7 @@ use vault::{PAYLOAD_MAX, Vault, VaultFault};
 
 /// A vault, and what is kept in memory of its payloads.
 #[derive(Drop)]
-pub struct Folded<D: Disk, F: Fold> {
+pub struct Folded<D: Disk, F> {
     pub(crate) vault: Vault<D>,
     /// What is kept.
     pub memory: F,
@@ -168,8 +168,9 @@ impl<D: Disk + Drop, F: Fold + Drop> Folded<D, F> {
     }
 
     /// Adds the payload in `payload`, of at most `PAYLOAD_MAX` bytes, at the end. It is on the disk before `Ok`.
-    pub fn append(&mut self) -> Result<(), VaultFault>
+    pub fn append(&mut self, change: F::Change) -> Result<(), VaultFault>
         requires ready { IsUp (vault_of self.old) → IsOpened D.state F.fits self.old }
+        requires change { F.says self.old.payload.items change }
         requires short { length self.old.payload.items ≤ PAYLOAD_MAX }
         requires room { IsUp (vault_of self.old) → HasRoom D.state F.has_spare self.old 0 1 (length self.old.payload.items) }
         ensures opened { OnOk result (IsOpened D.state F.fits self.new) }
@@ -195,7 +196,7 @@ impl<D: Disk + Drop, F: Fold + Drop> Folded<D, F> {
     {
         let index = self.vault.records();
         self.vault.append(&self.payload)?;
-        self.memory.note(&self.payload, index).unwrap();
+        self.memory.note(change, &self.payload, index).unwrap();
         Ok(())
     }
 

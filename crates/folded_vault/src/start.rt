@@ -10,6 +10,7 @@ use vault::{Vault, VaultFault};
 
 // Takes the payload of this index in.
 fn note_next<D: Disk + Drop, F: Fold>(
+    alloc: Global,
     vault: &mut Vault<D>,
     memory: &mut F,
     found: &mut Vec<u8>,
@@ -29,7 +30,8 @@ fn note_next<D: Disk + Drop, F: Fold>(
     ensures fuse { vaults.SameFuse D.state vault.old vault.new }
 {
     vault.get(index, found)?;
-    memory.note(found, index)?;
+    let change = F::read(alloc, found)?;
+    memory.note(change, found, index)?;
     Ok(())
 }
 
@@ -53,7 +55,7 @@ pub(crate) fn note_all<D: Disk + Drop, F: Fold + Drop>(
     let count = vault.records();
     let mut memory = F::start(alloc);
     for index in 0..count {
-        note_next(vault, &mut memory, found, index)?;
+        note_next(alloc, vault, &mut memory, found, index)?;
     }
     Ok(memory)
 }

@@ -4,6 +4,8 @@
 mod bytes;
 mod chunk_name;
 mod codec;
+mod limits;
+mod names;
 mod numbers;
 mod row;
 mod sequence;
@@ -14,6 +16,8 @@ pub use codec::{
     TakeFault, counted_bytes_are_read_again, number_is_read_again, put_bytes, put_u8, put_u32,
     put_u64, take_bytes, take_u8, take_u32, take_u64,
 };
+pub use limits::NUMBER_MAX;
+pub use names::Names;
 pub use numbers::{ClientNo, GateNo, StoreNo, TableNo, Version, WriteNo};
 pub use row::RowId;
 pub use sequence::Sequence;

@@ -1,5 +1,6 @@
 //! The vault: what its calls promise in lists of payloads.
 ghost use Rattle.std.specs.Prelude.{◌≡◌, ◌↔◌, ◌+◌, ◌*◌, ◌<◌, ◌≤◌, ◌++◌, ◌∷◌, [], false, ℕ, length, OnOk, OnErr, IsErrOf, slice_get, Some};
+ghost use Rattle.std.specs.Bool.{MatchBool};
 ghost use Rattle.disk_trait.specs.Calls.{Elapses};
 ghost use Rattle.vault.specs.Cause.{IsCounted};
 ghost use Rattle.vault.specs.File.{IsBeforeOrAfter};
@@ -240,6 +241,13 @@ impl<D: Disk + Drop> Vault<D> {
                 Err(VaultFault::Disk)
             }
         }
+    }
+
+    /// Whether the disk has failed, and has not been restarted since.
+    pub fn is_down(&self) -> bool
+        ensures { MatchBool result (IsDown self.now) (IsUp self.now) }
+    {
+        self.is_down
     }
 
     /// How many payloads there are.

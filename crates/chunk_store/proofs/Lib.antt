@@ -1,0 +1,6 @@
+pub mod Heads
+pub mod Notes
+mod Finds
+mod Maps
+mod Rooms
+mod Within

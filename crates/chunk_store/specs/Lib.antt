@@ -1,0 +1,4 @@
+pub mod Fault
+pub mod Payload
+pub mod Index
+pub mod Standing

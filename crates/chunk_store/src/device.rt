@@ -1,0 +1,288 @@
+//! The device: what its calls promise of its map.
+ghost use Rattle.std.specs.Prelude.{◌≡◌, ◌↔◌, ◌+◌, ◌*◌, ◌<◌, ◌≤◌, false, [], ℕ, List, length, None, Some, OnOk, OnErr, IfOk, IfSome, IfNone, IsErrOf, IsTrue, IsSome};
+ghost use Rattle.std.specs.Bool.{MatchBool};
+ghost use Rattle.std.specs.BTreeMap.{insert_entry};
+ghost use Rattle.std.specs.Map.{keys_of};
+ghost use Rattle.std.specs.List.Sorted.{IsStrictlySortedBy};
+ghost use Rattle.disk_trait.specs.Calls.{Elapses};
+ghost use Rattle.vault.specs.declared.record.TheConstants.{PAYLOAD_MAX};
+ghost use Rattle.vault.specs.Standing.{payloads, faults, stops, disk_of, IsDown, IsUp, IsSound, IsSynced, IsRestarted, SameFuse, StopsWithin};
+ghost use Rattle.folded_vault.specs.Outcome.{IsCountedAs, Burns};
+ghost use Rattle.spare_map.specs.Late.{without};
+ghost use Rattle.chunk_store.specs.Payload.{name_cmp};
+ghost use Rattle.chunk_store.specs.Index.{IsPlace, bytes_at};
+ghost use Rattle.chunk_store.specs.Standing.{vault_of, chunks, chunk_in, IsLookedAt, IsOpened, HasRoom, Stays, Leaves, IsEither};
+
+use crate::fault::ChunkFault;
+use crate::index::ChunkIndex;
+use crate::payload::{Change, chunk_behind, write_drop, write_put};
+use disk_trait::Disk;
+use folded_vault::Folded;
+use stab_base::{Bytes, ChunkName, NUMBER_MAX, Names};
+use std::alloc::{AllocError, Global};
+
+/// A map of chunks by name, on a disk of its own.
+///
+/// On the disk stands a vault, each payload of which puts one chunk or drops it: byte 1, the name and the chunk's
+/// bytes to the end, or byte 2 and the name. The last payload of a name stands. A name is eight bytes of version
+/// and four of ordinal, big-endian. Other payloads, and those whose version is above `NUMBER_MAX`, are passed over.
+///
+/// After a fault of the disk a device is down: each call answers `Down`, until the disk has been restarted and
+/// looked at again.
+#[derive(Drop)]
+pub struct ChunkDev<D: Disk> {
+    pub(crate) inner: Folded<D, ChunkIndex>,
+    alloc: Global,
+}
+
+impl<D: Disk + Drop> ChunkDev<D> {
+    /// A device that hasn't been looked at.
+    pub fn new(alloc: Global, disk: D) -> ChunkDev<D>
+        ensures disk { disk_of (vault_of result) ≡ disk }
+        ensures up { IsUp (vault_of result) }
+    {
+        ChunkDev {
+            inner: Folded::new(alloc, disk),
+            alloc,
+        }
+    }
+
+    pub fn into_disk(self) -> D
+        ensures { result ≡ disk_of (vault_of self) }
+    {
+        let ChunkDev { inner, .. } = self;
+        inner.into_disk()
+    }
+
+    /// Whether the disk has failed, and has not been restarted since.
+    pub fn is_down(&self) -> bool
+        ensures { MatchBool result (IsDown (vault_of self.now)) (IsUp (vault_of self.now)) }
+    {
+        self.inner.is_down()
+    }
+
+    /// Makes the disk that of no chunk. The device is then opened.
+    pub fn format(&mut self) -> Result<(), ChunkFault>
+        ensures opened { OnOk result (IsOpened D.state self.new) }
+        ensures empty { OnOk result (chunks D.state self.new ≡ []) }
+        ensures durable { OnOk result (Leaves D.state D.images self.new self.new (λ map. map ≡ [])) }
+        ensures room { OnOk result (HasRoom D.state self.new 1 0 0) }
+        ensures memory { IsErrOf result ChunkFault.Memory → Stays D.state self.old self.new }
+        ensures not_absent { IsErrOf result ChunkFault.Absent → ⊥ }
+        ensures down { IsErrOf result ChunkFault.Down ↔ IsDown (vault_of self.old) }
+        ensures unchanged { IsErrOf result ChunkFault.Down → self.new ≡ self.old }
+        ensures disk { IsErrOf result ChunkFault.Disk → IsDown (vault_of self.new) }
+        ensures cause { IsCountedAs ChunkFault.Disk (faults D.state (vault_of self.old)) (faults D.state (vault_of self.new)) result }
+        ensures fuse { IsUp (vault_of self.old) → Burns D.state 3 (vault_of self.old) (vault_of self.new) result }
+    {
+        self.inner.format()?;
+        Ok(())
+    }
+
+    /// Finds the chunks on the disk, whatever its bytes are. It reads each payload once and writes nothing. The
+    /// device is then unopened, also where memory was refused.
+    pub fn look(&mut self) -> Result<(), ChunkFault>
+        requires synced { IsSynced D.state (vault_of self.old) }
+        ensures looked { OnOk result (IsLookedAt D.state self.new) }
+        ensures same { OnOk result (chunks D.state self.new ≡ chunks D.state self.old) }
+        ensures sound { OnOk result (IsSound D.state (vault_of self.old) → IsSound D.state (vault_of self.new)) }
+        ensures room { OnOk result (HasRoom D.state self.new 1 0 0) }
+        ensures any_moment { IsUp (vault_of self.old) → IsSound D.state (vault_of self.old)
+            → Leaves D.state D.images self.old self.new (λ map. map ≡ chunks D.state self.old) }
+        ensures memory { IsErrOf result ChunkFault.Memory → chunks D.state self.new ≡ chunks D.state self.old }
+        ensures memory_synced { IsErrOf result ChunkFault.Memory → IsSynced D.state (vault_of self.new) }
+        ensures memory_up { IsErrOf result ChunkFault.Memory → IsUp (vault_of self.new) }
+        ensures memory_sound { IsErrOf result ChunkFault.Memory → IsSound D.state (vault_of self.old) → IsSound D.state (vault_of self.new) }
+        ensures memory_looked { IsErrOf result ChunkFault.Memory → IsLookedAt D.state self.old → IsLookedAt D.state self.new }
+        ensures not_absent { IsErrOf result ChunkFault.Absent → ⊥ }
+        ensures down { IsErrOf result ChunkFault.Down ↔ IsDown (vault_of self.old) }
+        ensures unchanged { IsErrOf result ChunkFault.Down → self.new ≡ self.old }
+        ensures disk { IsErrOf result ChunkFault.Disk → IsDown (vault_of self.new) }
+        ensures cause { IsCountedAs ChunkFault.Disk (faults D.state (vault_of self.old)) (faults D.state (vault_of self.new)) result }
+        ensures fuse { SameFuse D.state (vault_of self.old) (vault_of self.new) }
+    {
+        self.inner.look()?;
+        Ok(())
+    }
+
+    /// Crashes the disk and starts it again. What the device holds is known once it is looked at.
+    pub fn restart(&mut self, pick: u64)
+        ensures image { IsRestarted D.state (vault_of self.old) (vault_of self.new) }
+        ensures up { IsUp (vault_of self.new) }
+        ensures synced { IsSynced D.state (vault_of self.new) }
+        ensures same { IsUp (vault_of self.old) → IsSynced D.state (vault_of self.old) → chunks D.state self.new ≡ chunks D.state self.old }
+        ensures faults { faults D.state (vault_of self.new) ≡ faults D.state (vault_of self.old) }
+        ensures stops { stops D.state (vault_of self.new) ≡ stops D.state (vault_of self.old) }
+        ensures unset { (D.state (disk_of (vault_of self.new))).is_armed ≡ false }
+        ensures time { Elapses (D.state (disk_of (vault_of self.old))) (D.state (disk_of (vault_of self.new)))
+            (D.images (disk_of (vault_of self.old))) (D.images (disk_of (vault_of self.new))) }
+    {
+        self.inner.restart(pick);
+    }
+
+    /// Takes away what a write has left that was cut short, and makes the device ready for puts and drops.
+    pub fn open_write(&mut self) -> Result<(), ChunkFault>
+        requires ready { IsUp (vault_of self.old) → IsLookedAt D.state self.old }
+        requires room { IsUp (vault_of self.old) → HasRoom D.state self.old 1 0 0 }
+        ensures opened { OnOk result (IsOpened D.state self.new) }
+        ensures same { OnOk result (chunks D.state self.new ≡ chunks D.state self.old) }
+        ensures durable { OnOk result (Leaves D.state D.images self.new self.new (λ map. map ≡ chunks D.state self.old)) }
+        ensures room { OnOk result ((openings puts bytes : ℕ) → HasRoom D.state self.old (openings + 1) puts bytes
+            → HasRoom D.state self.new openings puts bytes) }
+        ensures any_moment { IsUp (vault_of self.old) → IsSound D.state (vault_of self.old)
+            → Leaves D.state D.images self.old self.new (λ map. map ≡ chunks D.state self.old) }
+        ensures not_absent { IsErrOf result ChunkFault.Absent → ⊥ }
+        ensures down { IsErrOf result ChunkFault.Down ↔ IsDown (vault_of self.old) }
+        ensures unchanged { IsErrOf result ChunkFault.Down → self.new ≡ self.old }
+        ensures disk { OnErr result (IsDown (vault_of self.new)) }
+        ensures no_memory { IsErrOf result ChunkFault.Memory → ⊥ }
+        ensures cause { IsCountedAs ChunkFault.Disk (faults D.state (vault_of self.old)) (faults D.state (vault_of self.new)) result }
+        ensures fuse { IsUp (vault_of self.old) → Burns D.state 4 (vault_of self.old) (vault_of self.new) result }
+    {
+        self.inner.open_write()?;
+        Ok(())
+    }
+
+    /// Makes room for so many puts and drops, whose payloads have so many bytes in all, and for one opening: they
+    /// take no memory. A put's payload is 13 bytes and the chunk's, a drop's is 13.
+    pub fn reserve(&mut self, puts: u64, bytes: u64) -> Result<(), ChunkFault>
+        requires ready { IsUp (vault_of self.old) → IsLookedAt D.state self.old }
+        requires puts { puts ≤ 16777216 }
+        requires bytes { bytes ≤ 8388608 * puts }
+        ensures room { OnOk result (HasRoom D.state self.new 1 puts bytes) }
+        ensures stays { OnOk result (Stays D.state self.old self.new) }
+        ensures any_moment { IsUp (vault_of self.old) → IsSound D.state (vault_of self.old)
+            → Leaves D.state D.images self.old self.new (λ map. map ≡ chunks D.state self.old) }
+        ensures memory { IsErrOf result ChunkFault.Memory → Stays D.state self.old self.new }
+        ensures not_absent { IsErrOf result ChunkFault.Absent → ⊥ }
+        ensures down { IsErrOf result ChunkFault.Down ↔ IsDown (vault_of self.old) }
+        ensures unchanged { IsErrOf result ChunkFault.Down → self.new ≡ self.old }
+        ensures disk { IsErrOf result ChunkFault.Disk → IsDown (vault_of self.new) }
+        ensures cause { IsCountedAs ChunkFault.Disk (faults D.state (vault_of self.old)) (faults D.state (vault_of self.new)) result }
+        ensures fuse { SameFuse D.state (vault_of self.old) (vault_of self.new) }
+    {
+        self.inner.reserve(puts, bytes)?;
+        Ok(())
+    }
+
+    /// Puts a chunk, in place of the one that the name has. It is on the disk before `Ok`.
+    pub fn put(&mut self, name: ChunkName, bytes: &[u8]) -> Result<(), ChunkFault>
+        requires ready { IsUp (vault_of self.old) → IsOpened D.state self.old }
+        requires version { name.version ≤ NUMBER_MAX }
+        requires short { 13 + length bytes.now ≤ PAYLOAD_MAX }
+        requires room { IsUp (vault_of self.old) → HasRoom D.state self.old 0 1 (13 + length bytes.now) }
+        ensures opened { OnOk result (IsOpened D.state self.new) }
+        ensures put { OnOk result (chunks D.state self.new ≡ insert_entry name_cmp (chunks D.state self.old) name bytes.now) }
+        ensures durable { OnOk result (Leaves D.state D.images self.new self.new
+            (λ map. map ≡ insert_entry name_cmp (chunks D.state self.old) name bytes.now)) }
+        ensures room { OnOk result ((openings puts size : ℕ) → HasRoom D.state self.old openings (puts + 1) (size + (13 + length bytes.now))
+            → HasRoom D.state self.new openings puts size) }
+        // A crash at any moment of the call leaves the chunks from before it, or those after it.
+        ensures any_moment { IsUp (vault_of self.old) → Leaves D.state D.images self.old self.new
+            (IsEither (chunks D.state self.old) (insert_entry name_cmp (chunks D.state self.old) name bytes.now)) }
+        // Where a fuse stops one of the first two of its four calls, those from before it.
+        ensures early { IsUp (vault_of self.old) → StopsWithin D.state (vault_of self.old) 2
+            → Leaves D.state D.images self.old self.new (λ map. map ≡ chunks D.state self.old) }
+        ensures not_absent { IsErrOf result ChunkFault.Absent → ⊥ }
+        ensures down { IsErrOf result ChunkFault.Down ↔ IsDown (vault_of self.old) }
+        ensures unchanged { IsErrOf result ChunkFault.Down → self.new ≡ self.old }
+        ensures disk { OnErr result (IsDown (vault_of self.new)) }
+        ensures no_memory { IsErrOf result ChunkFault.Memory → ⊥ }
+        ensures cause { IsCountedAs ChunkFault.Disk (faults D.state (vault_of self.old)) (faults D.state (vault_of self.new)) result }
+        ensures fuse { IsUp (vault_of self.old) → Burns D.state 4 (vault_of self.old) (vault_of self.new) result }
+    {
+        if self.inner.is_down() {
+            return Err(ChunkFault::Down);
+        }
+        write_put(&mut self.inner.payload, name, bytes);
+        self.inner.append(Some(Change::Put(name)))?;
+        Ok(())
+    }
+
+    /// Drops the chunk of a name. It is gone on the disk before `Ok`.
+    pub fn drop_chunk(&mut self, name: ChunkName) -> Result<(), ChunkFault>
+        requires ready { IsUp (vault_of self.old) → IsOpened D.state self.old }
+        requires there { IsUp (vault_of self.old) → IsSome (chunk_in (chunks D.state self.old) name) }
+        requires room { IsUp (vault_of self.old) → HasRoom D.state self.old 0 1 13 }
+        ensures opened { OnOk result (IsOpened D.state self.new) }
+        ensures dropped { OnOk result (chunks D.state self.new ≡ without name_cmp (chunks D.state self.old) name) }
+        ensures durable { OnOk result (Leaves D.state D.images self.new self.new (λ map. map ≡ without name_cmp (chunks D.state self.old) name)) }
+        ensures room { OnOk result ((openings puts size : ℕ) → HasRoom D.state self.old openings (puts + 1) (size + 13)
+            → HasRoom D.state self.new openings puts size) }
+        // A crash at any moment of the call leaves the chunks from before it, or those after it.
+        ensures any_moment { IsUp (vault_of self.old) → Leaves D.state D.images self.old self.new
+            (IsEither (chunks D.state self.old) (without name_cmp (chunks D.state self.old) name)) }
+        // Where a fuse stops one of the first two of its four calls, those from before it.
+        ensures early { IsUp (vault_of self.old) → StopsWithin D.state (vault_of self.old) 2
+            → Leaves D.state D.images self.old self.new (λ map. map ≡ chunks D.state self.old) }
+        ensures not_absent { IsErrOf result ChunkFault.Absent → ⊥ }
+        ensures down { IsErrOf result ChunkFault.Down ↔ IsDown (vault_of self.old) }
+        ensures unchanged { IsErrOf result ChunkFault.Down → self.new ≡ self.old }
+        ensures disk { OnErr result (IsDown (vault_of self.new)) }
+        ensures no_memory { IsErrOf result ChunkFault.Memory → ⊥ }
+        ensures cause { IsCountedAs ChunkFault.Disk (faults D.state (vault_of self.old)) (faults D.state (vault_of self.new)) result }
+        ensures fuse { IsUp (vault_of self.old) → Burns D.state 4 (vault_of self.old) (vault_of self.new) result }
+    {
+        if self.inner.is_down() {
+            return Err(ChunkFault::Down);
+        }
+        write_drop(&mut self.inner.payload, name);
+        self.inner.append(Some(Change::Gone(name)))?;
+        Ok(())
+    }
+
+    // The index of a name's payload.
+    fn find(&self, name: ChunkName) -> Option<u64>
+        requires ready { IsUp (vault_of self.now) → IsLookedAt D.state self.now }
+        ensures none { IsUp (vault_of self.now) → IfNone result (chunk_in (chunks D.state self.now) name ≡ None) }
+        ensures some { IsUp (vault_of self.now) → IfSome result (λ index.
+            chunk_in (chunks D.state self.now) name ≡ Some (bytes_at (payloads D.state (vault_of self.now)) index)) }
+        ensures place { IsUp (vault_of self.now) → IfSome result (IsPlace (payloads D.state (vault_of self.now))) }
+    {
+        self.inner.memory.places.get(name)
+    }
+
+    /// The chunk of a name. It is one read of the disk.
+    pub fn get(&mut self, name: ChunkName) -> Result<Bytes, ChunkFault>
+        requires ready { IsUp (vault_of self.old) → IsLookedAt D.state self.old }
+        ensures chunk { IfOk result (λ bytes. chunk_in (chunks D.state self.old) name ≡ Some bytes) }
+        ensures absent { IsErrOf result ChunkFault.Absent ↔ (IsUp (vault_of self.old) × (chunk_in (chunks D.state self.old) name ≡ None)) }
+        ensures absent_unchanged { IsErrOf result ChunkFault.Absent → self.new ≡ self.old }
+        ensures stays { OnOk result (Stays D.state self.old self.new) }
+        ensures any_moment { IsUp (vault_of self.old) → IsSound D.state (vault_of self.old)
+            → Leaves D.state D.images self.old self.new (λ map. map ≡ chunks D.state self.old) }
+        ensures memory { IsErrOf result ChunkFault.Memory → Stays D.state self.old self.new }
+        ensures down { IsErrOf result ChunkFault.Down ↔ IsDown (vault_of self.old) }
+        ensures unchanged { IsErrOf result ChunkFault.Down → self.new ≡ self.old }
+        ensures disk { IsErrOf result ChunkFault.Disk → IsDown (vault_of self.new) }
+        ensures cause { IsCountedAs ChunkFault.Disk (faults D.state (vault_of self.old)) (faults D.state (vault_of self.new)) result }
+        ensures fuse { SameFuse D.state (vault_of self.old) (vault_of self.new) }
+    {
+        if self.inner.is_down() {
+            return Err(ChunkFault::Down);
+        }
+        let Some(index) = self.find(name) else {
+            return Err(ChunkFault::Absent);
+        };
+        self.inner.read(index)?;
+        let bytes = chunk_behind(self.alloc, &self.inner.found)?;
+        Ok(bytes)
+    }
+
+    /// Whether a name has a chunk.
+    pub fn has(&self, name: ChunkName) -> bool
+        requires ready { IsUp (vault_of self.now) → IsLookedAt D.state self.now }
+        ensures { IsUp (vault_of self.now) → (IsTrue result ↔ IsSome (chunk_in (chunks D.state self.now) name)) }
+    {
+        self.find(name).is_some()
+    }
+
+    /// The names that have a chunk, in rising order.
+    pub fn names(&self) -> Result<Names, AllocError>
+        requires ready { IsUp (vault_of self.now) → IsLookedAt D.state self.now }
+        ensures names { IsUp (vault_of self.now) → IfOk result (λ names. names ≡ keys_of (chunks D.state self.now)) }
+        ensures rising { IfOk result (λ names. IsStrictlySortedBy name_cmp names) }
+    {
+        Ok(Names::from_vec(self.inner.memory.places.keys()?))
+    }
+}

@@ -1,0 +1,43 @@
+//! Why a device of chunks didn't do what it was asked for.
+ghost use Rattle.std.specs.Prelude.{◌≡◌};
+ghost use Rattle.chunk_store.specs.declared.fault.ChunkFault.TheVariants.{Memory};
+ghost use Rattle.chunk_store.specs.Fault.{fault_of};
+
+use std::alloc::AllocError;
+use thiserror::Error;
+use vault::VaultFault;
+
+#[derive(Debug, Drop, Clone, Copy, PartialEq, Eq, Error)]
+pub enum ChunkFault {
+    /// There is no chunk of this name.
+    #[error("no such chunk")]
+    Absent,
+    /// The disk failed in this call. From now on the device is down.
+    #[error("the disk failed")]
+    Disk,
+    /// The disk failed in an earlier call. A device is down until its disk was restarted and looked at again.
+    #[error("the device is down")]
+    Down,
+    #[error("out of memory")]
+    Memory,
+}
+
+impl From<AllocError> for ChunkFault {
+    ghost from_gives = { λ _ e. e ≡ Memory };
+
+    fn from(_: AllocError) -> Self {
+        ChunkFault::Memory
+    }
+}
+
+impl From<VaultFault> for ChunkFault {
+    ghost from_gives = { λ f e. e ≡ fault_of f };
+
+    fn from(fault: VaultFault) -> Self {
+        match fault {
+            VaultFault::Disk => ChunkFault::Disk,
+            VaultFault::Down => ChunkFault::Down,
+            VaultFault::Memory => ChunkFault::Memory,
+        }
+    }
+}

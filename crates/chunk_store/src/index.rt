@@ -1,0 +1,54 @@
+//! What is kept in memory of the payloads.
+ghost use Rattle.std.specs.Prelude.{◌≡◌};
+
+use crate::payload::{Change, change_in};
+use folded_vault::Fold;
+use spare_map::SpareMap;
+use stab_base::ChunkName;
+use std::alloc::{AllocError, Global};
+
+/// For each name the index of its payload.
+#[derive(Drop)]
+pub struct ChunkIndex {
+    pub(crate) places: SpareMap<ChunkName, u64>,
+}
+
+impl Fold for ChunkIndex {
+    type Change = Option<Change>;
+
+    ghost use Rattle.chunk_store.specs.Index.{IsIndex, HasSpare, Says};
+
+    ghost fits = { IsIndex };
+
+    ghost has_spare = { HasSpare };
+
+    ghost says = { Says };
+
+    #[tactic(auto, unfolding(crate::specs::Payload::chunks_of))]
+    fn start(alloc: Global) -> Self {
+        ChunkIndex {
+            places: SpareMap::new(alloc),
+        }
+    }
+
+    fn reserve(&mut self, payloads: u64, _bytes: u64) -> Result<(), AllocError> {
+        self.places.reserve(payloads as usize)
+    }
+
+    fn read(_alloc: Global, payload: &[u8]) -> Result<Option<Change>, AllocError> {
+        Ok(change_in(payload))
+    }
+
+    fn note(
+        &mut self,
+        change: Option<Change>,
+        _payload: &[u8],
+        index: u64,
+    ) -> Result<(), AllocError> {
+        match change {
+            None => Ok(()),
+            Some(Change::Put(name)) => self.places.insert(name, index),
+            Some(Change::Gone(name)) => self.places.remove(name),
+        }
+    }
+}

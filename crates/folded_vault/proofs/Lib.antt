@@ -1,0 +1,2 @@
+pub mod Stayings
+mod Lists

@@ -1,7 +1,7 @@
-ghost use Rattle.std.specs.Prelude.{◌≡◌, ◌≤◌, ◌<◌, ◌+◌, ◌^◌, ◌++◌, ℕ, List, length, drop, IfOk, Ok};
+ghost use Rattle.std.specs.Prelude.{◌≡◌, ◌≤◌, ◌<◌, ◌+◌, ◌^◌, ◌++◌, ℕ, List, length, drop, IfOk, IfErr, Ok};
 ghost use Rattle.row_value.specs.Spelling.{fresh_in, HasNameSpelling, name_spelling, HasPieceSpelling, piece_spelling};
 ghost use Rattle.row_value.specs.Reading.{Gives, name_at, keep_at, fresh_at, piece_at, fresh_is_at, piece_in, after_piece, items_at, list_at};
-ghost use Rattle.row_value.specs.FirstBad.{Refuses};
+ghost use Rattle.row_value.specs.FirstBad.{Refuses, TellsPlace};
 
 use crate::field_reader::{skip_exactly, take_byte, take_eight, take_four};
 use crate::pieces::{Piece, Pieces};
@@ -17,6 +17,7 @@ fn read_name(bytes: &[u8], at: usize) -> Result<(ChunkName, usize), SpellFault>
     requires { at ≤ length bytes.now }
     ensures value { Gives bytes.now (λ x. (x.0, drop x.1 bytes.now)) result (name_at (drop at bytes.now)) }
     ensures within { IfOk result (λ x. x.1 ≤ length bytes.now) }
+    ensures place { IfErr result TellsPlace }
 {
     let (version, behind) = take_eight(bytes, at)?;
     let (ordinal, behind) = take_four(bytes, behind)?;
@@ -29,6 +30,7 @@ fn take_keep(bytes: &[u8], at: usize) -> Result<(Piece, usize), SpellFault>
     ensures value { Gives bytes.now (λ x. (x.0, drop x.1 bytes.now)) result (keep_at (drop at bytes.now)) }
     ensures within { IfOk result (λ x. x.1 ≤ length bytes.now) }
     ensures kept { (fresh : ℕ) → IfOk result (λ x. after_piece fresh x.0 ≡ fresh) }
+    ensures place { IfErr result TellsPlace }
 {
     let (name, behind) = read_name(bytes, at)?;
     Ok((Piece::Keep(name), behind))
@@ -39,6 +41,7 @@ fn take_fresh(bytes: &[u8], at: usize) -> Result<(Piece, usize), SpellFault>
     requires { at ≤ length bytes.now }
     ensures value { Gives bytes.now (λ x. (x.0, drop x.1 bytes.now)) result (fresh_at (drop at bytes.now)) }
     ensures within { IfOk result (λ x. x.1 ≤ length bytes.now) }
+    ensures place { IfErr result TellsPlace }
 {
     let (ordinal, behind) = take_four(bytes, at)?;
     Ok((Piece::Fresh(ordinal), behind))
@@ -49,6 +52,7 @@ fn read_piece(bytes: &[u8], at: usize) -> Result<(Piece, usize), SpellFault>
     requires { at ≤ length bytes.now }
     ensures value { Gives bytes.now (λ x. (x.0, drop x.1 bytes.now)) result (piece_at (drop at bytes.now)) }
     ensures within { IfOk result (λ x. x.1 ≤ length bytes.now) }
+    ensures place { IfErr result TellsPlace }
 {
     let (tag, behind) = take_byte(bytes, at)?;
     match tag {
@@ -149,6 +153,7 @@ pub fn take_name(bytes: &[u8], at: usize) -> Result<(ChunkName, usize), SpellFau
     ensures refused { Refuses HasNameSpelling name_spelling bytes.now at result }
     ensures exact { Gives bytes.now (λ x. (x.0, drop x.1 bytes.now)) result (name_at (drop at bytes.now)) }
     ensures within { IfOk result (λ x. x.1 ≤ length bytes.now) }
+    ensures place { IfErr result TellsPlace }
 {
     read_name(bytes, at)
 }
@@ -164,6 +169,7 @@ pub fn take_piece(bytes: &[u8], at: usize) -> Result<(Piece, usize), SpellFault>
     ensures refused { Refuses HasPieceSpelling piece_spelling bytes.now at result }
     ensures exact { Gives bytes.now (λ x. (x.0, drop x.1 bytes.now)) result (piece_at (drop at bytes.now)) }
     ensures within { IfOk result (λ x. x.1 ≤ length bytes.now) }
+    ensures place { IfErr result TellsPlace }
 {
     read_piece(bytes, at)
 }

@@ -21,3 +21,8 @@ abbrev pub Refuses : {X R : Type 0} → (X → Type 0) → (X → List ℕ) → 
 Refuses P spell bytes from (Ok x) = Unit {0}
 Refuses P spell bytes from (Err Memory) = Unit {0}
 Refuses P spell bytes from (Err (Bad at)) = (at ≤ length bytes) × IsFirstBad P spell (drop from bytes) (length bytes - at)
+
+-- a fault other than want of memory
+abbrev pub TellsPlace : SpellFault → Type 0
+TellsPlace Memory = ⊥
+TellsPlace (Bad at) = Unit {0}

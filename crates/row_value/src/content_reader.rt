@@ -36,7 +36,8 @@ fn take_object_items(
     count: u32,
 ) -> Result<(PieceObjects, usize), SpellFault>
     requires { at ≤ length bytes.now }
-    ensures value { Gives bytes.now (λ x. (x.0, drop x.1 bytes.now)) result (items_at after_object object_in 0 count (drop at bytes.now)) }
+    ensures value { Gives bytes.now (λ x. (x.0, drop x.1 bytes.now))
+        result (items_at after_object object_in 0 count (drop at bytes.now)) }
     ensures within { IfOk result (λ x. x.1 ≤ length bytes.now) }
 {
     let mut objects = Sequence::new(alloc);
@@ -54,7 +55,8 @@ fn take_object_items(
 #[tactic(auto, unfolding(crate::specs::Reading::list_at))]
 fn take_objects(alloc: Global, bytes: &[u8], at: usize) -> Result<(PieceObjects, usize), SpellFault>
     requires { at ≤ length bytes.now }
-    ensures value { Gives bytes.now (λ x. (x.0, drop x.1 bytes.now)) result (list_at after_object object_in 0 (drop at bytes.now)) }
+    ensures value { Gives bytes.now (λ x. (x.0, drop x.1 bytes.now))
+        result (list_at after_object object_in 0 (drop at bytes.now)) }
     ensures within { IfOk result (λ x. x.1 ≤ length bytes.now) }
 {
     let (count, begin) = take_four(bytes, at)?;
@@ -94,9 +96,11 @@ pub fn take_content(
 ) -> Result<(PieceContent, usize), SpellFault>
     requires { at ≤ length bytes.now }
     // What is found stands there as it is spelled.
-    ensures found { IfOk result (λ x. HasContentSpelling x.0 × (drop at bytes.now ≡ content_spelling x.0 ++ drop x.1 bytes.now)) }
+    ensures found { IfOk result (λ x. HasContentSpelling x.0
+        × (drop at bytes.now ≡ content_spelling x.0 ++ drop x.1 bytes.now)) }
     // What is spelled there is found, whatever follows it.
-    ensures only { (content : PieceContent) (rest : List ℕ) → HasContentSpelling content → drop at bytes.now ≡ content_spelling content ++ rest
+    ensures only { (content : PieceContent) (rest : List ℕ)
+        → HasContentSpelling content → drop at bytes.now ≡ content_spelling content ++ rest
         → Gives {Y = PieceContent × List ℕ} bytes.now (λ x. (x.0, drop x.1 bytes.now)) result (Ok (content, rest)) }
     // A fault tells the first place at which no spelling goes on.
     ensures refused { Refuses HasContentSpelling content_spelling bytes.now at result }

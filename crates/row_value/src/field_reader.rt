@@ -1,6 +1,7 @@
-ghost use Rattle.std.specs.Prelude.{◌≡◌, ◌≤◌, ◌+◌, ◌-◌, ◌<◌, ◌^◌, ◌++◌, ◌∷◌, [], ℕ, List, length, take, drop, IfOk, Ok};
+ghost use Rattle.std.specs.Prelude.{◌≡◌, ◌≤◌, ◌+◌, ◌-◌, ◌<◌, ◌^◌, ◌++◌, ◌∷◌, [], ℕ, List, length, take, drop, IfOk, IfErr, Ok};
 ghost use Rattle.std.specs.Int.{w32, w64};
 ghost use Rattle.row_value.specs.Reading.{Gives, byte_at, number_at, flag_at, utf8_at, text_at, exactly_at};
+ghost use Rattle.row_value.specs.FirstBad.{TellsPlace};
 
 use crate::spell_fault::SpellFault;
 use crate::utf8::skip_utf8;
@@ -12,6 +13,7 @@ pub(crate) fn take_byte(bytes: &[u8], at: usize) -> Result<(u8, usize), SpellFau
     requires { at ≤ length bytes.now }
     ensures value { Gives bytes.now (λ x. (x.0, drop x.1 bytes.now)) result (byte_at (drop at bytes.now)) }
     ensures within { IfOk result (λ x. (x.1 ≡ at + 1) × (x.1 ≤ length bytes.now)) }
+    ensures place { IfErr result TellsPlace }
 {
     take_u8(bytes, at).map_err(|_| SpellFault::Bad { at: bytes.len() })
 }
@@ -20,6 +22,7 @@ pub(crate) fn take_four(bytes: &[u8], at: usize) -> Result<(u32, usize), SpellFa
     requires { at ≤ length bytes.now }
     ensures value { Gives bytes.now (λ x. (x.0, drop x.1 bytes.now)) result (number_at w32 (drop at bytes.now)) }
     ensures within { IfOk result (λ x. (x.1 ≡ at + 4) × (x.1 ≤ length bytes.now)) }
+    ensures place { IfErr result TellsPlace }
 {
     match take_u32(bytes, at) {
         Ok(found) => Ok(found),
@@ -31,6 +34,7 @@ pub(crate) fn take_eight(bytes: &[u8], at: usize) -> Result<(u64, usize), SpellF
     requires { at ≤ length bytes.now }
     ensures value { Gives bytes.now (λ x. (x.0, drop x.1 bytes.now)) result (number_at w64 (drop at bytes.now)) }
     ensures within { IfOk result (λ x. (x.1 ≡ at + 8) × (x.1 ≤ length bytes.now)) }
+    ensures place { IfErr result TellsPlace }
 {
     match take_u64(bytes, at) {
         Ok(found) => Ok(found),

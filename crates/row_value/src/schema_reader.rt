@@ -102,7 +102,8 @@ fn take_kind_in(
     only_objects: bool,
 ) -> Result<(ColumnKind, usize), SpellFault>
     requires { at ≤ length bytes.now }
-    ensures value { Gives bytes.now (λ x. (x.0, drop x.1 bytes.now)) result (kind_in only_objects (drop at bytes.now)) }
+    ensures value { Gives bytes.now (λ x. (x.0, drop x.1 bytes.now))
+        result (kind_in only_objects (drop at bytes.now)) }
     ensures within { IfOk result (λ x. x.1 ≤ length bytes.now) }
 {
     let (code, behind) = take_byte(bytes, at)?;
@@ -124,7 +125,8 @@ fn take_column_in(
     only_objects: bool,
 ) -> Result<(Column, usize), SpellFault>
     requires { at ≤ length bytes.now }
-    ensures value { Gives bytes.now (λ x. (x.0, drop x.1 bytes.now)) result (column_in only_objects (drop at bytes.now)) }
+    ensures value { Gives bytes.now (λ x. (x.0, drop x.1 bytes.now))
+        result (column_in only_objects (drop at bytes.now)) }
     ensures within { IfOk result (λ x. x.1 ≤ length bytes.now) }
 {
     let (name, behind) = take_text(alloc, bytes, at)?;
@@ -148,7 +150,8 @@ fn take_column_items(
     count: u8,
 ) -> Result<(Columns, usize), SpellFault>
     requires { at ≤ length bytes.now }
-    ensures value { Gives bytes.now (λ x. (x.0, drop x.1 bytes.now)) result (items_at after_column column_in false count (drop at bytes.now)) }
+    ensures value { Gives bytes.now (λ x. (x.0, drop x.1 bytes.now))
+        result (items_at after_column column_in false count (drop at bytes.now)) }
     ensures within { IfOk result (λ x. x.1 ≤ length bytes.now) }
 {
     let mut columns = Sequence::new(alloc);
@@ -197,9 +200,11 @@ fn read_schema(alloc: Global, bytes: &[u8], at: usize) -> Result<(Schema, usize)
 pub fn take_schema(alloc: Global, bytes: &[u8], at: usize) -> Result<(Schema, usize), SpellFault>
     requires { at ≤ length bytes.now }
     // What is found stands there as it is spelled.
-    ensures found { IfOk result (λ x. HasSchemaSpelling x.0 × (drop at bytes.now ≡ schema_spelling x.0 ++ drop x.1 bytes.now)) }
+    ensures found { IfOk result (λ x. HasSchemaSpelling x.0
+        × (drop at bytes.now ≡ schema_spelling x.0 ++ drop x.1 bytes.now)) }
     // What is spelled there is found, whatever follows it.
-    ensures only { (schema : Schema) (rest : List ℕ) → HasSchemaSpelling schema → drop at bytes.now ≡ schema_spelling schema ++ rest
+    ensures only { (schema : Schema) (rest : List ℕ)
+        → HasSchemaSpelling schema → drop at bytes.now ≡ schema_spelling schema ++ rest
         → Gives {Y = Schema × List ℕ} bytes.now (λ x. (x.0, drop x.1 bytes.now)) result (Ok (schema, rest)) }
     // A fault tells the first place at which no spelling goes on.
     ensures refused { Refuses HasSchemaSpelling schema_spelling bytes.now at result }

@@ -1,8 +1,7 @@
 -- Cells: what is read is spelled so, and what is spelled so is read.
-use Rattle.std.proofs.Common.{◌≡◌, ℕ, ◌^◌, ◌<◌, Bool, true, false, cond, eqb, List, [], ◌∷◌, ◌++◌, length, Result, Ok, Err, refl, sym, ap, subst, ◌∙◌, arith, inl, inr}
-use Rattle.std.specs.Prelude.{FitsSigned, IsUtf8}
-use Rattle.std.specs.List.{AllByRecursion}
-use Rattle.std.specs.Int.{w32, w64, to_be_bytes, cast_unsigned, cast_signed}
+use Rattle.std.proofs.Common.{◌≡◌, ℕ, ◌^◌, ◌<◌, cond, eqb, List, [], ◌∷◌, ◌++◌, length, Ok, Err, sym, ap, subst, ◌∙◌, inl, inr}
+use Rattle.std.specs.Prelude.{IsUtf8}
+use Rattle.std.specs.Int.{w64, to_be_bytes, cast_unsigned, cast_signed}
 use Rattle.std.proofs.lemmas.Bool.{eqb-true}
 use Rattle.std.proofs.lemmas.Int.{to_z-of_z, of_z-to_z}
 use Rattle.std.proofs.Math.Facts.{Fits-of_z, sfits_to_z}
@@ -10,7 +9,7 @@ use Rattle.stab_base.specs.Codec.{IsBytes, counted}
 use Rattle.row_value.specs.declared.content.Cell.{Cell}
 use Rattle.row_value.specs.declared.content.Cell.TheVariants as cells
 use Rattle.row_value.specs.Spelling.{flag_spelling, cell_spelling, HasCellSpelling}
-use Rattle.row_value.specs.Reading.{◌>>=◌, byte_at, number_at, flag_at, text_at, int_at, bool_at, text_cell_at, cell_at}
+use Rattle.row_value.specs.Reading.{byte_at, number_at, flag_at, text_at, int_at, bool_at, text_cell_at, cell_at}
 use Rattle.row_value.proofs.FieldReads.{bind_ok, branch, no_fault, gives, Reads, rest_fits, one_takes, one_again, byte_reads, eight_reads, flag_reads, text_reads}
 
 int_takes : (bytes : List ℕ) (c : Cell) (rest : List ℕ) → IsBytes bytes → int_at bytes ≡ Ok (c, rest) → HasCellSpelling c × (1 ∷ bytes ≡ cell_spelling c ++ rest)

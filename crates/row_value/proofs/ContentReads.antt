@@ -1,9 +1,8 @@
 -- Objects and contents: what is read is spelled so, and what is spelled so is read.
-use Rattle.std.proofs.Common.{◌≡◌, ℕ, suc, ◌+◌, ◌^◌, ◌<◌, Bool, true, false, cond, eqb, List, [], ◌∷◌, ◌++◌, length, Result, Ok, Err, refl, sym, ap, subst, ◌∙◌, arith, inl, inr, length-append}
-use Rattle.std.specs.List.{flat_map, AllByRecursion}
+use Rattle.std.proofs.Common.{◌≡◌, ℕ, suc, ◌+◌, ◌^◌, ◌<◌, cond, eqb, List, [], ◌∷◌, ◌++◌, length, Ok, Err, refl, sym, ap, subst, ◌∙◌, arith, inl, inr}
+use Rattle.std.specs.List.{AllByRecursion}
 use Rattle.std.specs.Int.{w32, to_be_bytes}
 use Rattle.std.proofs.lemmas.Bool.{eqb-true}
-use Rattle.std.proofs.lemmas.List.{nil_from_length, append-nil}
 use Rattle.std.proofs.lemmas.List.Concat.{flat_map-cons}
 use Rattle.stab_base.specs.Codec.{IsBytes}
 use Rattle.row_value.specs.declared.content.Cell.{Cell}
@@ -12,8 +11,8 @@ use Rattle.row_value.specs.declared.pieces.Piece.TheVariants.{Keep, Fresh}
 use Rattle.row_value.specs.declared.pieces.PieceObject.{PieceObject}
 use Rattle.row_value.specs.declared.pieces.PieceContent.{PieceContent}
 use Rattle.row_value.specs.declared.pieces.PieceContent.TheVariants.{Gone, Row}
-use Rattle.row_value.specs.Spelling.{list_spelling, cell_spelling, HasCellSpelling, piece_spelling, HasPieceSpelling, fresh_in, object_spelling, HasObjectSpelling, pieces_of, CountsFrom, content_spelling, HasRowSpelling, HasContentSpelling}
-use Rattle.row_value.specs.Reading.{◌>>=◌, byte_at, number_at, list_at, after_cell, cell_in, piece_in, after_piece, object_in, after_object, row_at, content_at}
+use Rattle.row_value.specs.Spelling.{list_spelling, cell_spelling, HasCellSpelling, piece_spelling, HasPieceSpelling, fresh_in, object_spelling, HasObjectSpelling, pieces_of, CountsFrom, content_spelling, HasContentSpelling}
+use Rattle.row_value.specs.Reading.{byte_at, number_at, list_at, after_cell, cell_in, piece_in, after_piece, object_in, after_object, row_at, content_at}
 use Rattle.row_value.proofs.FieldReads.{bind_ok, ok_is, branch, no_fault, gives, Reads, rest_fits, two_take, two_again, byte_reads, four_reads}
 use Rattle.row_value.proofs.ListReads.{EachFrom, list_reads, each_of, each_from}
 use Rattle.row_value.proofs.CellReads.{cell_reads}
@@ -22,7 +21,7 @@ use Rattle.row_value.proofs.FreshOrder.{fresh_in-append}
 
 -- ---- objects
 
-abbrev AreNext : ℕ → List Piece → Type 0
+abbrev pub AreNext : ℕ → List Piece → Type 0
 AreNext fresh pieces = (length pieces < 2 ^ 32) × EachFrom after_piece IsNext fresh pieces
 
 abbrev pub IsObjectNext : ℕ → PieceObject → Type 0
@@ -31,7 +30,7 @@ IsObjectNext fresh object = (object.len < 2 ^ 32) × AreNext fresh object.pieces
 abbrev object_of : ℕ → List Piece → PieceObject
 object_of len pieces = record { len = len; pieces = pieces }
 
-pieces_read : (fresh : ℕ) → Reads (AreNext fresh) (list_spelling piece_spelling) (list_at after_piece piece_in fresh)
+pub pieces_read : (fresh : ℕ) → Reads (AreNext fresh) (list_spelling piece_spelling) (list_at after_piece piece_in fresh)
 pieces_read fresh = list_reads after_piece IsNext piece_spelling piece_in next_reads fresh
 
 object_takes : (fresh : ℕ) (bytes : List ℕ) (x : PieceObject) (rest : List ℕ) → IsBytes bytes → object_in fresh bytes ≡ Ok (x, rest) → IsObjectNext fresh x × (bytes ≡ object_spelling x ++ rest)
@@ -75,14 +74,14 @@ is_next fresh (Fresh n ∷ ps) h k = ((k.0, omega (arith, h.0, k.0)), is_next (f
 fresh_of_objects : (o : PieceObject) (os : List PieceObject) → fresh_in (pieces_of (o ∷ os)) ≡ fresh_in o.pieces ++ fresh_in (pieces_of os)
 fresh_of_objects o os = ap fresh_in (flat_map-cons (λ (object : PieceObject). object.pieces) o os) ∙ fresh_in-append o.pieces (pieces_of os)
 
-objects_are : (fresh : ℕ) (os : List PieceObject) → EachFrom after_object IsObjectNext fresh os → AllByRecursion HasObjectSpelling os × CountsFrom fresh (fresh_in (pieces_of os))
+pub objects_are : (fresh : ℕ) (os : List PieceObject) → EachFrom after_object IsObjectNext fresh os → AllByRecursion HasObjectSpelling os × CountsFrom fresh (fresh_in (pieces_of os))
 objects_are fresh [] h = (tt, tt)
 objects_are fresh (o ∷ os) h =
     let t = next_is fresh o.pieces h.0.1.1 in
     let later = objects_are (after_object fresh o) os h.1 in
     ((record { len = h.0.0; count = h.0.1.0; each_piece = t.0 }, later.0), subst (CountsFrom fresh) (sym (fresh_of_objects o os)) (counts_join fresh (fresh_in o.pieces) (fresh_in (pieces_of os)) t.1 later.1))
 
-are_objects : (fresh : ℕ) (os : List PieceObject) → AllByRecursion HasObjectSpelling os → CountsFrom fresh (fresh_in (pieces_of os)) → EachFrom after_object IsObjectNext fresh os
+pub are_objects : (fresh : ℕ) (os : List PieceObject) → AllByRecursion HasObjectSpelling os → CountsFrom fresh (fresh_in (pieces_of os)) → EachFrom after_object IsObjectNext fresh os
 are_objects fresh [] h k = tt
 are_objects fresh (o ∷ os) h k =
     let c = counts_split fresh (fresh_in o.pieces) (fresh_in (pieces_of os)) (subst (CountsFrom fresh) (fresh_of_objects o os) k) in
@@ -90,16 +89,16 @@ are_objects fresh (o ∷ os) h k =
 
 -- ---- contents
 
-abbrev AreCells : List Cell → Type 0
+abbrev pub AreCells : List Cell → Type 0
 AreCells cells = (length cells < 2 ^ 32) × EachFrom after_cell (λ s. HasCellSpelling) tt cells
 
-abbrev AreObjects : List PieceObject → Type 0
+abbrev pub AreObjects : List PieceObject → Type 0
 AreObjects objects = (length objects < 2 ^ 32) × EachFrom after_object IsObjectNext 0 objects
 
-cells_read : Reads AreCells (list_spelling cell_spelling) (list_at after_cell cell_in tt)
+pub cells_read : Reads AreCells (list_spelling cell_spelling) (list_at after_cell cell_in tt)
 cells_read = list_reads after_cell (λ s. HasCellSpelling) cell_spelling cell_in (λ s. cell_reads) tt
 
-objects_read : Reads AreObjects (list_spelling object_spelling) (list_at after_object object_in 0)
+pub objects_read : Reads AreObjects (list_spelling object_spelling) (list_at after_object object_in 0)
 objects_read = list_reads after_object IsObjectNext object_spelling object_in object_reads 0
 
 abbrev row_of : List Cell → List PieceObject → PieceContent

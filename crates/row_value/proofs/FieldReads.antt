@@ -1,15 +1,16 @@
 -- A field that is read is the field that was written, and what was written is read again.
-use Rattle.std.proofs.Common.{◌≡◌, ℕ, zero, suc, ◌+◌, ◌^◌, ◌<◌, ◌≤◌, Bool, true, false, cond, eqb, ltb, List, [], ◌∷◌, ◌++◌, length, take, drop, Result, Ok, Err, refl, sym, ap, subst, ◌∙◌, append_assoc, arith, ◌⊎◌, inl, inr}
+use Rattle.std.proofs.Common.{◌≡◌, ℕ, ◌^◌, ◌<◌, Bool, true, false, cond, eqb, ltb, List, [], ◌∷◌, ◌++◌, length, take, drop, Result, Ok, Err, refl, sym, ap, subst, ◌∙◌, append_assoc, arith, ◌⊎◌, inl, inr}
 use Rattle.std.specs.Int.{Width, w32, w64, byte_len, from_be_bytes, to_be_bytes}
-use Rattle.std.specs.Str.{is_utf8, IsUtf8}
-use Rattle.std.proofs.lemmas.Bool.{cases_Bool, ltb-false, le-ltb, eqb-true}
-use Rattle.std.proofs.lemmas.List.{take_at, drop_at, take-append-drop, length-append, length-take}
-use Rattle.std.proofs.lemmas.Str.{is_utf8-from_IsUtf8, IsUtf8-from_is_utf8}
+use Rattle.std.specs.Str.{IsUtf8}
+use Rattle.std.proofs.lemmas.Bool.{le-ltb, eqb-true}
+use Rattle.std.proofs.lemmas.List.{take_at, drop_at, length-append}
 use Rattle.stab_base.specs.declared.codec.TakeFault.{TakeFault}
 use Rattle.stab_base.specs.declared.codec.TakeFault.TheVariants.{Short}
-use Rattle.stab_base.specs.Codec.{IsBytes, counted, number_at as base_number_at}
-use Rattle.stab_base.proofs.Fields.{IsWide, wide32, wide64, IsBytes-drop, number_takes, number_again}
+use Rattle.stab_base.specs.Codec.{IsBytes, counted}
+use Rattle.stab_base.proofs.Fields.{IsWide, wide32, wide64, IsBytes-drop, number_takes}
 use Rattle.row_value.specs.Spelling.{flag_spelling}
+use Rattle.row_value.specs.Utf8.{between, utf8_rest}
+use Rattle.row_value.proofs.Utf8Reads.{rest_takes, rest_again}
 use Rattle.row_value.specs.Reading.{◌>>=◌, byte_at, number_at, flag_at, utf8_at, text_at}
 
 -- the value of a step that did not fail
@@ -140,20 +141,16 @@ flag_reads = record { takes = flag_takes; again = flag_again }
 utf8_takes : (len : ℕ) (bytes text rest : List ℕ) → IsBytes bytes → utf8_at len bytes ≡ Ok (text, rest) → ((length text ≡ len) × IsUtf8 text) × (bytes ≡ text ++ rest)
 unfolding utf8_at
 utf8_takes len bytes text rest fits e =
-    elim (branch (ltb (length bytes) len) (Err 0) (cond (is_utf8 (take len bytes)) (Ok (take len bytes, drop len bytes)) (Err (length bytes))) (text, rest) e) [
-      | inl y ↦ absurd (no_fault 0 (text, rest) y.1)
-      | inr n ↦ elim (branch (is_utf8 (take len bytes)) (Ok (take len bytes, drop len bytes)) (Err (length bytes)) (text, rest) n.1) [
-        | inl y ↦ let long : len ≤ length bytes = ltb-false _ _ n.0 in
-            subst (λ (p : List ℕ × List ℕ). ((length p.0 ≡ len) × IsUtf8 p.0) × (bytes ≡ p.0 ++ p.1)) (ok_is (take len bytes, drop len bytes) (text, rest) y.1) ((omega (arith, length-take len bytes), IsUtf8-from_is_utf8 (take len bytes) y.0), sym (take-append-drop len bytes))
-        | inr m ↦ absurd (no_fault (length bytes) (text, rest) m.1)
-      ]
-    ]
+    let a = bind_ok (utf8_rest between len bytes) (λ rest. gives (take len bytes) rest) (text, rest) e in
+    let t = rest_takes len between bytes a.0 (omega arith) a.1 in
+    let l = t.len in
+    let front : take len bytes ≡ t.text = ap (take len) t.parts ∙ take_at t.text a.0 len t.len in
+    subst (λ (p : List ℕ × List ℕ). ((length p.0 ≡ len) × IsUtf8 p.0) × (bytes ≡ p.0 ++ p.1)) (ok_is (take len bytes, a.0) (text, rest) a.2)
+    ((ap length front ∙ t.len, subst IsUtf8 (sym front) t.finishes), t.parts ∙ ap (λ (l : List ℕ). l ++ a.0) (sym front))
 
 utf8_again : (len : ℕ) (text rest : List ℕ) → (length text ≡ len) × IsUtf8 text → utf8_at len (text ++ rest) ≡ Ok (text, rest)
 unfolding utf8_at
-utf8_again len text rest h =
-    let long : ltb (length (text ++ rest)) len ≡ false = le-ltb _ _ (omega (arith, h.0, length-append text rest)) in
-    rw (long, take_at text rest len h.0, drop_at text rest len h.0, is_utf8-from_IsUtf8 text h.1) refl
+utf8_again len text rest h = rw (rest_again len between text rest h.0 h.1, take_at text rest len h.0) refl
 
 pub utf8_reads : (len : ℕ) → Reads (λ text. (length text ≡ len) × IsUtf8 text) (λ text. text) (utf8_at len)
 utf8_reads len = record { takes = utf8_takes len; again = utf8_again len }

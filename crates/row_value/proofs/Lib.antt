@@ -9,3 +9,10 @@ pub mod ContentReads
 pub mod Answering
 pub mod Spread
 pub mod SchemaReads
+pub mod Utf8Places
+pub mod Utf8Chars
+pub mod Utf8Reads
+pub mod Stops
+pub mod FieldStops
+pub mod ValueStops
+pub mod SchemaStops

@@ -1,12 +1,12 @@
 -- Lists, item by item: what is read is spelled so, and what is spelled so is read.
-use Rattle.std.proofs.Common.{◌≡◌, ℕ, zero, suc, ◌+◌, ◌^◌, ◌<◌, List, [], ◌∷◌, ◌++◌, length, Result, Ok, Err, refl, sym, ap, subst, ◌∙◌, append_assoc, arith}
+use Rattle.std.proofs.Common.{◌≡◌, ℕ, zero, suc, ◌^◌, ◌<◌, List, [], ◌∷◌, ◌++◌, length, Result, Ok, refl, sym, ap, subst, ◌∙◌, append_assoc, arith}
 use Rattle.std.specs.List.{flat_map, AllByRecursion}
 use Rattle.std.specs.Int.{w32, to_be_bytes}
 use Rattle.std.proofs.lemmas.List.Concat.{flat_map-cons}
 use Rattle.stab_base.specs.Codec.{IsBytes}
 use Rattle.row_value.specs.Spelling.{list_spelling}
-use Rattle.row_value.specs.Reading.{◌>>=◌, number_at, items_at, list_at}
-use Rattle.row_value.proofs.FieldReads.{bind_ok, ok_is, gives, Reads, rest_fits, two_take, two_again, four_reads}
+use Rattle.row_value.specs.Reading.{number_at, items_at, list_at}
+use Rattle.row_value.proofs.FieldReads.{bind_ok, ok_is, Reads, rest_fits, two_take, two_again, four_reads}
 
 -- each item, where what an item may be depends on what the items before it leave
 abbrev pub EachFrom : {S X : Type 0} → (S → X → S) → (S → X → Type 0) → S → List X → Type 0

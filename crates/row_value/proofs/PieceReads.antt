@@ -1,5 +1,5 @@
 -- Names and pieces: what is read is spelled so, and what is spelled so is read.
-use Rattle.std.proofs.Common.{◌≡◌, ℕ, suc, ◌^◌, ◌<◌, Bool, true, false, cond, eqb, ltb, ◌&&◌, List, [], ◌∷◌, ◌++◌, length, Result, Ok, Err, refl, sym, ap, subst, ◌∙◌, arith, inl, inr}
+use Rattle.std.proofs.Common.{◌≡◌, ℕ, suc, ◌^◌, ◌<◌, Bool, true, false, cond, eqb, ltb, ◌&&◌, List, [], ◌∷◌, ◌++◌, length, Ok, Err, refl, ap, subst, ◌∙◌, inl, inr}
 use Rattle.std.specs.Int.{w32, w64, to_be_bytes}
 use Rattle.std.proofs.lemmas.Bool.{cases_Bool, eqb-true, eqb-false, ltb-true, lt-ltb}
 use Rattle.stab_base.specs.Codec.{IsBytes}
@@ -7,7 +7,7 @@ use Rattle.stab_base.specs.declared.chunk_name.ChunkName.{ChunkName}
 use Rattle.row_value.specs.declared.pieces.Piece.{Piece}
 use Rattle.row_value.specs.declared.pieces.Piece.TheVariants.{Keep, Fresh}
 use Rattle.row_value.specs.Spelling.{name_spelling, HasNameSpelling, piece_spelling, HasPieceSpelling}
-use Rattle.row_value.specs.Reading.{◌>>=◌, byte_at, number_at, name_at, keep_at, fresh_at, piece_at, exactly_at, fresh_is_at, piece_in}
+use Rattle.row_value.specs.Reading.{byte_at, number_at, name_at, keep_at, fresh_at, piece_at, exactly_at, fresh_is_at, piece_in}
 use Rattle.row_value.proofs.FieldReads.{bind_ok, ok_is, branch, no_fault, gives, Reads, rest_fits, one_takes, one_again, two_take, two_again, byte_reads, four_reads, eight_reads}
 
 abbrev name_of : ℕ → ℕ → ChunkName

@@ -1,5 +1,5 @@
 -- Schemas: what is read is spelled so, and what is spelled so is read.
-use Rattle.std.proofs.Common.{◌≡◌, ℕ, suc, ◌+◌, ◌^◌, ◌<◌, ◌≤◌, ◌/◌, ◌%◌, Bool, true, false, cond, eqb, ltb, ◌||◌, List, [], ◌∷◌, ◌++◌, length, Result, Ok, Err, refl, sym, ap, subst, ◌∙◌, append_assoc, arith, ◌⊎◌, inl, inr}
+use Rattle.std.proofs.Common.{◌≡◌, ℕ, ◌^◌, ◌<◌, ◌≤◌, ◌/◌, ◌%◌, Bool, true, false, cond, eqb, ltb, ◌||◌, List, [], ◌∷◌, ◌++◌, length, Ok, Err, refl, sym, ap, subst, ◌∙◌, append_assoc, arith, ◌⊎◌, inl, inr}
 use Rattle.std.specs.Prelude.{IsUtf8}
 use Rattle.std.specs.List.{flat_map, AllByRecursion}
 use Rattle.std.specs.Int.{w32, to_be_bytes}
@@ -17,8 +17,8 @@ use Rattle.row_value.specs.SchemaSpelling.{kind_code, scheme_code, IsChunkSize, 
 use Rattle.row_value.specs.Reading.{◌>>=◌, byte_at, exactly_at, text_at, items_at}
 use Rattle.row_value.specs.SchemaReading.{scheme_at, low_chunk_at, high_chunk_at, chunk_at, low_count_at, count_at, kind_in, column_in, after_column, columns_at, schema_at}
 use Rattle.row_value.proofs.FieldReads.{bind_ok, ok_is, branch, no_fault, gives, Reads, rest_fits, two_take, two_again, byte_reads, text_reads}
-use Rattle.row_value.proofs.ListReads.{EachFrom, IsList, items_reads}
-use Rattle.row_value.proofs.PieceReads.{exactly_takes, exactly_again}
+use Rattle.row_value.proofs.ListReads.{EachFrom, items_reads}
+use Rattle.row_value.proofs.PieceReads.{exactly_takes}
 
 -- ---- a byte that is one of few
 
@@ -28,7 +28,7 @@ scheme_takes bytes x rest fits e =
     let a = bind_ok (byte_at bytes) (λ code. cond (eqb code.0 1) (gives Strong code.1) (cond (eqb code.0 2) (gives Causal code.1) (cond (eqb code.0 3) (gives Eventual code.1) (Err (length bytes))))) (x, rest) e in
     let t = byte_reads.takes bytes a.0.0 a.0.1 fits a.1 in
     let made : (s : Scheme) → a.0.0 ≡ scheme_code s → gives s a.0.1 ≡ gives x rest → Unit {0} × (bytes ≡ (scheme_code x ∷ []) ++ rest) = λ s code is.
-      subst (λ (p : Scheme × List ℕ). Unit {0} × (bytes ≡ scheme_code p.0 ∷ p.1)) (ok_is (s, a.0.1) (x, rest) is) (tt, t.1 ∙ ap (λ (n : ℕ). n ∷ a.0.1) code) in
+    subst (λ (p : Scheme × List ℕ). Unit {0} × (bytes ≡ scheme_code p.0 ∷ p.1)) (ok_is (s, a.0.1) (x, rest) is) (tt, t.1 ∙ ap (λ (n : ℕ). n ∷ a.0.1) code) in
     elim (branch (eqb a.0.0 1) (gives Strong a.0.1) (cond (eqb a.0.0 2) (gives Causal a.0.1) (cond (eqb a.0.0 3) (gives Eventual a.0.1) (Err (length bytes)))) (x, rest) a.2) [
       | inl y ↦ made Strong (eqb-true _ _ y.0) y.1
       | inr n ↦ elim (branch (eqb a.0.0 2) (gives Causal a.0.1) (cond (eqb a.0.0 3) (gives Eventual a.0.1) (Err (length bytes))) (x, rest) n.1) [
@@ -58,7 +58,7 @@ kind_takes only bytes x rest fits e =
     let a = bind_ok (byte_at bytes) (λ code. cond (eqb code.0 4) (gives kinds.Object code.1) (cond only (Err (length bytes)) (cond (eqb code.0 1) (gives kinds.Int code.1) (cond (eqb code.0 2) (gives kinds.Bool code.1) (cond (eqb code.0 3) (gives kinds.Text code.1) (Err (length bytes))))))) (x, rest) e in
     let t = byte_reads.takes bytes a.0.0 a.0.1 fits a.1 in
     let made : (k : ColumnKind) → IsKindNext only k → a.0.0 ≡ kind_code k → gives k a.0.1 ≡ gives x rest → IsKindNext only x × (bytes ≡ (kind_code x ∷ []) ++ rest) = λ k next code is.
-      subst (λ (p : ColumnKind × List ℕ). IsKindNext only p.0 × (bytes ≡ kind_code p.0 ∷ p.1)) (ok_is (k, a.0.1) (x, rest) is) (next, t.1 ∙ ap (λ (n : ℕ). n ∷ a.0.1) code) in
+    subst (λ (p : ColumnKind × List ℕ). IsKindNext only p.0 × (bytes ≡ kind_code p.0 ∷ p.1)) (ok_is (k, a.0.1) (x, rest) is) (next, t.1 ∙ ap (λ (n : ℕ). n ∷ a.0.1) code) in
     elim (branch (eqb a.0.0 4) (gives kinds.Object a.0.1) (cond only (Err (length bytes)) (cond (eqb a.0.0 1) (gives kinds.Int a.0.1) (cond (eqb a.0.0 2) (gives kinds.Bool a.0.1) (cond (eqb a.0.0 3) (gives kinds.Text a.0.1) (Err (length bytes)))))) (x, rest) a.2) [
       | inl y ↦ made kinds.Object (λ o. refl) (eqb-true _ _ y.0) y.1
       | inr n ↦ elim (branch only (Err (length bytes)) (cond (eqb a.0.0 1) (gives kinds.Int a.0.1) (cond (eqb a.0.0 2) (gives kinds.Bool a.0.1) (cond (eqb a.0.0 3) (gives kinds.Text a.0.1) (Err (length bytes))))) (x, rest) n.1) [
@@ -157,7 +157,7 @@ neither : (a b : Bool) → (a || b) ≡ false → (a ≡ false) × (b ≡ false)
 neither true b e = absurd cc
 neither false b e = (refl, e)
 
-small : (n : ℕ) → n < 256 → to_be_bytes w32 n ≡ 0 ∷ (0 ∷ (0 ∷ (n ∷ [])))
+pub small : (n : ℕ) → n < 256 → to_be_bytes w32 n ≡ 0 ∷ (0 ∷ (0 ∷ (n ∷ [])))
 small n lt =
     let a : n / 16777216 % 256 ≡ 0 = omega arith in
     let b : n / 65536 % 256 ≡ 0 = omega arith in
@@ -180,7 +180,7 @@ count_takes bytes x rest fits e =
           let some : 1 ≤ b.0.0 = (let no : b.0.0 ≡ 0 → ⊥ = eqb-false _ _ tests.0 in omega arith) in
           let spelled : to_be_bytes w32 b.0.0 ≡ 0 ∷ (0 ∷ (0 ∷ (b.0.0 ∷ []))) = small b.0.0 (omega arith) in
           subst (λ (p : ℕ × List ℕ). IsColumnCount p.0 × (bytes ≡ to_be_bytes w32 p.0 ++ p.1)) (ok_is (b.0.0, b.0.1) (x, rest) n.1)
-            (record { some = some; most = most }, zeros ∙ ap (λ (l : List ℕ). 0 ∷ (0 ∷ (0 ∷ l))) t.1 ∙ ap (λ (l : List ℕ). l ++ b.0.1) (sym spelled))
+          (record { some = some; most = most }, zeros ∙ ap (λ (l : List ℕ). 0 ∷ (0 ∷ (0 ∷ l))) t.1 ∙ ap (λ (l : List ℕ). l ++ b.0.1) (sym spelled))
     ]
 
 count_again : (x : ℕ) (rest : List ℕ) → IsColumnCount x → count_at (to_be_bytes w32 x ++ rest) ≡ Ok (x, rest)
@@ -265,6 +265,11 @@ are_each only (c ∷ cs) all objects first =
 
 -- ---- schemas
 
+joined : (bytes a b c d name chunk columns : List ℕ) (scheme : ℕ) → bytes ≡ name ++ a → a ≡ (scheme ∷ []) ++ b → b ≡ chunk ++ c → c ≡ columns ++ d → bytes ≡ (name ++ (scheme ∷ (chunk ++ columns))) ++ d
+joined bytes a b c d name chunk columns scheme p q r t =
+    let tail : b ≡ (chunk ++ columns) ++ d = r ∙ ap (λ (l : List ℕ). chunk ++ l) t ∙ sym (append_assoc chunk columns d) in
+    p ∙ ap (λ (l : List ℕ). name ++ l) (q ∙ ap (λ (l : List ℕ). scheme ∷ l) tail) ∙ sym (append_assoc name (scheme ∷ (chunk ++ columns)) d)
+
 schema_takes : (bytes : List ℕ) (x : Schema) (rest : List ℕ) → IsBytes bytes → schema_at bytes ≡ Ok (x, rest) → HasSchemaSpelling x × (bytes ≡ schema_spelling x ++ rest)
 unfolding schema_at
 schema_takes bytes x rest fits e =
@@ -281,10 +286,9 @@ schema_takes bytes x rest fits e =
     let t3 = columns_read.takes c.0.1 d.0.0 d.0.1 fits3 d.1 in
     let each = each_are false d.0.0 t3.0.1 in
     let made : Schema = record { name = a.0.0; scheme = b.0.0; chunk = c.0.0; columns = d.0.0 } in
-    let tail : b.0.1 ≡ (to_be_bytes w32 c.0.0 ++ list_spelling column_spelling d.0.0) ++ d.0.1 = t2.1 ∙ ap (λ (l : List ℕ). to_be_bytes w32 c.0.0 ++ l) t3.1 ∙ sym (append_assoc (to_be_bytes w32 c.0.0) (list_spelling column_spelling d.0.0) d.0.1) in
-    let whole : bytes ≡ schema_spelling made ++ d.0.1 = t0.1 ∙ ap (λ (l : List ℕ). counted a.0.0 ++ l) (t1.1 ∙ ap (λ (l : List ℕ). scheme_code b.0.0 ∷ l) tail) ∙ sym (append_assoc (counted a.0.0) (scheme_code b.0.0 ∷ (to_be_bytes w32 c.0.0 ++ list_spelling column_spelling d.0.0)) d.0.1) in
-    subst (λ (p : Schema × List ℕ). HasSchemaSpelling p.0 × (bytes ≡ schema_spelling p.0 ++ p.1)) (ok_is (made, d.0.1) (x, rest) d.2)
-      (record { text = t0.0; size = t2.0; some = t3.0.0.some; most = t3.0.0.most; each = each.0; order = each.2 }, whole)
+    let whole : bytes ≡ schema_spelling made ++ d.0.1 = joined bytes a.0.1 b.0.1 c.0.1 d.0.1 (counted a.0.0) (to_be_bytes w32 c.0.0) (list_spelling column_spelling d.0.0) (scheme_code b.0.0) t0.1 t1.1 t2.1 t3.1 in
+    subst (λ (p : Schema × List ℕ). HasSchemaSpelling p.0 × (bytes ≡ schema_spelling p.0 ++ p.1)) {x = (made, d.0.1)} (ok_is (made, d.0.1) (x, rest) d.2)
+    (record { text = t0.0; size = t2.0; some = t3.0.0.some; most = t3.0.0.most; each = each.0; order = each.2 }, whole)
 
 schema_again : (x : Schema) (rest : List ℕ) → HasSchemaSpelling x → schema_at (schema_spelling x ++ rest) ≡ Ok (x, rest)
 unfolding schema_at

@@ -1,5 +1,5 @@
 -- When a content is a row of a table.
-use Rattle.std.specs.Prelude.{◌≡◌, ℕ, suc, Bool, true, false, List, [], ◌∷◌, length, Option, Some, None, position, zip, min, not, ◌==◌, nat_lt, ◌+◌, ◌-◌, take, unwrap_or, slice_get, Result, Ok, Err, if◌then◌else◌}
+use Rattle.std.specs.Prelude.{ℕ, Bool, true, false, List, length, Option, Some, None, position, zip, min, not, ◌==◌, nat_lt, ◌+◌, ◌-◌, take, unwrap_or, slice_get, Result, Ok, Err, if◌then◌else◌}
 use Rattle.row_value.specs.declared.schema.ColumnKind.{ColumnKind}
 use Rattle.row_value.specs.declared.schema.ColumnKind.TheVariants as kinds
 use Rattle.row_value.specs.declared.schema.Column.{Column}

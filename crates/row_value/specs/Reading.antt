@@ -2,7 +2,6 @@
 -- behind it. A fault is the number of bytes from that place on, 0 where bytes are missing at the end.
 use Rattle.std.specs.Prelude.{◌≡◌, ℕ, zero, suc, ◌+◌, ◌-◌, ◌≤◌, ◌^◌, Bool, true, false, ◌==◌, ◌&&◌, nat_lt, if◌then◌else◌, List, [], ◌∷◌, length, take, drop, Result, Ok, Err}
 use Rattle.std.specs.Int.{Width, w32, w64, byte_len, from_be_bytes, to_be_bytes, cast_signed}
-use Rattle.std.specs.Str.{is_utf8}
 use Rattle.stab_base.specs.declared.chunk_name.ChunkName.{ChunkName}
 use Rattle.row_value.specs.declared.spell_fault.SpellFault.{SpellFault}
 use Rattle.row_value.specs.declared.spell_fault.SpellFault.TheVariants.{Bad, Memory}
@@ -14,6 +13,7 @@ use Rattle.row_value.specs.declared.pieces.PieceObject.{PieceObject}
 use Rattle.row_value.specs.declared.pieces.PieceContent.{PieceContent}
 use Rattle.row_value.specs.declared.pieces.PieceContent.TheVariants.{Gone, Row}
 use Rattle.row_value.specs.Spelling.{fresh_in}
+use Rattle.row_value.specs.Utf8.{between, utf8_rest}
 
 infixl 10 ◌>>=◌
 -- one field, and then the next
@@ -46,11 +46,11 @@ flag_at bytes = do
   flag ← byte_at bytes
   if flag.0 == 0 then Ok (false, flag.1) else (if flag.0 == 1 then Ok (true, flag.1) else Err (length bytes))
 
--- so many bytes that are UTF-8
+-- a text of so many bytes
 unfoldable pub utf8_at : ℕ → List ℕ → Result (List ℕ × List ℕ) ℕ
-utf8_at len bytes =
-    if nat_lt (length bytes) len then Err 0
-    else (if is_utf8 (take len bytes) then Ok (take len bytes, drop len bytes) else Err (length bytes))
+utf8_at len bytes = do
+  rest ← utf8_rest between len bytes
+  Ok (take len bytes, rest)
 
 unfoldable pub text_at : List ℕ → Result (List ℕ × List ℕ) ℕ
 text_at bytes = do

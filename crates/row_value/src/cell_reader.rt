@@ -1,6 +1,7 @@
 ghost use Rattle.std.specs.Prelude.{◌≡◌, ◌≤◌, ◌++◌, ℕ, List, length, drop, IfOk, Ok};
 ghost use Rattle.row_value.specs.Spelling.{HasCellSpelling, cell_spelling};
 ghost use Rattle.row_value.specs.Reading.{Gives, int_at, bool_at, text_cell_at, cell_at, after_cell, cell_in, items_at, list_at};
+ghost use Rattle.row_value.specs.FirstBad.{Refuses};
 
 use crate::content::{Cell, Cells};
 use crate::field_reader::{take_byte, take_eight, take_flag, take_four, take_text};
@@ -60,7 +61,8 @@ fn take_cell_items(
     count: u32,
 ) -> Result<(Cells, usize), SpellFault>
     requires { at ≤ length bytes.now }
-    ensures value { Gives bytes.now (λ x. (x.0, drop x.1 bytes.now)) result (items_at after_cell cell_in tt count (drop at bytes.now)) }
+    ensures value { Gives bytes.now (λ x. (x.0, drop x.1 bytes.now))
+        result (items_at after_cell cell_in tt count (drop at bytes.now)) }
     ensures within { IfOk result (λ x. x.1 ≤ length bytes.now) }
 {
     let mut cells = Sequence::new(alloc);
@@ -80,7 +82,8 @@ pub(crate) fn take_cells(
     at: usize,
 ) -> Result<(Cells, usize), SpellFault>
     requires { at ≤ length bytes.now }
-    ensures value { Gives bytes.now (λ x. (x.0, drop x.1 bytes.now)) result (list_at after_cell cell_in tt (drop at bytes.now)) }
+    ensures value { Gives bytes.now (λ x. (x.0, drop x.1 bytes.now))
+        result (list_at after_cell cell_in tt (drop at bytes.now)) }
     ensures within { IfOk result (λ x. x.1 ≤ length bytes.now) }
 {
     let (count, begin) = take_four(bytes, at)?;
@@ -91,11 +94,14 @@ pub(crate) fn take_cells(
 pub fn take_cell(alloc: Global, bytes: &[u8], at: usize) -> Result<(Cell, usize), SpellFault>
     requires { at ≤ length bytes.now }
     // What is found stands there as it is spelled.
-    ensures found { IfOk result (λ x. HasCellSpelling x.0 × (drop at bytes.now ≡ cell_spelling x.0 ++ drop x.1 bytes.now)) }
+    ensures found { IfOk result (λ x. HasCellSpelling x.0
+        × (drop at bytes.now ≡ cell_spelling x.0 ++ drop x.1 bytes.now)) }
     // What is spelled there is found, whatever follows it.
-    ensures only { (cell : Cell) (rest : List ℕ) → HasCellSpelling cell → drop at bytes.now ≡ cell_spelling cell ++ rest
+    ensures only { (cell : Cell) (rest : List ℕ)
+        → HasCellSpelling cell → drop at bytes.now ≡ cell_spelling cell ++ rest
         → Gives {Y = Cell × List ℕ} bytes.now (λ x. (x.0, drop x.1 bytes.now)) result (Ok (cell, rest)) }
-    // Which place a fault tells.
+    // A fault tells the first place at which no spelling goes on.
+    ensures refused { Refuses HasCellSpelling cell_spelling bytes.now at result }
     ensures exact { Gives bytes.now (λ x. (x.0, drop x.1 bytes.now)) result (cell_at (drop at bytes.now)) }
     ensures within { IfOk result (λ x. x.1 ≤ length bytes.now) }
 {

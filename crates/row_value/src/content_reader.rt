@@ -1,6 +1,7 @@
 ghost use Rattle.std.specs.Prelude.{◌≡◌, ◌≤◌, ◌+◌, ◌^◌, ◌++◌, ℕ, List, length, drop, IfOk, Ok};
 ghost use Rattle.row_value.specs.Spelling.{fresh_in, HasContentSpelling, content_spelling};
 ghost use Rattle.row_value.specs.Reading.{Gives, object_in, after_object, row_at, content_at, whole, items_at, list_at};
+ghost use Rattle.row_value.specs.FirstBad.{Refuses};
 
 use crate::cell_reader::take_cells;
 use crate::field_reader::{take_byte, take_four};
@@ -35,7 +36,8 @@ fn take_object_items(
     count: u32,
 ) -> Result<(PieceObjects, usize), SpellFault>
     requires { at ≤ length bytes.now }
-    ensures value { Gives bytes.now (λ x. (x.0, drop x.1 bytes.now)) result (items_at after_object object_in 0 count (drop at bytes.now)) }
+    ensures value { Gives bytes.now (λ x. (x.0, drop x.1 bytes.now))
+        result (items_at after_object object_in 0 count (drop at bytes.now)) }
     ensures within { IfOk result (λ x. x.1 ≤ length bytes.now) }
 {
     let mut objects = Sequence::new(alloc);
@@ -53,7 +55,8 @@ fn take_object_items(
 #[tactic(auto, unfolding(crate::specs::Reading::list_at))]
 fn take_objects(alloc: Global, bytes: &[u8], at: usize) -> Result<(PieceObjects, usize), SpellFault>
     requires { at ≤ length bytes.now }
-    ensures value { Gives bytes.now (λ x. (x.0, drop x.1 bytes.now)) result (list_at after_object object_in 0 (drop at bytes.now)) }
+    ensures value { Gives bytes.now (λ x. (x.0, drop x.1 bytes.now))
+        result (list_at after_object object_in 0 (drop at bytes.now)) }
     ensures within { IfOk result (λ x. x.1 ≤ length bytes.now) }
 {
     let (count, begin) = take_four(bytes, at)?;
@@ -93,11 +96,14 @@ pub fn take_content(
 ) -> Result<(PieceContent, usize), SpellFault>
     requires { at ≤ length bytes.now }
     // What is found stands there as it is spelled.
-    ensures found { IfOk result (λ x. HasContentSpelling x.0 × (drop at bytes.now ≡ content_spelling x.0 ++ drop x.1 bytes.now)) }
+    ensures found { IfOk result (λ x. HasContentSpelling x.0
+        × (drop at bytes.now ≡ content_spelling x.0 ++ drop x.1 bytes.now)) }
     // What is spelled there is found, whatever follows it.
-    ensures only { (content : PieceContent) (rest : List ℕ) → HasContentSpelling content → drop at bytes.now ≡ content_spelling content ++ rest
+    ensures only { (content : PieceContent) (rest : List ℕ)
+        → HasContentSpelling content → drop at bytes.now ≡ content_spelling content ++ rest
         → Gives {Y = PieceContent × List ℕ} bytes.now (λ x. (x.0, drop x.1 bytes.now)) result (Ok (content, rest)) }
-    // Which place a fault tells.
+    // A fault tells the first place at which no spelling goes on.
+    ensures refused { Refuses HasContentSpelling content_spelling bytes.now at result }
     ensures exact { Gives bytes.now (λ x. (x.0, drop x.1 bytes.now)) result (content_at (drop at bytes.now)) }
     ensures within { IfOk result (λ x. x.1 ≤ length bytes.now) }
 {
@@ -120,6 +126,7 @@ pub fn content_of(alloc: Global, bytes: &[u8]) -> Result<PieceContent, SpellFaul
     ensures found { IfOk result (λ x. HasContentSpelling x × (bytes.now ≡ content_spelling x)) }
     ensures only { (content : PieceContent) → HasContentSpelling content → bytes.now ≡ content_spelling content
         → Gives {Y = PieceContent} bytes.now (λ x. x) result (Ok content) }
+    ensures refused { Refuses HasContentSpelling content_spelling bytes.now 0 result }
     ensures exact { Gives bytes.now (λ x. x) result (whole (content_at bytes.now)) }
 {
     whole_content(alloc, bytes)

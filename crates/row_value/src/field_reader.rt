@@ -1,9 +1,9 @@
 ghost use Rattle.std.specs.Prelude.{◌≡◌, ◌≤◌, ◌+◌, ◌-◌, ◌<◌, ◌^◌, ◌++◌, ◌∷◌, [], ℕ, List, length, take, drop, IfOk, Ok};
 ghost use Rattle.std.specs.Int.{w32, w64};
 ghost use Rattle.row_value.specs.Reading.{Gives, byte_at, number_at, flag_at, utf8_at, text_at, exactly_at};
-ghost use Rattle.std.specs.Str.{is_utf8};
 
 use crate::spell_fault::SpellFault;
+use crate::utf8::skip_utf8;
 use stab_base::{Bytes, take_u8, take_u32, take_u64};
 use std::alloc::Global;
 
@@ -52,33 +52,7 @@ pub(crate) fn take_flag(bytes: &[u8], at: usize) -> Result<(bool, usize), SpellF
     }
 }
 
-fn is_text(bytes: &[u8]) -> bool
-    ensures { result ≡ is_utf8 bytes.now }
-{
-    match str::from_utf8(bytes) {
-        Ok(_) => true,
-        Err(_) => false,
-    }
-}
-
-#[tactic(auto, using(crate::proofs::Places::after), unfolding(crate::specs::Reading::utf8_at))]
-fn skip_text(bytes: &[u8], at: usize, len: u32) -> Result<usize, SpellFault>
-    requires { at ≤ length bytes.now }
-    ensures value { Gives bytes.now (λ x. (take len (drop at bytes.now), drop x bytes.now)) result (utf8_at len (drop at bytes.now)) }
-    ensures within { IfOk result (λ x. (x ≡ at + len) × (x ≤ length bytes.now)) }
-{
-    let rest = &bytes[at..];
-    let len = len as usize;
-    if rest.len() < len {
-        return Err(SpellFault::Bad { at: bytes.len() });
-    }
-    if !is_text(&rest[..len]) {
-        return Err(SpellFault::Bad { at });
-    }
-    Ok(at + len)
-}
-
-#[tactic(auto, unfolding(crate::specs::Reading::text_at))]
+#[tactic(auto, unfolding(crate::specs::Reading::text_at, crate::specs::Reading::utf8_at))]
 pub(crate) fn take_text(
     alloc: Global,
     bytes: &[u8],
@@ -89,7 +63,7 @@ pub(crate) fn take_text(
     ensures within { IfOk result (λ x. x.1 ≤ length bytes.now) }
 {
     let (len, begin) = take_four(bytes, at)?;
-    let end = skip_text(bytes, begin, len)?;
+    let end = skip_utf8(bytes, begin, len)?;
     let text = Bytes::from_slice(alloc, &bytes[begin..end])?;
     Ok((text, end))
 }

@@ -1,4 +1,5 @@
-//! Values that a table's rows hold, their schema, and whether a row fits it.
+//! Values that a table's rows hold, their schema, whether a row fits it, and how rows and schemas are spelled in
+//! files and messages.
 #![tactic(auto)]
 
 mod cell_reader;
@@ -16,6 +17,7 @@ mod schema;
 mod schema_reader;
 mod schema_writer;
 mod spell_fault;
+mod utf8;
 mod writer;
 
 pub use cell_reader::take_cell;
@@ -24,7 +26,9 @@ pub use content::{Cell, Cells, Content, Objects};
 pub use content_reader::{content_of, take_content};
 pub use content_writer::put_content;
 pub use fit::{FitFault, fits};
-pub use laws::{one_spelling, values_are_read_again, values_were_spelled_so};
+pub use laws::{
+    faults_are_the_first_bad_places, one_spelling, values_are_read_again, values_were_spelled_so,
+};
 pub use piece_reader::{take_name, take_piece};
 pub use piece_writer::{put_name, put_piece};
 pub use pieces::{Piece, PieceContent, PieceObject, PieceObjects, Pieces};
@@ -35,3 +39,6 @@ pub use spell_fault::SpellFault;
 pub use stab_base::{
     Bytes, ChunkName, ClientNo, GateNo, RowId, Sequence, StoreNo, TableNo, Version, WriteNo,
 };
+
+#[cfg(test)]
+mod tests;

@@ -1,6 +1,7 @@
 ghost use Rattle.std.specs.Prelude.{◌≡◌, ◌≤◌, ◌<◌, ◌+◌, ◌^◌, ◌++◌, ℕ, List, length, drop, IfOk, Ok};
 ghost use Rattle.row_value.specs.Spelling.{fresh_in, HasNameSpelling, name_spelling, HasPieceSpelling, piece_spelling};
 ghost use Rattle.row_value.specs.Reading.{Gives, name_at, keep_at, fresh_at, piece_at, fresh_is_at, piece_in, after_piece, items_at, list_at};
+ghost use Rattle.row_value.specs.FirstBad.{Refuses};
 
 use crate::field_reader::{skip_exactly, take_byte, take_eight, take_four};
 use crate::pieces::{Piece, Pieces};
@@ -102,7 +103,8 @@ fn take_piece_items(
 ) -> Result<(Pieces, usize, u64), SpellFault>
     requires within { at ≤ length bytes.now }
     requires room { fresh ≤ 2 ^ 32 }
-    ensures value { Gives bytes.now (λ x. (x.0, drop x.1 bytes.now)) result (items_at after_piece piece_in fresh count (drop at bytes.now)) }
+    ensures value { Gives bytes.now (λ x. (x.0, drop x.1 bytes.now))
+        result (items_at after_piece piece_in fresh count (drop at bytes.now)) }
     ensures within { IfOk result (λ x. x.1 ≤ length bytes.now) }
     ensures fresh { IfOk result (λ x. (x.2 ≡ fresh + length (fresh_in x.0)) × (x.2 ≤ 2 ^ 32)) }
 {
@@ -127,7 +129,8 @@ pub(crate) fn take_pieces(
 ) -> Result<(Pieces, usize, u64), SpellFault>
     requires within { at ≤ length bytes.now }
     requires room { fresh ≤ 2 ^ 32 }
-    ensures value { Gives bytes.now (λ x. (x.0, drop x.1 bytes.now)) result (list_at after_piece piece_in fresh (drop at bytes.now)) }
+    ensures value { Gives bytes.now (λ x. (x.0, drop x.1 bytes.now))
+        result (list_at after_piece piece_in fresh (drop at bytes.now)) }
     ensures within { IfOk result (λ x. x.1 ≤ length bytes.now) }
     ensures fresh { IfOk result (λ x. (x.2 ≡ fresh + length (fresh_in x.0)) × (x.2 ≤ 2 ^ 32)) }
 {
@@ -138,9 +141,12 @@ pub(crate) fn take_pieces(
 /// The name at a place, and the place behind it. No memory is taken.
 pub fn take_name(bytes: &[u8], at: usize) -> Result<(ChunkName, usize), SpellFault>
     requires { at ≤ length bytes.now }
-    ensures found { IfOk result (λ x. HasNameSpelling x.0 × (drop at bytes.now ≡ name_spelling x.0 ++ drop x.1 bytes.now)) }
-    ensures only { (name : ChunkName) (rest : List ℕ) → HasNameSpelling name → drop at bytes.now ≡ name_spelling name ++ rest
+    ensures found { IfOk result (λ x. HasNameSpelling x.0
+        × (drop at bytes.now ≡ name_spelling x.0 ++ drop x.1 bytes.now)) }
+    ensures only { (name : ChunkName) (rest : List ℕ)
+        → HasNameSpelling name → drop at bytes.now ≡ name_spelling name ++ rest
         → Gives {Y = ChunkName × List ℕ} bytes.now (λ x. (x.0, drop x.1 bytes.now)) result (Ok (name, rest)) }
+    ensures refused { Refuses HasNameSpelling name_spelling bytes.now at result }
     ensures exact { Gives bytes.now (λ x. (x.0, drop x.1 bytes.now)) result (name_at (drop at bytes.now)) }
     ensures within { IfOk result (λ x. x.1 ≤ length bytes.now) }
 {
@@ -150,9 +156,12 @@ pub fn take_name(bytes: &[u8], at: usize) -> Result<(ChunkName, usize), SpellFau
 /// The piece at a place, a new chunk by any ordinal, and the place behind it. No memory is taken.
 pub fn take_piece(bytes: &[u8], at: usize) -> Result<(Piece, usize), SpellFault>
     requires { at ≤ length bytes.now }
-    ensures found { IfOk result (λ x. HasPieceSpelling x.0 × (drop at bytes.now ≡ piece_spelling x.0 ++ drop x.1 bytes.now)) }
-    ensures only { (piece : Piece) (rest : List ℕ) → HasPieceSpelling piece → drop at bytes.now ≡ piece_spelling piece ++ rest
+    ensures found { IfOk result (λ x. HasPieceSpelling x.0
+        × (drop at bytes.now ≡ piece_spelling x.0 ++ drop x.1 bytes.now)) }
+    ensures only { (piece : Piece) (rest : List ℕ)
+        → HasPieceSpelling piece → drop at bytes.now ≡ piece_spelling piece ++ rest
         → Gives {Y = Piece × List ℕ} bytes.now (λ x. (x.0, drop x.1 bytes.now)) result (Ok (piece, rest)) }
+    ensures refused { Refuses HasPieceSpelling piece_spelling bytes.now at result }
     ensures exact { Gives bytes.now (λ x. (x.0, drop x.1 bytes.now)) result (piece_at (drop at bytes.now)) }
     ensures within { IfOk result (λ x. x.1 ≤ length bytes.now) }
 {

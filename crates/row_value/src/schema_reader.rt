@@ -2,6 +2,7 @@ ghost use Rattle.std.specs.Prelude.{◌≡◌, ◌≤◌, ◌++◌, Bool, false,
 ghost use Rattle.row_value.specs.SchemaSpelling.{HasSchemaSpelling, schema_spelling};
 ghost use Rattle.row_value.specs.Reading.{Gives, whole, items_at};
 ghost use Rattle.row_value.specs.SchemaReading.{scheme_at, low_chunk_at, high_chunk_at, chunk_at, low_count_at, count_at, kind_in, column_in, after_column, columns_at, schema_at};
+ghost use Rattle.row_value.specs.FirstBad.{Refuses};
 
 use crate::field_reader::{skip_exactly, take_byte, take_text};
 use crate::schema::{Column, ColumnKind, Columns, Schema, Scheme};
@@ -101,7 +102,8 @@ fn take_kind_in(
     only_objects: bool,
 ) -> Result<(ColumnKind, usize), SpellFault>
     requires { at ≤ length bytes.now }
-    ensures value { Gives bytes.now (λ x. (x.0, drop x.1 bytes.now)) result (kind_in only_objects (drop at bytes.now)) }
+    ensures value { Gives bytes.now (λ x. (x.0, drop x.1 bytes.now))
+        result (kind_in only_objects (drop at bytes.now)) }
     ensures within { IfOk result (λ x. x.1 ≤ length bytes.now) }
 {
     let (code, behind) = take_byte(bytes, at)?;
@@ -123,7 +125,8 @@ fn take_column_in(
     only_objects: bool,
 ) -> Result<(Column, usize), SpellFault>
     requires { at ≤ length bytes.now }
-    ensures value { Gives bytes.now (λ x. (x.0, drop x.1 bytes.now)) result (column_in only_objects (drop at bytes.now)) }
+    ensures value { Gives bytes.now (λ x. (x.0, drop x.1 bytes.now))
+        result (column_in only_objects (drop at bytes.now)) }
     ensures within { IfOk result (λ x. x.1 ≤ length bytes.now) }
 {
     let (name, behind) = take_text(alloc, bytes, at)?;
@@ -147,7 +150,8 @@ fn take_column_items(
     count: u8,
 ) -> Result<(Columns, usize), SpellFault>
     requires { at ≤ length bytes.now }
-    ensures value { Gives bytes.now (λ x. (x.0, drop x.1 bytes.now)) result (items_at after_column column_in false count (drop at bytes.now)) }
+    ensures value { Gives bytes.now (λ x. (x.0, drop x.1 bytes.now))
+        result (items_at after_column column_in false count (drop at bytes.now)) }
     ensures within { IfOk result (λ x. x.1 ≤ length bytes.now) }
 {
     let mut columns = Sequence::new(alloc);
@@ -196,11 +200,14 @@ fn read_schema(alloc: Global, bytes: &[u8], at: usize) -> Result<(Schema, usize)
 pub fn take_schema(alloc: Global, bytes: &[u8], at: usize) -> Result<(Schema, usize), SpellFault>
     requires { at ≤ length bytes.now }
     // What is found stands there as it is spelled.
-    ensures found { IfOk result (λ x. HasSchemaSpelling x.0 × (drop at bytes.now ≡ schema_spelling x.0 ++ drop x.1 bytes.now)) }
+    ensures found { IfOk result (λ x. HasSchemaSpelling x.0
+        × (drop at bytes.now ≡ schema_spelling x.0 ++ drop x.1 bytes.now)) }
     // What is spelled there is found, whatever follows it.
-    ensures only { (schema : Schema) (rest : List ℕ) → HasSchemaSpelling schema → drop at bytes.now ≡ schema_spelling schema ++ rest
+    ensures only { (schema : Schema) (rest : List ℕ)
+        → HasSchemaSpelling schema → drop at bytes.now ≡ schema_spelling schema ++ rest
         → Gives {Y = Schema × List ℕ} bytes.now (λ x. (x.0, drop x.1 bytes.now)) result (Ok (schema, rest)) }
-    // Which place a fault tells.
+    // A fault tells the first place at which no spelling goes on.
+    ensures refused { Refuses HasSchemaSpelling schema_spelling bytes.now at result }
     ensures exact { Gives bytes.now (λ x. (x.0, drop x.1 bytes.now)) result (schema_at (drop at bytes.now)) }
     ensures within { IfOk result (λ x. x.1 ≤ length bytes.now) }
 {
@@ -223,6 +230,7 @@ pub fn schema_of(alloc: Global, bytes: &[u8]) -> Result<Schema, SpellFault>
     ensures found { IfOk result (λ x. HasSchemaSpelling x × (bytes.now ≡ schema_spelling x)) }
     ensures only { (schema : Schema) → HasSchemaSpelling schema → bytes.now ≡ schema_spelling schema
         → Gives {Y = Schema} bytes.now (λ x. x) result (Ok schema) }
+    ensures refused { Refuses HasSchemaSpelling schema_spelling bytes.now 0 result }
     ensures exact { Gives bytes.now (λ x. x) result (whole (schema_at bytes.now)) }
 {
     whole_schema(alloc, bytes)

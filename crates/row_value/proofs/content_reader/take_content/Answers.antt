@@ -1,9 +1,10 @@
-use Rattle.std.proofs.Common.{ℕ, arith}
+use Rattle.std.proofs.Common.{drop, arith}
 use Rattle.stab_base.specs.Codec.{IsBytes}
 use Rattle.row_value.specs.Spelling.{HasContentSpelling, content_spelling}
 use Rattle.row_value.specs.Reading.{content_at}
 use Rattle.row_value.proofs.ContentReads.{content_reads}
-use Rattle.row_value.proofs.Answering.{found, only}
+use Rattle.row_value.proofs.ValueStops.{content_stop}
+use Rattle.row_value.proofs.Answering.{found, only, refused}
 use Rattle.row_value.proofs.content_reader.take_content.Goals as goal
 
 pub returns-clause-found : goal.returns-clause-found
@@ -13,3 +14,8 @@ returns-clause-found c =
 
 pub returns-clause-only : goal.returns-clause-only
 returns-clause-only c = only HasContentSpelling content_spelling content_at content_reads c.args.bytes.now c.args.at c.read_content.result c.read_content.ensures.value
+
+pub returns-clause-refused : goal.returns-clause-refused
+returns-clause-refused c =
+    let fits : IsBytes c.args.bytes.now = λ i. omega (arith, c.type_inv.bytes i) in
+    refused HasContentSpelling content_spelling content_at content_stop c.args.bytes.now c.args.at (λ x. (x.0, drop x.1 c.args.bytes.now)) c.read_content.result fits c.read_content.ensures.value

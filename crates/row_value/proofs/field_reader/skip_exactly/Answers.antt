@@ -1,4 +1,4 @@
-use Rattle.std.proofs.Common.{◌≡◌, ◌≤◌, ◌<◌, ◌+◌, drop, length, arith, rules}
+use Rattle.std.proofs.Common.{drop, arith}
 use Rattle.row_value.specs.Reading.{exactly_at}
 use Rattle.row_value.proofs.Items.{exactly_on, exactly_short, exactly_other, exactly_done}
 use Rattle.row_value.proofs.field_reader.skip_exactly.Goals as goal

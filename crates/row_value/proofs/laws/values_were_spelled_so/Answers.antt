@@ -1,8 +1,4 @@
-use Rattle.row_value.specs.SchemaSpelling.{HasSchemaSpelling, schema_spelling}
-use Rattle.row_value.specs.SchemaReading.{schema_at}
 use Rattle.row_value.proofs.SchemaReads.{schema_reads}
-use Rattle.row_value.specs.Spelling.{HasCellSpelling, cell_spelling, HasNameSpelling, name_spelling, HasPieceSpelling, piece_spelling, HasContentSpelling, content_spelling}
-use Rattle.row_value.specs.Reading.{cell_at, name_at, piece_at, content_at}
 use Rattle.row_value.proofs.CellReads.{cell_reads}
 use Rattle.row_value.proofs.PieceReads.{name_reads, piece_reads}
 use Rattle.row_value.proofs.ContentReads.{content_reads}

@@ -1,9 +1,10 @@
-use Rattle.std.proofs.Common.{ℕ, arith}
+use Rattle.std.proofs.Common.{drop, arith}
 use Rattle.stab_base.specs.Codec.{IsBytes}
 use Rattle.row_value.specs.Spelling.{HasNameSpelling, name_spelling}
 use Rattle.row_value.specs.Reading.{name_at}
 use Rattle.row_value.proofs.PieceReads.{name_reads}
-use Rattle.row_value.proofs.Answering.{found, only}
+use Rattle.row_value.proofs.ValueStops.{name_stop}
+use Rattle.row_value.proofs.Answering.{found, only, refused}
 use Rattle.row_value.proofs.piece_reader.take_name.Goals as goal
 
 pub returns-clause-found : goal.returns-clause-found
@@ -13,3 +14,8 @@ returns-clause-found c =
 
 pub returns-clause-only : goal.returns-clause-only
 returns-clause-only c = only HasNameSpelling name_spelling name_at name_reads c.args.bytes.now c.args.at c.read_name.result c.read_name.ensures.value
+
+pub returns-clause-refused : goal.returns-clause-refused
+returns-clause-refused c =
+    let fits : IsBytes c.args.bytes.now = λ i. omega (arith, c.type_inv.bytes i) in
+    refused HasNameSpelling name_spelling name_at name_stop c.args.bytes.now c.args.at (λ x. (x.0, drop x.1 c.args.bytes.now)) c.read_name.result fits c.read_name.ensures.value

@@ -1,4 +1,4 @@
-use Rattle.std.proofs.Common.{◌≡◌, ◌++◌, ◌∷◌, [], drop}
+use Rattle.std.proofs.Common.{drop}
 use Rattle.std.proofs.lemmas.Result.{err_from_is_err_and}
 use Rattle.row_value.specs.Reading.{after_piece, piece_in, items_at}
 use Rattle.row_value.proofs.Items.{goes_on, ends, is_done}

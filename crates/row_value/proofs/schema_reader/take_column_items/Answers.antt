@@ -1,4 +1,4 @@
-use Rattle.std.proofs.Common.{◌≡◌, ◌++◌, ◌∷◌, [], false, drop}
+use Rattle.std.proofs.Common.{false, drop}
 use Rattle.std.proofs.lemmas.Result.{err_from_is_err_and}
 use Rattle.row_value.specs.Reading.{items_at}
 use Rattle.row_value.specs.SchemaReading.{after_column, column_in}

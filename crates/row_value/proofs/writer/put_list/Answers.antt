@@ -1,8 +1,7 @@
-use Rattle.std.proofs.Common.{◌≡◌, ◌≤◌, ◌<◌, ◌+◌, ◌++◌, length, take}
+use Rattle.std.proofs.Common.{◌++◌, length, take}
 use Rattle.std.specs.Int.{w32, to_be_bytes}
 use Rattle.std.specs.List.{flat_map}
 use Rattle.std.specs.Vec.{vec_capacity, vec_len}
-use Rattle.row_value.specs.Spelling.{list_spelling}
 use Rattle.row_value.proofs.Spread.{on_err, front_stays, item_fits}
 use Rattle.row_value.proofs.writer.put_list.Goals as goal
 

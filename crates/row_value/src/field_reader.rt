@@ -8,8 +8,9 @@ use crate::utf8::skip_utf8;
 use stab_base::{Bytes, take_u8, take_u32, take_u64};
 use std::alloc::Global;
 
+/// The byte at a place, and the place behind it.
 #[tactic(auto, unfolding(crate::specs::Reading::byte_at, stab_base::specs::Codec::byte_at))]
-pub(crate) fn take_byte(bytes: &[u8], at: usize) -> Result<(u8, usize), SpellFault>
+pub fn take_byte(bytes: &[u8], at: usize) -> Result<(u8, usize), SpellFault>
     requires { at ≤ length bytes.now }
     ensures value { Gives bytes.now (λ x. (x.0, drop x.1 bytes.now)) result (byte_at (drop at bytes.now)) }
     ensures within { IfOk result (λ x. (x.1 ≡ at + 1) × (x.1 ≤ length bytes.now)) }
@@ -18,7 +19,8 @@ pub(crate) fn take_byte(bytes: &[u8], at: usize) -> Result<(u8, usize), SpellFau
     take_u8(bytes, at).map_err(|_| SpellFault::Bad { at: bytes.len() })
 }
 
-pub(crate) fn take_four(bytes: &[u8], at: usize) -> Result<(u32, usize), SpellFault>
+/// The number of four bytes at a place, and the place behind it.
+pub fn take_four(bytes: &[u8], at: usize) -> Result<(u32, usize), SpellFault>
     requires { at ≤ length bytes.now }
     ensures value { Gives bytes.now (λ x. (x.0, drop x.1 bytes.now)) result (number_at w32 (drop at bytes.now)) }
     ensures within { IfOk result (λ x. (x.1 ≡ at + 4) × (x.1 ≤ length bytes.now)) }
@@ -30,7 +32,8 @@ pub(crate) fn take_four(bytes: &[u8], at: usize) -> Result<(u32, usize), SpellFa
     }
 }
 
-pub(crate) fn take_eight(bytes: &[u8], at: usize) -> Result<(u64, usize), SpellFault>
+/// The number of eight bytes at a place, and the place behind it.
+pub fn take_eight(bytes: &[u8], at: usize) -> Result<(u64, usize), SpellFault>
     requires { at ≤ length bytes.now }
     ensures value { Gives bytes.now (λ x. (x.0, drop x.1 bytes.now)) result (number_at w64 (drop at bytes.now)) }
     ensures within { IfOk result (λ x. (x.1 ≡ at + 8) × (x.1 ≤ length bytes.now)) }
@@ -42,8 +45,9 @@ pub(crate) fn take_eight(bytes: &[u8], at: usize) -> Result<(u64, usize), SpellF
     }
 }
 
+/// The flag at a place, and the place behind it.
 #[tactic(auto, unfolding(crate::specs::Reading::flag_at))]
-pub(crate) fn take_flag(bytes: &[u8], at: usize) -> Result<(bool, usize), SpellFault>
+pub fn take_flag(bytes: &[u8], at: usize) -> Result<(bool, usize), SpellFault>
     requires { at ≤ length bytes.now }
     ensures value { Gives bytes.now (λ x. (x.0, drop x.1 bytes.now)) result (flag_at (drop at bytes.now)) }
     ensures within { IfOk result (λ x. x.1 ≤ length bytes.now) }

@@ -1,0 +1,7 @@
+mod Twelves
+mod Fields
+mod Again
+mod Steps
+mod Maps
+mod Rooms
+mod Held

@@ -1,0 +1,5 @@
+pub mod Fault
+pub mod Entry
+pub mod Payload
+pub mod Memory
+pub mod Standing

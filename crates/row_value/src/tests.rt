@@ -13,7 +13,7 @@ const TABLE: [u8; 26] = [
 ];
 
 #[test]
-fn cells_are_put_as_they_stand_in_the_table(rt: HostRuntime) -> Result<(), Fail> {
+fn cells_are_put_behind_their_tags(rt: HostRuntime) -> Result<(), Fail> {
     let mut out = Vec::new(rt.alloc());
     put_cell(&mut out, &Cell::Int(-1))?;
     put_cell(&mut out, &Cell::Bool(false))?;

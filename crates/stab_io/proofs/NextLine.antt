@@ -85,6 +85,12 @@ is_input_too_long limits used bytes text rest some e d line input =
       | inr t ↦ rw (t0, e, d, t, t2) refl
     ]
 
+-- where the input has no room for a byte more, any byte is past its limit
+pub no_room : (limits : Limits) (bytes : List ℕ) → 0 < length bytes → 0 < limits.line → next_of limits limits.input bytes ≡ InputTooLong
+no_room limits bytes some line =
+    is_input_too_long limits limits.input bytes _ _ some refl refl (λ long. omega arith)
+    (omega (arith, some, length-drop (place bytes + 1) bytes))
+
 pub is_end : (limits : Limits) (used : ℕ) → next_of limits used [] ≡ End
 unfolding next_of
 is_end limits used = refl

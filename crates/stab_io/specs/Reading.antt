@@ -1,4 +1,4 @@
-use Rattle.std.specs.Prelude.{◌≡◌, ℕ, ◌+◌, ◌≤◌, List, ◌++◌, length, Option, None, Some, Result, Ok, Err, IfSome, IsSomeAnd, IsOkAnd}
+use Rattle.std.specs.Prelude.{◌≡◌, ℕ, ◌+◌, ◌≤◌, ◌<◌, Bool, List, [], ◌++◌, length, Option, None, Some, Result, Ok, Err, IfSome, IsSomeAnd, IsOkAnd, MatchBool}
 use Rattle.std.specs.Global.{Vec}
 use Rattle.std.specs.Io.KnownBytes.{prepend_known}
 use Rattle.stab_io.specs.declared.limits.Limits.{Limits}
@@ -72,3 +72,16 @@ IsDue limits (Line text rest) answer = IsOkAnd answer (λ found. IsSomeAnd found
 IsDue limits End answer = answer ≡ Ok None
 IsDue limits LineTooLong answer = answer ≡ Err (LineLimit (limits.line + 1))
 IsDue limits InputTooLong answer = answer ≡ Err (InputLimit (limits.input + 1))
+
+-- whether another byte comes: one is next, and the input has room for it; or none is left
+abbrev pub HasMore : Reading → List ℕ → Bool → Type 0
+HasMore reader bytes more = MatchBool more ((0 < length bytes) × (reader.used < reader.limits.input)) (bytes ≡ [])
+
+-- the next byte is the first past the input's limit
+abbrev pub IsFirstPast : Reading → List ℕ → Type 0
+IsFirstPast reader bytes = (0 < length bytes) × (reader.used ≡ reader.limits.input)
+
+-- the answer that is due where it is asked whether another byte comes
+abbrev pub IsMoreDue : Reading → List ℕ → Result Bool LineFault → Type 0
+IsMoreDue reader bytes (Ok more) = HasMore reader bytes more
+IsMoreDue reader bytes (Err fault) = (fault ≡ InputLimit (reader.limits.input + 1)) × IsFirstPast reader bytes

@@ -1,10 +1,10 @@
 ghost use Rattle.std.specs.Prelude.{◌≡◌, ◌≢◌, ◌≤◌, ◌<◌, ◌+◌, ◌++◌, ◌==◌, ◌⊎◌, ◌^◌, [], ◌∷◌, ℕ, Option, List, Some, None, Ok, length, vec_len, take, drop, IfOk, IfSome, IfNone, IfErr, MatchResult, OnOk, OnErr, OnSome, MatchOption, MatchBool};
 ghost use Rattle.std.specs.List.{position};
-ghost use Rattle.std.specs.Io.KnownBytes.{Keeps, IsAtEnd};
+ghost use Rattle.std.specs.Io.KnownBytes.{Keeps, Consumes, IsAtEnd};
 ghost use Rattle.stab_io.specs.declared.line_fault.LineFault.TheVariants as faults;
 ghost use Rattle.stab_io.specs.Faults.{Rose};
 ghost use Rattle.stab_io.specs.Lines.{HasNoNewline, Line, End, LineTooLong, InputTooLong, next_of};
-ghost use Rattle.stab_io.specs.Reading.{ahead, IsNextLine, ComesNext, CountsAll, IsUnfinished, stop_of, stop_after, CutsLine, Refuses, IsDue};
+ghost use Rattle.stab_io.specs.Reading.{ahead, IsNextLine, ComesNext, CountsAll, IsUnfinished, stop_of, stop_after, CutsLine, Refuses, IsDue, HasMore, IsFirstPast, IsMoreDue};
 
 use crate::limits::{INPUT_LIMIT, LINE_LIMIT, Limits};
 use crate::line_fault::LineFault;
@@ -112,6 +112,47 @@ impl LineReader {
         }
     }
 
+    /// Whether another byte comes; no byte is lost, and none is answered. `InputLimit` where that byte is the first past
+    /// the input's limit. It takes no memory. After a refusal every call answers it again, and so does `next_line`.
+    pub fn goes_on<S: Source>(&mut self, source: &mut S) -> Result<bool, LineFault>
+        // Another byte, and the end.
+        ensures more { IfOk result (λ more. IfSome (ahead self.old (S.left source.old)) (λ bytes. HasMore self.old bytes more)) }
+        ensures more_left { IfOk result (λ more. MatchBool more (0 < length self.new.held)
+            ((self.new.held ≡ []) × IsAtEnd (S.left source.new))) }
+
+        // The limit: the input has more bytes than it may have.
+        ensures input_limit { (len : ℕ) → self.old.stopped ≡ None → result ≡ Err (LineFault.InputLimit len)
+            → (len ≡ self.old.limits.input + 1) × (self.old.used ≡ self.old.limits.input)
+            × IfSome (ahead self.old (S.left source.old)) (λ bytes. IsFirstPast self.old bytes) }
+
+        // Where the source doesn't fail, the answer is the one that is due.
+        ensures due { self.old.stopped ≡ None → result ≢ Err LineFault.Read
+            → IfSome (ahead self.old (S.left source.old)) (λ bytes. IsMoreDue self.old bytes result) }
+
+        // The source failed, and nothing is held. There is no other refusal.
+        ensures read { self.old.stopped ≡ None → result ≡ Err LineFault.Read
+            → Rose (S.faults source.old) (S.faults source.new) × (self.new.held ≡ []) }
+        ensures unfailed { result ≢ Err LineFault.Read → S.faults source.new ≡ S.faults source.old }
+        ensures refusals { self.old.stopped ≡ None → IfErr result (λ fault.
+            (fault ≡ LineFault.Read) ⊎ (fault ≡ LineFault.InputLimit (self.old.limits.input + 1))) }
+
+        // What stays.
+        ensures again { IfSome self.old.stopped (λ fault.
+            (result ≡ Err fault) × (self.new ≡ self.old) × (source.new ≡ source.old)) }
+        ensures stopped { self.old.stopped ≡ None → self.new.stopped ≡ stop_after result }
+        ensures keeps { Keeps (ahead self.old (S.left source.old)) (ahead self.new (S.left source.new)) }
+        ensures same { (self.new.used ≡ self.old.used) × (self.new.limits ≡ self.old.limits) }
+    {
+        if let Some(stopped) = self.stopped() {
+            return Err(stopped);
+        }
+        if !self.holds_some() && !self.start(source)? {
+            return Ok(false);
+        }
+        self.check_room()?;
+        Ok(true)
+    }
+
     pub(crate) fn with_limits(alloc: Global, limits: Limits) -> LineReader
         requires line { limits.line < 2 ^ 62 }
         requires input { limits.input < 2 ^ 62 }
@@ -132,6 +173,42 @@ impl LineReader {
         ensures within { self.now.used ≤ self.now.limits.input }
     {
         self.stopped
+    }
+
+    fn holds_some(&self) -> bool
+        ensures { MatchBool result (0 < length self.now.held) (self.now.held ≡ []) }
+    {
+        !self.line.is_empty() || !self.piece.as_slice().is_empty()
+    }
+
+    // Takes the next piece of the source where nothing is held. False at the end.
+    fn start<S: Source>(&mut self, source: &mut S) -> Result<bool, LineFault>
+        requires { self.old.held ≡ [] }
+        ensures keeps { Keeps (ahead self.old (S.left source.old)) (ahead self.new (S.left source.new)) }
+        ensures more { IfOk result (λ more. MatchBool more (0 < length self.new.held)
+            ((self.new.held ≡ []) × IsAtEnd (S.left source.new))) }
+        ensures ok { OnOk result (self.new ≡ record self.old { held = self.new.held }) }
+        ensures err { IfErr result (λ fault. (fault ≡ LineFault.Read) × (self.new ≡ record self.old { stopped = Some LineFault.Read })) }
+        ensures cause { MatchResult result (λ _. S.faults source.new ≡ S.faults source.old)
+            (λ _. Rose (S.faults source.old) (S.faults source.new)) }
+    {
+        take_piece(&mut self.piece, &mut self.stopped, source)
+    }
+
+    // Refuses a byte more where the input has no room for it.
+    fn check_room(&mut self) -> Result<(), LineFault>
+        ensures ok { OnOk result ((self.old.used < self.old.limits.input) × (self.new ≡ self.old)) }
+        ensures err { IfErr result (λ fault. (fault ≡ LineFault.InputLimit (self.old.limits.input + 1)) × (self.old.used ≡ self.old.limits.input)
+            × (self.new ≡ record self.old { stopped = Some fault })) }
+    {
+        if self.used < self.limits.input {
+            return Ok(());
+        }
+        let fault = LineFault::InputLimit {
+            len: self.limits.input + 1,
+        };
+        self.stopped = Some(fault);
+        Err(fault)
     }
 
     // The next line, where its newline is held. None where no newline is held and no limit is passed.
@@ -177,14 +254,9 @@ impl LineReader {
             (λ fault. ((fault ≡ LineFault.Memory) × (S.faults source.new ≡ S.faults source.old))
             ⊎ ((fault ≡ LineFault.Read) × Rose (S.faults source.old) (S.faults source.new))) }
     {
-        self.line.extend_from_slice(self.piece.as_slice())?;
-        match self.piece.take_from(source) {
-            Ok(n) => Ok(n > 0),
-            Err(Failed) => {
-                self.stopped = Some(LineFault::Read);
-                Err(LineFault::Read)
-            }
-        }
+        let piece = self.piece.as_slice();
+        self.line.extend_from_slice(piece)?;
+        take_piece(&mut self.piece, &mut self.stopped, source)
     }
 
     // What is held as the last line. None where nothing is held.
@@ -203,6 +275,28 @@ impl LineReader {
         }
         self.used += self.line.len() as u64;
         Ok(Some(mem::replace(&mut self.line, Vec::new(self.alloc))))
+    }
+}
+
+// Takes the next piece of a source. False at the end. A failure is the refusal to answer from here on.
+fn take_piece<S: Source>(
+    piece: &mut Piece,
+    stopped: &mut Option<LineFault>,
+    source: &mut S,
+) -> Result<bool, LineFault>
+    ensures taken { IfOk result (λ more. Consumes (S.left source.old) (S.left source.new) piece.new
+        × MatchBool more (0 < length piece.new) ((piece.new ≡ []) × IsAtEnd (S.left source.new)) × (stopped.new ≡ stopped.old)) }
+    ensures err { IfErr result (λ fault. Keeps (S.left source.old) (S.left source.new) × (piece.new ≡ [])
+        × (fault ≡ LineFault.Read) × (stopped.new ≡ Some LineFault.Read)) }
+    ensures counted { MatchResult result (λ _. S.faults source.new ≡ S.faults source.old)
+        (λ _. Rose (S.faults source.old) (S.faults source.new)) }
+{
+    match piece.take_from(source) {
+        Ok(n) => Ok(n > 0),
+        Err(Failed) => {
+            *stopped = Some(LineFault::Read);
+            Err(LineFault::Read)
+        }
     }
 }
 

@@ -103,6 +103,55 @@ fn a_failing_take_ends_the_lines(rt: HostRuntime) -> Result<(), Fail> {
     Ok(())
 }
 
+// Before each line a plus where a byte comes, then the line with a bar, and at last a letter for what is no byte.
+fn asked_first<S: Source>(
+    alloc: Global,
+    reader: &mut LineReader,
+    source: &mut S,
+) -> Result<Vec<u8>, Fail> {
+    let mut text = Vec::new(alloc);
+    for _ in 0..9 {
+        let ended = match reader.goes_on(source) {
+            Ok(true) => {
+                text.push(b'+')?;
+                if let Some(line) = reader.next_line(source)? {
+                    text.extend_from_slice(&line)?;
+                    text.push(b'|')?;
+                }
+                continue;
+            }
+            Ok(false) => b'.',
+            Err(LineFault::Read) => b'R',
+            Err(LineFault::InputLimit { .. }) => b'I',
+            Err(_) => b'X',
+        };
+        text.push(ended)?;
+        break;
+    }
+    Ok(text)
+}
+
+#[test]
+fn a_byte_more_is_told(rt: HostRuntime) -> Result<(), Fail> {
+    let table: [(&[u8], &[u64], &[u8]); 7] = [
+        (b"", &[], b"."),
+        (b"a", &[], b"+a|."),
+        (b"\n\nb", &[], b"+|+|+b|."),
+        (b"abc\nabc\n", &[], b"+abc|+abc|."),
+        (b"abc\nabc\na", &[], b"+abc|+abc|I"),
+        (b"abc\n", &[0], b"R"),
+        (b"abc\n", &[1], b"+abc|R"),
+    ];
+    for (bytes, failing, want) in table {
+        let mut source = mem_source(rt.alloc(), bytes, failing)?;
+        let limits = Limits { line: 3, input: 8 };
+        let mut reader = LineReader::with_limits(rt.alloc(), limits);
+        let found = asked_first(rt.alloc(), &mut reader, &mut source)?;
+        assert_eq!(rt; found.as_slice(), want);
+    }
+    Ok(())
+}
+
 #[test]
 fn a_failing_put_adds_half(rt: HostRuntime) -> Result<(), Fail> {
     let table: [(u64, &[u8]); 4] = [

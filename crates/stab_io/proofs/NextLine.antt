@@ -1,13 +1,13 @@
 -- What comes next in a list of bytes.
-use Rattle.std.proofs.Common.{◌≡◌, ℕ, ◌+◌, ◌-◌, ◌<◌, ◌≤◌, Bool, true, false, cond, eqb, ltb, ◌⊎◌, inl, inr, List, [], ◌++◌, length, take, drop, Option, None, Some, refl, sym, ap, ◌∙◌, arith, append_assoc, length-append, length-drop, length-take}
+use Rattle.std.proofs.Common.{◌≡◌, ℕ, ◌+◌, ◌-◌, ◌<◌, ◌≤◌, true, false, eqb, ltb, inl, inr, List, [], ◌++◌, length, take, drop, None, Some, refl, sym, ap, ◌∙◌, arith, append_assoc, length-append, length-drop, length-take}
 use Rattle.std.specs.List.{position_or_len, position}
-use Rattle.std.proofs.lemmas.Bool.{cases_Bool, cases_lt, le-ltb, lt-ltb, lt-leb, le-leb, ltb-true, ltb-false, ne_eqb, eq-eqb, and_left, and_right, and_from}
+use Rattle.std.proofs.lemmas.Bool.{cases_Bool, cases_lt, le-ltb, lt-ltb, lt-leb, le-leb, ltb-true, ltb-false, ne_eqb, eq-eqb}
 use Rattle.std.proofs.lemmas.List.Sums.{prefix_len-le-length}
 use Rattle.std.proofs.lemmas.List.Folds.{prefix_len-append}
 use Rattle.std.proofs.lemmas.List.{take-append-le, drop-append-le, drop_all}
 use Rattle.std.proofs.Math.Seq.{take-append-add, drop-append-add, take-length}
 use Rattle.stab_io.specs.declared.limits.Limits.{Limits}
-use Rattle.stab_io.specs.Lines.{first_line, behind_line, HasNoNewline, Next, Line, End, LineTooLong, InputTooLong, next_of}
+use Rattle.stab_io.specs.Lines.{first_line, behind_line, HasNoNewline, Line, End, LineTooLong, InputTooLong, next_of}
 
 abbrev place : List ℕ → ℕ
 place bytes = position_or_len (λ b. eqb b 10) bytes

@@ -1,5 +1,5 @@
 -- A limit that the bytes held pass is a refusal of the reader.
-use Rattle.std.proofs.Common.{◌≡◌, ℕ, ◌+◌, ◌<◌, ◌≤◌, ◌==◌, ◌⊎◌, inl, inr, List, ◌++◌, length, take, drop, Option, None, refl, sym, subst, ap, ◌∙◌, arith, append_assoc, length-append, length-drop, length-take}
+use Rattle.std.proofs.Common.{◌≡◌, ℕ, ◌+◌, ◌<◌, ◌≤◌, ◌==◌, ◌⊎◌, inl, inr, List, ◌++◌, length, take, drop, Option, None, refl, sym, subst, ap, arith, length-append, length-drop, length-take}
 use Rattle.std.specs.List.{position_or_len, position}
 use Rattle.stab_io.specs.declared.limits.Limits.{Limits}
 use Rattle.stab_io.specs.declared.line_fault.LineFault.{LineFault}

@@ -1,7 +1,6 @@
-use Rattle.std.proofs.Common.{◌≡◌, ℕ, ◌+◌, ◌==◌, List, ◌++◌, length, drop, take, Some, None, sym, ap, ◌∙◌, subst, arith, refl, length-append}
+use Rattle.std.proofs.Common.{◌≡◌, ℕ, ◌+◌, ◌==◌, List, ◌++◌, length, take, Some, sym, ap, ◌∙◌, subst, arith, refl, length-append}
 use Rattle.std.specs.Global.{Vec}
 use Rattle.std.specs.List.{position}
-use Rattle.stab_io.specs.Lines.{HasNoNewline}
 use Rattle.stab_io.specs.Reading.{Reading, Refuses, CutsLine, IsUnfinished}
 use Rattle.stab_io.proofs.NextLine.{some_found}
 use Rattle.stab_io.proofs.Refusals.{refuses_held, refuses_found, cuts_found, plain_held}

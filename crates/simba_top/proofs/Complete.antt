@@ -1,5 +1,5 @@
 -- Where the whole input spells a script, no line is bad and no limit is passed.
-use Rattle.std.proofs.Common.{◌≡◌, ◌⊎◌, ℕ, ◌≤◌, List, [], ◌∷◌, length, refl, sym, ap, subst, ◌∙◌, inl, inr, length-append, arith}
+use Rattle.std.proofs.Common.{◌≡◌, ◌⊎◌, ℕ, ◌<◌, ◌≤◌, List, [], ◌∷◌, length, refl, sym, ap, subst, ◌∙◌, inl, inr, length-append, arith}
 use Rattle.table_model.specs.declared.event.Event.{Event}
 use Rattle.table_model.specs.declared.event.Event.TheVariants as events
 use Rattle.run_laws.specs.Turns.{transcript}
@@ -40,11 +40,9 @@ no_limit total rest (line ∷ lines) next behind is which =
     let e : Line line behind.0 ≡ next = sym behind.1 ∙ is in
     elim which [ inl l ↦ (let f = e ∙ l in cc f) | inr i ↦ (let f = e ∙ i in cc f) ]
 
-one_more : (total : ℕ) (rest : List ℕ) (lines : List (List ℕ)) (line left : List ℕ) → Behind total rest lines [] → next_in total rest ≡ Line line left
-    → 1 ≤ length lines
-one_more total rest [] line left behind next =
-    absurd (not_end total line left (subst (λ (b : List ℕ). next_in total b ≡ Line line left) (sym behind) next))
-one_more total rest (same ∷ lines) line left behind next = omega arith
+one_more : (total : ℕ) (rest : List ℕ) (lines : List (List ℕ)) → Behind total rest lines [] → 0 < length rest → 1 ≤ length lines
+one_more total rest [] behind some = absurd (let e = ap (λ (b : List ℕ). length b) behind in omega (arith, e, some))
+one_more total rest (line ∷ lines) behind some = omega arith
 
 -- a client can't have made its last write: a script has too few lines
 not_spent : (input : List ℕ) (script : List Event) (count : ℕ) (names : Names) (rest : List ℕ) (event : Event)
@@ -63,7 +61,7 @@ not_limit grammar input script whole count limit at all =
       | inl p ↦ no_limit (length input) at.rest more.lines InputTooLong more.behind p.1 (inr refl)
       | inr (inl p) ↦
           (let longer = ap (λ (ls : List (List ℕ)). length ls) more.more ∙ length-append at.front.lines more.lines in
-          omega (arith, p.1, longer, at.front.counted, all.2.counted, all.2.few, one_more (length input) at.rest more.lines p.2.0 p.2.1 more.behind p.2.2))
-      | inr (inr (inl p)) ↦ no_limit (length input) at.rest more.lines LineTooLong more.behind p.1 (inl refl)
+          omega (arith, p.1, longer, at.front.counted, all.2.counted, all.2.few, one_more (length input) at.rest more.lines more.behind p.2))
+      | inr (inr (inl p)) ↦ no_limit (length input) at.rest more.lines LineTooLong more.behind p.2 (inl refl)
       | inr (inr (inr p)) ↦ not_spent input script count at.names at.rest p.2.2 at.front p.2.5
     ]

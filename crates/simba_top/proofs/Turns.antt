@@ -1,8 +1,9 @@
 -- A run goes on by one line.
-use Rattle.std.proofs.Common.{◌≡◌, ℕ, ◌+◌, ◌-◌, ◌<◌, Bool, true, false, cond, List, [], ◌∷◌, ◌++◌, length, map, Option, Some, None, refl, sym, ap, subst, ◌∙◌, append-nil, arith}
+use Rattle.std.proofs.Common.{◌≡◌, ◌⊎◌, inl, inr, ℕ, ◌+◌, ◌-◌, ◌<◌, ◌≤◌, lit≤, Bool, true, false, cond, List, [], ◌∷◌, ◌++◌, length, map, Option, Some, None, refl, sym, ap, subst, ◌∙◌, append-nil, arith}
 use Rattle.std.specs.Prelude.{IfSome, IfNone, IsSomeAnd, MatchOption}
 use Rattle.std.specs.Global.{Vec}
 use Rattle.std.specs.List.{flat_map}
+use Rattle.std.specs.Io.KnownBytes.{Keeps}
 use Rattle.std.proofs.lemmas.Bool.{eqb-true}
 use Rattle.std.proofs.lemmas.Grind.{flat_map-append}
 use Rattle.std.proofs.lemmas.List.Folds.{flat_map-map}
@@ -11,7 +12,10 @@ use Rattle.table_model.specs.declared.line.TextLine.{TextLine}
 use Rattle.run_laws.specs.Turns.{lines_for, transcript}
 use Rattle.run_laws.proofs.Runs.{transcript-push}
 use Rattle.stab_io.specs.Lines.{Line, End, LineTooLong, InputTooLong, next_of}
-use Rattle.stab_io.specs.Reading.{Reading, ahead, IsNextLine, ComesNext, CountsAll}
+use Rattle.stab_io.specs.Reading.{Reading, ahead, IsNextLine, ComesNext, CountsAll, IsFirstPast}
+use Rattle.stab_io.specs.declared.line_fault.LineFault.{LineFault}
+use Rattle.stab_io.specs.declared.line_fault.LineFault.TheVariants.{Read, InputLimit}
+use Rattle.stab_io.proofs.NextLine.{no_room}
 use Rattle.stab_io.specs.declared.limits.Limits.{Limits}
 use Rattle.stab_io.specs.declared.limits.TheConstants.{LINE_LIMIT, INPUT_LIMIT}
 use Rattle.script_text.specs.Names.{Names, no_names, with_event}
@@ -21,8 +25,9 @@ use Rattle.simba_top.specs.declared.turn.Run.{Run}
 use Rattle.simba_top.specs.declared.run.TheConstants.{MOST_LINES}
 use Rattle.simba_top.specs.World.{IsAt}
 use Rattle.simba_top.specs.Script.{next_in, IsFront, IsWhole}
-use Rattle.simba_top.specs.Ends.{text_of_run}
-use Rattle.simba_top.specs.Stands.{IsReady, Stands, HasLine, GoesOn}
+use Rattle.simba_top.specs.Stops.{of_line}
+use Rattle.simba_top.specs.Ends.{text_of_run, IsFull, IsLimitAt, IsCutOff}
+use Rattle.simba_top.specs.Stands.{IsReady, Stands, HasLine, GoesOn, IsCause}
 use Rattle.simba_top.specs.declared.world.World.{World}
 use Rattle.simba_top.proofs.Fronts.{front_start, front_passed, front_event}
 
@@ -33,6 +38,10 @@ some_and (Some x) P h = (x, refl, h)
 if_some : {X : Type 0} (o : Option X) (x : X) (P : X → Type 0) → o ≡ Some x → IfSome o P → P x
 if_some None x P is h = absurd cc
 if_some (Some y) x P is h = let e : y ≡ x = cc in subst P e h
+
+known : {X : Type 0} {P : X → Type 0} (o : Option X) → ((x : X) → o ≡ Some x → P x) → IfSome o P
+known None f = tt
+known (Some x) f = f x refl
 
 -- the run at its start
 pub stands_new : (input : List ℕ) (run : Run) → run.reader ≡ record { used = 0; held = []; stopped = None; limits = record { line = LINE_LIMIT; input = INPUT_LIMIT } }
@@ -98,6 +107,55 @@ module _ (input : List ℕ) (script : List Event) (run : Run) (left : Option (Li
         → MatchOption found (IsWhole input script) (λ line. HasLine input script line.items (record run { reader = after }) left')
     next_found None line end counts = at_end end
     next_found (Some v) line end counts = has_line v.items line counts
+
+  -- behind the most lines: the source failed before another byte, or that byte is the first past the input's limit
+  module _ (after : Reading) (left' : Option (List ℕ)) (keeps : Keeps (ahead run.reader left) (ahead after left')) where
+    kept : (bytes : List ℕ) → left' ≡ Some bytes → after.held ≡ [] → stands.rest ≡ bytes
+    kept bytes is none =
+        let told : after.held ++ bytes ≡ stands.rest = rw (stands.here, is) at keeps in
+        sym told ∙ ap (λ (held : List ℕ). held ++ bytes) none
+
+    pub cut_off : after.held ≡ [] → run.reader.used ≤ run.reader.limits.input → IfSome left' (λ bytes. IsCutOff input script bytes)
+    cut_off none within = known left' (λ bytes is.
+        let same = kept bytes is none in
+        let limit = ap (λ (limits : Limits). limits.input) ready.limits in
+        let len = ap (λ (bytes : List ℕ). length bytes) same in
+        record {
+          count = run.count;
+          names = run.names;
+          held = [];
+          front = subst (λ (bytes : List ℕ). IsFront input script run.count run.names bytes) same stands.front;
+          unfinished = refl;
+          short = lit≤ tt;
+          fits = omega (arith, stands.used, within, limit, len);
+          few = inr refl;
+        })
+
+  pub first_past : IfSome (ahead run.reader left) (λ bytes. IsFirstPast run.reader bytes) → IsLimitAt input script run.count 1
+  first_past past =
+      let next = if_some (ahead run.reader left) stands.rest (λ bytes. IsFirstPast run.reader bytes) stands.here past in
+      let limit = ap (λ (limits : Limits). limits.input) ready.limits in
+      let full : IsFull input stands.rest = omega (arith, stands.used, next.1, limit) in
+      record {
+        names = run.names;
+        rest = stands.rest;
+        front = stands.front;
+        passes =
+            inl (
+              refl,
+              ap (λ n. next_of (record { line = LINE_LIMIT; input = INPUT_LIMIT }) n stands.rest) full
+                  ∙ no_room (record { line = LINE_LIMIT; input = INPUT_LIMIT }) stands.rest next.0 (lit≤ tt),
+              inr full,
+            );
+      }
+
+  -- the stop that a refusal of another byte gives
+  pub no_more : (after : Reading) (left' : Option (List ℕ)) (fault : LineFault) → Keeps (ahead run.reader left) (ahead after left')
+      → run.reader.used ≤ run.reader.limits.input → (fault ≡ Read → after.held ≡ [])
+      → ((len : ℕ) → fault ≡ InputLimit len → IfSome (ahead run.reader left) (λ bytes. IsFirstPast run.reader bytes))
+      → (fault ≡ Read) ⊎ (fault ≡ InputLimit (run.reader.limits.input + 1)) → IsCause (of_line fault) input script run.count left'
+  no_more after left' fault keeps within read past (inl is) = rw is (cut_off after left' keeps (read is) within)
+  no_more after left' fault keeps within read past (inr is) = rw is (first_past (past _ is))
 
 -- the lines of one event more, and their text
 step_texts : (script : List Event) (event : Event) (told : List TextLine) (texts : List (List ℕ))

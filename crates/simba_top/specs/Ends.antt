@@ -1,9 +1,10 @@
 -- How a run over an input ends, and what it has written then.
-use Rattle.std.specs.Prelude.{◌≡◌, ◌⊎◌, ℕ, ◌+◌, ◌<◌, List, [], ◌∷◌, ◌++◌, length, codes, Option}
+use Rattle.std.specs.Prelude.{◌≡◌, ◌⊎◌, ℕ, ◌+◌, ◌-◌, ◌<◌, ◌≤◌, List, [], ◌∷◌, ◌++◌, length, codes, Option}
 use Rattle.std.specs.Io.KnownBytes.{Appends}
 use Rattle.table_model.specs.declared.event.Event.{Event}
 use Rattle.run_laws.specs.Turns.{turns, transcript}
 use Rattle.run_laws.specs.Sound.{IsSound}
+use Rattle.stab_io.specs.declared.limits.TheConstants.{LINE_LIMIT, INPUT_LIMIT}
 use Rattle.stab_io.specs.Lines.{Line, LineTooLong, InputTooLong, HasNoNewline}
 use Rattle.script_text.specs.declared.fault.BadLine.{BadLine}
 use Rattle.script_text.specs.Names.{Names}
@@ -32,13 +33,17 @@ pub record IsBadAt (input : List ℕ) (script : List Event) (count : ℕ) (fault
   pub few : count < MOST_LINES
   pub bad : IsFault names line fault
 
+-- before these bytes of the input stand as many as an input may have
+abbrev pub IsFull : List ℕ → List ℕ → Type 0
+IsFull input rest = length input - length rest ≡ INPUT_LIMIT
+
 -- the line behind these is the first that passes a limit: 1 the input's bytes, 2 its lines, 3 the bytes of a line,
--- 11 the numbers of a client's writes
+-- 11 the numbers of a client's writes. The first byte past a limit decides, so behind the most lines any byte does
 abbrev pub Passes : List ℕ → List Event → ℕ → Names → List ℕ → ℕ → Type 0
 Passes input script count names rest limit =
-    ((limit ≡ 1) × (next_in (length input) rest ≡ InputTooLong))
-    ⊎ (((limit ≡ 2) × (count ≡ MOST_LINES) × ((line : List ℕ) × (left : List ℕ) × (next_in (length input) rest ≡ Line line left)))
-    ⊎ (((limit ≡ 3) × (next_in (length input) rest ≡ LineTooLong))
+    ((limit ≡ 1) × (next_in (length input) rest ≡ InputTooLong) × ((count < MOST_LINES) ⊎ IsFull input rest))
+    ⊎ (((limit ≡ 2) × (count ≡ MOST_LINES) × (0 < length rest) × (length input - length rest < INPUT_LIMIT))
+    ⊎ (((limit ≡ 3) × (count < MOST_LINES) × (next_in (length input) rest ≡ LineTooLong))
     ⊎ ((limit ≡ 11) × (count < MOST_LINES) × ((line : List ℕ) × (left : List ℕ) × (event : Event)
     × (next_in (length input) rest ≡ Line line left) × Spells names line event × IsSpent (transcript script) event))))
 
@@ -48,13 +53,17 @@ pub record IsLimitAt (input : List ℕ) (script : List Event) (count limit : ℕ
   pub front : IsFront input script count names rest
   pub passes : Passes input script count names rest limit
 
--- the source gave these lines whole and then failed, with these bytes left
+-- the source gave these lines whole and then failed, with these bytes left. The bytes of a line that it didn't give
+-- whole pass no limit, and behind the most lines there are none
 pub record IsCutOff (input : List ℕ) (script : List Event) (left : List ℕ) : Type 0 where
   pub count : ℕ
   pub names : Names
   pub held : List ℕ
   pub front : IsFront input script count names (held ++ left)
   pub unfinished : HasNoNewline held
+  pub short : length held ≤ LINE_LIMIT
+  pub fits : length input - length left ≤ INPUT_LIMIT
+  pub few : (count < MOST_LINES) ⊎ (held ≡ [])
 
 -- where the sink tells its bytes: the transcript of this script was added to them
 abbrev pub Tells : List Event → Option (List ℕ) → Option (List ℕ) → Type 0

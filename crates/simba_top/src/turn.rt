@@ -160,11 +160,30 @@ impl Run {
         ensures reads { MatchResult result (λ _. S.faults source.new ≡ S.faults source.old)
             (λ stop. (stop ≢ Stop.Put) × CountsReads stop (S.faults source.old) (S.faults source.new)) }
     {
-        let line = self.reader.next_line(source)?;
-        if line.is_some() && self.count >= MOST_LINES {
+        if self.count >= MOST_LINES {
+            self.end_due(source)?;
+            return Ok(None);
+        }
+        Ok(self.reader.next_line(source)?)
+    }
+
+    // Behind the most lines, where a byte more passes a limit: the end of the source, or the stop.
+    fn end_due<S: Source>(&mut self, source: &mut S) -> Result<(), Stop>
+        requires ready { IsReady self.old }
+        requires most { self.old.count ≡ MOST_LINES }
+        ensures ready { OnOk result (IsReady self.new) }
+        ensures same { self.new ≡ record self.old { reader = self.new.reader } }
+        ensures end { OnOk result (IsAtEnd (S.left source.new)) }
+        ensures found { (input : List ℕ) (script : List AnEvent) → Stands input script self.old (S.left source.old) → MatchResult result
+            (λ _. IsWhole input script)
+            (λ stop. IsCause stop input script self.old.count (S.left source.new)) }
+        ensures reads { MatchResult result (λ _. S.faults source.new ≡ S.faults source.old)
+            (λ stop. (stop ≢ Stop.Put) × CountsReads stop (S.faults source.old) (S.faults source.new)) }
+    {
+        if self.reader.goes_on(source)? {
             return Err(Stop::Limit(2));
         }
-        Ok(line)
+        Ok(())
     }
 
     // Carries out a line: the text of each line that it writes.

@@ -142,6 +142,7 @@ impl LineReader {
         ensures stopped { self.old.stopped ≡ None → self.new.stopped ≡ stop_after result }
         ensures keeps { Keeps (ahead self.old (S.left source.old)) (ahead self.new (S.left source.new)) }
         ensures same { (self.new.used ≡ self.old.used) × (self.new.limits ≡ self.old.limits) }
+        ensures within { self.new.used ≤ self.new.limits.input }
     {
         if let Some(stopped) = self.stopped() {
             return Err(stopped);

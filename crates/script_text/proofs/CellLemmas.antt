@@ -14,8 +14,8 @@ behind [] i d h = absurd (omega (arith, h))
 behind (w ∷ ws) zero d h = refl
 behind (w ∷ ws) (suc i) d h = behind ws i d (omega (arith, h))
 
-next : (words : List (Bor (List ℕ))) (i : ℕ) (d : Bor (List ℕ)) → i < length words → drop i (texts words) ≡ (get_or words i d).now ∷ drop (i + 1) (texts words)
-next words i d h = rw add-one (behind words i d h)
+pub dropped_next : (words : List (Bor (List ℕ))) (i : ℕ) (d : Bor (List ℕ)) → i < length words → drop i (texts words) ≡ (get_or words i d).now ∷ drop (i + 1) (texts words)
+dropped_next words i d h = rw add-one (behind words i d h)
 
 fronts : (front more : List Cell) (r : Result (List Cell) BadLine) → with_front front (with_front more r) ≡ with_front (front ++ more) r
 fronts front more (Ok cells) = ap Ok (sym (append_assoc front more cells))
@@ -33,7 +33,7 @@ none : (at : ℕ) (w : List ℕ) (ws : List (List ℕ)) (fault : BadLine) → ce
 unfolding cells_in
 none at w ws fault e = rw e refl
 
-dropped : (words : List (Bor (List ℕ))) (i : ℕ) → length words ≤ i → drop i (texts words) ≡ []
+pub dropped : (words : List (Bor (List ℕ))) (i : ℕ) → length words ≤ i → drop i (texts words) ≡ []
 dropped [] zero h = refl
 dropped [] (suc i) h = refl
 dropped (w ∷ ws) zero h = absurd (omega (arith, h))
@@ -42,13 +42,14 @@ dropped (w ∷ ws) (suc i) h = dropped ws i (omega (arith, h))
 pub cells_in-turn : (at i : ℕ) (words : List (Bor (List ℕ))) (d : Bor (List ℕ)) (cell : Cell) (front : List Cell) → i < length words → cell_in (at + i) (get_or words i d).now ≡ Ok cell → cells_in at (texts words) ≡ with_front front (cells_in (at + i) (drop i (texts words))) → cells_in at (texts words) ≡ with_front (front ++ cell ∷ []) (cells_in (at + (i + 1)) (drop (i + 1) (texts words)))
 cells_in-turn at i words d cell front h e before =
     before
-    ∙ ap (with_front front) (ap (cells_in (at + i)) (next words i d h) ∙ one (at + i) (get_or words i d).now (drop (i + 1) (texts words)) cell e)
+    ∙ ap (with_front front) (ap (cells_in (at + i)) (dropped_next words i d h) ∙ one (at + i) (get_or words i d).now (drop (i + 1) (texts words)) cell e)
     ∙ fronts front (cell ∷ []) (cells_in (at + i + 1) (drop (i + 1) (texts words)))
     ∙ ap (λ (n : ℕ). with_front (front ++ cell ∷ []) (cells_in n (drop (i + 1) (texts words)))) (add_assoc at i 1)
 
 pub cells_in-fault : (at i : ℕ) (words : List (Bor (List ℕ))) (d : Bor (List ℕ)) (fault : ScriptFault) (front : List Cell) → i < length words → Reads {X = Cell} (Err fault) (cell_in (at + i) (get_or words i d).now) → cells_in at (texts words) ≡ with_front front (cells_in (at + i) (drop i (texts words))) → Reads {X = List Cell} (Err fault) (cells_in at (texts words))
 cells_in-fault at i words d (faults.BadLine f) front h e before =
-    before ∙ ap (with_front front) (ap (cells_in (at + i)) (next words i d h) ∙ none (at + i) (get_or words i d).now (drop (i + 1) (texts words)) f e)
+    before ∙ ap (with_front front) (ap (cells_in (at + i)) (dropped_next words i d h) ∙ none (at + i) (get_or words i d).now (drop (i + 1) (texts words)) f e)
+cells_in-fault at i words d (faults.Limit limit) front h e before = absurd e
 cells_in-fault at i words d faults.Memory front h e before = tt
 
 pub cells_in-end : (at i : ℕ) (words : List (Bor (List ℕ))) (front : List Cell) → length words ≤ i → cells_in at (texts words) ≡ with_front front (cells_in (at + i) (drop i (texts words))) → cells_in at (texts words) ≡ Ok front

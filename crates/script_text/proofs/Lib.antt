@@ -10,4 +10,5 @@ pub mod Rights
 pub mod Sets
 pub mod Spelled
 pub mod Steps
+pub mod TableLemmas
 pub mod WordLemmas

@@ -1,7 +1,7 @@
 -- A line as bytes: passed over, read, or at fault.
-use Rattle.std.proofs.Common.{◌≡◌, ◌≢◌, ℕ, Bool, true, false, not, eqb, List, [], ◌∷◌, length, Option, Some, None, Result, Ok, Err, sym, ◌∙◌, inl, inr, arith, true≢false}
+use Rattle.std.proofs.Common.{◌≡◌, ◌≢◌, ℕ, Bool, true, false, not, eqb, List, [], ◌∷◌, length, Option, Some, None, Result, Ok, Err, sym, subst, ◌∙◌, inl, inr, arith, true≢false}
 use Rattle.std.specs.Prelude.{filter}
-use Rattle.std.specs.Option.{MatchOption, IfSome, IfNone}
+use Rattle.std.specs.Option.{IfSome, IfNone}
 use Rattle.std.specs.Result.{IfOk, IfErr}
 use Rattle.std.specs.List.{slice_split, onto_first}
 use Rattle.std.specs.Str.{IsUtf8, IsAscii, is_utf8}
@@ -16,10 +16,10 @@ use Rattle.script_text.specs.declared.fault.ScriptFault.TheVariants as faults
 use Rattle.script_text.specs.Faults.{bad}
 use Rattle.script_text.specs.Names.{Names}
 use Rattle.script_text.specs.Words.{words_of, is_comment}
-use Rattle.script_text.specs.Reading.{line_in, Reads}
-use Rattle.script_text.specs.Grammar.{IsPassed, Spells, SpelledBy, IsFault, Blames}
+use Rattle.script_text.specs.Reading.{words_in, line_in, Tells}
+use Rattle.script_text.specs.Grammar.{IsPassed, Spells, IsFault, WordsLimit, PassesLimit, Blames}
 use Rattle.script_text.proofs.Steps.{ok_err}
-use Rattle.script_text.proofs.Readings.{words-ok, words-err}
+use Rattle.script_text.proofs.Readings.{WordsTold, words-ok, words-err, words-fault}
 
 abbrev is_space : ℕ → Bool
 is_space b = eqb b 32
@@ -43,32 +43,48 @@ blank (b ∷ line) e = elim (cases_Bool (is_space b)) [
   | inr other ↦ absurd (full b (slice_split is_space line) (rw other at e))
 ]
 
+-- what a line in its grammar says
+abbrev pub LineTold : Names → List ℕ → Result (Option Event) ℕ → Type 0
+LineTold names line (Ok None) = IsPassed line
+LineTold names line (Ok (Some event)) = Spells names line event
+LineTold names line (Err limit) = PassesLimit names line limit
+
+told_same : {X E : Type 0} {x y : X} → ◌≡◌ {A = Result X E} (Ok x) (Ok y) → x ≡ y
+told_same e = cc
+
+limit_word : (ws : List (List ℕ)) (limit : ℕ) → WordsLimit ws limit → ws ≢ []
+limit_word [] limit h e = absurd h
+limit_word (w ∷ ws) limit h e = cc
+
 module _ (names : Names) (line : List ℕ) where
-  passed : (found : Option Event) → ◌≡◌ {A = Result (Option Event) BadLine} (Ok None) (Ok found) → is_comment line ≡ true → MatchOption found (IsPassed line) (Spells names line)
-  passed None h comment = inl comment
-  passed (Some event) h comment = absurd cc
-
-  lifted : (found : Option Event) → is_comment line ≡ false → IsUtf8 line → MatchOption found (words_of line ≡ []) (SpelledBy names (words_of line)) → MatchOption found (IsPassed line) (Spells names line)
-  lifted None other text h = inr h
-  lifted (Some event) other text h = (other, text, h)
-
   not_passed : is_comment line ≡ false → (words_of line ≢ []) → IsPassed line → ⊥
   not_passed other some p = elim p [ inl comment ↦ true≢false (sym comment ∙ other) | inr none ↦ some none ]
 
-  pub line-ok : (found : Option Event) → line_in names line ≡ Ok found → MatchOption found (IsPassed line) (Spells names line)
+  no_fault : (told : Result (Option Event) ℕ) → IsUtf8 line → words_in names (words_of line) ≡ Ok told → (f : BadLine) → IsFault names line f → ⊥
+  no_fault told text h f p = elim p.1 [
+    | inl a ↦ a.0 text
+    | inr a ↦ ok_err told f (sym h ∙ words-fault names (words_of line) f a.1)
+  ]
+
+  lifted : (told : Result (Option Event) ℕ) → is_comment line ≡ false → IsUtf8 line → words_in names (words_of line) ≡ Ok told → WordsTold names (words_of line) told → LineTold names line told
+  lifted (Ok None) other text read h = inr h
+  lifted (Ok (Some event)) other text read h = (other, text, h)
+  lifted (Err limit) other text read h = (not_passed other (limit_word (words_of line) limit h), text, no_fault (Err limit) text read, h)
+
+  pub line-ok : (told : Result (Option Event) ℕ) → line_in names line ≡ Ok told → LineTold names line told
   unfolding line_in
-  line-ok found h = elim (cases_Bool (is_comment line)) [
-    | inl comment ↦ passed found (rw comment at h) comment
+  line-ok told h = elim (cases_Bool (is_comment line)) [
+    | inl comment ↦ subst (LineTold names line) (told_same (rw comment at h)) (inl comment)
     | inr other ↦ elim (cases_Bool (is_utf8 line)) [
-      | inl text ↦ lifted found other (IsUtf8-from_is_utf8 line text) (words-ok names (words_of line) found (rw (other, text) at h))
-      | inr bytes ↦ absurd (ok_err found (bad NotUtf8 0) (sym (rw (other, bytes) at h)))
+      | inl text ↦ (let read : words_in names (words_of line) ≡ Ok told = rw (other, text) at h in lifted told other (IsUtf8-from_is_utf8 line text) read (words-ok names (words_of line) told read))
+      | inr bytes ↦ absurd (ok_err told (bad NotUtf8 0) (sym (rw (other, bytes) at h)))
     ]
   ]
 
   pub line-err : (f : BadLine) → line_in names line ≡ Err f → IsFault names line f
   unfolding line_in
   line-err f h = elim (cases_Bool (is_comment line)) [
-    | inl comment ↦ absurd (ok_err None f (rw comment at h))
+    | inl comment ↦ absurd (ok_err (Ok None) f (rw comment at h))
     | inr other ↦ elim (cases_Bool (is_utf8 line)) [
       | inl text ↦
           let q = words-err names (words_of line) f (rw (other, text) at h) in
@@ -81,17 +97,18 @@ module _ (names : Names) (line : List ℕ) where
   ]
 
 module _ (names : Names) (line : List ℕ) where
-  pub read-passed : (r : Result (Option Event) ScriptFault) → Reads r (line_in names line) → IfOk r (λ found. IfNone found (IsPassed line))
-  read-passed (Ok None) h = line-ok names line None h
+  pub read-passed : (r : Result (Option Event) ScriptFault) → Tells r (line_in names line) → IfOk r (λ found. IfNone found (IsPassed line))
+  read-passed (Ok None) h = line-ok names line (Ok None) h
   read-passed (Ok (Some event)) h = tt
   read-passed (Err fault) h = tt
 
-  pub read-event : (r : Result (Option Event) ScriptFault) → Reads r (line_in names line) → IfOk r (λ found. IfSome found (Spells names line))
+  pub read-event : (r : Result (Option Event) ScriptFault) → Tells r (line_in names line) → IfOk r (λ found. IfSome found (Spells names line))
   read-event (Ok None) h = tt
-  read-event (Ok (Some event)) h = line-ok names line (Some event) h
+  read-event (Ok (Some event)) h = line-ok names line (Ok (Some event)) h
   read-event (Err fault) h = tt
 
-  pub read-fault : (r : Result (Option Event) ScriptFault) → Reads r (line_in names line) → IfErr r (Blames names line)
+  pub read-fault : (r : Result (Option Event) ScriptFault) → Tells r (line_in names line) → IfErr r (Blames names line)
   read-fault (Ok found) h = tt
   read-fault (Err (faults.BadLine fault)) h = line-err names line fault h
+  read-fault (Err (faults.Limit limit)) h = line-ok names line (Err limit) h
   read-fault (Err faults.Memory) h = tt

@@ -1,10 +1,9 @@
 -- What a word is that is right at its place.
-use Rattle.std.proofs.Common.{◌≡◌, ℕ, ◌<◌, ◌^◌, Bool, true, false, not, ◌&&◌, ◌||◌, eqb, ltb, cond, List, [], ◌∷◌, ◌++◌, length, get_or, codes, Option, Some, None, Result, Ok, Err, ℤ, refl, sym, ap, ◌∙◌, subst, inl, inr, arith, true≢false}
+use Rattle.std.proofs.Common.{◌≡◌, ℕ, ◌<◌, ◌^◌, Bool, true, false, not, ◌&&◌, ◌||◌, eqb, ltb, leb, cond, List, [], ◌∷◌, ◌++◌, length, get_or, codes, Option, Some, None, Result, Ok, Err, ℤ, refl, sym, ap, ◌∙◌, subst, inl, inr, arith, true≢false}
 use Rattle.std.specs.Int.Signed.{mag}
 use Rattle.std.specs.Fmt.{decimal, signed_decimal, digits}
 use Rattle.std.proofs.lemmas.List.Sums.{split_at_first, passes_at_first}
-use Rattle.std.specs.Result.{is_ok}
-use Rattle.std.specs.List.{list_any, list_all, slice_split, before_first, after_first, position_or_len}
+use Rattle.std.specs.List.{before_first, after_first, position_or_len}
 use Rattle.std.specs.Str.{bytes_eq}
 use Rattle.std.specs.Str.Parse.{digits_value}
 use Rattle.std.proofs.lemmas.Bool.{ltb-true, cases_Bool, eqb-true}
@@ -19,7 +18,7 @@ use Rattle.script_text.specs.declared.fault.Code.{Code}
 use Rattle.script_text.specs.declared.fault.Code.TheVariants.{NoNumber, NoName, NoRow, NoValue, NotDeclared, Twice, Unbuilt}
 use Rattle.script_text.specs.Names.{Names, has_store, has_table, has_name, has_client}
 use Rattle.script_text.specs.Words.{is_number, is_name}
-use Rattle.script_text.specs.Places.{◌>>=◌, small, node_at, built, known, fresh, opened, opened_at, client_at, table_at, new_store_at, new_table_at, new_client_at, gate_at, tables_at, is_comma, new_name_at, scheme_at, chunk_at, is_colon, parts_of, kind_of, named, column_of, number_column, column_at, row_at, found_row, found_value, int_of, is_long_value, value_at}
+use Rattle.script_text.specs.Places.{◌>>=◌, small, node_at, built, known, at_most, limited_at, passed, fresh, opened, opened_at, client_at, table_at, store_number, table_number, client_number, new_store_at, new_table_at, new_client_at, gate_at, new_name_at, scheme_at, chunk_at, is_colon, parts_of, kind_of, named, column_of, number_column, column_at, row_at, found_row, found_value, int_of, is_long_value, value_at}
 use Rattle.script_text.specs.Grammar.{IsChunk}
 use Rattle.script_text.proofs.WordLemmas.{own, both, long, IsNumber-parts}
 use Rattle.script_text.proofs.IntLemmas.{int_of-parts}
@@ -38,13 +37,13 @@ positive : (b : Bool) → not b ≡ false → b ≡ true
 positive true e = refl
 positive false e = absurd (true≢false e)
 
-some_same : {X : Type 0} (x y : X) → Some x ≡ Some y → x ≡ y
+pub some_same : {X : Type 0} (x y : X) → Some x ≡ Some y → x ≡ y
 some_same x y e = cc
 
-ok_same : {X : Type 0} (x y : X) → ◌≡◌ {A = Result X Code} (Ok x) (Ok y) → x ≡ y
+pub ok_same : {X : Type 0} (x y : X) → ◌≡◌ {A = Result X Code} (Ok x) (Ok y) → x ≡ y
 ok_same x y e = cc
 
-none_some : {X : Type 0} (x : X) → None ≡ Some x → ⊥
+pub none_some : {X : Type 0} (x : X) → None ≡ Some x → ⊥
 none_some x e = cc
 
 small-is : (digits : List ℕ) (n : ℕ) → small digits ≡ Some n → digits_value 10 digits ≡ n
@@ -84,60 +83,130 @@ known-ok has (Some m) n e =
     let q = built-ok m n p.1 in
     (ap Some q.0, q.1, subst (λ (k : ℕ). has k ≡ true) q.0 p.0)
 
-fresh-ok : (has : ℕ → Bool) (o : Option ℕ) (n : ℕ) → fresh has o ≡ Ok n → (o ≡ Some 1) × (n ≡ 1) × (has 1 ≡ false)
-fresh-ok has None n e = absurd (ok_err n Unbuilt (sym e))
+built_some-ok : (m n : ℕ) → (built m >>= λ k. Ok (Some k)) ≡ Ok (Some n) → (m ≡ 1) × (n ≡ 1)
+built_some-ok m n e =
+    let p = bind-ok (built m) (λ k. Ok (Some k)) (Some n) e in
+    let same : p.0 ≡ n = some_same _ _ (ok_same _ _ p.2) in
+    built-ok m n (p.1 ∙ ap Ok same)
+
+built_some-none : (m : ℕ) → (built m >>= λ k. Ok (Some k)) ≡ Ok None → ⊥
+built_some-none m e =
+    let p = bind-ok (built m) (λ k. Ok (Some k)) None e in
+    none_some p.0 (sym (ok_same _ _ p.2))
+
+fresh-ok : (has : ℕ → Bool) (o : Option ℕ) (n : ℕ) → fresh has o ≡ Ok (Some n) → (o ≡ Some 1) × (n ≡ 1) × (has 1 ≡ false)
+fresh-ok has None n e = absurd (none_some n (ok_same _ _ e))
 fresh-ok has (Some m) n e =
-    let p = unless-ok (has m) (built m) Twice n e in
-    let q = built-ok m n p.1 in
+    let p = unless-ok (has m) (built m >>= λ k. Ok (Some k)) Twice (Some n) e in
+    let q = built_some-ok m n p.1 in
     (ap Some q.0, q.1, subst (λ (k : ℕ). has k ≡ false) q.0 p.0)
 
-opened-ok : (has : ℕ → Bool) (o : Option ℕ) (n : ℕ) → opened has o ≡ Ok n → (o ≡ Some 1) × (n ≡ 1) × (has 1 ≡ true)
-opened-ok has None n e = absurd (ok_err n Unbuilt (sym e))
-opened-ok has (Some m) n e = known-ok has (Some m) n (unless-ok (ltb 64 m) (known has (Some m)) Unbuilt n e).1
+fresh-none : (has : ℕ → Bool) (o : Option ℕ) → fresh has o ≡ Ok None → o ≡ None
+fresh-none has None e = refl
+fresh-none has (Some m) e =
+    let p = unless-ok (has m) (built m >>= λ k. Ok (Some k)) Twice None e in absurd (built_some-none m p.1)
 
-module _ (judge : Option ℕ → Result ℕ Code) (P : Type 0) (right : (o : Option ℕ) (n : ℕ) → judge o ≡ Ok n → (o ≡ Some 1) × (n ≡ 1) × P) where
+opened-ok : (has : ℕ → Bool) (o : Option ℕ) (n : ℕ) → opened has o ≡ Ok (Some n) → (o ≡ Some 1) × (n ≡ 1) × (has 1 ≡ true)
+opened-ok has None n e = absurd (none_some n (ok_same _ _ e))
+opened-ok has (Some m) n e =
+    let p = if-ok (has m) (built m >>= λ k. Ok (Some k)) NotDeclared (Some n) e in
+    let q = built_some-ok m n p.1 in
+    (ap Some q.0, q.1, subst (λ (k : ℕ). has k ≡ true) q.0 p.0)
+
+opened-none : (has : ℕ → Bool) (o : Option ℕ) → opened has o ≡ Ok None → o ≡ None
+opened-none has None e = refl
+opened-none has (Some m) e =
+    let p = if-ok (has m) (built m >>= λ k. Ok (Some k)) NotDeclared None e in absurd (built_some-none m p.1)
+
+module _ (P : Type 0) (judge : Option ℕ → Result ℕ Code) (right : (o : Option ℕ) (n : ℕ) → judge o ≡ Ok n → (o ≡ Some 1) × (n ≡ 1) × P) where
   one : (letter : ℕ) (word : List ℕ) (n : ℕ) → (node_at letter word >>= judge) ≡ Ok n → (word ≡ letter ∷ 49 ∷ []) × (n ≡ 1) × P
   one letter word n e =
       let p = bind-ok (node_at letter word) judge n e in
       let q = right p.0 n p.2 in
       (node-one letter word (p.1 ∙ ap Ok q.0), q.1, q.2)
 
+at_most-one : (most : ℕ) (o : Option ℕ) (n : ℕ) → at_most most o ≡ Some n → o ≡ Some n
+at_most-one most None n e = e
+at_most-one most (Some m) n e = elim (cases_Bool (leb m most)) [
+  | inl within ↦ rw within at e
+  | inr above ↦ absurd (none_some n (rw above at e))
+]
+
+limited-one : (letter most : ℕ) (word : List ℕ) → limited_at letter most word ≡ Ok (Some 1) → word ≡ letter ∷ 49 ∷ []
+unfolding limited_at
+limited-one letter most word e =
+    let p = bind-ok (node_at letter word) (λ number. Ok (at_most most number)) (Some 1) e in
+    node-one letter word (p.1 ∙ ap Ok (at_most-one most p.0 1 (ok_same _ _ p.2)))
+
+module _ (P : Type 0) (judge : Option ℕ → Result (Option ℕ) Code) (letter most : ℕ) (word : List ℕ) where
+  numbered : ((o : Option ℕ) (n : ℕ) → judge o ≡ Ok (Some n) → (o ≡ Some 1) × (n ≡ 1) × P) → (n : ℕ) → (limited_at letter most word >>= judge) ≡ Ok (Some n) → (word ≡ letter ∷ 49 ∷ []) × (n ≡ 1) × P
+  numbered right n e =
+      let p = bind-ok (limited_at letter most word) judge (Some n) e in
+      let q = right p.0 n p.2 in
+      (limited-one letter most word (p.1 ∙ ap Ok q.0), q.1, q.2)
+
+  within : (limit : ℕ) → ((o : Option ℕ) (n : ℕ) → judge o ≡ Ok (Some n) → (o ≡ Some 1) × (n ≡ 1) × P) → (n : ℕ) → (limited_at letter most word >>= judge) ≡ Ok (Some n) → passed limit (limited_at letter most word) ≡ None
+  within limit right n e =
+      let p = bind-ok (limited_at letter most word) judge (Some n) e in
+      ap (passed limit) (p.1 ∙ ap Ok (right p.0 n p.2).0)
+
+  above : (limit : ℕ) → ((o : Option ℕ) → judge o ≡ Ok None → o ≡ None) → (limited_at letter most word >>= judge) ≡ Ok None → passed limit (limited_at letter most word) ≡ Some limit
+  above limit none e =
+      let p = bind-ok (limited_at letter most word) judge None e in
+      ap (passed limit) (p.1 ∙ ap Ok (none p.0 p.2))
+
 pub client_at-ok : (names : Names) (word : List ℕ) (n : ℕ) → client_at names word ≡ Ok n → (word ≡ codes "C1") × (n ≡ 1) × (has_client names 1 ≡ true)
 unfolding client_at
-client_at-ok names word n e = one (known (has_client names)) _ (known-ok (has_client names)) 67 word n e
+client_at-ok names word n e = one _ (known (has_client names)) (known-ok (has_client names)) 67 word n e
 
 pub table_at-ok : (names : Names) (word : List ℕ) (n : ℕ) → table_at names word ≡ Ok n → (word ≡ codes "T1") × (n ≡ 1) × (has_table names 1 ≡ true)
 unfolding table_at
-table_at-ok names word n e = one (known (has_table names)) _ (known-ok (has_table names)) 84 word n e
+table_at-ok names word n e = one _ (known (has_table names)) (known-ok (has_table names)) 84 word n e
 
-pub new_store_at-ok : (names : Names) (word : List ℕ) (n : ℕ) → new_store_at names word ≡ Ok n → (word ≡ codes "S1") × (n ≡ 1) × (has_store names 1 ≡ false)
-unfolding new_store_at
-new_store_at-ok names word n e = one (fresh (has_store names)) _ (fresh-ok (has_store names)) 83 word n e
+module _ (names : Names) (word : List ℕ) where
+  pub new_store_at-ok : (n : ℕ) → new_store_at names word ≡ Ok (Some n) → (word ≡ codes "S1") × (n ≡ 1) × (has_store names 1 ≡ false)
+  unfolding new_store_at
+  new_store_at-ok n e = numbered _ (fresh (has_store names)) 83 16 word (fresh-ok (has_store names)) n e
 
-pub new_table_at-ok : (names : Names) (word : List ℕ) (n : ℕ) → new_table_at names word ≡ Ok n → (word ≡ codes "T1") × (n ≡ 1) × (has_table names 1 ≡ false)
-unfolding new_table_at
-new_table_at-ok names word n e = one (fresh (has_table names)) _ (fresh-ok (has_table names)) 84 word n e
+  pub new_store_at-limit : new_store_at names word ≡ Ok None → passed 7 (store_number word) ≡ Some 7
+  unfolding new_store_at
+  new_store_at-limit e = above (Unit {0}) (fresh (has_store names)) 83 16 word 7 (fresh-none (has_store names)) e
 
-pub new_client_at-ok : (names : Names) (word : List ℕ) (n : ℕ) → new_client_at names word ≡ Ok n → (word ≡ codes "C1") × (n ≡ 1) × (has_client names 1 ≡ false)
-unfolding new_client_at
-new_client_at-ok names word n e = one (fresh (has_client names)) _ (fresh-ok (has_client names)) 67 word n e
+  pub new_table_at-ok : (n : ℕ) → new_table_at names word ≡ Ok (Some n) → (word ≡ codes "T1") × (n ≡ 1) × (has_table names 1 ≡ false)
+  unfolding new_table_at
+  new_table_at-ok n e = numbered _ (fresh (has_table names)) 84 64 word (fresh-ok (has_table names)) n e
 
-opened_at-ok : (names : Names) (word : List ℕ) (n : ℕ) → opened_at names word ≡ Ok n → (word ≡ codes "T1") × (n ≡ 1) × (has_table names 1 ≡ true)
-unfolding opened_at
-opened_at-ok names word n e = one (opened (has_table names)) _ (opened-ok (has_table names)) 84 word n e
+  pub new_table_at-limit : new_table_at names word ≡ Ok None → passed 4 (table_number word) ≡ Some 4
+  unfolding new_table_at
+  new_table_at-limit e = above (Unit {0}) (fresh (has_table names)) 84 64 word 4 (fresh-none (has_table names)) e
+
+  pub new_client_at-ok : (n : ℕ) → new_client_at names word ≡ Ok (Some n) → (word ≡ codes "C1") × (n ≡ 1) × (has_client names 1 ≡ false)
+  unfolding new_client_at
+  new_client_at-ok n e = numbered _ (fresh (has_client names)) 67 64 word (fresh-ok (has_client names)) n e
+
+  pub new_client_at-within : (n : ℕ) → new_client_at names word ≡ Ok (Some n) → passed 5 (client_number word) ≡ None
+  unfolding new_client_at
+  new_client_at-within n e = within _ (fresh (has_client names)) 67 64 word 5 (fresh-ok (has_client names)) n e
+
+  pub new_client_at-limit : new_client_at names word ≡ Ok None → passed 5 (client_number word) ≡ Some 5
+  unfolding new_client_at
+  new_client_at-limit e = above (Unit {0}) (fresh (has_client names)) 67 64 word 5 (fresh-none (has_client names)) e
+
+  pub opened_at-ok : (n : ℕ) → opened_at names word ≡ Ok (Some n) → (word ≡ codes "T1") × (n ≡ 1) × (has_table names 1 ≡ true)
+  unfolding opened_at
+  opened_at-ok n e = numbered _ (opened (has_table names)) 84 64 word (opened-ok (has_table names)) n e
+
+  pub opened_at-within : (n : ℕ) → opened_at names word ≡ Ok (Some n) → passed 4 (table_number word) ≡ None
+  unfolding opened_at
+  opened_at-within n e = within _ (opened (has_table names)) 84 64 word 4 (opened-ok (has_table names)) n e
+
+  pub opened_at-limit : opened_at names word ≡ Ok None → passed 4 (table_number word) ≡ Some 4
+  unfolding opened_at
+  opened_at-limit e = above (Unit {0}) (opened (has_table names)) 84 64 word 4 (opened-none (has_table names)) e
 
 two_errors : {X : Type 0} (b : Bool) (x : X) (c d : Code) → cond b (Err c) (Err d) ≡ Ok x → ⊥
 two_errors true x c d e = ok_err x c (sym e)
 two_errors false x c d e = ok_err x d (sym e)
-
-pub tables_at-ok : (names : Names) (word : List ℕ) (n : ℕ) → tables_at names word ≡ Ok n → (word ≡ codes "T1") × (n ≡ 1) × (has_table names 1 ≡ true)
-unfolding tables_at
-tables_at-ok names word n e =
-    let p = unless-ok (bytes_eq word (codes "-")) _ Unbuilt n e in
-    elim (cases_Bool (list_any is_comma word)) [
-      | inl comma ↦ absurd (two_errors (list_all (λ part. is_ok (node_at 84 part)) (slice_split is_comma word)) n Unbuilt NoName (rw comma at p.1))
-      | inr alone ↦ opened_at-ok names word n (rw alone at p.1)
-    ]
 
 pub gate_at-ok : (word : List ℕ) (u : Unit {0}) → gate_at word ≡ Ok u → word ≡ codes "-"
 unfolding gate_at

@@ -16,7 +16,7 @@ use Rattle.row_value.specs.declared.schema.ColumnKind.TheVariants as kinds
 use Rattle.row_value.specs.declared.schema.Scheme.TheVariants as schemes
 use Rattle.script_text.specs.Names.{Names, has_store, has_table, has_name, has_client}
 use Rattle.script_text.specs.Words.{is_number, is_name, is_name_byte, is_lower}
-use Rattle.script_text.specs.Places.{small, node_at, opened_at, client_at, table_at, new_store_at, new_table_at, new_client_at, gate_at, tables_at, new_name_at, scheme_at, chunk_at, is_colon, parts_of, kind_of, named, column_of, number_column, column_at, row_at, found_row, found_value, is_long_value, int_of, value_at}
+use Rattle.script_text.specs.Places.{small, node_at, limited_at, store_number, table_number, client_number, parts_at, opened_at, tables_in, client_at, table_at, new_store_at, new_table_at, new_client_at, gate_at, tables_at, new_name_at, scheme_at, chunk_at, is_colon, parts_of, kind_of, named, column_of, number_column, column_at, row_at, found_row, found_value, is_long_value, int_of, value_at}
 use Rattle.script_text.specs.Grammar.{IsChunk}
 use Rattle.script_text.proofs.WordLemmas.{both}
 use Rattle.script_text.proofs.PlaceLemmas.{text-64, text-1024, text-65536}
@@ -29,9 +29,20 @@ table-1 : node_at 84 (codes "T1") ≡ Ok (Some 1)
 unfolding node_at is_number small
 table-1 = refl
 
-store-1 : node_at 83 (codes "S1") ≡ Ok (Some 1)
-unfolding node_at is_number small
-store-1 = refl
+pub store-number : store_number (codes "S1") ≡ Ok (Some 1)
+unfolding limited_at node_at is_number small
+store-number = refl
+
+pub table-number : table_number (codes "T1") ≡ Ok (Some 1)
+unfolding limited_at node_at is_number small
+table-number = refl
+
+pub client-number : client_number (codes "C1") ≡ Ok (Some 1)
+unfolding limited_at node_at is_number small
+client-number = refl
+
+pub one_part : parts_at (codes "T1") ≡ codes "T1" ∷ []
+one_part = refl
 
 module _ (names : Names) where
   pub client_at-right : has_client names 1 ≡ true → client_at names (codes "C1") ≡ Ok 1
@@ -42,21 +53,25 @@ module _ (names : Names) where
   unfolding table_at
   table_at-right has = rw (table-1, has) refl
 
-  pub new_store_at-right : has_store names 1 ≡ false → new_store_at names (codes "S1") ≡ Ok 1
+  pub new_store_at-right : has_store names 1 ≡ false → new_store_at names (codes "S1") ≡ Ok (Some 1)
   unfolding new_store_at
-  new_store_at-right has = rw (store-1, has) refl
+  new_store_at-right has = rw (store-number, has) refl
 
-  pub new_table_at-right : has_table names 1 ≡ false → new_table_at names (codes "T1") ≡ Ok 1
+  pub new_table_at-right : has_table names 1 ≡ false → new_table_at names (codes "T1") ≡ Ok (Some 1)
   unfolding new_table_at
-  new_table_at-right has = rw (table-1, has) refl
+  new_table_at-right has = rw (table-number, has) refl
 
-  pub new_client_at-right : has_client names 1 ≡ false → new_client_at names (codes "C1") ≡ Ok 1
+  pub new_client_at-right : has_client names 1 ≡ false → new_client_at names (codes "C1") ≡ Ok (Some 1)
   unfolding new_client_at
-  new_client_at-right has = rw (client-1, has) refl
+  new_client_at-right has = rw (client-number, has) refl
 
-  pub tables_at-right : has_table names 1 ≡ true → tables_at names (codes "T1") ≡ Ok 1
-  unfolding tables_at opened_at
-  tables_at-right has = rw (table-1, has) refl
+  opened_at-right : has_table names 1 ≡ true → opened_at names (codes "T1") ≡ Ok (Some 1)
+  unfolding opened_at
+  opened_at-right has = rw (table-number, has) refl
+
+  pub tables_at-right : has_table names 1 ≡ true → tables_at names (codes "T1") ≡ Ok (Some (1 ∷ []))
+  unfolding tables_at tables_in
+  tables_at-right has = rw (opened_at-right has) refl
 
   pub new_name_at-right : (name : List ℕ) → is_name name ≡ true → has_name names name ≡ false → new_name_at names name ≡ Ok name
   unfolding new_name_at

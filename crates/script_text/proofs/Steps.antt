@@ -37,7 +37,26 @@ module _ {X Y : Type 0} (at : ℕ) (place : List ℕ → Result X Code) (next : 
     word_in-err [] e go = cc
     word_in-err (w ∷ rest) e go = stop w rest (place w) refl e (λ x is more. go w rest x refl is more)
 
+    refused : (w : List ℕ) (rest : List (List ℕ)) (r : Result X Code) → place w ≡ r → MatchOption (fault_of r) (FirstFault (at + 1) places more rest f) (λ code. f ≡ bad code at) → ((x : X) → place w ≡ Ok x → FirstFault (at + 1) places more rest f → next x rest ≡ Err f) → (placed at r >>= λ x. next x rest) ≡ Err f
+    refused w rest (Ok x) is h go = go x is h
+    refused w rest (Err code) is h go = cc
+
+    pub word_in-fault : (ws : List (List ℕ)) → FirstFault at ((λ w. fault_of (place w)) ∷ places) more ws f → ((w : List ℕ) (rest : List (List ℕ)) (x : X) → ws ≡ w ∷ rest → place w ≡ Ok x → FirstFault (at + 1) places more rest f → next x rest ≡ Err f) → word_in at place ws next ≡ Err f
+    unfolding word_in next_in
+    word_in-fault [] h go = cc
+    word_in-fault (w ∷ rest) h go = refused w rest (place w) refl h (λ x is more. go w rest x refl is more)
+
 module _ {Y : Type 0} (at : ℕ) (y : Y) where
+  pub end-fault : (ws : List (List ℕ)) (f : BadLine) → FirstFault at [] None ws f → (end_in at ws >>= λ done. Ok y) ≡ Err f
+  unfolding end_in
+  end-fault [] f h = absurd h
+  end-fault (w ∷ ws) f h = cc
+
+  pub columns_end-fault : (first : List ℕ) (ws : List (List ℕ)) (f : BadLine) → FirstFault at [] (Some (λ word. Some (second_column_at first word))) ws f → (columns_end_in at first ws >>= λ done. Ok y) ≡ Err f
+  unfolding columns_end_in
+  columns_end-fault first [] f h = absurd h
+  columns_end-fault first (w ∷ ws) f h = cc
+
   pub end-ok : (ws : List (List ℕ)) (z : Y) → (end_in at ws >>= λ done. Ok y) ≡ Ok z → (ws ≡ []) × (y ≡ z)
   unfolding end_in
   end-ok [] z e = (refl, cc)
@@ -79,3 +98,18 @@ module _ (f : BadLine) where
   unfolding some_cells_in next_in
   some_cells-err at [] e = cc
   some_cells-err at (w ∷ ws) e = cells-err at (w ∷ ws) e
+
+module _ (f : BadLine) where
+  first_refused : (at : ℕ) (w : List ℕ) (ws : List (List ℕ)) (r : Result ℤ Code) → MatchOption (fault_of r) (FirstFault (at + 1) [] (Some value_fault) ws f) (λ code. f ≡ bad code at) → (FirstFault (at + 1) [] (Some value_fault) ws f → cells_in (at + 1) ws ≡ Err f) → ((placed at r >>= λ number. Ok (cells.Int number)) >>= λ cell. (cells_in (at + 1) ws >>= λ more. Ok (cell ∷ more))) ≡ Err f
+  first_refused at w ws (Ok z) h go = rw (go h) refl
+  first_refused at w ws (Err code) h go = cc
+
+  pub cells-fault : (at : ℕ) (ws : List (List ℕ)) → FirstFault at [] (Some value_fault) ws f → cells_in at ws ≡ Err f
+  unfolding cells_in cell_in
+  cells-fault at [] h = absurd h
+  cells-fault at (w ∷ ws) h = first_refused at w ws (value_at w) h (cells-fault (at + 1) ws)
+
+  pub some_cells-fault : (at : ℕ) (ws : List (List ℕ)) → FirstFault at (value_fault ∷ []) (Some value_fault) ws f → some_cells_in at ws ≡ Err f
+  unfolding some_cells_in next_in
+  some_cells-fault at [] h = cc
+  some_cells-fault at (w ∷ ws) h = cells-fault at (w ∷ ws) h

@@ -23,7 +23,7 @@ use Rattle.script_text.specs.declared.verb.Verb.TheVariants as verbs
 use Rattle.script_text.specs.Faults.{bad}
 use Rattle.script_text.specs.Words.{words_of, is_name, is_comment}
 use Rattle.script_text.specs.Verbs.{name_of, is_unbuilt}
-use Rattle.script_text.specs.Places.{client_at, table_at, new_store_at, new_table_at, new_client_at, gate_at, tables_at, new_name_at, scheme_at, chunk_at, column_at, second_column_at, row_at, value_at}
+use Rattle.script_text.specs.Places.{client_at, table_at, new_store_at, new_table_at, new_client_at, gate_at, tables_at, new_name_at, scheme_at, chunk_at, column_at, second_column_at, row_at, value_at, passed, or_else, store_number, table_number, client_number, tables_passed, parts_at}
 pub use Rattle.script_text.specs.Names.{Names, no_names, with_event, has_store, has_table, has_name, has_client, has_no_store}
 
 -- a line that begins with `#`, and a line without a word
@@ -158,7 +158,31 @@ IsFault names line fault =
     (IsPassed line → ⊥)
     × (((IsUtf8 line → ⊥) × (fault ≡ bad NotUtf8 0)) ⊎ (IsUtf8 line × WordsFault names (words_of line) fault))
 
+-- the limits that the words of a line may pass at their places, behind its verb
+abbrev pub limits_of : Verb → List (List ℕ → Option ℕ)
+limits_of verbs.Store = (λ word. passed 7 (store_number word)) ∷ []
+limits_of verbs.Table = (λ word. passed 4 (table_number word)) ∷ []
+limits_of verbs.Client = (λ word. passed 5 (client_number word)) ∷ (λ word. None) ∷ (λ word. tables_passed (parts_at word)) ∷ []
+limits_of verbs.Write = []
+limits_of verbs.Show = []
+
+-- the limit that the leftmost word passes whose number is above its own
+abbrev pub first_limit : List (List ℕ → Option ℕ) → List (List ℕ) → Option ℕ
+first_limit [] words = None
+first_limit (limit ∷ limits) [] = None
+first_limit (limit ∷ limits) (word ∷ words) = or_else (limit word) (first_limit limits words)
+
+abbrev pub WordsLimit : List (List ℕ) → ℕ → Type 0
+WordsLimit [] limit = ⊥
+WordsLimit (first ∷ words) limit = (verb : Verb) × (first ≡ name_of verb) × (first_limit (limits_of verb) words ≡ Some limit)
+
+-- no word of the line is at fault, and the leftmost word whose number is above its limit passes this one
+abbrev pub PassesLimit : Names → List ℕ → ℕ → Type 0
+PassesLimit names line limit =
+    (IsPassed line → ⊥) × IsUtf8 line × ((fault : BadLine) → IsFault names line fault → ⊥) × WordsLimit (words_of line) limit
+
 -- an error that blames the line; want of memory doesn't
 abbrev pub Blames : Names → List ℕ → ScriptFault → Type 0
 Blames names line (faults.BadLine fault) = IsFault names line fault
+Blames names line (faults.Limit limit) = PassesLimit names line limit
 Blames names line faults.Memory = Unit {0}

@@ -1,6 +1,6 @@
 -- What a word says at its place in a line, or the code of its fault there.
-use Rattle.std.specs.Prelude.{◌≡◌, ℕ, Bool, false, ◌==◌, ◌&&◌, ◌||◌, ◌^◌, nat_le, nat_lt, not, List, [], ◌∷◌, length, codes, Option, Some, None, Result, Ok, Err, is_ok, if◌then◌else◌, ℤ}
-use Rattle.std.specs.List.{slice_split, list_all, list_any, before_first, after_first, position_or_len}
+use Rattle.std.specs.Prelude.{◌≡◌, ℕ, Bool, false, ◌==◌, ◌&&◌, ◌||◌, ◌^◌, nat_le, nat_lt, not, List, [], ◌∷◌, ◌++◌, length, codes, Option, Some, None, Result, Ok, Err, if◌then◌else◌, ℤ}
+use Rattle.std.specs.List.{slice_split, before_first, after_first, position_or_len}
 use Rattle.std.specs.Borrow.{Bor}
 use Rattle.std.specs.Int.Signed.{mag}
 use Rattle.std.specs.Fmt.{signed_decimal}
@@ -18,6 +18,7 @@ use Rattle.script_text.specs.declared.fault.Code.{Code}
 use Rattle.script_text.specs.declared.fault.Code.TheVariants.{NoNumber, NoName, NoRow, NoValue, NotDeclared, Twice, Unbuilt}
 use Rattle.script_text.specs.Names.{Names, has_store, has_table, has_name, has_client}
 use Rattle.script_text.specs.Words.{is_number, is_length, is_name, is_hex}
+use Rattle.script_text.specs.Verbs.{is_among}
 
 infixl 10 ◌>>=◌
 abbrev pub ◌>>=◌ : {A B E : Type 0} → Result A E → (A → Result B E) → Result B E
@@ -37,9 +38,9 @@ abbrev pub seen_column : Option (Bor (List ℕ) × ColumnKind) → Option (List 
 seen_column None = None
 seen_column (Some p) = Some (p.0.now, p.1)
 
--- a value's judgement, where memory sufficed
-abbrev pub Judges : Result ℤ ValueFault → Result ℤ Code → Type 0
-Judges (Ok z) judged = judged ≡ Ok z
+-- a word's judgement, where memory sufficed
+abbrev pub Judges : {X : Type 0} → Result X ValueFault → Result X Code → Type 0
+Judges (Ok x) judged = judged ≡ Ok x
 Judges (Err faults.Memory) judged = Unit {0}
 Judges (Err (faults.Code code)) judged = judged ≡ Err code
 
@@ -56,20 +57,40 @@ node_at letter (c ∷ digits) = if (c == letter) && is_number digits then Ok (sm
 abbrev pub built : ℕ → Result ℕ Code
 built n = if n == 1 then Ok n else Err Unbuilt
 
+-- the first of two that is there
+abbrev pub or_else : Option ℕ → Option ℕ → Option ℕ
+or_else None other = other
+or_else (Some n) other = Some n
+
 -- the number of something that is declared
 abbrev pub known : (ℕ → Bool) → Option ℕ → Result ℕ Code
 known has None = Err NotDeclared
 known has (Some n) = if has n then built n else Err NotDeclared
 
--- the number of something that isn't
-abbrev pub fresh : (ℕ → Bool) → Option ℕ → Result ℕ Code
-fresh has None = Err Unbuilt
-fresh has (Some n) = if has n then Err Twice else built n
+-- a number up to this one; None where it is above
+abbrev pub at_most : ℕ → Option ℕ → Option ℕ
+at_most most None = None
+at_most most (Some n) = if nat_le n most then Some n else None
 
--- the number of a table that a client opens: of the 64 that there may be
-abbrev pub opened : (ℕ → Bool) → Option ℕ → Result ℕ Code
-opened has None = Err Unbuilt
-opened has (Some n) = if nat_lt 64 n then Err Unbuilt else known has (Some n)
+-- the number of a node or a table, of as many as there may be; None where it is above
+unfoldable pub limited_at : ℕ → ℕ → List ℕ → Result (Option ℕ) Code
+limited_at letter most word = node_at letter word >>= λ number. Ok (at_most most number)
+
+-- this limit, where the word's number is above the most that it allows
+abbrev pub passed : ℕ → Result (Option ℕ) Code → Option ℕ
+passed limit (Ok None) = Some limit
+passed limit (Ok (Some n)) = None
+passed limit (Err code) = None
+
+-- the number of something that isn't declared, unless it is above its limit
+abbrev pub fresh : (ℕ → Bool) → Option ℕ → Result (Option ℕ) Code
+fresh has None = Ok None
+fresh has (Some n) = if has n then Err Twice else (built n >>= λ m. Ok (Some m))
+
+-- the number of a table that a client opens, unless it is above its limit
+abbrev pub opened : (ℕ → Bool) → Option ℕ → Result (Option ℕ) Code
+opened has None = Ok None
+opened has (Some n) = if has n then (built n >>= λ m. Ok (Some m)) else Err NotDeclared
 
 unfoldable pub client_at : Names → List ℕ → Result ℕ Code
 client_at names word = node_at 67 word >>= known (has_client names)
@@ -77,14 +98,26 @@ client_at names word = node_at 67 word >>= known (has_client names)
 unfoldable pub table_at : Names → List ℕ → Result ℕ Code
 table_at names word = node_at 84 word >>= known (has_table names)
 
-unfoldable pub new_store_at : Names → List ℕ → Result ℕ Code
-new_store_at names word = node_at 83 word >>= fresh (has_store names)
+-- a Store of 16
+abbrev pub store_number : List ℕ → Result (Option ℕ) Code
+store_number word = limited_at 83 16 word
 
-unfoldable pub new_table_at : Names → List ℕ → Result ℕ Code
-new_table_at names word = node_at 84 word >>= fresh (has_table names)
+-- a table of 64
+abbrev pub table_number : List ℕ → Result (Option ℕ) Code
+table_number word = limited_at 84 64 word
 
-unfoldable pub new_client_at : Names → List ℕ → Result ℕ Code
-new_client_at names word = node_at 67 word >>= fresh (has_client names)
+-- a client of 64
+abbrev pub client_number : List ℕ → Result (Option ℕ) Code
+client_number word = limited_at 67 64 word
+
+unfoldable pub new_store_at : Names → List ℕ → Result (Option ℕ) Code
+new_store_at names word = store_number word >>= fresh (has_store names)
+
+unfoldable pub new_table_at : Names → List ℕ → Result (Option ℕ) Code
+new_table_at names word = table_number word >>= fresh (has_table names)
+
+unfoldable pub new_client_at : Names → List ℕ → Result (Option ℕ) Code
+new_client_at names word = client_number word >>= fresh (has_client names)
 
 -- `-`; a gateway is a form that isn't built
 unfoldable pub gate_at : List ℕ → Result (Unit {0}) Code
@@ -94,16 +127,41 @@ abbrev pub is_comma : ℕ → Bool
 is_comma b = b == 44
 
 -- one table that a client opens
-unfoldable pub opened_at : Names → List ℕ → Result ℕ Code
-opened_at names word = node_at 84 word >>= opened (has_table names)
+unfoldable pub opened_at : Names → List ℕ → Result (Option ℕ) Code
+opened_at names word = table_number word >>= opened (has_table names)
 
--- a table; `-` and two tables or more, joined by commas, are forms that aren't built
-unfoldable pub tables_at : Names → List ℕ → Result ℕ Code
-tables_at names word =
-    if bytes_eq word (codes "-") then Err Unbuilt
-    else if list_any is_comma word
-    then (if list_all (λ part. is_ok (node_at 84 part)) (slice_split is_comma word) then Err Unbuilt else Err NoName)
-    else opened_at names word
+-- tables behind others, where each number is within its limit
+abbrev pub joined : Option (List ℕ) → Option (List ℕ) → Option (List ℕ)
+joined None more = None
+joined (Some tables) None = None
+joined (Some tables) (Some more) = Some (tables ++ more)
+
+-- one table
+abbrev pub alone : Option ℕ → Option (List ℕ)
+alone None = None
+alone (Some table) = Some (table ∷ [])
+
+-- Tables that a client opens, behind words that name others: each is declared, and none is named twice. None where the
+-- number of one is above its limit.
+unfoldable pub tables_in : Names → List (List ℕ) → List (List ℕ) → Result (Option (List ℕ)) Code
+tables_in names before [] = Ok (Some [])
+tables_in names before (word ∷ words) =
+    opened_at names word >>= λ table.
+    if is_among word before then Err Twice
+    else (tables_in names (before ++ word ∷ []) words >>= λ more. Ok (joined (alone table) more))
+
+-- the words between the commas of a word
+abbrev pub parts_at : List ℕ → List (List ℕ)
+parts_at word = slice_split is_comma word
+
+-- tables that a client opens, joined by commas; `-` is a form that isn't built
+unfoldable pub tables_at : Names → List ℕ → Result (Option (List ℕ)) Code
+tables_at names word = if bytes_eq word (codes "-") then Err Unbuilt else tables_in names [] (parts_at word)
+
+-- this limit, where the number of a table is above it
+abbrev pub tables_passed : List (List ℕ) → Option ℕ
+tables_passed [] = None
+tables_passed (word ∷ words) = or_else (passed 4 (table_number word)) (tables_passed words)
 
 unfoldable pub new_name_at : Names → List ℕ → Result (List ℕ) Code
 new_name_at names word = if not (is_name word) then Err NoName else if has_name names word then Err Twice else Ok word

@@ -48,28 +48,34 @@ unfoldable pub end_in : ℕ → List (List ℕ) → Result (Unit {0}) BadLine
 end_in at [] = Ok tt
 end_in at (word ∷ words) = Err (bad Surplus at)
 
-unfoldable pub store_in : Names → List (List ℕ) → Result Event BadLine
+-- what a line in its grammar says: an event, or the limit that its leftmost number above one passes
+abbrev pub made_store : Option ℕ → Result Event ℕ
+made_store None = Err 7
+made_store (Some store) = Ok (events.Store store)
+
+unfoldable pub store_in : Names → List (List ℕ) → Result (Result Event ℕ) BadLine
 store_in names words =
     word_in 1 (new_store_at names) words (λ store a.
-    end_in 2 a >>= λ done. Ok (events.Store store))
+    end_in 2 a >>= λ done. Ok (made_store store))
 
 unfoldable pub columns_end_in : ℕ → List ℕ → List (List ℕ) → Result (Unit {0}) BadLine
 columns_end_in at first [] = Ok tt
 columns_end_in at first (word ∷ words) = Err (bad (second_column_at first word) at)
 
 -- a table of one column of numbers
-abbrev pub made_table : ℕ → List ℕ → Scheme → ℕ → List ℕ → Event
-made_table table name scheme chunk column =
-    events.Table table (record { name = name; scheme = scheme; chunk = chunk; columns = record { name = column; kind = kinds.Int } ∷ [] })
+abbrev pub made_table : Option ℕ → List ℕ → Scheme → ℕ → List ℕ → Result Event ℕ
+made_table None name scheme chunk column = Err 4
+made_table (Some table) name scheme chunk column =
+    Ok (events.Table table (record { name = name; scheme = scheme; chunk = chunk; columns = record { name = column; kind = kinds.Int } ∷ [] }))
 
-abbrev pub table_event : TableWords → Event
-table_event words = made_table words.table words.name.now words.scheme words.chunk words.column.now
+abbrev pub table_made : TableWords → Result Event ℕ
+table_made words = made_table words.table words.name.now words.scheme words.chunk words.column.now
 
-abbrev pub seen_table : Result TableWords BadLine → Result Event BadLine
-seen_table (Ok words) = Ok (table_event words)
+abbrev pub seen_table : Result TableWords BadLine → Result (Result Event ℕ) BadLine
+seen_table (Ok words) = Ok (table_made words)
 seen_table (Err fault) = Err fault
 
-unfoldable pub table_in : Names → List (List ℕ) → Result Event BadLine
+unfoldable pub table_in : Names → List (List ℕ) → Result (Result Event ℕ) BadLine
 table_in names words =
     word_in 1 (new_table_at names) words (λ table a.
     word_in 2 (new_name_at names) a (λ name b.
@@ -78,20 +84,18 @@ table_in names words =
     word_in 5 column_at d (λ column e.
     columns_end_in 6 column e >>= λ done. Ok (made_table table name scheme chunk column))))))
 
--- a client that opens one table
-abbrev pub client_event : ℕ × ℕ → Event
-client_event numbers = events.Client numbers.0 None (numbers.1 ∷ [])
+-- a client that opens tables
+abbrev pub made_client : Option ℕ → Option (List ℕ) → Result Event ℕ
+made_client None tables = Err 5
+made_client (Some client) None = Err 4
+made_client (Some client) (Some tables) = Ok (events.Client client None tables)
 
-abbrev pub seen_client : Result (ℕ × ℕ) BadLine → Result Event BadLine
-seen_client (Ok numbers) = Ok (client_event numbers)
-seen_client (Err fault) = Err fault
-
-unfoldable pub client_in : Names → List (List ℕ) → Result Event BadLine
+unfoldable pub client_in : Names → List (List ℕ) → Result (Result Event ℕ) BadLine
 client_in names words =
     word_in 1 (new_client_at names) words (λ client a.
     word_in 2 gate_at a (λ gate b.
-    word_in 3 (tables_at names) b (λ table c.
-    end_in 4 c >>= λ done. Ok (client_event (client, table)))))
+    word_in 3 (tables_at names) b (λ tables c.
+    end_in 4 c >>= λ done. Ok (made_client client tables))))
 
 unfoldable pub cell_in : ℕ → List ℕ → Result Cell BadLine
 cell_in at word = do
@@ -129,37 +133,61 @@ show_in names words =
     word_in 3 row_at b (λ row c.
     end_in 4 c >>= λ done. Ok (events.Show client table row))))
 
--- a line, where memory sufficed
+-- part of a line, where memory sufficed
 abbrev pub Reads : {X : Type 0} → Result X ScriptFault → Result X BadLine → Type 0
 Reads (Ok x) read = read ≡ Ok x
 Reads (Err (faults.BadLine fault)) read = read ≡ Err fault
+Reads (Err (faults.Limit limit)) read = ⊥
 Reads (Err faults.Memory) read = Unit {0}
 
+-- the same of a line in its grammar
+abbrev pub Makes : {X : Type 0} → Result X ScriptFault → Result X ℕ → Type 0
+Makes (Ok x) made = made ≡ Ok x
+Makes (Err (faults.BadLine fault)) made = ⊥
+Makes (Err (faults.Limit limit)) made = made ≡ Err limit
+Makes (Err faults.Memory) made = Unit {0}
+
+-- the same of a line
+abbrev pub Tells : {X : Type 0} → Result X ScriptFault → Result (Result X ℕ) BadLine → Type 0
+Tells (Ok x) told = told ≡ Ok (Ok x)
+Tells (Err (faults.BadLine fault)) told = told ≡ Err fault
+Tells (Err (faults.Limit limit)) told = told ≡ Ok (Err limit)
+Tells (Err faults.Memory) told = Unit {0}
+
+-- a line that names no number above a limit
+abbrev pub unlimited : Result Event BadLine → Result (Result Event ℕ) BadLine
+unlimited (Ok event) = Ok (Ok event)
+unlimited (Err fault) = Err fault
+
 -- declarations stand before every event
-abbrev pub in_time : Names → Result Event BadLine → Result Event BadLine
+abbrev pub in_time : Names → Result (Result Event ℕ) BadLine → Result (Result Event ℕ) BadLine
 in_time names read = if names.started then Err (bad Late 0) else read
 
-abbrev pub built_in : Names → Verb → List (List ℕ) → Result Event BadLine
+abbrev pub built_in : Names → Verb → List (List ℕ) → Result (Result Event ℕ) BadLine
 built_in names verbs.Store words = in_time names (store_in names words)
 built_in names verbs.Table words = if has_no_store names then Err (bad NotDeclared 0) else in_time names (table_in names words)
 built_in names verbs.Client words = in_time names (client_in names words)
-built_in names verbs.Write words = write_in names words
-built_in names verbs.Show words = show_in names words
+built_in names verbs.Write words = unlimited (write_in names words)
+built_in names verbs.Show words = unlimited (show_in names words)
 
-abbrev pub with_verb : Names → List ℕ → List (List ℕ) → Option Verb → Result Event BadLine
+abbrev pub with_verb : Names → List ℕ → List (List ℕ) → Option Verb → Result (Result Event ℕ) BadLine
 with_verb names first words None = if is_unbuilt first then Err (bad Unbuilt 0) else Err (bad NoVerb 0)
 with_verb names first words (Some verb) = built_in names verb words
 
-unfoldable pub event_in : Names → List ℕ → List (List ℕ) → Result Event BadLine
+unfoldable pub event_in : Names → List ℕ → List (List ℕ) → Result (Result Event ℕ) BadLine
 event_in names first words = with_verb names first words (verb_of first)
 
-abbrev pub words_in : Names → List (List ℕ) → Result (Option Event) BadLine
-words_in names [] = Ok None
-words_in names (first ∷ words) = event_in names first words >>= λ event. Ok (Some event)
+abbrev pub found : Result Event ℕ → Result (Option Event) ℕ
+found (Ok event) = Ok (Some event)
+found (Err limit) = Err limit
+
+abbrev pub words_in : Names → List (List ℕ) → Result (Result (Option Event) ℕ) BadLine
+words_in names [] = Ok (Ok None)
+words_in names (first ∷ words) = event_in names first words >>= λ told. Ok (found told)
 
 -- a line as bytes
-unfoldable pub line_in : Names → List ℕ → Result (Option Event) BadLine
+unfoldable pub line_in : Names → List ℕ → Result (Result (Option Event) ℕ) BadLine
 line_in names line =
-    if is_comment line then Ok None
+    if is_comment line then Ok (Ok None)
     else if is_utf8 line then words_in names (words_of line)
     else Err (bad NotUtf8 0)

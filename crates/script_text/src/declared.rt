@@ -42,7 +42,11 @@ impl Model for Declared {
 }
 
 // Whether the name is new.
-fn put_name(alloc: Global, names: &mut BTreeSet<Vec<u8>>, name: &[u8]) -> Result<bool, AllocError>
+pub(crate) fn put_name(
+    alloc: Global,
+    names: &mut BTreeSet<Vec<u8>>,
+    name: &[u8],
+) -> Result<bool, AllocError>
     ensures added { IfOk result (λ added. added ≡ not (list_any (is_at (slice_cmp nat_cmp name.now)) (texts_of names.old))) }
     ensures put { OnOk result (texts_of names.new ≡ insert_key (slice_cmp nat_cmp) (texts_of names.old) name.now) }
     ensures kept { IfOk result (λ added. OnFalse added (texts_of names.new ≡ texts_of names.old)) }

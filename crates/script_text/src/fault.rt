@@ -35,7 +35,7 @@ pub(crate) enum Code {
     Unbuilt = 12,
 }
 
-/// Why a value gives none.
+/// Why a word gives no value.
 #[derive(Debug, Drop)]
 pub(crate) enum ValueFault {
     Code(Code),
@@ -49,6 +49,26 @@ impl From<AllocError> for ValueFault {
         ValueFault::Memory
     }
 }
+
+impl From<Code> for ValueFault {
+    ghost from_gives = { λ code e. e ≡ values.Code code };
+
+    fn from(code: Code) -> ValueFault {
+        ValueFault::Code(code)
+    }
+}
+
+/// The number of the limit on tables, and how many there may be.
+pub(crate) const TABLES: u32 = 4;
+pub(crate) const MOST_TABLES: u32 = 64;
+
+/// The number of the limit on clients, and how many there may be.
+pub(crate) const CLIENTS: u32 = 5;
+pub(crate) const MOST_CLIENTS: u32 = 64;
+
+/// The number of the limit on Stores, and how many there may be.
+pub(crate) const STORES: u32 = 7;
+pub(crate) const MOST_STORES: u32 = 16;
 
 /// The first word at fault, counted from 0, and the code of its fault, from 1 to 12.
 #[derive(Debug, Clone, Copy, PartialEq, Eq)]
@@ -72,6 +92,10 @@ pub enum ScriptFault {
     /// The line is in no grammar.
     #[error("code {} at word {}", .0.code, .0.word)]
     BadLine(BadLine),
+    /// The line is in its grammar, and the first word whose number is above its limit passes the limit of this number:
+    /// 4 for tables, 5 for clients, 7 for Stores.
+    #[error("limit {0} is passed")]
+    Limit(u32),
     #[error("out of memory")]
     Memory,
 }

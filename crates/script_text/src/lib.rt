@@ -17,7 +17,7 @@ mod words;
 pub use declared::Declared;
 pub use fault::{BadLine, ScriptFault};
 pub use forms::{one_form, one_transcript, stop_apart};
-pub use laws::{fault_apart, one_event, one_fault, passed_apart};
+pub use laws::{fault_apart, limit_apart, one_event, one_fault, one_limit, passed_apart};
 pub use parse::parse_line;
 pub use print::{ESCAPED, line_text, stop_text};
 

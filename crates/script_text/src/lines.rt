@@ -1,10 +1,10 @@
 ghost use Rattle.std.specs.Prelude.{◌≡◌, ◌<◌, ◌+◌, ◌^◌, length, List, ℕ, Err, Ok, IfOk};
 ghost use Rattle.script_text.specs.Words.{texts};
-ghost use Rattle.script_text.specs.Places.{seen};
-ghost use Rattle.script_text.specs.Reading.{Reads, seen_next, seen_table, seen_client, table_event, client_event, placed, next_in, end_in, columns_end_in, store_in, table_in, client_in, cell_in, cells_in, some_cells_in, write_in, show_in, built_in, event_in};
+ghost use Rattle.script_text.specs.Places.{seen, tables_at};
+ghost use Rattle.script_text.specs.Reading.{Reads, Makes, Tells, seen_next, seen_table, table_made, made_client, placed, next_in, end_in, columns_end_in, store_in, table_in, client_in, cell_in, cells_in, some_cells_in, write_in, show_in, built_in, event_in};
 
 use crate::declared::Declared;
-use crate::fault::{BadLine, Code, ScriptFault, ValueFault, bad};
+use crate::fault::{BadLine, CLIENTS, Code, STORES, ScriptFault, TABLES, ValueFault, bad};
 use crate::places::{
     chunk_at, client_at, gate_at, new_client_at, new_name_at, new_store_at, new_table_at, row_at,
     scheme_at, table_at, tables_at,
@@ -12,8 +12,8 @@ use crate::places::{
 use crate::values::{column_at, second_column_at, value_at};
 use crate::verb::{Verb, is_unbuilt, verb_of};
 use row_value::{Bytes, Cell, Cells, Column, ColumnKind, Content, Schema, Scheme, Sequence};
-use std::alloc::{AllocError, Global};
-use table_model::Event;
+use std::alloc::Global;
+use table_model::{Event, Tables};
 
 #[tactic(auto, unfolding(crate::specs::Reading::next_in))]
 fn next_word<'a>(words: &'a [&'a str], at: usize) -> Result<(&'a str, &'a [&'a str]), BadLine>
@@ -60,13 +60,16 @@ fn show_line(names: &Declared, words: &[&str]) -> Result<Event, BadLine>
 }
 
 #[tactic(auto, unfolding(crate::specs::Reading::store_in, crate::specs::Reading::word_in))]
-fn store_line(names: &Declared, words: &[&str]) -> Result<Event, BadLine>
-    ensures { result ≡ store_in names.now (texts words.now) }
+fn store_line(names: &Declared, words: &[&str]) -> Result<Event, ScriptFault>
+    ensures { Tells result (store_in names.now (texts words.now)) }
 {
     let (word, rest) = next_word(words, 1)?;
     let store = placed(1, new_store_at(names, word))?;
     end(rest, 2)?;
-    Ok(Event::Store { store })
+    match store {
+        Some(store) => Ok(Event::Store { store }),
+        None => Err(ScriptFault::Limit(STORES)),
+    }
 }
 
 #[tactic(auto, unfolding(crate::specs::Reading::columns_end_in))]
@@ -82,7 +85,7 @@ fn columns_end(first: &str, words: &[&str], at: usize) -> Result<(), BadLine>
 // What stands in a line that declares a table of one column of numbers.
 #[derive(Clone, Copy)]
 struct TableWords<'a> {
-    table: u32,
+    table: Option<u32>,
     name: &'a str,
     scheme: Scheme,
     chunk: u32,
@@ -113,16 +116,19 @@ fn table_words<'a>(names: &Declared, words: &'a [&'a str]) -> Result<TableWords<
     })
 }
 
-fn table_event(alloc: Global, words: TableWords) -> Result<Event, AllocError>
-    ensures { IfOk result (λ event. event ≡ table_event words.entry) }
+fn table_event(alloc: Global, words: TableWords) -> Result<Event, ScriptFault>
+    ensures { Makes result (table_made words.entry) }
 {
+    let Some(table) = words.table else {
+        return Err(ScriptFault::Limit(TABLES));
+    };
     let mut columns = Sequence::new(alloc);
     columns.push(Column {
         name: Bytes::from_slice(alloc, words.column.as_bytes())?,
         kind: ColumnKind::Int,
     })?;
     Ok(Event::Table {
-        table: words.table,
+        table,
         schema: Schema {
             name: Bytes::from_slice(alloc, words.name.as_bytes())?,
             scheme: words.scheme,
@@ -133,31 +139,36 @@ fn table_event(alloc: Global, words: TableWords) -> Result<Event, AllocError>
 }
 
 fn table_line(alloc: Global, names: &Declared, words: &[&str]) -> Result<Event, ScriptFault>
-    ensures { Reads result (table_in names.now (texts words.now)) }
+    ensures { Tells result (table_in names.now (texts words.now)) }
 {
     let words = table_words(names, words)?;
-    Ok(table_event(alloc, words)?)
+    table_event(alloc, words)
 }
 
-#[tactic(auto, unfolding(crate::specs::Reading::client_in, crate::specs::Reading::word_in))]
-fn client_words(names: &Declared, words: &[&str]) -> Result<(u32, u32), BadLine>
-    ensures { seen_client result ≡ client_in names.now (texts words.now) }
+fn tables_placed(
+    alloc: Global,
+    names: &Declared,
+    word: &str,
+    at: usize,
+) -> Result<Option<Tables>, ScriptFault>
+    ensures { Reads result (placed at (tables_at names.now word.now)) }
 {
-    let (word, rest) = next_word(words, 1)?;
-    let client = placed(1, new_client_at(names, word))?;
-    let (word, rest) = next_word(rest, 2)?;
-    placed(2, gate_at(word))?;
-    let (word, rest) = next_word(rest, 3)?;
-    let table = placed(3, tables_at(names, word))?;
-    end(rest, 4)?;
-    Ok((client, table))
+    match tables_at(alloc, names, word) {
+        Ok(tables) => Ok(tables),
+        Err(ValueFault::Code(code)) => Err(ScriptFault::BadLine(bad(code, at))),
+        Err(ValueFault::Memory) => Err(ScriptFault::Memory),
+    }
 }
 
-fn client_event(alloc: Global, client: u32, table: u32) -> Result<Event, AllocError>
-    ensures { IfOk result (λ event. event ≡ client_event (client, table)) }
+fn client_event(client: Option<u32>, tables: Option<Tables>) -> Result<Event, ScriptFault>
+    ensures { Makes result (made_client client tables) }
 {
-    let mut tables = Sequence::new(alloc);
-    tables.push(table)?;
+    let Some(client) = client else {
+        return Err(ScriptFault::Limit(CLIENTS));
+    };
+    let Some(tables) = tables else {
+        return Err(ScriptFault::Limit(TABLES));
+    };
     Ok(Event::Client {
         client,
         gate: None,
@@ -165,11 +176,18 @@ fn client_event(alloc: Global, client: u32, table: u32) -> Result<Event, AllocEr
     })
 }
 
+#[tactic(auto, unfolding(crate::specs::Reading::client_in, crate::specs::Reading::word_in))]
 fn client_line(alloc: Global, names: &Declared, words: &[&str]) -> Result<Event, ScriptFault>
-    ensures { Reads result (client_in names.now (texts words.now)) }
+    ensures { Tells result (client_in names.now (texts words.now)) }
 {
-    let (client, table) = client_words(names, words)?;
-    Ok(client_event(alloc, client, table)?)
+    let (word, rest) = next_word(words, 1)?;
+    let client = placed(1, new_client_at(names, word))?;
+    let (word, rest) = next_word(rest, 2)?;
+    placed(2, gate_at(word))?;
+    let (word, rest) = next_word(rest, 3)?;
+    let tables = tables_placed(alloc, names, word, 3)?;
+    end(rest, 4)?;
+    client_event(client, tables)
 }
 
 #[tactic(auto, unfolding(crate::specs::Reading::cell_in))]
@@ -231,14 +249,14 @@ fn built_line(
     verb: Verb,
     words: &[&str],
 ) -> Result<Event, ScriptFault>
-    ensures { Reads result (built_in names.now verb (texts words.now)) }
+    ensures { Tells result (built_in names.now verb (texts words.now)) }
 {
     match verb {
         Verb::Write => write_line(alloc, names, words),
         Verb::Show => Ok(show_line(names, words)?),
         Verb::Table if names.has_no_store() => Err(bad(Code::NotDeclared, 0).into()),
         _ if names.has_started() => Err(bad(Code::Late, 0).into()),
-        Verb::Store => Ok(store_line(names, words)?),
+        Verb::Store => store_line(names, words),
         Verb::Table => table_line(alloc, names, words),
         Verb::Client => client_line(alloc, names, words),
     }
@@ -252,7 +270,7 @@ pub(crate) fn event_line(
     first: &str,
     words: &[&str],
 ) -> Result<Event, ScriptFault>
-    ensures { Reads result (event_in names.now first.now (texts words.now)) }
+    ensures { Tells result (event_in names.now first.now (texts words.now)) }
 {
     match verb_of(first) {
         Some(verb) => built_line(alloc, names, verb, words),

@@ -1,7 +1,7 @@
 ghost use Rattle.std.specs.Prelude.{◌≡◌, IfOk, IfErr, IfSome, IfNone, MatchOption, true, false};
 ghost use Rattle.std.specs.Str.{is_utf8};
 ghost use Rattle.script_text.specs.Words.{is_comment};
-ghost use Rattle.script_text.specs.Reading.{Reads, line_in};
+ghost use Rattle.script_text.specs.Reading.{Tells, line_in};
 ghost use Rattle.script_text.specs.Grammar.{IsPassed, Spells, Blames};
 
 use crate::declared::Declared;
@@ -26,7 +26,7 @@ fn text_of(line: &[u8]) -> Option<&str>
 
 #[tactic(auto, unfolding(crate::specs::Reading::line_in))]
 fn read_line(alloc: Global, line: &[u8], names: &Declared) -> Result<Option<Event>, ScriptFault>
-    ensures { Reads result (line_in names.now line.now) }
+    ensures { Tells result (line_in names.now line.now) }
 {
     if is_comment(line) {
         return Ok(None);
@@ -41,7 +41,8 @@ fn read_line(alloc: Global, line: &[u8], names: &Declared) -> Result<Option<Even
     }
 }
 
-/// The event that a line spells, without its newline. None where the line is passed over.
+/// The event that a line spells, without its newline. None where the line is passed over. A line is judged by its
+/// grammar first, whole, and then by the limits on what it declares.
 pub fn parse_line(
     alloc: Global,
     line: &[u8],

@@ -1,13 +1,15 @@
-ghost use Rattle.std.specs.Prelude.{◌≡◌, ◌<◌, IsTrue, option_map, Result, Ok, Err, List, ℕ, is_ok};
-ghost use Rattle.std.specs.List.{list_all, list_any, slice_split};
-ghost use Rattle.script_text.specs.Words.{is_number};
-ghost use Rattle.script_text.specs.Names.{has_table};
-ghost use Rattle.script_text.specs.Places.{small, node_at, built, known, fresh, opened, opened_at, client_at, table_at, new_store_at, new_table_at, new_client_at, gate_at, tables_at, is_comma, seen, new_name_at, scheme_at, chunk_at, row_at};
+ghost use Rattle.std.specs.Prelude.{◌≡◌, ◌<◌, IsTrue, IfOk, []};
+ghost use Rattle.std.specs.List.{slice_split};
+ghost use Rattle.script_text.specs.Words.{is_number, texts};
+ghost use Rattle.script_text.specs.Places.{Judges, small, node_at, limited_at, built, opened_at, joined, alone, client_at, table_at, new_store_at, new_table_at, new_client_at, gate_at, tables_in, tables_at, is_comma, seen, new_name_at, scheme_at, chunk_at, row_at};
 
-use crate::declared::Declared;
-use crate::fault::Code;
+use crate::declared::{Declared, put_name};
+use crate::fault::{Code, MOST_CLIENTS, MOST_STORES, MOST_TABLES, ValueFault};
 use crate::words::{is_name, is_number};
-use row_value::{RowId, Scheme};
+use row_value::{RowId, Scheme, Sequence};
+use std::alloc::{AllocError, Global};
+use std::collections::BTreeSet;
+use table_model::Tables;
 
 #[tactic(auto, unfolding(crate::specs::Places::small))]
 fn small(digits: &str) -> Option<u32>
@@ -59,36 +61,48 @@ pub(crate) fn table_at(names: &Declared, word: &str) -> Result<u32, Code>
     }
 }
 
+// The number of a node or a table, of as many as there may be; None is a number above.
+#[tactic(auto, unfolding(crate::specs::Places::limited_at))]
+fn limited_at(letter: char, most: u32, word: &str) -> Result<Option<u32>, Code>
+    requires { letter < 128 }
+    ensures { result ≡ limited_at letter most word.now }
+{
+    match node_at(letter, word)? {
+        Some(number) if number <= most => Ok(Some(number)),
+        _ => Ok(None),
+    }
+}
+
 #[tactic(auto, unfolding(crate::specs::Places::new_store_at))]
-pub(crate) fn new_store_at(names: &Declared, word: &str) -> Result<u32, Code>
+pub(crate) fn new_store_at(names: &Declared, word: &str) -> Result<Option<u32>, Code>
     ensures { result ≡ new_store_at names.now word.now }
 {
-    match node_at('S', word)? {
-        None => Err(Code::Unbuilt),
+    match limited_at('S', MOST_STORES, word)? {
+        None => Ok(None),
         Some(number) if names.has_store(number) => Err(Code::Twice),
-        Some(number) => built(number),
+        Some(number) => Ok(Some(built(number)?)),
     }
 }
 
 #[tactic(auto, unfolding(crate::specs::Places::new_table_at))]
-pub(crate) fn new_table_at(names: &Declared, word: &str) -> Result<u32, Code>
+pub(crate) fn new_table_at(names: &Declared, word: &str) -> Result<Option<u32>, Code>
     ensures { result ≡ new_table_at names.now word.now }
 {
-    match node_at('T', word)? {
-        None => Err(Code::Unbuilt),
+    match limited_at('T', MOST_TABLES, word)? {
+        None => Ok(None),
         Some(number) if names.has_table(number) => Err(Code::Twice),
-        Some(number) => built(number),
+        Some(number) => Ok(Some(built(number)?)),
     }
 }
 
 #[tactic(auto, unfolding(crate::specs::Places::new_client_at))]
-pub(crate) fn new_client_at(names: &Declared, word: &str) -> Result<u32, Code>
+pub(crate) fn new_client_at(names: &Declared, word: &str) -> Result<Option<u32>, Code>
     ensures { result ≡ new_client_at names.now word.now }
 {
-    match node_at('C', word)? {
-        None => Err(Code::Unbuilt),
+    match limited_at('C', MOST_CLIENTS, word)? {
+        None => Ok(None),
         Some(number) if names.has_client(number) => Err(Code::Twice),
-        Some(number) => built(number),
+        Some(number) => Ok(Some(built(number)?)),
     }
 }
 
@@ -103,44 +117,65 @@ pub(crate) fn gate_at(word: &str) -> Result<(), Code>
     Err(Code::Unbuilt)
 }
 
-fn are_tables(words: &str) -> bool
-    ensures { result ≡ list_all (λ part. is_ok (node_at 84 part)) (slice_split is_comma words.now) }
-{
-    words.split(',').all(|word| node_at('T', word).is_ok())
-}
-
-fn has_comma(word: &[u8]) -> bool
-    ensures { result ≡ list_any is_comma word.now }
-{
-    word.contains(&b',')
-}
-
-// A table that a client opens.
+// A table that a client opens; None is a number above the limit.
 #[tactic(auto, unfolding(crate::specs::Places::opened_at))]
-fn opened_at(names: &Declared, word: &str) -> Result<u32, Code>
+fn opened_at(names: &Declared, word: &str) -> Result<Option<u32>, Code>
     ensures { result ≡ opened_at names.now word.now }
 {
-    match node_at('T', word)? {
-        None => Err(Code::Unbuilt),
-        Some(number) if number > 64 => Err(Code::Unbuilt),
-        Some(number) if names.has_table(number) => built(number),
+    match limited_at('T', MOST_TABLES, word)? {
+        None => Ok(None),
+        Some(number) if names.has_table(number) => Ok(Some(built(number)?)),
         Some(_) => Err(Code::NotDeclared),
     }
 }
 
+fn parts(alloc: Global, words: &str) -> Result<Vec<&str>, AllocError>
+    ensures { IfOk result (λ v. texts v.items ≡ slice_split is_comma words.now) }
+{
+    words.split(',').collect(alloc)
+}
+
+fn with_table(tables: Option<Tables>, table: Option<u32>) -> Result<Option<Tables>, AllocError>
+    ensures { IfOk result (λ all. all ≡ joined tables (alone table)) }
+{
+    match (tables, table) {
+        (Some(mut tables), Some(table)) => {
+            tables.push(table)?;
+            Ok(Some(tables))
+        }
+        _ => Ok(None),
+    }
+}
+
+// Tables that a client opens, none of which is named twice; None where the number of one is above the limit.
+fn opened(alloc: Global, names: &Declared, words: &[&str]) -> Result<Option<Tables>, ValueFault>
+    ensures { Judges result (tables_in names.now [] (texts words.now)) }
+{
+    let mut named = BTreeSet::new(alloc);
+    let mut tables = Some(Sequence::new(alloc));
+    for word in words {
+        let table = opened_at(names, word)?;
+        if !put_name(alloc, &mut named, word.as_bytes())? {
+            return Err(Code::Twice.into());
+        }
+        tables = with_table(tables, table)?;
+    }
+    Ok(tables)
+}
+
 #[tactic(auto, unfolding(crate::specs::Places::tables_at))]
-pub(crate) fn tables_at(names: &Declared, word: &str) -> Result<u32, Code>
-    ensures { result ≡ tables_at names.now word.now }
+pub(crate) fn tables_at(
+    alloc: Global,
+    names: &Declared,
+    word: &str,
+) -> Result<Option<Tables>, ValueFault>
+    ensures { Judges result (tables_at names.now word.now) }
 {
     if word == "-" {
-        Err(Code::Unbuilt)
-    } else if !has_comma(word.as_bytes()) {
-        opened_at(names, word)
-    } else if are_tables(word) {
-        Err(Code::Unbuilt)
-    } else {
-        Err(Code::NoName)
+        return Err(Code::Unbuilt.into());
     }
+    let parts = parts(alloc, word)?;
+    opened(alloc, names, &parts)
 }
 
 #[tactic(auto, unfolding(crate::specs::Places::new_name_at))]

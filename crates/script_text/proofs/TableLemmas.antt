@@ -1,0 +1,232 @@
+-- Lists of tables that a client opens.
+use Rattle.std.proofs.Common.{◌≡◌, ◌≢◌, ℕ, ◌+◌, ◌<◌, ◌≤◌, Bool, true, false, not, ◌||◌, eqb, cond, List, [], ◌∷◌, ◌++◌, codes, length, take, drop, get_or, Option, Some, None, Result, Ok, Err, refl, sym, ap, ◌∙◌, subst, inl, inr, arith, append_assoc, append-nil, add-one, zero, suc, true≢false}
+use Rattle.std.specs.Borrow.{Bor}
+use Rattle.std.specs.List.{list_any, slice_split, join_with_byte}
+use Rattle.std.specs.Ordering.{nat_cmp, match_ordering}
+use Rattle.std.specs.declared.cmp.Ordering.{Ordering}
+use Rattle.std.specs.declared.cmp.Ordering.TheVariants.{Less, Equal, Greater}
+use Rattle.std.specs.Cmp.Lexicographic.{slice_cmp}
+use Rattle.std.specs.BTreeMap.{is_at}
+use Rattle.std.specs.BTreeSet.{insert_key}
+use Rattle.std.specs.Str.{bytes_eq}
+use Rattle.std.specs.Cmp.{Equal-is}
+use Rattle.std.proofs.Math.Bool.{or_comm, or_assoc}
+use Rattle.std.proofs.lemmas.List.Folds.{list_any-append}
+use Rattle.std.proofs.lemmas.List.Splits.{join_with_byte-slice_split}
+use Rattle.std.proofs.lemmas.Map.Text.{is_eq-slice_cmp}
+use Rattle.std.proofs.lemmas.Slice.Eq.{bytes_eq-Decides}
+use Rattle.script_text.specs.declared.fault.Code.{Code}
+use Rattle.script_text.specs.declared.fault.Code.TheVariants.{Twice, Unbuilt}
+use Rattle.script_text.specs.Names.{Names, has_table}
+use Rattle.script_text.specs.Words.{texts}
+use Rattle.script_text.specs.Verbs.{is_among}
+use Rattle.script_text.specs.Places.{◌>>=◌, is_comma, or_else, passed, table_number, opened_at, joined, alone, tables_in, parts_at, tables_at, tables_passed}
+use Rattle.script_text.proofs.CellLemmas.{dropped, dropped_next}
+use Rattle.script_text.proofs.Steps.{bind-ok}
+use Rattle.script_text.proofs.PlaceLemmas.{unless-ok, some_same, ok_same, none_some, opened_at-ok, opened_at-within, opened_at-limit}
+
+joined-some : (front more : Option (List ℕ)) (tables : List ℕ) → joined front more ≡ Some tables → (a : List ℕ) × (b : List ℕ) × (front ≡ Some a) × (more ≡ Some b) × (a ++ b ≡ tables)
+joined-some None more tables e = absurd (none_some tables e)
+joined-some (Some a) None tables e = absurd (none_some tables e)
+joined-some (Some a) (Some b) tables e = (a, b, refl, refl, some_same _ _ e)
+
+alone-some : (o : Option ℕ) (tables : List ℕ) → alone o ≡ Some tables → (n : ℕ) × (o ≡ Some n) × (n ∷ [] ≡ tables)
+alone-some None tables e = absurd (none_some tables e)
+alone-some (Some n) tables e = (n, refl, some_same _ _ e)
+
+joins : (front middle more : Option (List ℕ)) → joined front (joined middle more) ≡ joined (joined front middle) more
+joins None middle more = refl
+joins (Some a) None more = refl
+joins (Some a) (Some b) None = refl
+joins (Some a) (Some b) (Some c) = ap Some (sym (append_assoc a b c))
+
+joined-end : (front : Option (List ℕ)) → joined front (Some []) ≡ front
+joined-end None = refl
+joined-end (Some a) = ap Some (append-nil a)
+
+module _ (names : Names) where
+  next : (before words : List (List ℕ)) (word : List ℕ) (r : Option (List ℕ)) → tables_in names before (word ∷ words) ≡ Ok r
+      → (t : Option ℕ) × (more : Option (List ℕ)) × (opened_at names word ≡ Ok t) × (is_among word before ≡ false) × (tables_in names (before ++ word ∷ []) words ≡ Ok more) × (joined (alone t) more ≡ r)
+  unfolding tables_in
+  next before words word r e =
+      let a = bind-ok (opened_at names word) (λ table. cond (is_among word before) (Err Twice) (tables_in names (before ++ word ∷ []) words >>= λ more. Ok (joined (alone table) more))) r e in
+      let b = unless-ok (is_among word before) (tables_in names (before ++ word ∷ []) words >>= λ more. Ok (joined (alone a.0) more)) Twice r a.2 in
+      let c = bind-ok (tables_in names (before ++ word ∷ []) words) (λ more. Ok (joined (alone a.0) more)) r b.1 in
+      (a.0, c.0, a.1, b.0, c.1, ok_same _ _ c.2)
+
+  none : (before : List (List ℕ)) (r : Option (List ℕ)) → tables_in names before [] ≡ Ok r → Some [] ≡ r
+  unfolding tables_in
+  none before r e = ok_same _ _ e
+
+  found : (word : List ℕ) (t : Option ℕ) (more : Option (List ℕ)) (tables : List ℕ) → opened_at names word ≡ Ok t → joined (alone t) more ≡ Some tables
+      → (word ≡ codes "T1") × (has_table names 1 ≡ true) × (b : List ℕ) × (more ≡ Some b) × (1 ∷ b ≡ tables)
+  found word t more tables opened e =
+      let p = joined-some (alone t) more tables e in
+      let q = alone-some t p.0 p.2 in
+      let o = opened_at-ok names word q.0 (opened ∙ ap Ok q.1) in
+      (o.0, o.2, p.1, p.3, (let one : 1 ∷ [] ≡ p.0 = ap (λ (n : ℕ). n ∷ []) (sym o.1) ∙ q.2 in ap (λ (a : List ℕ). a ++ p.1) one ∙ p.4))
+
+  tables_in-ok : (words : List (List ℕ)) (tables : List ℕ) → words ≢ [] → tables_in names [] words ≡ Ok (Some tables) → (words ≡ codes "T1" ∷ []) × (tables ≡ 1 ∷ []) × (has_table names 1 ≡ true)
+  tables_in-ok [] tables some e = absurd (some refl)
+  tables_in-ok (w ∷ []) tables some e =
+      let s = next [] [] w (Some tables) e in
+      let f = found w s.0 s.1 tables s.2 s.5 in
+      let nil : [] ≡ f.2 = some_same _ _ (none ([] ++ w ∷ []) s.1 s.4 ∙ f.3) in
+      (ap (λ (v : List ℕ). v ∷ []) f.0, sym f.4 ∙ ap (λ (b : List ℕ). 1 ∷ b) (sym nil), f.1)
+  tables_in-ok (w ∷ v ∷ ws) tables some e =
+      let s = next [] (v ∷ ws) w (Some tables) e in
+      let f = found w s.0 s.1 tables s.2 s.5 in
+      let t = next ([] ++ w ∷ []) ws v (Some f.2) (s.4 ∙ ap Ok f.3) in
+      let g = found v t.0 t.1 f.2 t.2 t.5 in
+      let same : bytes_eq v w ≡ true = (bytes_eq-Decides v w).1 (g.0 ∙ sym f.0) in
+      absurd (true≢false (rw same at t.3))
+
+  tables_in-above : (words : List (List ℕ)) (word : List ℕ) (t : Option ℕ) (more : Option (List ℕ)) → opened_at names word ≡ Ok t → joined (alone t) more ≡ None → (more ≡ None → tables_passed words ≡ Some 4) → tables_passed (word ∷ words) ≡ Some 4
+  tables_in-above words word None more opened e go = rw (opened_at-limit names word opened) refl
+  tables_in-above words word (Some n) None opened e go = rw (opened_at-within names word n opened) (go refl)
+  tables_in-above words word (Some n) (Some b) opened e go = absurd (none_some (n ∷ b) (sym e))
+
+  tables_in-limit : (before words : List (List ℕ)) → tables_in names before words ≡ Ok None → tables_passed words ≡ Some 4
+  tables_in-limit before [] e = absurd (none_some [] (sym (none before None e)))
+  tables_in-limit before (w ∷ ws) e =
+      let s = next before ws w None e in
+      tables_in-above ws w s.0 s.1 s.2 s.5 (λ gone. tables_in-limit (before ++ w ∷ []) ws (s.4 ∙ ap Ok gone))
+
+some_part : (word : List ℕ) → parts_at word ≢ []
+some_part word e =
+    let nil : [] ≡ word = ap (join_with_byte 44) (sym e) ∙ join_with_byte-slice_split 44 word in
+    let again : parts_at [] ≡ [] = subst (λ (w : List ℕ). parts_at w ≡ []) (sym nil) e in cc
+
+module _ (names : Names) (word : List ℕ) where
+  pub tables_at-ok : (tables : List ℕ) → tables_at names word ≡ Ok (Some tables) → (word ≡ codes "T1") × (tables ≡ 1 ∷ []) × (has_table names 1 ≡ true)
+  unfolding tables_at
+  tables_at-ok tables e =
+      let p = unless-ok (bytes_eq word (codes "-")) (tables_in names [] (parts_at word)) Unbuilt (Some tables) e in
+      let q = tables_in-ok names (parts_at word) tables (some_part word) p.1 in
+      (sym (join_with_byte-slice_split 44 word) ∙ ap (join_with_byte 44) q.0, q.1, q.2)
+
+  pub tables_at-limit : tables_at names word ≡ Ok None → tables_passed (parts_at word) ≡ Some 4
+  unfolding tables_at
+  tables_at-limit e =
+      let p = unless-ok (bytes_eq word (codes "-")) (tables_in names [] (parts_at word)) Unbuilt None e in
+      tables_in-limit names [] (parts_at word) p.1
+
+-- names that were met, kept as a set
+
+by_bytes : (w v : List ℕ) → is_at (slice_cmp nat_cmp w) v ≡ bytes_eq w v
+by_bytes w v = is_eq-slice_cmp w v
+
+pub unmet : (added b : Bool) → added ≡ not b → added ≡ true → b ≡ false
+unmet added false e t = refl
+unmet added true e t = absurd (true≢false (sym t ∙ e))
+
+pub met : (added b : Bool) → added ≡ not b → added ≡ false → b ≡ true
+met added true e f = refl
+met added false e f = absurd (true≢false (sym e ∙ f))
+
+absorbed : (a b : Bool) → (a || b) ≡ ((a || b) || a)
+absorbed true b = refl
+absorbed false true = refl
+absorbed false false = refl
+
+equal_keys : (k x : List ℕ) → slice_cmp nat_cmp k x ≡ Equal → k ≡ x
+equal_keys k x is = (bytes_eq-Decides k x).0 (sym (by_bytes k x) ∙ (Equal-is (slice_cmp nat_cmp k x)).1 is)
+
+module _ (w k : List ℕ) where
+  inserted_at : (x : List ℕ) (xs : List (List ℕ)) (o : Ordering) → slice_cmp nat_cmp k x ≡ o
+      → list_any (is_at (slice_cmp nat_cmp w)) (insert_key (slice_cmp nat_cmp) xs k) ≡ (list_any (is_at (slice_cmp nat_cmp w)) xs || bytes_eq w k)
+      → list_any (is_at (slice_cmp nat_cmp w)) (match_ordering o (k ∷ x ∷ xs) (x ∷ xs) (x ∷ insert_key (slice_cmp nat_cmp) xs k)) ≡ (list_any (is_at (slice_cmp nat_cmp w)) (x ∷ xs) || bytes_eq w k)
+  inserted_at x xs Less is more =
+      ap (λ (b : Bool). b || (is_at (slice_cmp nat_cmp w) x || list_any (is_at (slice_cmp nat_cmp w)) xs)) (by_bytes w k)
+      ∙ or_comm (bytes_eq w k) (is_at (slice_cmp nat_cmp w) x || list_any (is_at (slice_cmp nat_cmp w)) xs)
+  inserted_at x xs Equal is more =
+      absorbed (is_at (slice_cmp nat_cmp w) x) (list_any (is_at (slice_cmp nat_cmp w)) xs)
+      ∙ ap (λ (b : Bool). (is_at (slice_cmp nat_cmp w) x || list_any (is_at (slice_cmp nat_cmp w)) xs) || b) (by_bytes w x ∙ ap (bytes_eq w) (sym (equal_keys k x is)))
+  inserted_at x xs Greater is more =
+      ap (λ (b : Bool). is_at (slice_cmp nat_cmp w) x || b) more
+      ∙ sym (or_assoc (is_at (slice_cmp nat_cmp w) x) (list_any (is_at (slice_cmp nat_cmp w)) xs) (bytes_eq w k))
+
+  inserted : (xs : List (List ℕ)) → list_any (is_at (slice_cmp nat_cmp w)) (insert_key (slice_cmp nat_cmp) xs k) ≡ (list_any (is_at (slice_cmp nat_cmp w)) xs || bytes_eq w k)
+  inserted [] = or_comm (is_at (slice_cmp nat_cmp w) k) false ∙ by_bytes w k
+  inserted (x ∷ xs) = inserted_at x xs (slice_cmp nat_cmp k x) refl (inserted xs)
+
+-- one turn
+
+behind : (words : List (Bor (List ℕ))) (i : ℕ) (d : Bor (List ℕ)) → i < length words → take (suc i) (texts words) ≡ take i (texts words) ++ (get_or words i d).now ∷ []
+behind [] i d h = absurd (omega (arith, h))
+behind (w ∷ ws) zero d h = refl
+behind (w ∷ ws) (suc i) d h = ap (λ (t : List (List ℕ)). w.now ∷ t) (behind ws i d (omega (arith, h)))
+
+taken : (words : List (Bor (List ℕ))) (i : ℕ) (d : Bor (List ℕ)) → i < length words → take (i + 1) (texts words) ≡ take i (texts words) ++ (get_or words i d).now ∷ []
+taken words i d h = rw add-one (behind words i d h)
+
+pub named-turn : (words : List (Bor (List ℕ))) (i : ℕ) (d : Bor (List ℕ)) (keys more : List (List ℕ)) → i < length words → more ≡ insert_key (slice_cmp nat_cmp) keys (get_or words i d).now
+    → ((w : List ℕ) → list_any (is_at (slice_cmp nat_cmp w)) keys ≡ is_among w (take i (texts words)))
+    → (w : List ℕ) → list_any (is_at (slice_cmp nat_cmp w)) more ≡ is_among w (take (i + 1) (texts words))
+named-turn words i d keys more h e before w =
+    let k = (get_or words i d).now in
+    ap (list_any (is_at (slice_cmp nat_cmp w))) e
+    ∙ inserted w k keys
+    ∙ ap (λ (b : Bool). b || bytes_eq w k) (before w)
+    ∙ ap (λ (b : Bool). is_among w (take i (texts words)) || b) (or_comm false (bytes_eq w k))
+    ∙ sym (list_any-append (bytes_eq w) (take i (texts words)) (k ∷ []))
+    ∙ ap (is_among w) (sym (taken words i d h))
+
+-- the tables of words, as far as they were read
+abbrev pub left : Names → List (Bor (List ℕ)) → ℕ → Option (List ℕ) → Result (Option (List ℕ)) Code
+left names words i front = tables_in names (take i (texts words)) (drop i (texts words)) >>= λ more. Ok (joined front more)
+
+begun : (r : Result (Option (List ℕ)) Code) → r ≡ (r >>= λ more. Ok (joined (Some []) more))
+begun (Ok None) = refl
+begun (Ok (Some tables)) = refl
+begun (Err code) = refl
+
+regrouped : (front middle : Option (List ℕ)) (r : Result (Option (List ℕ)) Code) → ((r >>= λ more. Ok (joined middle more)) >>= λ more. Ok (joined front more)) ≡ (r >>= λ more. Ok (joined (joined front middle) more))
+regrouped front middle (Ok more) = ap Ok (joins front middle more)
+regrouped front middle (Err code) = refl
+
+module _ (names : Names) where
+  pub tables_in-init : (words : List (Bor (List ℕ))) (front : List ℕ) → front ≡ [] → tables_in names [] (texts words) ≡ left names words 0 (Some front)
+  tables_in-init words front none = rw none (begun (tables_in names [] (texts words)))
+
+  one : (before words : List (List ℕ)) (word : List ℕ) (t : Option ℕ) → opened_at names word ≡ Ok t → is_among word before ≡ false → tables_in names before (word ∷ words) ≡ (tables_in names (before ++ word ∷ []) words >>= λ more. Ok (joined (alone t) more))
+  unfolding tables_in
+  one before words word t opened fresh = rw (opened, fresh) refl
+
+  twice : (before words : List (List ℕ)) (word : List ℕ) (t : Option ℕ) → opened_at names word ≡ Ok t → is_among word before ≡ true → tables_in names before (word ∷ words) ≡ Err Twice
+  unfolding tables_in
+  twice before words word t opened again = rw (opened, again) refl
+
+  refused : (before words : List (List ℕ)) (word : List ℕ) (code : Code) → opened_at names word ≡ Err code → tables_in names before (word ∷ words) ≡ Err code
+  unfolding tables_in
+  refused before words word code opened = rw opened refl
+
+  ended : (before : List (List ℕ)) → tables_in names before [] ≡ Ok (Some [])
+  unfolding tables_in
+  ended before = refl
+
+  module _ (words : List (Bor (List ℕ))) (i : ℕ) (d : Bor (List ℕ)) (front : Option (List ℕ)) (h : i < length words) (before : tables_in names [] (texts words) ≡ left names words i front) where
+    at_word : tables_in names [] (texts words) ≡ (tables_in names (take i (texts words)) ((get_or words i d).now ∷ drop (i + 1) (texts words)) >>= λ more. Ok (joined front more))
+    at_word = before ∙ ap (λ (t : List (List ℕ)). tables_in names (take i (texts words)) t >>= λ more. Ok (joined front more)) (dropped_next words i d h)
+
+    pub tables_in-turn : (t : Option ℕ) → opened_at names (get_or words i d).now ≡ Ok t → is_among (get_or words i d).now (take i (texts words)) ≡ false → tables_in names [] (texts words) ≡ left names words (i + 1) (joined front (alone t))
+    tables_in-turn t opened fresh =
+        at_word
+        ∙ ap (λ (r : Result (Option (List ℕ)) Code). r >>= λ more. Ok (joined front more)) (one (take i (texts words)) (drop (i + 1) (texts words)) (get_or words i d).now t opened fresh)
+        ∙ regrouped front (alone t) (tables_in names (take i (texts words) ++ (get_or words i d).now ∷ []) (drop (i + 1) (texts words)))
+        ∙ ap (λ (b : List (List ℕ)). tables_in names b (drop (i + 1) (texts words)) >>= λ more. Ok (joined (joined front (alone t)) more)) (sym (taken words i d h))
+
+    pub tables_in-twice : (t : Option ℕ) → opened_at names (get_or words i d).now ≡ Ok t → is_among (get_or words i d).now (take i (texts words)) ≡ true → tables_in names [] (texts words) ≡ Err Twice
+    tables_in-twice t opened again =
+        at_word ∙ ap (λ (r : Result (Option (List ℕ)) Code). r >>= λ more. Ok (joined front more)) (twice (take i (texts words)) (drop (i + 1) (texts words)) (get_or words i d).now t opened again)
+
+    pub tables_in-fault : (code : Code) → opened_at names (get_or words i d).now ≡ Err code → tables_in names [] (texts words) ≡ Err code
+    tables_in-fault code opened =
+        at_word ∙ ap (λ (r : Result (Option (List ℕ)) Code). r >>= λ more. Ok (joined front more)) (refused (take i (texts words)) (drop (i + 1) (texts words)) (get_or words i d).now code opened)
+
+  pub tables_in-end : (words : List (Bor (List ℕ))) (i : ℕ) (front : Option (List ℕ)) → length words ≤ i → tables_in names [] (texts words) ≡ left names words i front → tables_in names [] (texts words) ≡ Ok front
+  tables_in-end words i front h before =
+      before
+      ∙ ap (λ (t : List (List ℕ)). tables_in names (take i (texts words)) t >>= λ more. Ok (joined front more)) (dropped words i h)
+      ∙ ap (λ (r : Result (Option (List ℕ)) Code). r >>= λ more. Ok (joined front more)) (ended (take i (texts words)))
+      ∙ ap Ok (joined-end front)

@@ -161,6 +161,30 @@ fn a_stop_line_that_fails(rt: HostRuntime) -> Result<(), Fail> {
     Ok(())
 }
 
+// Behind how many lines of the declarations, the next line, and how the run ends.
+const DECLARATION_LIMITS: [(usize, &str, u8, &str); 5] = [
+    (0, "store S17\n", 7, "stop 7 1 7\n"),
+    (1, "table T65 x eventual 64 n:int\n", 7, "stop 7 2 4\n"),
+    (1, "table T65 X eventual 64 n:int\n", 3, "stop 3 2 5\n"),
+    (2, "client C65 - T1\n", 7, "stop 7 3 5\n"),
+    (2, "client C1 - T1,T1\n", 3, "stop 3 3 9\n"),
+];
+
+#[test]
+fn numbers_of_declarations_above_their_limits(rt: HostRuntime) -> Result<(), Fail> {
+    let declared = [
+        "store S1\n",
+        "table T1 notes eventual 64 n:int\n",
+        "client C1 - T1\n",
+    ];
+    for (lines, line, status, output) in DECLARATION_LIMITS {
+        let mut script = texts(rt.alloc(), &declared[..lines])?;
+        script.extend_from_slice(line.as_bytes())?;
+        limited(&rt, rt.alloc(), script, status, output)?;
+    }
+    Ok(())
+}
+
 fn limited(
     rt: &impl Abort,
     alloc: Global,
@@ -190,6 +214,47 @@ fn most_lines(rt: HostRuntime) -> Result<(), Fail> {
         7,
         "stop 7 1048577 2\n",
     )
+}
+
+// As many empty lines as there may be, and then so many bytes without a newline.
+fn most_lines_and(alloc: Global, bytes: usize) -> Result<Vec<u8>, Fail> {
+    let mut text = vec![in alloc; b'\n'; 1_048_576]?;
+    text.resize(1_048_576 + bytes, b'#')?;
+    Ok(text)
+}
+
+#[test]
+fn a_byte_behind_the_most_lines(rt: HostRuntime) -> Result<(), Fail> {
+    for bytes in [1, 34_603_008, 34_603_009] {
+        let text = most_lines_and(rt.alloc(), bytes)?;
+        limited(&rt, rt.alloc(), text, 7, "stop 7 1048577 2\n")?;
+    }
+    Ok(())
+}
+
+// Takes of 64 bytes: take 16,384 is the first behind the most lines.
+#[test]
+fn a_source_that_fails_behind_the_most_lines(rt: HostRuntime) -> Result<(), Fail> {
+    for (take, status, output) in [(16_384, 4, ""), (16_385, 7, "stop 7 1048577 2\n")] {
+        let text = most_lines_and(rt.alloc(), 640)?;
+        let (ended, written) = ends(rt.alloc(), "run", text, &[take], &[])?;
+        assert_eq!(rt; ended, status, "{take}");
+        assert!(rt; written.as_slice() == output.as_bytes(), "{take}");
+    }
+    Ok(())
+}
+
+// The most lines, of 64 bytes each, are the longest input: the next byte passes both limits.
+#[test]
+fn most_lines_of_the_longest_input(rt: HostRuntime) -> Result<(), Fail> {
+    let mut text = Vec::new(rt.alloc());
+    for _ in 0..1_048_576 {
+        text.extend_from_slice(
+            b"###############################################################\n",
+        )?;
+    }
+    text.push(b'#')?;
+    limited(&rt, rt.alloc(), text, 7, "stop 7 1048577 1\n")
 }
 
 #[test]

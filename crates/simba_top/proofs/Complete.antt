@@ -7,30 +7,32 @@ use Rattle.run_laws.proofs.Runs.{writes_few}
 use Rattle.stab_io.specs.Lines.{Next, Line, End, LineTooLong, InputTooLong}
 use Rattle.script_text.specs.declared.fault.BadLine.{BadLine}
 use Rattle.script_text.specs.Names.{Names, no_names}
-use Rattle.script_text.specs.Grammar.{IsFault}
+use Rattle.script_text.specs.Grammar.{IsPassed, Spells, IsFault, PassesLimit}
 use Rattle.simba_top.specs.World.{IsSpent}
 use Rattle.simba_top.specs.Script.{next_in, Behind, Spelled, IsFront, IsWhole}
 use Rattle.simba_top.specs.Ends.{IsBadAt, IsLimitAt}
 use Rattle.simba_top.proofs.Fronts.{Grammar, none_is_end, not_end, same_line, spelled_few, rest_of_front}
 
--- behind a front of a whole input stands its end, or a line that is no fault
-bad_apart : Grammar → (total : ℕ) (names after : Names) (rest : List ℕ) (lines : List (List ℕ)) (script : List Event) (line left : List ℕ) (fault : BadLine)
-    → Behind total rest lines [] → Spelled names lines script after → next_in total rest ≡ Line line left → IsFault names line fault → ⊥
-bad_apart grammar total names after rest [] script line left fault behind spelled next bad =
-    not_end total line left (subst (λ (b : List ℕ). next_in total b ≡ Line line left) (sym behind) next)
-bad_apart grammar total names after rest (same ∷ lines) script line left fault behind (inl s) next bad =
-    grammar.passed_fault names same fault s.0
-    (subst (λ (l : List ℕ). IsFault names l fault) (same_line total rest line same left behind.0 next behind.1) bad)
-bad_apart grammar total names after rest (same ∷ lines) script line left fault behind (inr s) next bad =
-    grammar.fault_spells names same s.0 fault s.3
-    (subst (λ (l : List ℕ). IsFault names l fault) (same_line total rest line same left behind.0 next behind.1) bad)
+-- behind a front of a whole input stands its end, or a line that is passed over or spells an event
+module _ (Is : Names → List ℕ → Type 0) (passed : (names : Names) (line : List ℕ) → IsPassed line → Is names line → ⊥)
+    (spells : (names : Names) (line : List ℕ) (event : Event) → Spells names line event → Is names line → ⊥) where
+  line_apart : (total : ℕ) (names after : Names) (rest : List ℕ) (lines : List (List ℕ)) (script : List Event) (line left : List ℕ)
+      → Behind total rest lines [] → Spelled names lines script after → next_in total rest ≡ Line line left → Is names line → ⊥
+  line_apart total names after rest [] script line left behind spelled next is =
+      not_end total line left (subst (λ (b : List ℕ). next_in total b ≡ Line line left) (sym behind) next)
+  line_apart total names after rest (same ∷ lines) script line left behind (inl s) next is =
+      passed names same s.0 (subst (λ (l : List ℕ). Is names l) (same_line total rest line same left behind.0 next behind.1) is)
+  line_apart total names after rest (same ∷ lines) script line left behind (inr s) next is =
+      spells names same s.0 s.3 (subst (λ (l : List ℕ). Is names l) (same_line total rest line same left behind.0 next behind.1) is)
 
 pub not_bad : Grammar → (input : List ℕ) (script whole : List Event) (count : ℕ) (fault : BadLine) → IsBadAt input script count fault → IsWhole input whole → ⊥
 not_bad grammar input script whole count fault bad all =
     let more = rest_of_front grammar input script whole count all.0 bad.names all.1 bad.rest bad.front all.2 in
-    bad_apart grammar (length input) bad.names all.1 bad.rest more.lines more.events bad.line bad.left fault more.behind more.spelled bad.next bad.bad
+    line_apart (λ names line. IsFault names line fault) (λ names line. grammar.passed_fault names line fault)
+    (λ names line event. grammar.fault_spells names line event fault)
+    (length input) bad.names all.1 bad.rest more.lines more.events bad.line bad.left more.behind more.spelled bad.next bad.bad
 
--- or a line and the end
+-- and no byte past a limit
 no_limit : (total : ℕ) (rest : List ℕ) (lines : List (List ℕ)) (next : Next) → Behind total rest lines [] → next_in total rest ≡ next
     → (next ≡ LineTooLong) ⊎ (next ≡ InputTooLong) → ⊥
 no_limit total rest [] next behind is which =
@@ -63,5 +65,9 @@ not_limit grammar input script whole count limit at all =
           (let longer = ap (λ (ls : List (List ℕ)). length ls) more.more ∙ length-append at.front.lines more.lines in
           omega (arith, p.1, longer, at.front.counted, all.2.counted, all.2.few, one_more (length input) at.rest more.lines more.behind p.2))
       | inr (inr (inl p)) ↦ no_limit (length input) at.rest more.lines LineTooLong more.behind p.2 (inl refl)
-      | inr (inr (inr p)) ↦ not_spent input script count at.names at.rest p.2.2 at.front p.2.5
+      | inr (inr (inr (inl p))) ↦ not_spent input script count at.names at.rest p.2.2 at.front p.2.5
+      | inr (inr (inr (inr p))) ↦
+          line_apart (λ names line. PassesLimit names line limit) (λ names line. grammar.passed_limit names line limit)
+          (λ names line event. grammar.spells_limit names line event limit)
+          (length input) at.names all.1 at.rest more.lines more.events p.1.0 p.1.1 more.behind more.spelled p.1.2 p.1.3
     ]

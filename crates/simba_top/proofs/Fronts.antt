@@ -4,7 +4,7 @@ use Rattle.table_model.specs.declared.event.Event.{Event}
 use Rattle.stab_io.specs.Lines.{Line, End, next_of}
 use Rattle.script_text.specs.declared.fault.BadLine.{BadLine}
 use Rattle.script_text.specs.Names.{Names, no_names, with_event}
-use Rattle.script_text.specs.Grammar.{IsPassed, Spells, IsFault}
+use Rattle.script_text.specs.Grammar.{IsPassed, Spells, IsFault, PassesLimit}
 use Rattle.simba_top.specs.declared.run.TheConstants.{MOST_LINES}
 use Rattle.simba_top.specs.Script.{next_in, Behind, Spelled, IsFront, IsWhole}
 
@@ -14,6 +14,8 @@ pub record Grammar : Type 0 where
   pub passed_spells : (names : Names) (line : List ℕ) (event : Event) → IsPassed line → Spells names line event → ⊥
   pub passed_fault : (names : Names) (line : List ℕ) (fault : BadLine) → IsPassed line → IsFault names line fault → ⊥
   pub fault_spells : (names : Names) (line : List ℕ) (event : Event) (fault : BadLine) → Spells names line event → IsFault names line fault → ⊥
+  pub passed_limit : (names : Names) (line : List ℕ) (limit : ℕ) → IsPassed line → PassesLimit names line limit → ⊥
+  pub spells_limit : (names : Names) (line : List ℕ) (event : Event) (limit : ℕ) → Spells names line event → PassesLimit names line limit → ⊥
 
 pub none_is_end : (total : ℕ) → next_in total [] ≡ End
 unfolding next_of

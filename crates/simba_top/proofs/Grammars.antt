@@ -1,7 +1,8 @@
--- A line has one meaning behind the same names: it is passed over, spells one event, or is at fault.
+-- A line has one meaning behind the same names: it is passed over, spells one event, is at fault, or passes a
+-- limit.
 use Rattle.script_text.specs.Words.{words_of}
 use Rattle.script_text.proofs.Spelled.{one_event}
-use Rattle.script_text.proofs.FaultLaws.{passed_event, fault_apart}
+use Rattle.script_text.proofs.FaultLaws.{passed_event, fault_apart, limit_event}
 use Rattle.simba_top.proofs.Fronts.{Grammar}
 
 pub grammar : Grammar
@@ -10,4 +11,6 @@ grammar = record {
   passed_spells = passed_event;
   passed_fault = λ names line fault p q. q.0 p;
   fault_spells = λ names line event fault. fault_apart names fault line event;
+  passed_limit = λ names line limit p q. q.0 p;
+  spells_limit = λ names line event limit. limit_event names limit line event;
 }

@@ -8,7 +8,7 @@ use Rattle.stab_io.specs.declared.limits.TheConstants.{LINE_LIMIT, INPUT_LIMIT}
 use Rattle.stab_io.specs.Lines.{Line, LineTooLong, InputTooLong, HasNoNewline}
 use Rattle.script_text.specs.declared.fault.BadLine.{BadLine}
 use Rattle.script_text.specs.Names.{Names}
-use Rattle.script_text.specs.Grammar.{Spells, IsFault}
+use Rattle.script_text.specs.Grammar.{Spells, IsFault, PassesLimit}
 use Rattle.script_text.specs.Text.{stop_text, transcript_text}
 use Rattle.simba_top.specs.declared.run.TheConstants.{MOST_LINES}
 use Rattle.simba_top.specs.World.{IsSpent}
@@ -38,14 +38,17 @@ abbrev pub IsFull : List ℕ → List ℕ → Type 0
 IsFull input rest = length input - length rest ≡ INPUT_LIMIT
 
 -- the line behind these is the first that passes a limit: 1 the input's bytes, 2 its lines, 3 the bytes of a line,
--- 11 the numbers of a client's writes. The first byte past a limit decides, so behind the most lines any byte does
+-- 11 the numbers of a client's writes, or one on what the line declares. The first byte past a limit decides, so behind
+-- the most lines any byte does, whatever is behind it
 abbrev pub Passes : List ℕ → List Event → ℕ → Names → List ℕ → ℕ → Type 0
 Passes input script count names rest limit =
     ((limit ≡ 1) × (next_in (length input) rest ≡ InputTooLong) × ((count < MOST_LINES) ⊎ IsFull input rest))
     ⊎ (((limit ≡ 2) × (count ≡ MOST_LINES) × (0 < length rest) × (length input - length rest < INPUT_LIMIT))
     ⊎ (((limit ≡ 3) × (count < MOST_LINES) × (next_in (length input) rest ≡ LineTooLong))
-    ⊎ ((limit ≡ 11) × (count < MOST_LINES) × ((line : List ℕ) × (left : List ℕ) × (event : Event)
-    × (next_in (length input) rest ≡ Line line left) × Spells names line event × IsSpent (transcript script) event))))
+    ⊎ (((limit ≡ 11) × (count < MOST_LINES) × ((line : List ℕ) × (left : List ℕ) × (event : Event)
+    × (next_in (length input) rest ≡ Line line left) × Spells names line event × IsSpent (transcript script) event))
+    ⊎ ((count < MOST_LINES) × ((line : List ℕ) × (left : List ℕ)
+    × (next_in (length input) rest ≡ Line line left) × PassesLimit names line limit)))))
 
 pub record IsLimitAt (input : List ℕ) (script : List Event) (count limit : ℕ) : Type 0 where
   pub names : Names

@@ -17,6 +17,7 @@ of_line line_faults.Memory = Memory
 
 abbrev pub of_script : ScriptFault → Stop
 of_script (script_faults.BadLine fault) = BadLine fault
+of_script (script_faults.Limit limit) = Limit limit
 of_script script_faults.Memory = Memory
 
 abbrev pub of_world : WorldFault → Stop

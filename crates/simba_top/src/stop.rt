@@ -41,6 +41,7 @@ impl From<ScriptFault> for Stop {
     fn from(fault: ScriptFault) -> Stop {
         match fault {
             ScriptFault::BadLine(fault) => Stop::BadLine(fault),
+            ScriptFault::Limit(limit) => Stop::Limit(limit),
             ScriptFault::Memory => Stop::Memory,
         }
     }

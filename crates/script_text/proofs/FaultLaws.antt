@@ -1,5 +1,5 @@
 -- A line has one first word at fault, and none where it spells an event or passes a limit.
-use Rattle.std.proofs.Common.{◌≡◌, ◌≢◌, ℕ, List, [], ◌∷◌, codes, Option, Some, None, Result, Ok, Err, refl, sym, ap, ◌∙◌, subst, inl, inr, true≢false}
+use Rattle.std.proofs.Common.{◌≡◌, ◌≢◌, ℕ, List, [], ◌∷◌, Some, None, Ok, Err, refl, sym, ap, ◌∙◌, subst, inl, inr, true≢false}
 use Rattle.table_model.specs.declared.event.Event.{Event}
 use Rattle.table_model.specs.declared.event.Event.TheVariants as events
 use Rattle.script_text.specs.declared.fault.BadLine.{BadLine}
@@ -8,8 +8,6 @@ use Rattle.script_text.specs.declared.verb.Verb.TheVariants as verbs
 use Rattle.script_text.specs.Verbs.{verb_of, name_of}
 use Rattle.script_text.specs.Names.{Names}
 use Rattle.script_text.specs.Words.{words_of}
-use Rattle.script_text.specs.Places.{passed, store_number, table_number, client_number, tables_passed, parts_at}
-use Rattle.script_text.specs.Reading.{words_in}
 use Rattle.script_text.specs.Grammar.{IsPassed, Spells, SpelledBy, IsFault, limits_of, first_limit, WordsLimit, PassesLimit}
 use Rattle.script_text.proofs.PlaceLemmas.{none_some, some_same}
 use Rattle.script_text.proofs.Readings.{verb-again, words-fault}

@@ -1,8 +1,8 @@
 -- What the words of a line spell that reads well, and where the first fault of one is that doesn't.
-use Rattle.std.proofs.Common.{◌≡◌, ◌≢◌, ◌⊎◌, ℕ, ◌+◌, Bool, true, false, List, [], ◌∷◌, ◌++◌, map, drop, codes, cond, Option, Some, None, Result, Ok, Err, ℤ, refl, sym, ap, ◌∙◌, subst, inl, inr}
+use Rattle.std.proofs.Common.{◌≡◌, ◌≢◌, ◌⊎◌, ℕ, ◌+◌, Bool, true, false, List, [], ◌∷◌, map, drop, codes, cond, Option, Some, None, Result, Ok, Err, ℤ, refl, sym, ap, ◌∙◌, subst, inl, inr}
 use Rattle.std.specs.Option.{MatchOption}
 use Rattle.std.specs.Result.{MatchResult}
-use Rattle.std.specs.Fmt.{decimal, signed_decimal}
+use Rattle.std.specs.Fmt.{signed_decimal}
 use Rattle.std.specs.Str.{bytes_eq}
 use Rattle.std.proofs.lemmas.Bool.{cases_Bool}
 use Rattle.std.proofs.lemmas.Slice.Eq.{bytes_eq-Decides}

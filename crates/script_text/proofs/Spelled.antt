@@ -14,7 +14,7 @@ use Rattle.script_text.specs.declared.fault.BadLine.{BadLine}
 use Rattle.script_text.specs.declared.verb.Verb.{Verb}
 use Rattle.script_text.specs.declared.verb.Verb.TheVariants as verbs
 use Rattle.script_text.specs.Faults.{bad}
-use Rattle.script_text.specs.Verbs.{verb_of, name_of}
+use Rattle.script_text.specs.Verbs.{name_of}
 use Rattle.script_text.specs.Names.{Names, has_no_store}
 use Rattle.script_text.specs.Reading.{next_in, word_in, end_in, columns_end_in, store_in, table_in, client_in, cell_in, cells_in, some_cells_in, write_in, show_in, made_table, unlimited, in_time, built_in, event_in, words_in}
 use Rattle.script_text.specs.Grammar.{SpelledBy, SpellsStore, SpellsTable, SpellsClient, SpellsWrite, SpellsShow, AreShort}
@@ -64,24 +64,25 @@ module _ (names : Names) where
   show-right : (ws : List (List ℕ)) (client table : ℕ) (row : List ℕ) → SpellsShow names ws client table row → words_in names ws ≡ Ok (Ok (Some (events.Show client table row)))
   unfolding show_in
   show-right ws client table row h =
-      rw (h.1, h.2, h.3)
-      (event_in-right names verbs.Show (codes "C1" ∷ codes "T1" ∷ h.0 ∷ []) (events.Show 1 1 row)
-      (ap unlimited
+      let read : show_in names (codes "C1" ∷ codes "T1" ∷ h.0 ∷ []) ≡ Ok (events.Show 1 1 row) =
       (word_in-right 1 _ (codes "C1") _ _ 1 (client_at-right names h.5)
       ∙ word_in-right 2 _ (codes "T1") _ _ 1 (table_at-right names h.6)
       ∙ word_in-right 3 _ h.0 _ _ row (row_at-right h.0 row h.4)
-      ∙ rw (end_in-right 4) refl)))
+      ∙ rw (end_in-right 4) refl)
+      in
+      rw (h.1, h.2, h.3) (event_in-right names verbs.Show (codes "C1" ∷ codes "T1" ∷ h.0 ∷ []) (events.Show 1 1 row) (ap unlimited read))
 
   write-right : (ws : List (List ℕ)) (client table : ℕ) (row : List ℕ) (content : Content) → SpellsWrite names ws client table row content → words_in names ws ≡ Ok (Ok (Some (events.Write client table row content)))
   unfolding write_in
   write-right ws client table row content h =
-      rw (h.2, h.3, h.4, h.6)
-      (event_in-right names verbs.Write (codes "C1" ∷ codes "T1" ∷ h.0 ∷ map signed_decimal h.1) (events.Write 1 1 row (Row (map cells.Int h.1) []))
-      (ap unlimited
+      let read : write_in names (codes "C1" ∷ codes "T1" ∷ h.0 ∷ map signed_decimal h.1) ≡ Ok (events.Write 1 1 row (Row (map cells.Int h.1) [])) =
       (word_in-right 1 _ (codes "C1") _ _ 1 (client_at-right names h.9)
       ∙ word_in-right 2 _ (codes "T1") _ _ 1 (table_at-right names h.10)
       ∙ word_in-right 3 _ h.0 _ _ row (row_at-right h.0 row h.5)
-      ∙ rw (some_cells_in-right 4 h.1 h.7 h.8) refl)))
+      ∙ rw (some_cells_in-right 4 h.1 h.7 h.8) refl)
+      in
+      rw (h.2, h.3, h.4, h.6)
+      (event_in-right names verbs.Write (codes "C1" ∷ codes "T1" ∷ h.0 ∷ map signed_decimal h.1) (events.Write 1 1 row (Row (map cells.Int h.1) [])) (ap unlimited read))
 
   client-right : (ws : List (List ℕ)) (client : ℕ) (gate : Option ℕ) (tables : List ℕ) → SpellsClient names ws client gate tables → words_in names ws ≡ Ok (Ok (Some (events.Client client gate tables)))
   unfolding client_in

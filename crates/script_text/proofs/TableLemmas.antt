@@ -1,7 +1,7 @@
 -- Lists of tables that a client opens.
-use Rattle.std.proofs.Common.{◌≡◌, ◌≢◌, ℕ, ◌+◌, ◌<◌, ◌≤◌, Bool, true, false, not, ◌||◌, eqb, cond, List, [], ◌∷◌, ◌++◌, codes, length, take, drop, get_or, Option, Some, None, Result, Ok, Err, refl, sym, ap, ◌∙◌, subst, inl, inr, arith, append_assoc, append-nil, add-one, zero, suc, true≢false}
+use Rattle.std.proofs.Common.{◌≡◌, ◌≢◌, ℕ, ◌+◌, ◌<◌, ◌≤◌, Bool, true, false, not, ◌||◌, cond, List, [], ◌∷◌, ◌++◌, codes, length, take, drop, get_or, Option, Some, None, Result, Ok, Err, refl, sym, ap, ◌∙◌, subst, arith, append_assoc, append-nil, add-one, zero, suc, true≢false}
 use Rattle.std.specs.Borrow.{Bor}
-use Rattle.std.specs.List.{list_any, slice_split, join_with_byte}
+use Rattle.std.specs.List.{list_any, join_with_byte}
 use Rattle.std.specs.Ordering.{nat_cmp, match_ordering}
 use Rattle.std.specs.declared.cmp.Ordering.{Ordering}
 use Rattle.std.specs.declared.cmp.Ordering.TheVariants.{Less, Equal, Greater}
@@ -20,7 +20,7 @@ use Rattle.script_text.specs.declared.fault.Code.TheVariants.{Twice, Unbuilt}
 use Rattle.script_text.specs.Names.{Names, has_table}
 use Rattle.script_text.specs.Words.{texts}
 use Rattle.script_text.specs.Verbs.{is_among}
-use Rattle.script_text.specs.Places.{◌>>=◌, is_comma, or_else, passed, table_number, opened_at, joined, alone, tables_in, parts_at, tables_at, tables_passed}
+use Rattle.script_text.specs.Places.{◌>>=◌, opened_at, joined, alone, tables_in, parts_at, tables_at, tables_passed}
 use Rattle.script_text.proofs.CellLemmas.{dropped, dropped_next}
 use Rattle.script_text.proofs.Steps.{bind-ok}
 use Rattle.script_text.proofs.PlaceLemmas.{unless-ok, some_same, ok_same, none_some, opened_at-ok, opened_at-within, opened_at-limit}

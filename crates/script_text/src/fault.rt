@@ -60,14 +60,17 @@ impl From<Code> for ValueFault {
 
 /// The number of the limit on tables, and how many there may be.
 pub(crate) const TABLES: u32 = 4;
+
 pub(crate) const MOST_TABLES: u32 = 64;
 
 /// The number of the limit on clients, and how many there may be.
 pub(crate) const CLIENTS: u32 = 5;
+
 pub(crate) const MOST_CLIENTS: u32 = 64;
 
 /// The number of the limit on Stores, and how many there may be.
 pub(crate) const STORES: u32 = 7;
+
 pub(crate) const MOST_STORES: u32 = 16;
 
 /// The first word at fault, counted from 0, and the code of its fault, from 1 to 12.

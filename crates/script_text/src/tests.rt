@@ -30,7 +30,16 @@ fn judged(alloc: Global, line: &[u8], names: &Declared) -> Result<(u32, usize), 
     match parse_line(alloc, line, names) {
         Ok(_) => Ok((0, 0)),
         Err(ScriptFault::BadLine(fault)) => Ok((fault.code, fault.word)),
-        Err(ScriptFault::Memory) => Err(ScriptFault::Memory.into()),
+        Err(other) => Err(other.into()),
+    }
+}
+
+// The number of the limit that a line passes; 0 for none.
+fn passed(alloc: Global, line: &[u8], names: &Declared) -> Result<u32, Fail> {
+    match parse_line(alloc, line, names) {
+        Ok(_) => Ok(0),
+        Err(ScriptFault::Limit(limit)) => Ok(limit),
+        Err(other) => Err(other.into()),
     }
 }
 
@@ -50,7 +59,7 @@ fn check(
     Ok(())
 }
 
-const AT_THE_START: [(&str, u32, usize); 33] = [
+const AT_THE_START: [(&str, u32, usize); 43] = [
     ("", 0, 0),
     ("   ", 0, 0),
     ("# a remark", 0, 0),
@@ -69,14 +78,24 @@ const AT_THE_START: [(&str, u32, usize); 33] = [
     ("store S01", 5, 1),
     ("store G1", 5, 1),
     ("store S2", 12, 1),
+    ("store S16", 12, 1),
     ("store S2 S1", 12, 1),
     ("table", 8, 0),
     (TABLE, 8, 0),
     (CLIENT, 8, 3),
-    ("client C1 - T65", 12, 3),
     ("client C1 - -", 12, 3),
-    ("client C1 - T1,T2", 12, 3),
-    ("client C1 - T1,x", 5, 3),
+    ("client C1 - T1,T2", 8, 3),
+    ("client C1 - T1,x", 8, 3),
+    ("client C1 - x,T1", 5, 3),
+    ("client C1 - T65,", 5, 3),
+    ("client C1 - T65,T65", 9, 3),
+    ("client C1 - T65,T2", 8, 3),
+    ("client C1 - T65 T1", 3, 4),
+    ("client C1 G17 T65", 12, 2),
+    ("client C65 G1 T65", 12, 2),
+    ("client C65 - T1", 8, 3),
+    ("client C65", 2, 2),
+    ("store S17 S1", 3, 2),
     ("client C1 - S1", 5, 3),
     ("client C1 G1 T1", 12, 2),
     ("client C1 x T1", 5, 2),
@@ -92,10 +111,14 @@ fn refusals_at_the_start(rt: HostRuntime) -> Result<(), Fail> {
     check(&rt, rt.alloc(), &names, &AT_THE_START)
 }
 
-const BEHIND_A_STORE: [(&str, u32, usize); 18] = [
+const BEHIND_A_STORE: [(&str, u32, usize); 22] = [
     (STORE, 9, 1),
     ("table T2 notes eventual 64 n:int", 12, 1),
     ("table t1 notes eventual 64 n:int", 5, 1),
+    ("table T65 Notes eventual 64 n:int", 5, 2),
+    ("table T65 notes strong 64 n:int", 12, 3),
+    ("table T65 notes eventual 64 n:int n:int", 9, 6),
+    ("table T65 notes eventual 64", 2, 5),
     ("table T1 Notes eventual 64 n:int", 5, 2),
     ("table T1 1 eventual 64 n:int", 5, 2),
     ("table T1 notes strong 64 n:int", 12, 3),
@@ -119,9 +142,11 @@ fn refusals_behind_a_store(rt: HostRuntime) -> Result<(), Fail> {
     check(&rt, rt.alloc(), &names, &BEHIND_A_STORE)
 }
 
-const BEHIND_DECLARATIONS: [(&str, u32, usize); 24] = [
+const BEHIND_DECLARATIONS: [(&str, u32, usize); 26] = [
     (TABLE, 9, 1),
     (CLIENT, 9, 1),
+    ("client C65 - T1,T1", 9, 3),
+    ("write C65 T1 00000000-0000-4000-8000-00000000000a 5", 8, 1),
     ("write C2 T1 00000000-0000-4000-8000-00000000000a 5", 8, 1),
     ("write C1 T2 00000000-0000-4000-8000-00000000000a 5", 8, 2),
     ("write C1 T1 00000000-0000-4000-8000-00000000000 5", 6, 3),
@@ -190,6 +215,32 @@ const BEHIND_DECLARATIONS: [(&str, u32, usize); 24] = [
 fn refusals_behind_all_declarations(rt: HostRuntime) -> Result<(), Fail> {
     let names = behind(rt.alloc(), &[STORE, TABLE, CLIENT])?;
     check(&rt, rt.alloc(), &names, &BEHIND_DECLARATIONS)
+}
+
+const PASSED: [(&str, u32); 8] = [
+    ("store S17", 7),
+    ("store S4294967297", 7),
+    ("table T65 notes2 eventual 64 n:int", 4),
+    ("client C65 - T1", 5),
+    ("client C65 - T65", 5),
+    ("client C1 - T65", 4),
+    ("client C65 - T1,T65", 5),
+    ("client C18446744073709551617 - T65,T1,T66", 5),
+];
+
+#[test]
+fn numbers_above_their_limits(rt: HostRuntime) -> Result<(), Fail> {
+    let alloc = rt.alloc();
+    let names = behind(alloc, &[STORE, TABLE])?;
+    for (line, limit) in PASSED {
+        assert_eq!(rt; passed(alloc, line.as_bytes(), &names)?, limit, "{line}");
+    }
+    let mut line = Vec::from_slice(alloc, b"client C1 - T1")?;
+    for _ in 0..2000 {
+        line.push(b'0')?;
+    }
+    assert_eq!(rt; passed(alloc, &line, &names)?, 4);
+    Ok(())
 }
 
 const BEHIND_AN_EVENT: [(&str, u32, usize); 6] = [

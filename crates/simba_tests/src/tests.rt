@@ -216,27 +216,25 @@ fn most_lines(rt: HostRuntime) -> Result<(), Fail> {
     )
 }
 
-// As many empty lines as there may be, and then so many bytes without a newline.
-fn most_lines_and(alloc: Global, bytes: usize) -> Result<Vec<u8>, Fail> {
+// As many empty lines as there may be, and then a line that fills up to so many bytes.
+fn most_lines_and(alloc: Global, len: usize) -> Result<Vec<u8>, Fail> {
     let mut text = vec![in alloc; b'\n'; 1_048_576]?;
-    text.resize(1_048_576 + bytes, b'#')?;
+    text.resize(len, b'#')?;
     Ok(text)
 }
 
+// The line too many has 34,603,009 bytes, one more than a line may have.
 #[test]
-fn a_byte_behind_the_most_lines(rt: HostRuntime) -> Result<(), Fail> {
-    for bytes in [1, 34_603_008, 34_603_009] {
-        let text = most_lines_and(rt.alloc(), bytes)?;
-        limited(&rt, rt.alloc(), text, 7, "stop 7 1048577 2\n")?;
-    }
-    Ok(())
+fn a_long_line_behind_the_most_lines(rt: HostRuntime) -> Result<(), Fail> {
+    let text = most_lines_and(rt.alloc(), 35_651_585)?;
+    limited(&rt, rt.alloc(), text, 7, "stop 7 1048577 2\n")
 }
 
 // Takes of 64 bytes: take 16,384 is the first behind the most lines.
 #[test]
 fn a_source_that_fails_behind_the_most_lines(rt: HostRuntime) -> Result<(), Fail> {
     for (take, status, output) in [(16_384, 4, ""), (16_385, 7, "stop 7 1048577 2\n")] {
-        let text = most_lines_and(rt.alloc(), 640)?;
+        let text = most_lines_and(rt.alloc(), 1_049_216)?;
         let (ended, written) = ends(rt.alloc(), "run", text, &[take], &[])?;
         assert_eq!(rt; ended, status, "{take}");
         assert!(rt; written.as_slice() == output.as_bytes(), "{take}");
@@ -244,16 +242,14 @@ fn a_source_that_fails_behind_the_most_lines(rt: HostRuntime) -> Result<(), Fail
     Ok(())
 }
 
-// The most lines, of 64 bytes each, are the longest input: the next byte passes both limits.
+// The most lines, of as many bytes as an input may have: the next byte passes both limits.
 #[test]
 fn most_lines_of_the_longest_input(rt: HostRuntime) -> Result<(), Fail> {
-    let mut text = Vec::new(rt.alloc());
-    for _ in 0..1_048_576 {
-        text.extend_from_slice(
-            b"###############################################################\n",
-        )?;
-    }
-    text.push(b'#')?;
+    let mut text = vec![in rt.alloc(); b'\n'; 1_048_574]?;
+    text.resize(34_078_718, b'#')?;
+    text.push(b'\n')?;
+    text.resize(67_108_863, b'#')?;
+    text.extend_from_slice(b"\n#")?;
     limited(&rt, rt.alloc(), text, 7, "stop 7 1048577 1\n")
 }
 

@@ -10,7 +10,7 @@ grammar = record {
   one_event = λ names line a b p q. one_event names (words_of line) a b p.2 q.2;
   passed_spells = passed_event;
   passed_fault = λ names line fault p q. q.0 p;
-  fault_spells = λ names line event fault. fault_apart names fault line event;
+  fault_spells = λ names line event fault. fault_apart names line event fault;
   passed_limit = λ names line limit p q. q.0 p;
   spells_limit = λ names line event limit. limit_event names limit line event;
 }

@@ -22,7 +22,7 @@ use Rattle.step_tables.specs.declared.slots.Main.{Main}
 use Rattle.step_tables.specs.declared.slots.Out.{Out}
 use Rattle.step_tables.specs.declared.slots.Shadow.{Shadow}
 use Rattle.step_tables.specs.declared.slots.Slots.{Slots}
-use Rattle.step_tables.specs.Store.{Stored, entries_of, pull_answer}
+use Rattle.step_tables.specs.Store.{Stored, entries_of, pull_answer, yours_of}
 use Rattle.step_tables.specs.Client.{Client, ClientTable, slots_at, table_at, version_in}
 use Rattle.run_laws.specs.World.{World, Packet, stored_at, client_at}
 use Rattle.run_laws.specs.Lines.{read_of, open_write, position_of, content_at, is_acked}
@@ -30,11 +30,13 @@ use Rattle.run_laws.specs.Sound.{Among, HasWrite, HasEntry, HasEntryOf}
 
 -- ---- writes
 
--- the numbers of each client's writes are 1, 2, 3, each once
+-- the numbers of each client's writes are 1, 2, 3, each once, and a client's last write on a row has the greatest
 pub record WritesKept (before : List TextLine) : Type 0 where
   pub least : (write : Write) → Among (all_writes before) write → 0 < write.number
   pub most : (write : Write) → Among (all_writes before) write → write.number ≤ length (writes_of write.client before)
   pub once : (a b : Write) → Among (all_writes before) a → Among (all_writes before) b → a.client ≡ b.client → a.number ≡ b.number → a ≡ b
+  pub newest : (write last : Write) → Among (all_writes before) write
+    → last_write write.client write.table write.row before ≡ Some last → write.number ≤ last.number
 
 -- the write of this number stands in the lines, with this content
 abbrev pub Wrote : List TextLine → ℕ → ℕ → ℕ → List ℕ → Content → Type 0
@@ -97,6 +99,9 @@ pub record TableKept (packets : List Packet) (before : List TextLine) (table : �
   pub written : (s : Stored) → Among stored s → Wrote before s.entry.client s.entry.number table s.entry.row s.content
   pub requested : (s : Stored) → Among stored s → Requested packets s.entry.client table s.entry.row s.entry.number
   pub content : (s : Stored) → Among stored s → content_at table s.entry.version before ≡ Some s.content
+  -- among its first entries, a client's last one on a row has the greatest number
+  pub newest : (count : ℕ) (s : Stored) → Among (take count stored) s
+    → s.entry.number ≤ (yours_of (take count stored) s.entry.client s.entry.row).number
 
 -- ---- a client
 

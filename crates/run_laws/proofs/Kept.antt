@@ -1,7 +1,8 @@
 -- What a world keeps of the lines that its events have written. It is split by node: each table of the Store, each
 -- client and each packet has its part.
 use Rattle.std.proofs.Common.{◌≡◌, ◌≢◌, ◌⊎◌, ℕ, ◌+◌, ◌<◌, ◌≤◌, List, [], ◌∷◌, ◌++◌, length, take, Option, Some, None}
-use Rattle.std.specs.Prelude.{option_map}
+use Rattle.std.specs.Prelude.{true, option_map}
+use Rattle.std.specs.declared.cmp.Ordering.TheVariants.{Less}
 use Rattle.row_value.specs.declared.content.Content.{Content}
 use Rattle.table_model.specs.declared.entry.Entry.{Entry}
 use Rattle.table_model.specs.declared.line.TextLine.{TextLine}
@@ -22,21 +23,23 @@ use Rattle.step_tables.specs.declared.slots.Main.{Main}
 use Rattle.step_tables.specs.declared.slots.Out.{Out}
 use Rattle.step_tables.specs.declared.slots.Shadow.{Shadow}
 use Rattle.step_tables.specs.declared.slots.Slots.{Slots}
-use Rattle.step_tables.specs.Store.{Stored, entries_of, pull_answer, yours_of}
-use Rattle.step_tables.specs.Client.{Client, ClientTable, slots_at, table_at, version_in}
+use Rattle.step_tables.specs.Store.{Stored, entries_of, pull_answer}
+use Rattle.step_tables.specs.Client.{Client, ClientTable, row_cmp, slots_at, table_at, version_in}
 use Rattle.run_laws.specs.World.{World, Packet, stored_at, client_at}
 use Rattle.run_laws.specs.Lines.{read_of, open_write, position_of, content_at, is_acked}
 use Rattle.run_laws.specs.Sound.{Among, HasWrite, HasEntry, HasEntryOf}
 
 -- ---- writes
 
--- the numbers of each client's writes are 1, 2, 3, each once, and a client's last write on a row has the greatest
+-- the numbers of each client's writes are 1, 2, 3, each once, no other is told as accepted, and a client's last write
+-- on a row has the greatest
 pub record WritesKept (before : List TextLine) : Type 0 where
   pub least : (write : Write) → Among (all_writes before) write → 0 < write.number
   pub most : (write : Write) → Among (all_writes before) write → write.number ≤ length (writes_of write.client before)
   pub once : (a b : Write) → Among (all_writes before) a → Among (all_writes before) b → a.client ≡ b.client → a.number ≡ b.number → a ≡ b
   pub newest : (write last : Write) → Among (all_writes before) write
     → last_write write.client write.table write.row before ≡ Some last → write.number ≤ last.number
+  pub acked : (client number : ℕ) → is_acked client number before ≡ true → number ≤ length (writes_of client before)
 
 -- the write of this number stands in the lines, with this content
 abbrev pub Wrote : List TextLine → ℕ → ℕ → ℕ → List ℕ → Content → Type 0
@@ -99,9 +102,8 @@ pub record TableKept (packets : List Packet) (before : List TextLine) (table : �
   pub written : (s : Stored) → Among stored s → Wrote before s.entry.client s.entry.number table s.entry.row s.content
   pub requested : (s : Stored) → Among stored s → Requested packets s.entry.client table s.entry.row s.entry.number
   pub content : (s : Stored) → Among stored s → content_at table s.entry.version before ≡ Some s.content
-  -- among its first entries, a client's last one on a row has the greatest number
-  pub newest : (count : ℕ) (s : Stored) → Among (take count stored) s
-    → s.entry.number ≤ (yours_of (take count stored) s.entry.client s.entry.row).number
+  pub rises : (a b : Stored) → Among stored a → Among stored b → a.entry.client ≡ b.entry.client → a.entry.row ≡ b.entry.row
+    → a.entry.version < b.entry.version → a.entry.number < b.entry.number
 
 -- ---- a client
 
@@ -128,9 +130,15 @@ pub record SlotsKept (packets : List Packet) (before : List TextLine) (client ta
   pub unsent : (main : Main) → slots.main ≡ Some main → slots.out ≡ None
     → (number : ℕ) → Requested packets client table row number → number < main.number
 
+-- the ids of the rows rise
+unfoldable pub Rising : List (List ℕ × Slots) → Type 0
+Rising [] = Unit {0}
+Rising (entry ∷ rows) = ((other : List ℕ × Slots) → Among rows other → row_cmp entry.0 other.0 ≡ Less) × Rising rows
+
 -- a table at a client: its position is below the table's version, and what it covers has been read
 pub record OpenedKept (packets : List Packet) (before : List TextLine) (client table : ℕ) (opened : ClientTable) : Type 0 where
   pub slots : (row : List ℕ) → SlotsKept packets before client table row (slots_at opened row)
+  pub rising : Rising opened.rows
   pub position : opened.position ≡ position_of client table before
   pub behind : opened.position ≤ length (history_of table before)
   pub covered : (row : List ℕ) → current (history_of table before) row ≤ opened.position

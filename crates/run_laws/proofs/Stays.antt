@@ -18,7 +18,7 @@ use Rattle.run_laws.specs.Lines.{read_of, open_write, position_of, content_at}
 use Rattle.run_laws.specs.Sound.{Among, HasEntry}
 use Rattle.run_laws.proofs.Lists.{among_left, among_cases, last_where-push}
 use Rattle.run_laws.proofs.Appends.{all_writes-append, writes_of-append, history_of-append, last_write-append}
-use Rattle.run_laws.proofs.Silence.{Silent, silent_writes_of, silent_read, silent_position, silent_open}
+use Rattle.run_laws.proofs.Silence.{Silent, silent_writes_of, silent_read, silent_position, silent_acks, silent_open}
 use Rattle.run_laws.proofs.Grows.{requested_more, write_stays, Wrote-more, HasEntry-more, HasBase-more, content_at-more}
 use Rattle.run_laws.proofs.Kept.{WritesKept, Wrote, Requested, Counts, TableKept, OutKept, SlotsKept, OpenedKept, ClientKept, AbsentKept, main_of}
 
@@ -38,14 +38,16 @@ tells_nothing before more none =
 
 -- ---- writes
 
-pub WritesKept-stays : (before more : List TextLine) → all_writes more ≡ [] → WritesKept before → WritesKept (before ++ more)
-WritesKept-stays before more none k =
+pub WritesKept-stays : (before more : List TextLine) → all_writes more ≡ [] → ((client : ℕ) → Silent client more) → WritesKept before → WritesKept (before ++ more)
+WritesKept-stays before more none silent k =
     let same : all_writes (before ++ more) ≡ all_writes before = tells_nothing before more none in
     record {
       least = λ write a. k.least write (subst (λ (ws : List Write). Among ws write) same a);
       most = λ write a. rw same (k.most write (subst (λ (ws : List Write). Among ws write) same a));
       once = λ a b x y. k.once a b (subst (λ (ws : List Write). Among ws a) same x) (subst (λ (ws : List Write). Among ws b) same y);
       newest = λ write last a at. k.newest write last (subst (λ (ws : List Write). Among ws write) same a) (rw same at at);
+      acked = λ client number is.
+          rw (silent_writes_of client before more (silent client)) (k.acked client number (sym (silent_acks client before more (silent client) number) ∙ is));
     }
 
 -- ---- a table of the Store
@@ -58,7 +60,7 @@ TableKept-stays packets more_packets before more table stored none k = record {
   written = λ s a. Wrote-more before more s.entry.client s.entry.number table s.entry.row s.content (k.written s a);
   requested = λ s a. requested_more packets more_packets s.entry.client table s.entry.row s.entry.number (k.requested s a);
   content = λ s a. content_at-more before more table s.entry.version s.content (k.content s a);
-  newest = k.newest;
+  rises = k.rises;
 }
 
 -- ---- a client
@@ -134,6 +136,7 @@ module _ (packets later_packets : List Packet) (before more : List TextLine) (cl
   OpenedKept-stays : (table : ℕ) (opened : ClientTable) → OpenedKept packets before client table opened → OpenedKept later_packets (before ++ more) client table opened
   OpenedKept-stays table opened k = record {
     slots = λ row. SlotsKept-stays table row (slots_at opened row) (k.slots row);
+    rising = k.rising;
     position = k.position ∙ sym (silent_position client before more s table);
     behind = let h = history_longer table in let i = k.behind in omega arith;
     covered = λ row up.

@@ -11,12 +11,11 @@ use Rattle.table_model.specs.declared.line.Write.{Write}
 use Rattle.table_model.specs.History.{history_of}
 use Rattle.table_model.specs.Writes.{all_writes}
 use Rattle.step_tables.specs.Store.{Stored, entries_of}
-use Rattle.run_laws.specs.World.{Packet}
 use Rattle.run_laws.specs.Lines.{content_at, content_of, entry_at, write_of, is_write}
 use Rattle.run_laws.specs.Sound.{Among, HasEntry}
 use Rattle.run_laws.proofs.Lists.{among_mapped, among_map, among_found, find_some}
 use Rattle.run_laws.proofs.Tests.{is_write-is, is_write-own, eqb-refl}
-use Rattle.run_laws.proofs.Kept.{Counts, TableKept, WritesKept, Wrote}
+use Rattle.run_laws.proofs.Kept.{Counts, WritesKept}
 
 pub Counts-push : (version : ℕ) (stored : List Stored) (s : Stored) → Counts version stored → s.entry.version ≡ version + length stored + 1 → Counts version (stored ++ s ∷ [])
 Counts-push version [] s k is = (omega arith, tt)
@@ -56,21 +55,21 @@ write_of-found before write kept a =
     let named = is_write-is write.client write.number found.0 there.1 in
     found.1 ∙ ap Some (kept.once found.0 write there.0 a named.0 named.1)
 
-module _ (packets : List Packet) (before : List TextLine) (table : ℕ) (stored : List Stored) (kept : TableKept packets before table stored) where
+module _ (before : List TextLine) (table : ℕ) (stored : List Stored) (history : history_of table before ≡ entries_of stored) (counts : Counts 0 stored) where
   -- an entry of the lines is one that the table has
   pub stored_entry : (entry : Entry) → Among (history_of table before) entry → (s : Stored) × Among stored s × (s.entry ≡ entry)
-  stored_entry entry a = among_mapped (λ (s : Stored). s.entry) stored entry (subst (λ (es : List Entry). Among es entry) kept.history a)
+  stored_entry entry a = among_mapped (λ (s : Stored). s.entry) stored entry (subst (λ (es : List Entry). Among es entry) history a)
 
   pub entry_stored : (s : Stored) → Among stored s → Among (history_of table before) s.entry
-  entry_stored s a = subst (λ (es : List Entry). Among es s.entry) (sym kept.history) (among_map (λ (s : Stored). s.entry) stored s a)
+  entry_stored s a = subst (λ (es : List Entry). Among es s.entry) (sym history) (among_map (λ (s : Stored). s.entry) stored s a)
 
   pub length_stored : length (history_of table before) ≡ length stored
-  length_stored = ap length kept.history ∙ length-map stored (λ (s : Stored). s.entry)
+  length_stored = ap length history ∙ length-map stored (λ (s : Stored). s.entry)
 
   pub version_within : (entry : Entry) → Among (history_of table before) entry → (0 < entry.version) × (entry.version ≤ length (history_of table before))
   version_within entry a =
       let s = stored_entry entry a in
-      let h = Counts-within 0 stored s.0 kept.counts s.1 in
+      let h = Counts-within 0 stored s.0 counts s.1 in
       let same = ap (λ (e : Entry). e.version) s.2 in
       let long = length_stored in
       (omega arith, omega arith)
@@ -79,7 +78,7 @@ module _ (packets : List Packet) (before : List TextLine) (table : ℕ) (stored 
   version_once a b x y same =
       let s = stored_entry a x in
       let t = stored_entry b y in
-      sym s.2 ∙ (ap (λ (z : Stored). z.entry) (Counts-once 0 stored s.0 t.0 kept.counts s.1 t.1 (ap (λ (e : Entry). e.version) s.2 ∙ same ∙ sym (ap (λ (e : Entry). e.version) t.2))) ∙ t.2)
+      sym s.2 ∙ (ap (λ (z : Stored). z.entry) (Counts-once 0 stored s.0 t.0 counts s.1 t.1 (ap (λ (e : Entry). e.version) s.2 ∙ same ∙ sym (ap (λ (e : Entry). e.version) t.2))) ∙ t.2)
 
   pub entry_at-found : (entry : Entry) → Among (history_of table before) entry → entry_at entry.version (history_of table before) ≡ Some entry
   entry_at-found entry a =

@@ -54,6 +54,7 @@ declared_sound w before table schema k = at (stored_at w table) refl
     empty : (t : ℕ) (b : Bool) → (table == t) ≡ b → stored_at w table ≡ None → cond b [] (stored_in w t) ≡ stored_in w t
     empty t true is none = sym (ap stored_or_none (ap (stored_at w) (sym (eqb-true table t is)) ∙ none))
     empty t false is none = refl
+
     at : (o : Option (List Stored)) → stored_at w table ≡ o → StepSound before (silent (declared w table schema o))
     at None none = silent_sound w (declared w table schema None) before k refl (λ t. stored-put w.tables table [] t ∙ empty t (table == t) refl none) (λ client. refl)
     at (Some stored) is = silent_sound w w before k refl (λ t. refl) (λ client. refl)
@@ -119,8 +120,10 @@ joined_sound w before client tables k = at (client_at w client) refl
   where
     new : Client
     new = open_all w (record { number = client; last = 0; tables = [] }) tables
+
     put : (other : ℕ) → client_at (joined w client tables None) other ≡ cond (client == other) (Some new) (client_at w other)
     put other = lookup-insert_nat w.clients client new other
+
     there : client_at w client ≡ None → (other : ℕ) (node : Client) (b : Bool) → (client == other) ≡ b → cond b (Some new) (client_at w other) ≡ Some node
         → ClientKept w.packets before other node
     there none other node true is at =
@@ -128,9 +131,11 @@ joined_sound w before client tables k = at (client_at w client) refl
         subst (λ (n : Client). ClientKept w.packets before other n) same
         (subst (λ (c : ℕ). ClientKept w.packets before c new) (eqb-true client other is) (joined_client w.packets before client (k.absent client none) w tables))
     there none other node false is at = k.clients other node at
+
     away : (other : ℕ) (b : Bool) → cond b (Some new) (client_at w other) ≡ None → AbsentKept w.packets before other
     away other true at = absurd cc
     away other false at = k.absent other at
+
     kept : client_at w client ≡ None → WorldKept (joined w client tables None) before
     kept none = record {
       writes = k.writes;
@@ -139,6 +144,7 @@ joined_sound w before client tables k = at (client_at w client) refl
       absent = λ other at. away other (client == other) (sym (put other) ∙ at);
       packets = k.packets;
     }
+
     at : (o : Option Client) → client_at w client ≡ o → StepSound before (silent (joined w client tables o))
     at None none = record { world = subst (λ (b : List TextLine). WorldKept (joined w client tables None) b) (sym (append-nil before)) (kept none); lines = LinesHold-nil before }
     at (Some node) is = silent_sound w w before k refl (λ t. refl) (λ c. refl)

@@ -61,17 +61,20 @@ module _ (w : World) (before : List TextLine) (request : SyncRequest) (from : No
     where
       passes : is_of_client request.client request.row s ≡ true
       passes = rw (← mine, ← here) (is_of_client-own s)
+
       upto : (l : Stored) → Among stored l → is_of_client request.client request.row l ≡ true → s.entry.version ≤ l.entry.version → s.entry.number ≤ l.entry.number
       upto l b is le = case (cases_lt s.entry.version l.entry.version)
         where
           whose : (l.entry.client ≡ request.client) × (l.entry.row ≡ request.row)
           whose = is_of_client-is request.client request.row l is
+
           case : (s.entry.version < l.entry.version) ⊎ (l.entry.version ≤ s.entry.version) → s.entry.number ≤ l.entry.number
           case (inl lt) = let h = kept.rises s l a b (mine ∙ sym whose.0) (here ∙ sym whose.1) lt in omega arith
           case (inr ge) =
               let same : s ≡ l = Counts-once 0 stored s l kept.counts a b (omega arith) in
               let number = ap (λ (x : Stored). x.entry.number) same in
               omega arith
+
       at : (o : Option Stored) → LastIs (is_of_client request.client request.row) stored o → s.entry.number ≤ (yours_in o).number
       at None none = absurd (true≢false (sym passes ∙ none s a))
       at (Some l) last = upto l last.among last.passes (last.most s a passes)
@@ -208,11 +211,13 @@ module _ (w : World) (before : List TextLine) (request : SyncRequest) (from : No
       written : (s : Stored) → Among stored s ⊎ (added ≡ s) → Wrote (before ++ more) s.entry.client s.entry.number request.table s.entry.row s.content
       written s (inl a) = Wrote-more before more s.entry.client s.entry.number request.table s.entry.row s.content (kept.written s a)
       written s (inr e) = subst (λ (x : Stored). Wrote (before ++ more) x.entry.client x.entry.number request.table x.entry.row x.content) e wrote_after
+
       asked : (s : Stored) → Among stored s ⊎ (added ≡ s) → Requested (w.packets ++ sends) s.entry.client request.table s.entry.row s.entry.number
       asked s (inl a) = requested_more w.packets sends s.entry.client request.table s.entry.row s.entry.number (kept.requested s a)
       asked s (inr e) =
           subst (λ (x : Stored). Requested (w.packets ++ sends) x.entry.client request.table x.entry.row x.entry.number) e
           (requested_more w.packets sends request.client request.table request.row request.number t.requested)
+
       content : (s : Stored) → Among stored s ⊎ (added ≡ s) → content_at request.table s.entry.version (before ++ more) ≡ Some s.content
       content s (inl a) = content_at-more before more request.table s.entry.version s.content (kept.content s a)
       content s (inr e) = subst (λ (x : Stored). content_at request.table x.entry.version (before ++ more) ≡ Some x.content) e content_after
@@ -247,8 +252,8 @@ module _ (w : World) (before : List TextLine) (request : SyncRequest) (from : No
       at true is = (
         added ∷ [],
         after_stored other
-        ∙ ap (λ (b : Bool). cond b (stored ++ added ∷ []) (stored_in w other)) is
-        ∙ ap (λ (x : List Stored). x ++ added ∷ []) (sym (ap stored_or_none t.there) ∙ ap (stored_in w) (eqb-true request.table other is)),
+            ∙ ap (λ (b : Bool). cond b (stored ++ added ∷ []) (stored_in w other)) is
+            ∙ ap (λ (x : List Stored). x ++ added ∷ []) (sym (ap stored_or_none t.there) ∙ ap (stored_in w) (eqb-true request.table other is)),
       )
       at false is = ([], after_stored other ∙ ap (λ (b : Bool). cond b (stored ++ added ∷ []) (stored_in w other)) is ∙ sym (append-nil (stored_in w other)))
 
@@ -269,6 +274,7 @@ module _ (w : World) (before : List TextLine) (request : SyncRequest) (from : No
           subst (λ (x : List Stored). TableKept (w.packets ++ sends) (before ++ more) other x)
           (sym (after_stored other ∙ ap (λ (b : Bool). cond b (stored ++ added ∷ []) (stored_in w other)) is))
           (TableKept-stays w.packets sends before more other (stored_in w other) (other_table other is) (k.tables other))
+
   response_kept : (packet : Packet) → Among sends packet → PacketKept after (before ++ more) packet
   unfolding sends added
   response_kept packet a =
@@ -285,6 +291,7 @@ module _ (w : World) (before : List TextLine) (request : SyncRequest) (from : No
         refl,
         refl,
       )
+
       one : (m : Message) → (respond request (outcomes.Accepted (length stored + 1)) ≡ m) ⊎ Among [] m → MessageKept after (before ++ more) the_store from m
       one m (inl e) = subst (λ (x : Message). MessageKept after (before ++ more) the_store from x) e (entry_there, t.by)
       one m (inr b) = absurd (among_none m b)

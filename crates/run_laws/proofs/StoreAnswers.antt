@@ -69,6 +69,7 @@ module _ (w : World) (before : List TextLine) (table : ℕ) (from : Node) (store
       case : (x : Message) → (message ≡ x) ⊎ Among [] x → MessageKept w before the_store from x
       case x (inl e) = subst (λ (m : Message). MessageKept w before the_store from m) e kept
       case x (inr a) = absurd (among_none x a)
+
       refused : (request : SyncRequest) → (message ≡ messages.SyncRequest request) ⊎ Among [] (messages.SyncRequest request) → ⊥
       refused request (inl e) = other request e
       refused request (inr a) = among_none (messages.SyncRequest request) a
@@ -79,8 +80,7 @@ pub pulled_kept : (w : World) (before : List TextLine) (request : PullRequest) (
     → StepKept before (after_store w request.table from (unchanged stored (messages.PullResponse (pull_answer request.client request.table request.position stored) ∷ [])))
 pulled_kept w before request from stored k there by =
     let is : stored_in w request.table ≡ stored = ap stored_or_none there in
-    one_kept w before request.table from stored k there (messages.PullResponse (pull_answer request.client request.table request.position stored))
-    (
+    one_kept w before request.table from stored k there (messages.PullResponse (pull_answer request.client request.table request.position stored)) (
       (
         rw is (omega arith),
         sym (ap (pull_answer request.client request.table request.position) (ap (take (length stored)) is ∙ take-length stored)),
@@ -101,8 +101,7 @@ module _ (w : World) (before : List TextLine) (request : SyncRequest) (from : No
   yours_entry (Some s) is numbered =
       let found = among_last (is_of_client request.client request.row) stored s is in
       let whose = is_of_client-is request.client request.row s found.1 in
-      let kept = k.tables request.table in
-      (
+      let kept = k.tables request.table in (
         s.entry,
         entry_stored before request.table (stored_in w request.table) kept.history kept.counts s (subst (λ (x : List Stored). Among x s) (sym stored_is) found.0),
         whose.1,

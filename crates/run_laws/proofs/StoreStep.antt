@@ -42,6 +42,7 @@ accepted_holds w before request from stored k t = record {
   where
     sends : List Packet
     sends = packets_of the_store from (respond request (outcomes.Accepted (length stored + 1)) ∷ [])
+
     said : List Fact
     said = facts.Accepted request.table (entry_for stored request) ∷ []
 
@@ -54,6 +55,7 @@ module _ (w : World) (before : List TextLine) (request : SyncRequest) (from : No
     where
       last : Yours
       last = yours_of stored request.client request.row
+
       late : (b : Bool) → nat_lt request.number (yours_of stored request.client request.row).number ≡ b → (last.number == request.number) ≡ false
           → StepSound before (after_store w request.table from
           (if b then unchanged stored (respond request (outcomes.Late last.number) ∷ []) else accept request.table stored request))
@@ -64,6 +66,7 @@ module _ (w : World) (before : List TextLine) (request : SyncRequest) (from : No
       late false is apart =
           let t : IsTaken w before request from stored = record { there = there; asked = asked; by = by; requested = requested; later = grind (arith, nat_tests) } in
           record { world = accepted_kept w before request from stored k t; lines = accepted_holds w before request from stored k t }
+
       again : (b : Bool) → (last.number == request.number) ≡ b
           → StepSound before (after_store w request.table from
           (if b then unchanged stored (respond request (outcomes.Again last.version) ∷ [])

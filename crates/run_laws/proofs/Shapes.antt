@@ -36,6 +36,7 @@ write_form node client table row content = at (table_at node table)
     fits : (t : ClientTable) (r : Result (Unit {0}) FitFault) → IsForm (events.Write client table row content) (write_fitting node table t row content r).answer
     fits t (Ok u) = tt
     fits t (Err fault) = tt
+
     at : (o : Option ClientTable) → IsForm (events.Write client table row content) (write_to node table row content o).answer
     at None = tt
     at (Some t) = fits t (fit_of t.schema content)
@@ -46,6 +47,7 @@ show_form node client table row = at (table_at node table)
     shown : (o : Option Shown) → IsForm (events.Show client table row) (show_answer o)
     shown None = tt
     shown (Some what) = tt
+
     at : (o : Option ClientTable) → IsForm (events.Show client table row) (show_in node row o).answer
     at None = tt
     at (Some t) = shown (shown_in (slots_at t row).main (slots_at t row).shadow)
@@ -56,6 +58,7 @@ sync_form node client table = at (table_at node table)
     first : (t : ClientTable) (again : List Message) (o : Option (List ℕ × Out)) → IsForm (events.Sync client table) (sync_first node table t again o).answer
     first t again None = tt
     first t again (Some x) = tt
+
     at : (o : Option ClientTable) → IsForm (events.Sync client table) (sync_in node table o).answer
     at None = tt
     at (Some t) = first t (resent node.number table t.rows) (first_to_send t.rows)
@@ -95,13 +98,16 @@ taken_done node (messages.SyncResponse response) = at (table_at node response.ta
     outcome_done t out (outcomes.Accepted version) = refl
     outcome_done t out (outcomes.Again version) = refl
     outcome_done t out (outcomes.Late last) = refl
+
     numbered : (t : ClientTable) (out : Out) (b : Bool)
         → (if b then take_outcome node response.table t response.row (slots_at t response.row) out response.outcome else ignored node).answer ≡ answers.Done
     numbered t out true = outcome_done t out response.outcome
     numbered t out false = refl
+
     waiting : (t : ClientTable) (o : Option Out) → (take_response node t response o).answer ≡ answers.Done
     waiting t None = refl
     waiting t (Some out) = numbered t out (out.number == response.number)
+
     at : (o : Option ClientTable) → (response_in node response o).answer ≡ answers.Done
     at None = refl
     at (Some t) = waiting t (slots_at t response.row).out
@@ -111,9 +117,11 @@ taken_done node (messages.PullResponse response) = at (table_at node response.ta
         → (if b then take_row node response.table t response header (take_header node.number response.table header (slots_at t header.row)) else ignored node).answer ≡ answers.Done
     placed t header true = refl
     placed t header false = refl
+
     with_row : (t : ClientTable) (o : Option RowHeader) → (take_pulled node t response o).answer ≡ answers.Done
     with_row t None = refl
     with_row t (Some header) = placed t header (response.from == t.position)
+
     at : (o : Option ClientTable) → (pulled_in node response o).answer ≡ answers.Done
     at None = refl
     at (Some t) = with_row t response.header
@@ -132,8 +140,7 @@ carried_shape w number packet (nodes.Client client) = at (client_at w client)
     at : (o : Option Client) → IsAnswered (events.Deliver number) (to_client w client packet o).lines
     at None = (answers.Done, [], [], refl, tt, refl)
     at (Some node) =
-        let taken : ClientStep = deliver_step node packet.message in
-        (
+        let taken : ClientStep = deliver_step node packet.message in (
           answers.Done,
           [],
           taken.facts ++ sent_from (length w.packets) (packets_of (nodes.Client client) the_store taken.messages),

@@ -48,6 +48,7 @@ slots_show packets before client table row slots k = at (open_write client table
       where
         above : (n : ℕ) → 0 < n → (n == 0) ≡ false
         above n lt = grind (arith, nat_tests)
+
     at : (o : Option Write) → open_write client table row before ≡ o → shown_in slots.main slots.shadow ≡ shown_of client table row before
     at None is =
         let empty : slots.main ≡ None = k.main ∙ ap (option_map main_of) is in
@@ -86,6 +87,7 @@ show_shown w before client table row k = at (client_at w client) refl
         let same : shown_in slots.main slots.shadow ≡ shown_of client table row before =
         slots_show w.packets before client table row slots (((k.clients client node there).tables table opened is).slots row) in
         (λ what a. sym same ∙ gives (shown_in slots.main slots.shadow) what a, λ a. sym same ∙ is_none (shown_in slots.main slots.shadow) a)
+
     at : (o : Option Client) → client_at w client ≡ o
         → IsShown before (events.Show client table row) (at_client w client (λ node. show_step node table row) o).lines
     at None is = untabled before client table row
@@ -118,8 +120,7 @@ module _ (w : World) (before : List TextLine) (table : ℕ) (k : WorldKept w bef
           let v : s.entry.version ≡ version = cc in
           let c : s.content ≡ content = cc in
           let among = (among_last (stores.is_of_row row) stored s is).0 in
-          let within = Counts-within 0 stored s kept.counts among in
-          (
+          let within = Counts-within 0 stored s kept.counts among in (
             omega arith,
             current_is row ∙ (ap (λ (o : Option Stored). version_of (option_map (λ (x : Stored). x.entry) o)) is ∙ v),
             ap (λ (n : ℕ). content_at table n before) (sym v) ∙ (kept.content s among ∙ ap Some c),
@@ -129,9 +130,9 @@ module _ (w : World) (before : List TextLine) (table : ℕ) (k : WorldKept w bef
   unfolding Among
   history_current number a = elim a [
     | inl e ↦
-      let n : length stored ≡ number = cc in
-      ap (λ (m : ℕ). text.Answer (answers.Number m) ∷ entry_lines table (entries_of stored)) n
-      ∙ ap (λ (es : List Entry). text.Answer (answers.Number number) ∷ entry_lines table es) (sym kept.history)
+        let n : length stored ≡ number = cc in
+        ap (λ (m : ℕ). text.Answer (answers.Number m) ∷ entry_lines table (entries_of stored)) n
+        ∙ ap (λ (es : List Entry). text.Answer (answers.Number number) ∷ entry_lines table es) (sym kept.history)
     | inr b ↦ absurd (no_answer (entries_of stored) b)
   ]
     where

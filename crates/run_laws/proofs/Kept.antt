@@ -31,11 +31,14 @@ use Rattle.run_laws.specs.Sound.{Among, HasWrite, HasEntry, HasEntryOf}
 
 -- ---- writes
 
--- the numbers of each client's writes are 1, 2, 3, each once, and no other is told as accepted
+-- the numbers of each client's writes are 1, 2, 3, each once, no other is told as accepted, and a client's last write
+-- on a row has the greatest
 pub record WritesKept (before : List TextLine) : Type 0 where
   pub least : (write : Write) → Among (all_writes before) write → 0 < write.number
   pub most : (write : Write) → Among (all_writes before) write → write.number ≤ length (writes_of write.client before)
   pub once : (a b : Write) → Among (all_writes before) a → Among (all_writes before) b → a.client ≡ b.client → a.number ≡ b.number → a ≡ b
+  pub newest : (write last : Write) → Among (all_writes before) write
+    → last_write write.client write.table write.row before ≡ Some last → write.number ≤ last.number
   pub acked : (client number : ℕ) → is_acked client number before ≡ true → number ≤ length (writes_of client before)
 
 -- the write of this number stands in the lines, with this content

@@ -5,7 +5,8 @@ use Rattle.table_model.specs.declared.line.Fact.{Fact}
 use Rattle.table_model.specs.declared.line.TextLine.{TextLine}
 use Rattle.table_model.specs.declared.line.Write.{Write}
 use Rattle.table_model.specs.declared.node.Node.{Node}
-use Rattle.table_model.specs.Writes.{all_writes, writes_of, is_by}
+use Rattle.table_model.specs.Writes.{all_writes, writes_of, is_by, is_on}
+use Rattle.table_model.specs.Last.{last_where}
 use Rattle.sync_msgs.specs.declared.message.Message.{Message}
 use Rattle.sync_msgs.specs.declared.message.Message.TheVariants as messages
 use Rattle.sync_msgs.specs.declared.message.SyncRequest.{SyncRequest}
@@ -65,6 +66,7 @@ writes_stay before after some adds none acked k =
   least = subst (λ l. (write : Write) → Among l write → 0 < write.number) (sym all) k.least;
   most = subst (λ l. (write : Write) → Among l write → write.number ≤ length (filter (is_by write.client) l)) (sym all) k.most;
   once = subst (λ l. (a b : Write) → Among l a → Among l b → a.client ≡ b.client → a.number ≡ b.number → a ≡ b) (sym all) k.once;
+  newest = subst (λ l. (write last : Write) → Among l write → last_where (is_on write.client write.table write.row) l ≡ Some last → write.number ≤ last.number) (sym all) k.newest;
   acked = λ client number is. subst (λ l. number ≤ length (filter (is_by client) l)) (sym all)
     (either (is_acked client number before) (is_acked client number (told some)) (k.acked client number) (acked client number) (sym (adds.acked client number) ∙ is));
 }

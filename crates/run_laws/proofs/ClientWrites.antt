@@ -19,6 +19,7 @@ use Rattle.run_laws.specs.Lines.{read_of, open_write, if_open, is_acked, positio
 use Rattle.run_laws.specs.Sound.{Among, Along, OfFact, IsNumbered, IsRead}
 use Rattle.run_laws.proofs.Kept.{WritesKept, Requested, SlotsKept, OpenedKept, ClientKept, main_of}
 use Rattle.run_laws.proofs.ClientNeeds.{among_cases, among_one, last_where-push, same_row_tells, slots-put}
+use Rattle.run_laws.proofs.Tests.{is_on-is, is_on-own}
 use Rattle.run_laws.proofs.ClientLines.{Adds, AreApart, apart}
 use Rattle.run_laws.proofs.ClientRows.{LinesSame, RowSame, TableSame, lines_same, entry_stays, wrote_stays, opened_put, client_put}
 use Rattle.run_laws.proofs.ClientCalls.{AreOfWrites}
@@ -64,8 +65,11 @@ module _ (packets : List Packet) (before after : List TextLine) (node : Client) 
       or_false true = refl
       or_false false = refl
 
+  last_by : (client t : ℕ) (q : List ℕ) → last_write client t q after ≡ (if is_on client t q write then Some write else last_write client t q before)
+  last_by client t q = ap (last_where (is_on client t q)) adds.writes ∙ last_where-push (is_on client t q) (all_writes before) write
+
   last_after : (t : ℕ) (q : List ℕ) → last_write node.number t q after ≡ (if is_on node.number t q write then Some write else last_write node.number t q before)
-  last_after t q = ap (last_where (is_on node.number t q)) adds.writes ∙ last_where-push (is_on node.number t q) (all_writes before) write
+  last_after t q = last_by node.number t q
 
   is_on_it : is_on node.number table row write ≡ true
   is_on_it = let r = same_itself row in grind (arith, nat_tests)
@@ -164,6 +168,16 @@ module _ (packets : List Packet) (before after : List TextLine) (node : Client) 
   above w a by = let m : w.number ≤ length (writes_of node.number before) = subst (λ c. w.number ≤ length (writes_of c before)) by (writes.most w a) in
     let l = k.last in omega arith
 
+  newest_after : (w last : Write) → Among (all_writes before) w ⊎ (write ≡ w) → (b : Bool) → is_on w.client w.table w.row write ≡ b
+      → (if b then Some write else last_write w.client w.table w.row before) ≡ Some last → w.number ≤ last.number
+  newest_after w last (inl old) true on e =
+    let h = above w old (sym (is_on-is w.client w.table w.row write on).0) in
+    let l : write ≡ last = cc in let n = ap (λ (x : Write). x.number) l in omega arith
+  newest_after w last (inl old) false on e = writes.newest w last old e
+  newest_after w last (inr new) true on e =
+    let l : w ≡ last = cc in let n = ap (λ (x : Write). x.number) l in omega arith
+  newest_after w last (inr new) false on e = let own = is_on-own w in let on' : is_on w.client w.table w.row w ≡ false = subst (λ x. is_on w.client w.table w.row x ≡ false) new on in absurd cc
+
   pub writes_kept : WritesKept after
   writes_kept = record {
     least = λ w a. elim (among_after w a) [ inl old ↦ writes.least w old | inr e ↦ subst (λ (x : Write). 0 < x.number) e (omega arith) ];
@@ -185,5 +199,6 @@ module _ (packets : List Packet) (before after : List TextLine) (node : Client) 
         | inr f ↦ sym e ∙ f
       ]
     ];
+    newest = λ w last a at. newest_after w last (among_after w a) (is_on w.client w.table w.row write) refl (sym (last_by w.client w.table w.row) ∙ at);
     acked = λ client number a. let h = writes.acked client number (sym (acked_same client number) ∙ a) in let m = more_of client in omega arith;
   }

@@ -19,6 +19,7 @@ use Rattle.run_laws.specs.Lines.{read_of, open_write, if_open, is_acked, positio
 use Rattle.run_laws.specs.Sound.{Among, Along, OfFact, IsNumbered, IsRead}
 use Rattle.run_laws.proofs.Kept.{WritesKept, Requested, SlotsKept, OpenedKept, ClientKept, main_of}
 use Rattle.run_laws.proofs.ClientNeeds.{among_cases, among_one, last_where-push, same_row_tells, slots-put}
+use Rattle.run_laws.proofs.Lists.{same_row-refl}
 use Rattle.run_laws.proofs.Tests.{is_on-is, is_on-own}
 use Rattle.run_laws.proofs.ClientLines.{Adds, AreApart, apart}
 use Rattle.run_laws.proofs.ClientRows.{LinesSame, RowSame, TableSame, lines_same, entry_stays, wrote_stays, opened_put, client_put}
@@ -37,9 +38,6 @@ write_for node table opened row content = record {
 
 abbrev pub slots_for : Client → ClientTable → List ℕ → Content → Slots
 slots_for node opened row content = record (slots_at opened row) { main = Some (main_for (node.last + 1) (slots_at opened row) content) }
-
-same_itself : (row : List ℕ) → same_row row row ≡ true
-same_itself row = elim (same_row_tells row row) [ inl p ↦ p.0 | inr p ↦ absurd (p.1 refl) ]
 
 module _ (packets : List Packet) (before after : List TextLine) (node : Client) (table : ℕ) (opened : ClientTable) (row : List ℕ) (content : Content)
     (adds : Adds before after (facts.Wrote (write_for node table opened row content) ∷ []))
@@ -72,7 +70,7 @@ module _ (packets : List Packet) (before after : List TextLine) (node : Client) 
   last_after t q = last_by node.number t q
 
   is_on_it : is_on node.number table row write ≡ true
-  is_on_it = let r = same_itself row in grind (arith, nat_tests)
+  is_on_it = let r = same_row-refl row in grind (arith, nat_tests)
 
   opens : open_write node.number table row after ≡ Some write
   opens = ap (if_open after) (last_after table row ∙ ap (λ b. if b then Some write else last_write node.number table row before) is_on_it)

@@ -14,11 +14,10 @@ use Rattle.run_laws.proofs.Appends.{told-append}
 pub along-append : (P : List TextLine → TextLine → Type 0) (before xs ys : List TextLine)
     → Along P before xs → Along P (before ++ xs) ys → Along P before (xs ++ ys)
 along-append P before [] ys a b = subst (λ (past : List TextLine). Along P past ys) (append-nil before) b
-along-append P before (x ∷ xs) ys a b =
-    (
-      a.0,
-      along-append P (before ++ x ∷ []) xs ys a.1 (subst (λ (past : List TextLine). Along P past ys) (sym (append_assoc before (x ∷ []) xs)) b),
-    )
+along-append P before (x ∷ xs) ys a b = (
+  a.0,
+  along-append P (before ++ x ∷ []) xs ys a.1 (subst (λ (past : List TextLine). Along P past ys) (sym (append_assoc before (x ∷ []) xs)) b),
+)
 
 module _ (P : List TextLine → Fact → Type 0)
     (sent : (before : List TextLine) (packet : ℕ) (from to : Node) (name : MessageName) → P before (facts.Sent packet from to name)) where
@@ -32,10 +31,9 @@ module _ (P : List TextLine → Fact → Type 0)
   pub along_step : (before : List TextLine) (answer : Answer) (some : List Fact) (number : ℕ) (sends : List Packet)
       → Along (λ past line. OfFact (P past) line) (before ++ text.Answer answer ∷ []) (told some)
       → Along (λ past line. OfFact (P past) line) before (answer_lines answer (some ++ sent_from number sends))
-  along_step before answer some number sends a =
-      (
-        tt,
-        subst (λ (ls : List TextLine). Along (λ past line. OfFact (P past) line) (before ++ text.Answer answer ∷ []) ls) (sym (told-append some (sent_from number sends)))
+  along_step before answer some number sends a = (
+    tt,
+    subst (λ (ls : List TextLine). Along (λ past line. OfFact (P past) line) (before ++ text.Answer answer ∷ []) ls) (sym (told-append some (sent_from number sends)))
         (along-append (λ past line. OfFact (P past) line) (before ++ text.Answer answer ∷ []) (told some) (told (sent_from number sends)) a
         (along_sent ((before ++ text.Answer answer ∷ []) ++ told some) number sends)),
-      )
+  )

@@ -96,6 +96,7 @@ module _ (before more : List TextLine) where
       written entry (Some write) is e =
           ap (λ (ws : List Write). option_map (λ (w : Write). w.content) (find (is_write entry.client entry.number) ws)) (all_writes-append before more)
           ∙ ap (option_map (λ (w : Write). w.content)) (find_left (is_write entry.client entry.number) (all_writes before) (all_writes more) write is) ∙ e
+
       found : (o : Option Entry) → entry_at version (history_of table before) ≡ o → content_of before o ≡ Some content
           → content_at table version (before ++ more) ≡ Some content
       found None is e = absurd cc

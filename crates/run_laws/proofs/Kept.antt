@@ -38,7 +38,7 @@ pub record WritesKept (before : List TextLine) : Type 0 where
   pub most : (write : Write) → Among (all_writes before) write → write.number ≤ length (writes_of write.client before)
   pub once : (a b : Write) → Among (all_writes before) a → Among (all_writes before) b → a.client ≡ b.client → a.number ≡ b.number → a ≡ b
   pub newest : (write last : Write) → Among (all_writes before) write
-    → last_write write.client write.table write.row before ≡ Some last → write.number ≤ last.number
+      → last_write write.client write.table write.row before ≡ Some last → write.number ≤ last.number
   pub acked : (client number : ℕ) → is_acked client number before ≡ true → number ≤ length (writes_of client before)
 
 -- the write of this number stands in the lines, with this content
@@ -103,7 +103,7 @@ pub record TableKept (packets : List Packet) (before : List TextLine) (table : �
   pub requested : (s : Stored) → Among stored s → Requested packets s.entry.client table s.entry.row s.entry.number
   pub content : (s : Stored) → Among stored s → content_at table s.entry.version before ≡ Some s.content
   pub rises : (a b : Stored) → Among stored a → Among stored b → a.entry.client ≡ b.entry.client → a.entry.row ≡ b.entry.row
-    → a.entry.version < b.entry.version → a.entry.number < b.entry.number
+      → a.entry.version < b.entry.version → a.entry.number < b.entry.number
 
 -- ---- a client
 
@@ -116,7 +116,7 @@ pub record OutKept (packets : List Packet) (before : List TextLine) (client tabl
   pub written : Wrote before client out.number table row out.content
   pub base : (out.base ≡ 0) ⊎ HasEntry before table row out.base
   pub later : (entry : Entry) → Among (history_of table before) entry → entry.client ≡ client → entry.row ≡ row
-    → entry.number ≡ out.number → version_in slots.shadow < entry.version
+      → entry.number ≡ out.number → version_in slots.shadow < entry.version
   pub last : (number : ℕ) → Requested packets client table row number → number ≤ out.number
   pub main : (main : Main) × (slots.main ≡ Some main) × (out.number ≤ main.number)
 
@@ -125,10 +125,10 @@ pub record SlotsKept (packets : List Packet) (before : List TextLine) (client ta
   pub main : slots.main ≡ option_map main_of (open_write client table row before)
   pub read : version_in slots.shadow ≡ read_of client table row before
   pub shadow : (shadow : Shadow) → slots.shadow ≡ Some shadow → (0 < shadow.version) × HasEntry before table row shadow.version
-    × (content_at table shadow.version before ≡ Some shadow.content)
+      × (content_at table shadow.version before ≡ Some shadow.content)
   pub out : (out : Out) → slots.out ≡ Some out → OutKept packets before client table row slots out
   pub unsent : (main : Main) → slots.main ≡ Some main → slots.out ≡ None
-    → (number : ℕ) → Requested packets client table row number → number < main.number
+      → (number : ℕ) → Requested packets client table row number → number < main.number
 
 -- the ids of the rows rise
 unfoldable pub Rising : List (List ℕ × Slots) → Type 0
@@ -142,7 +142,7 @@ pub record OpenedKept (packets : List Packet) (before : List TextLine) (client t
   pub position : opened.position ≡ position_of client table before
   pub behind : opened.position ≤ length (history_of table before)
   pub covered : (row : List ℕ) → current (history_of table before) row ≤ opened.position
-    → version_in (slots_at opened row).shadow ≡ current (history_of table before) row
+      → version_in (slots_at opened row).shadow ≡ current (history_of table before) row
 
 pub record ClientKept (packets : List Packet) (before : List TextLine) (client : ℕ) (node : Client) : Type 0 where
   pub number : node.number ≡ client

@@ -162,6 +162,7 @@ among_last {X} p (y ∷ xs) x at = later (among_last p xs x) (last_where p xs) r
     one : (b : Bool) → p y ≡ b → cond b (Some y) None ≡ Some x → ((y ≡ x) ⊎ Among xs x) × (p x ≡ true)
     one true is e = let same : y ≡ x = cc in (inl same, ap p (sym same) ∙ is)
     one false is e = absurd cc
+
     later : (last_where p xs ≡ Some x → Among xs x × (p x ≡ true)) → (o : Option X) → last_where p xs ≡ o
         → option_or o (cond (p y) (Some y) None) ≡ Some x → ((y ≡ x) ⊎ Among xs x) × (p x ≡ true)
     later more None is e = one (p y) refl e
@@ -175,6 +176,7 @@ last_some {X} p (y ∷ xs) x a is = let k = at (λ h. last_some p xs x h is) (la
     one : (b : Bool) → p y ≡ b → y ≡ x → (z : X) × (cond b (Some y) None ≡ Some z)
     one true at e = (y, refl)
     one false at e = absurd (true≢false (sym is ∙ ap p (sym e) ∙ at))
+
     at : (Among xs x → (z : X) × (last_where p xs ≡ Some z)) → (o : Option X) → last_where p xs ≡ o
         → (y ≡ x) ⊎ Among xs x → (z : X) × (option_or o (cond (p y) (Some y) None) ≡ Some z)
     at more (Some z) found h = (z, refl)

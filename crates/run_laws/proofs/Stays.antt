@@ -69,7 +69,6 @@ module _ (packets later_packets : List Packet) (before more : List TextLine) (cl
     (fewer : (table : ℕ) (row : List ℕ) (number : ℕ) → Requested later_packets client table row number → Requested packets client table row number)
     (adds : (table : ℕ) → Adds (history_of table before) (history_of table (before ++ more)))
     (within : (table : ℕ) (entry : Entry) → Among (history_of table before) entry → entry.version ≤ length (history_of table before)) where
-
   OutKept-stays : (table : ℕ) (row : List ℕ) (slots : Slots) (out : Out) → version_in slots.shadow ≤ length (history_of table before)
       → OutKept packets before client table row slots out → OutKept later_packets (before ++ more) client table row slots out
   OutKept-stays table row slots out bound k = record {
@@ -84,6 +83,7 @@ module _ (packets later_packets : List Packet) (before more : List TextLine) (cl
           → entry.client ≡ client → entry.row ≡ row → entry.number ≡ out.number → version_in slots.shadow < entry.version
       next entry added (inl a) is by at numbered = k.later entry a by at numbered
       next entry added (inr e) is by at numbered = let same = ap (λ (x : Entry). x.version) e in omega arith
+
       later : Adds (history_of table before) (history_of table (before ++ more)) → (entry : Entry) → Among (history_of table (before ++ more)) entry
           → entry.client ≡ client → entry.row ≡ row → entry.number ≡ out.number → version_in slots.shadow < entry.version
       later (inl same) entry a by at numbered = k.later entry (subst (λ (es : List Entry). Among es entry) same a) by at numbered
@@ -119,6 +119,7 @@ module _ (packets later_packets : List Packet) (before more : List TextLine) (cl
           → version_of (cond b (Some entry) old) ≤ position → version_of (cond b (Some entry) old) ≡ version_of old
       case entry true old is le = absurd (omega arith)
       case entry false old is le = refl
+
       at : Adds (history_of table before) (history_of table (before ++ more)) → current (history_of table (before ++ more)) row ≡ current (history_of table before) row
       at (inl same) = ap (λ (es : List Entry). current es row) same
       at (inr one) =

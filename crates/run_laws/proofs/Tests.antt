@@ -27,8 +27,7 @@ eqb-apart a b apart = grind (arith, nat_tests)
 pub is_on-is : (client table : ℕ) (row : List ℕ) (write : Write) → is_on client table row write ≡ true
     → (write.client ≡ client) × (write.table ≡ table) × (write.row ≡ row)
 is_on-is client table row write h =
-    let both = first_of_both ((write.client == client) && (write.table == table)) (same_row write.row row) h in
-    (
+    let both = first_of_both ((write.client == client) && (write.table == table)) (same_row write.row row) h in (
       eqb-true write.client client (first_of_both (write.client == client) (write.table == table) both),
       eqb-true write.table table (second_of_both (write.client == client) (write.table == table) both),
       same_row-is write.row row (second_of_both ((write.client == client) && (write.table == table)) (same_row write.row row) h),
@@ -38,21 +37,19 @@ pub is_on-own : (write : Write) → is_on write.client write.table write.row wri
 is_on-own write = rw (eqb-refl write.client, eqb-refl write.table, same_row-refl write.row)
 
 pub is_write-is : (client number : ℕ) (write : Write) → is_write client number write ≡ true → (write.client ≡ client) × (write.number ≡ number)
-is_write-is client number write h =
-    (
-      eqb-true write.client client (first_of_both (write.client == client) (write.number == number) h),
-      eqb-true write.number number (second_of_both (write.client == client) (write.number == number) h),
-    )
+is_write-is client number write h = (
+  eqb-true write.client client (first_of_both (write.client == client) (write.number == number) h),
+  eqb-true write.number number (second_of_both (write.client == client) (write.number == number) h),
+)
 
 pub is_write-own : (write : Write) → is_write write.client write.number write ≡ true
 is_write-own write = rw (eqb-refl write.client, eqb-refl write.number)
 
 pub is_of_client-is : (client : ℕ) (row : List ℕ) (s : Stored) → is_of_client client row s ≡ true → (s.entry.client ≡ client) × (s.entry.row ≡ row)
-is_of_client-is client row s h =
-    (
-      eqb-true s.entry.client client (first_of_both (s.entry.client == client) (same_row s.entry.row row) h),
-      same_row-is s.entry.row row (second_of_both (s.entry.client == client) (same_row s.entry.row row) h),
-    )
+is_of_client-is client row s h = (
+  eqb-true s.entry.client client (first_of_both (s.entry.client == client) (same_row s.entry.row row) h),
+  same_row-is s.entry.row row (second_of_both (s.entry.client == client) (same_row s.entry.row row) h),
+)
 
 pub is_of_client-own : (s : Stored) → is_of_client s.entry.client s.entry.row s ≡ true
 is_of_client-own s = rw (eqb-refl s.entry.client, same_row-refl s.entry.row)

@@ -151,12 +151,12 @@ module _ (packets more : List Packet) (before after : List TextLine) (client tab
 
 -- ---- a client
 
-module _ (packets more : List Packet) (before after : List TextLine) (client : ℕ) (same : LinesSame before after) where
-  pub record TableSame (table : ℕ) : Type 0 where
-    pub rows : (row : List ℕ) (slots : Slots) → RowSame packets more before after client table row slots
-    pub position : position_of client table after ≡ position_of client table before
+pub record TableSame (packets more : List Packet) (before after : List TextLine) (client table : ℕ) : Type 0 where
+  pub rows : (row : List ℕ) (slots : Slots) → RowSame packets more before after client table row slots
+  pub position : position_of client table after ≡ position_of client table before
 
-  pub client_stays : (node : Client) → ClientKept packets before client node → ((table : ℕ) → TableSame table)
+module _ (packets more : List Packet) (before after : List TextLine) (client : ℕ) (same : LinesSame before after) where
+  pub client_stays : (node : Client) → ClientKept packets before client node → ((table : ℕ) → TableSame packets more before after client table)
       → length (writes_of client after) ≡ length (writes_of client before) → ClientKept more after client node
   client_stays node k tables last = record {
     number = k.number;
@@ -166,7 +166,7 @@ module _ (packets more : List Packet) (before after : List TextLine) (client : �
 
   -- a client of which one table changes
   pub client_put : (node : Client) (table last : ℕ) (opened : ClientTable) → ClientKept packets before client node
-      → ((t : ℕ) → t ≢ table → TableSame t) → OpenedKept more after client table opened
+      → ((t : ℕ) → t ≢ table → TableSame packets more before after client t) → OpenedKept more after client table opened
       → last ≡ length (writes_of client after) → ClientKept more after client (with_table (record node { last = last }) table opened)
   client_put node table last opened k others new is = record {
     number = k.number;

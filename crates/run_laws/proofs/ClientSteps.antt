@@ -80,7 +80,7 @@ says_nothing client other apart_ (fact ∷ some) of = (one fact of.0, says_nothi
 abbrev pub AreKept : List TextLine → ℕ → List Message → Type 0
 AreKept after client sends = (w : World) (message : Message) → Among sends message → MessageKept w after (nodes.Client client) the_store message
 
-client_is : (a b : ℕ) → nodes.Client a ≡ nodes.Client b → a ≡ b
+pub client_is : (a b : ℕ) → nodes.Client a ≡ nodes.Client b → a ≡ b
 client_is a b e = cc
 
 abbrev packet_from : ℕ → Message → Packet

@@ -1,84 +1,101 @@
--- A transcript that goes on by one event, and what holds of every transcript.
-use Rattle.std.proofs.Common.{◌≡◌, ℕ, ◌+◌, ◌≤◌, cond, List, [], ◌∷◌, ◌++◌, length, filter, Option, Some, None, sym, ap, ◌∙◌, append_assoc, append-nil, length-append, arith}
-use Rattle.std.specs.Prelude.{Bool, true, false}
+-- Every run is sound, and a transcript goes on by the lines of one more event.
+use Rattle.std.proofs.Common.{◌≡◌, ℕ, List, [], ◌∷◌, ◌++◌, refl, sym, ap, ◌∙◌, subst, append-nil, append_assoc}
 use Rattle.table_model.specs.declared.event.Event.{Event}
 use Rattle.table_model.specs.declared.event.Event.TheVariants as events
-use Rattle.table_model.specs.declared.line.Shown.{Shown}
-use Rattle.table_model.specs.declared.line.Refusal.{Refusal}
 use Rattle.table_model.specs.declared.line.TextLine.{TextLine}
-use Rattle.table_model.specs.declared.line.Write.{Write}
-use Rattle.table_model.specs.Writes.{all_writes, is_by, writes_of, last_write}
-use Rattle.row_value.specs.declared.content.Content.{Content}
-use Rattle.run_laws.specs.Turns.{lines_of, lines_for, turns_from, turns, transcript, schema_of, refusal_at, written, show, shown_of}
-use Rattle.run_laws.specs.Sound.{IsSound}
+use Rattle.run_laws.specs.World.{World, start, step}
+use Rattle.run_laws.specs.Turns.{Turn, lines_of, turns_from, world_from, turns, world_after, transcript}
+use Rattle.run_laws.specs.Sound.{AlongTurns, IsShown, IsCurrent, IsSound}
+use Rattle.run_laws.proofs.Kept.{WorldKept}
+use Rattle.run_laws.proofs.Holds.{LinesHold, LinesHold-nil, LinesHold-append, StepSound}
 use Rattle.run_laws.proofs.Shapes.{all_shaped}
-use Rattle.run_laws.proofs.Origins.{all_numbered}
-use Rattle.run_laws.proofs.Showings.{all_shown}
-use Rattle.run_laws.proofs.Writes.{all_writes-append}
+use Rattle.run_laws.proofs.Showings.{show_shown, store_current, histories_current}
+use Rattle.run_laws.proofs.Sights.{in_sight}
+use Rattle.run_laws.proofs.WorldStep.{step_sound, start_kept}
+
+-- ---- what a run keeps
+
+pub run_kept : (before : List TextLine) (script : List Event) (w : World) → WorldKept w before → WorldKept (world_from w script) (before ++ lines_of (turns_from w script))
+run_kept before [] w k = subst (λ (ls : List TextLine). WorldKept w ls) (sym (append-nil before)) k
+run_kept before (event ∷ more) w k =
+    subst (λ (ls : List TextLine). WorldKept (world_from (step w event).world more) ls)
+    (append_assoc before (step w event).lines (lines_of (turns_from (step w event).world more)))
+    (run_kept (before ++ (step w event).lines) more (step w event).world (step_sound w before k event).world)
+
+run_holds : (before : List TextLine) (script : List Event) (w : World) → WorldKept w before → LinesHold before (lines_of (turns_from w script))
+run_holds before [] w k = LinesHold-nil before
+run_holds before (event ∷ more) w k =
+    let here = step_sound w before k event in
+    LinesHold-append before (step w event).lines (lines_of (turns_from (step w event).world more)) here.lines
+    (run_holds (before ++ (step w event).lines) more (step w event).world here.world)
+
+event_shown : (before : List TextLine) (w : World) (event : Event) → WorldKept w before → IsShown before event (step w event).lines
+event_shown before w (events.Store store) k = tt
+event_shown before w (events.Table table schema) k = tt
+event_shown before w (events.Client client gate tables) k = tt
+event_shown before w (events.Write client table row content) k = tt
+event_shown before w (events.Show client table row) k = show_shown w before client table row k
+event_shown before w (events.Sync client table) k = tt
+event_shown before w (events.Pull client table) k = tt
+event_shown before w (events.Deliver packet) k = tt
+event_shown before w (events.StoreShow table row) k = tt
+event_shown before w (events.History table) k = tt
+
+event_current : (before : List TextLine) (w : World) (event : Event) → WorldKept w before → IsCurrent before event (step w event).lines
+event_current before w (events.Store store) k = tt
+event_current before w (events.Table table schema) k = tt
+event_current before w (events.Client client gate tables) k = tt
+event_current before w (events.Write client table row content) k = tt
+event_current before w (events.Show client table row) k = tt
+event_current before w (events.Sync client table) k = tt
+event_current before w (events.Pull client table) k = tt
+event_current before w (events.Deliver packet) k = tt
+event_current before w (events.StoreShow table row) k = store_current w before table row k
+event_current before w (events.History table) k = histories_current w before table k
+
+run_shown : (before : List TextLine) (script : List Event) (w : World) → WorldKept w before
+    → AlongTurns (λ past turn. IsShown past turn.event turn.lines) before (turns_from w script)
+run_shown before [] w k = tt
+run_shown before (event ∷ more) w k =
+    (event_shown before w event k, run_shown (before ++ (step w event).lines) more (step w event).world (step_sound w before k event).world)
+
+run_current : (before : List TextLine) (script : List Event) (w : World) → WorldKept w before
+    → AlongTurns (λ past turn. IsCurrent past turn.event turn.lines) before (turns_from w script)
+run_current before [] w k = tt
+run_current before (event ∷ more) w k =
+    (event_current before w event k, run_current (before ++ (step w event).lines) more (step w event).world (step_sound w before k event).world)
 
 pub sound : (script : List Event) → IsSound (turns script)
-sound script = record {
-  shape = all_shaped [] [] script;
-  origin = λ client. all_numbered client [] [] script;
-  shown = all_shown [] [] script;
-}
+sound script =
+    let holds = run_holds [] script start start_kept in
+    record {
+      shape = all_shaped start script;
+      history = holds.history;
+      current = run_current [] script start start_kept;
+      numbered = holds.numbered;
+      origin = holds.origin;
+      bases = holds.bases;
+      shown = run_shown [] script start start_kept;
+      reads = holds.reads;
+      kept = holds.kept;
+      in_sight = in_sight (world_after script) (transcript script) (run_kept [] script start start_kept) holds.kept;
+    }
 
--- the lines of some events, and then those of one more
-lines_from-push : (past : List Event) (before : List TextLine) (script : List Event) (event : Event)
-    → lines_of (turns_from past before (script ++ event ∷ []))
-    ≡ lines_of (turns_from past before script) ++ lines_for (past ++ script) (before ++ lines_of (turns_from past before script)) event
-lines_from-push past before [] event =
-    append-nil (lines_for past before event)
-    ∙ ap (λ (p : List Event). lines_for p before event) (sym (append-nil past))
-    ∙ ap (λ (b : List TextLine). lines_for (past ++ []) b event) (sym (append-nil before))
-lines_from-push past before (first ∷ script) event =
-    let told : List TextLine = lines_for past before first in
-    let rest : List TextLine = lines_of (turns_from (past ++ first ∷ []) (before ++ told) script) in
-    ap (λ (ls : List TextLine). told ++ ls) (lines_from-push (past ++ first ∷ []) (before ++ told) script event)
-    ∙ sym (append_assoc told rest (lines_for ((past ++ first ∷ []) ++ script) ((before ++ told) ++ rest) event))
-    ∙ ap (λ (p : List Event). (told ++ rest) ++ lines_for p ((before ++ told) ++ rest) event) (append_assoc past (first ∷ []) script)
-    ∙ ap (λ (b : List TextLine). (told ++ rest) ++ lines_for (past ++ first ∷ script) b event) (append_assoc before told rest)
+-- ---- one more event
 
-pub transcript-push : (script : List Event) (event : Event) → transcript (script ++ event ∷ []) ≡ transcript script ++ lines_for script (transcript script) event
-transcript-push script event = lines_from-push [] [] script event
+world_from-push : (w : World) (script : List Event) (event : Event) → world_from w (script ++ event ∷ []) ≡ (step (world_from w script) event).world
+world_from-push w [] event = refl
+world_from-push w (first ∷ script) event = world_from-push (step w first).world script event
 
--- an event tells one write at most
+lines_from-push : (w : World) (script : List Event) (event : Event)
+    → lines_of (turns_from w (script ++ event ∷ [])) ≡ lines_of (turns_from w script) ++ (step (world_from w script) event).lines
+lines_from-push w [] event = append-nil (step w event).lines
+lines_from-push w (first ∷ script) event =
+    ap (λ (ls : List TextLine). (step w first).lines ++ ls) (lines_from-push (step w first).world script event)
+    ∙ sym (append_assoc (step w first).lines (lines_of (turns_from (step w first).world script)) (step (world_from (step w first).world script) event).lines)
 
-written_one : (refusal : Option Refusal) (client table : ℕ) (row : List ℕ) (content : Content) (before : List TextLine)
-    → length (all_writes (written refusal client table row content before)) ≤ 1
-written_one None client table row content before = omega arith
-written_one (Some refusal) client table row content before = omega arith
+pub world_after-push : (script : List Event) (event : Event) → world_after (script ++ event ∷ []) ≡ (step (world_after script) event).world
+world_after-push script event = world_from-push start script event
 
-show_none : (what : Option Shown) → length (all_writes (show what)) ≤ 1
-show_none None = omega arith
-show_none (Some what) = omega arith
-
-one_write : (past : List Event) (before : List TextLine) (event : Event) → length (all_writes (lines_for past before event)) ≤ 1
-one_write past before (events.Store store) = omega arith
-one_write past before (events.Table table schema) = omega arith
-one_write past before (events.Client client gate tables) = omega arith
-one_write past before (events.Write client table row content) = written_one (refusal_at (schema_of past table) content) client table row content before
-one_write past before (events.Show client table row) = show_none (shown_of (last_write client table row before))
-
-all_few : (past : List Event) (before : List TextLine) (script : List Event)
-    → length (all_writes (lines_of (turns_from past before script))) ≤ length script
-all_few past before [] = omega arith
-all_few past before (event ∷ more) =
-    let told : List TextLine = lines_for past before event in
-    let rest : List TextLine = lines_of (turns_from (past ++ event ∷ []) (before ++ told) more) in
-    let joined : length (all_writes (told ++ rest)) ≡ length (all_writes told) + length (all_writes rest) =
-    ap (λ (ws : List Write). length ws) (all_writes-append told rest) ∙ length-append (all_writes told) (all_writes rest) in
-    omega (arith, joined, one_write past before event, all_few (past ++ event ∷ []) (before ++ told) more)
-
-kept_few : (b : Bool) (write : Write) (writes : List Write) → length (cond b (write ∷ writes) writes) ≤ length writes + 1
-kept_few true write writes = omega arith
-kept_few false write writes = omega arith
-
-filter_few : (p : Write → Bool) (writes : List Write) → length (filter p writes) ≤ length writes
-filter_few p [] = omega arith
-filter_few p (write ∷ writes) = omega (arith, kept_few (p write) write (filter p writes), filter_few p writes)
-
--- a client has made no more writes than there are events
-pub writes_few : (client : ℕ) (script : List Event) → length (writes_of client (transcript script)) ≤ length script
-writes_few client script =
-    omega (arith, filter_few (is_by client) (all_writes (transcript script)), all_few [] [] script)
+pub transcript-push : (script : List Event) (event : Event) → transcript (script ++ event ∷ []) ≡ transcript script ++ (step (world_after script) event).lines
+transcript-push script event = lines_from-push start script event

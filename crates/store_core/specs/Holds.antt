@@ -47,13 +47,6 @@ pub record IsIndexed (stored : List Stored) (rows : Rows) : Type 0 where
   pub by_version : rows.by_version.entries ≡ changes_of stored
   pub yours : (client : ℕ) (row : List ℕ) → yours_or_none (tree.get write_cmp rows.yours (client, row)) ≡ yours_of stored client row
 
--- two indexes have the same entries
-pub record IsSame (old new : Rows) : Type 0 where
-  pub last : new.last ≡ old.last
-  pub current : new.current.entries ≡ old.current.entries
-  pub by_version : new.by_version.entries ≡ old.by_version.entries
-  pub yours : new.yours.entries ≡ old.yours.entries
-
 -- what the node holds is what this history makes of its rows
 pub record Holds (stored : List Stored) (node : TableNode) : Type 0 where
   pub rows : IsIndexed stored node.rows

@@ -1,10 +1,15 @@
 //! The rows of one table, as the Store has them.
-ghost use Rattle.std.specs.Prelude.{◌≡◌, ◌+◌, ◌<◌, [], ◌∷◌, ◌++◌, option_copied, option_map, OnOk, OnErr, IfOk, IfErr, List, ℕ};
+ghost use Rattle.std.specs.Prelude.{◌≡◌, ◌+◌, ◌<◌, [], ◌∷◌, ◌++◌, cond, Some, None, slice_get, option_copied, option_map, OnOk, OnErr, IfOk, IfErr, List, ℕ};
+ghost use Rattle.std.specs.BTreeMap as tree;
+ghost use Rattle.std.specs.BTreeMap.{insert_entry};
+ghost use Rattle.std.specs.BTreeMap.Range.{entries_between};
+ghost use Rattle.std.specs.declared.ops.Bound.TheVariants.{Excluded, Unbounded};
+ghost use Rattle.std.specs.Ordering.{nat_cmp, is_eq};
 ghost use Rattle.step_tables.specs.Store.{Stored, entry_for, current_of, yours_of, next_changed, accept};
-ghost use Rattle.store_core.specs.Holds.{IsIndexed, IsSame, row_of};
+ghost use Rattle.store_core.specs.Holds.{IsIndexed, row_of, write_cmp};
 
 use crate::fault::NodeFault;
-use row_value::{ClientNo, Content, RowId, Version};
+use row_value::{ClientNo, Content, RowId, Version, WriteNo};
 use stab_base::NUMBER_MAX;
 use std::alloc::Global;
 use std::collections::BTreeMap;
@@ -26,6 +31,16 @@ pub(crate) struct Rows {
     current: BTreeMap<RowId, Row>,
     by_version: BTreeMap<Version, RowId>,
     yours: BTreeMap<(ClientNo, RowId), Yours>,
+}
+
+// The row of the least version above a position.
+fn first_above(by_version: &BTreeMap<Version, RowId>, position: Version) -> Option<RowId>
+    ensures { result ≡ option_map (λ e. e.1) (slice_get (entries_between nat_cmp (Excluded position) Unbounded by_version.now.entries) 0) }
+{
+    by_version
+        .range((Bound::Excluded(position), Bound::Unbounded))
+        .next()
+        .map(|(_, row)| *row)
 }
 
 impl Rows {
@@ -61,14 +76,42 @@ impl Rows {
     }
 
     /// The row whose version is the least above a position.
-    pub(crate) fn next_changed(&self, position: Version) -> Option<RowId>
+    pub(crate) fn next_changed(&self, position: Version) -> Option<(RowId, &Row)>
         ensures { (stored : List Stored) → IsIndexed stored self.now
-            → result ≡ option_map (λ s. s.entry.row) (next_changed position stored) }
+            → option_map (λ p. (p.0, p.1.now)) result ≡ option_map (λ s. (s.entry.row, row_of s)) (next_changed position stored) }
     {
-        self.by_version
-            .range((Bound::Excluded(position), Bound::Unbounded))
-            .next()
-            .map(|(_, row)| *row)
+        let row = first_above(&self.by_version, position)?;
+        let current = self.current.get(&row)?;
+        Some((row, current))
+    }
+
+    // Marks a version and a client's write on a row, which isn't the row's current one yet.
+    fn mark(
+        &mut self,
+        version: Version,
+        row: RowId,
+        client: ClientNo,
+        number: WriteNo,
+    ) -> Result<(), NodeFault>
+        ensures current { self.new.current ≡ self.old.current }
+        ensures last { self.new.last ≡ self.old.last }
+        ensures by_version { OnOk result (self.new.by_version.entries ≡ insert_entry nat_cmp self.old.by_version.entries version row) }
+        ensures yours { OnOk result ((writer : ℕ) (written : List ℕ) → tree.get write_cmp self.new.yours (writer, written)
+            ≡ cond (is_eq (write_cmp (client, row) (writer, written))) (Some (record { number = number; version = version })) (tree.get write_cmp self.old.yours (writer, written))) }
+        ensures same_versions { tree.get nat_cmp self.old.by_version version ≡ None → OnErr result (self.new.by_version.entries ≡ self.old.by_version.entries) }
+        ensures same_yours { OnErr result (self.new.yours.entries ≡ self.old.yours.entries) }
+        ensures memory { IfErr result (λ e. e ≡ NodeFault.Memory) }
+    {
+        self.by_version.insert(version, row)?;
+        if self
+            .yours
+            .insert((client, row), Yours { number, version })
+            .is_err()
+        {
+            self.by_version.remove(&version);
+            return Err(NodeFault::Memory);
+        }
+        Ok(())
     }
 
     /// Makes a request the last entry of its row, at the next version.
@@ -77,14 +120,25 @@ impl Rows {
         ensures version { IfOk result (λ version. version ≡ self.old.last + 1) }
         ensures added { (stored : List Stored) → IsIndexed stored self.old
             → OnOk result (IsIndexed (stored ++ record { entry = entry_for stored request.now; content = request.now.content } ∷ []) self.new) }
-        ensures same { OnErr result (IsSame self.old self.new) }
+        ensures kept { (stored : List Stored) → IsIndexed stored self.old → OnErr result (IsIndexed stored self.new) }
         ensures memory { IfErr result (λ e. e ≡ NodeFault.Memory) }
     {
         let version = self.last + 1;
-        let row = Row {
-            version,
-            content: request.content.copy()?,
-        };
-        Err(NodeFault::Memory)
+        let content = request.content.copy()?;
+        self.mark(version, request.row, request.client, request.number)?;
+        match self.current.insert(request.row, Row { version, content }) {
+            Ok(Some(former)) => {
+                self.by_version.remove(&former.version);
+            }
+            Ok(None) => {}
+            Err(_) => {
+                // The row is new, so this was the client's first write on it.
+                self.by_version.remove(&version);
+                self.yours.remove(&(request.client, request.row));
+                return Err(NodeFault::Memory);
+            }
+        }
+        self.last = version;
+        Ok(version)
     }
 }

@@ -156,20 +156,24 @@ impl TableNode {
     }
 
     // The changed row of least version above a position, for a client.
+    #[tactic(auto, using(crate::proofs::Histories::next_is_current))]
     fn header(&self, client: ClientNo, position: Version) -> Result<Option<RowHeader>, NodeFault>
         ensures header { (stored : List Stored) → Holds stored self.now
             → IfOk result (λ header. header ≡ option_map (header_for stored client) (next_changed position stored)) }
         ensures memory { IfErr result (λ e. e ≡ NodeFault.Memory) }
     {
-        match self.rows.next_changed(position) {
-            Some((row, current)) => Ok(Some(RowHeader {
-                row,
-                version: current.version,
-                yours: self.rows.yours(client, row),
-                content: current.content.copy()?,
-            })),
-            None => Ok(None),
-        }
+        let Some(row) = self.rows.next_changed(position) else {
+            return Ok(None);
+        };
+        let Some(current) = self.rows.current(&row) else {
+            return Ok(None);
+        };
+        Ok(Some(RowHeader {
+            row,
+            version: current.version,
+            yours: self.rows.yours(client, row),
+            content: current.content.copy()?,
+        }))
     }
 
     // Answers a request for the next change.

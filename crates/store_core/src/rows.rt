@@ -76,13 +76,11 @@ impl Rows {
     }
 
     /// The row whose version is the least above a position.
-    pub(crate) fn next_changed(&self, position: Version) -> Option<(RowId, &Row)>
+    pub(crate) fn next_changed(&self, position: Version) -> Option<RowId>
         ensures { (stored : List Stored) → IsIndexed stored self.now
-            → option_map (λ p. (p.0, p.1.now)) result ≡ option_map (λ s. (s.entry.row, row_of s)) (next_changed position stored) }
+            → result ≡ option_map (λ s. s.entry.row) (next_changed position stored) }
     {
-        let row = first_above(&self.by_version, position)?;
-        let current = self.current.get(&row)?;
-        Some((row, current))
+        first_above(&self.by_version, position)
     }
 
     // Marks a version and a client's write on a row, which isn't the row's current one yet.
@@ -103,15 +101,13 @@ impl Rows {
         ensures memory { IfErr result (λ e. e ≡ NodeFault.Memory) }
     {
         self.by_version.insert(version, row)?;
-        if self
-            .yours
-            .insert((client, row), Yours { number, version })
-            .is_err()
-        {
-            self.by_version.remove(&version);
-            return Err(NodeFault::Memory);
+        match self.yours.insert((client, row), Yours { number, version }) {
+            Ok(_) => Ok(()),
+            Err(_) => {
+                self.by_version.remove(&version);
+                Err(NodeFault::Memory)
+            }
         }
-        Ok(())
     }
 
     /// Makes a request the last entry of its row, at the next version.

@@ -2,6 +2,7 @@
 use Rattle.std.specs.Prelude.{◌≡◌, ℕ, ◌+◌, ◌≤◌, List, [], ◌∷◌, ◌++◌, length, map, Option, Some, None, option_map, if◌then◌else◌}
 use Rattle.std.specs.List.{list_any}
 use Rattle.std.specs.BTreeMap as tree
+use Rattle.std.specs.Map.{remove_entry}
 use Rattle.std.specs.Ordering.{nat_cmp, ordering_then}
 use Rattle.std.specs.Cmp.Lexicographic.{slice_cmp}
 use Rattle.std.specs.declared.cmp.Ordering.{Ordering}
@@ -37,6 +38,11 @@ write_cmp a b = ordering_then (nat_cmp a.0 b.0) (slice_cmp nat_cmp a.1 b.1)
 abbrev pub yours_or_none : Option Yours → Yours
 yours_or_none None = record { number = 0; version = 0 }
 yours_or_none (Some yours) = yours
+
+-- without the entry of a version
+abbrev pub without_version : Option ℕ → List (ℕ × List ℕ) → List (ℕ × List ℕ)
+without_version None changes = changes
+without_version (Some version) changes = remove_entry (tree.is_at (nat_cmp version)) changes
 
 -- the indexes are those of a history
 pub record IsIndexed (stored : List Stored) (rows : Rows) : Type 0 where

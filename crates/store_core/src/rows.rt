@@ -1,12 +1,15 @@
 //! The rows of one table, as the Store has them.
 ghost use Rattle.std.specs.Prelude.{◌≡◌, ◌+◌, ◌<◌, [], ◌∷◌, ◌++◌, cond, Some, None, slice_get, option_copied, option_map, OnOk, OnErr, IfOk, IfErr, List, ℕ};
 ghost use Rattle.std.specs.BTreeMap as tree;
-ghost use Rattle.std.specs.BTreeMap.{insert_entry};
+ghost use Rattle.std.specs.BTreeMap.{insert_entry, is_at};
+ghost use Rattle.std.specs.Map.{remove_entry};
+ghost use Rattle.std.specs.Cmp.Lexicographic.{slice_cmp};
+ghost use Rattle.table_model.specs.History.{same_row};
 ghost use Rattle.std.specs.BTreeMap.Range.{entries_between};
 ghost use Rattle.std.specs.declared.ops.Bound.TheVariants.{Excluded, Unbounded};
 ghost use Rattle.std.specs.Ordering.{nat_cmp, is_eq};
 ghost use Rattle.step_tables.specs.Store.{Stored, entry_for, current_of, yours_of, next_changed, accept};
-ghost use Rattle.store_core.specs.Holds.{IsIndexed, row_of, write_cmp};
+ghost use Rattle.store_core.specs.Holds.{IsIndexed, row_of, write_cmp, without_version};
 
 use crate::fault::NodeFault;
 use row_value::{ClientNo, Content, RowId, Version, WriteNo};
@@ -110,6 +113,49 @@ impl Rows {
         }
     }
 
+    // Takes back a mark of a client's first write on a row.
+    fn unmark(&mut self, version: Version, row: RowId, client: ClientNo)
+        ensures current { self.new.current ≡ self.old.current }
+        ensures last { self.new.last ≡ self.old.last }
+        ensures by_version { self.new.by_version.entries ≡ remove_entry (is_at (nat_cmp version)) self.old.by_version.entries }
+        ensures yours { (writer : ℕ) (written : List ℕ) → tree.get write_cmp self.new.yours (writer, written)
+            ≡ cond (is_eq (write_cmp (client, row) (writer, written))) None (tree.get write_cmp self.old.yours (writer, written)) }
+    {
+        self.by_version.remove(&version);
+        self.yours.remove(&(client, row));
+    }
+
+    // Makes a row the current one, and answers the version that it had.
+    fn put(&mut self, row: RowId, current: Row) -> Result<Option<Version>, NodeFault>
+        ensures last { self.new.last ≡ self.old.last }
+        ensures by_version { self.new.by_version ≡ self.old.by_version }
+        ensures yours { self.new.yours ≡ self.old.yours }
+        ensures current { OnOk result ((other : List ℕ) → tree.get (slice_cmp nat_cmp) self.new.current other
+            ≡ cond (same_row row other) (Some current) (tree.get (slice_cmp nat_cmp) self.old.current other)) }
+        ensures former { IfOk result (λ former. former ≡ option_map (λ r. r.version) (tree.get (slice_cmp nat_cmp) self.old.current row)) }
+        ensures same { OnErr result (self.new.current.entries ≡ self.old.current.entries) }
+        ensures absent { OnErr result (tree.get (slice_cmp nat_cmp) self.old.current row ≡ None) }
+        ensures memory { IfErr result (λ e. e ≡ NodeFault.Memory) }
+    {
+        match self.current.insert(row, current) {
+            Ok(former) => Ok(former.map(|row| row.version)),
+            Err(_) => Err(NodeFault::Memory),
+        }
+    }
+
+    // Gives a version, in place of the one that its row had.
+    fn advance(&mut self, version: Version, former: Option<Version>)
+        ensures current { self.new.current ≡ self.old.current }
+        ensures yours { self.new.yours ≡ self.old.yours }
+        ensures last { self.new.last ≡ version }
+        ensures by_version { self.new.by_version.entries ≡ without_version former self.old.by_version.entries }
+    {
+        self.last = version;
+        if let Some(former) = former {
+            self.by_version.remove(&former);
+        }
+    }
+
     /// Makes a request the last entry of its row, at the next version.
     pub(crate) fn add(&mut self, request: &SyncRequest) -> Result<Version, NodeFault>
         requires { self.old.last < NUMBER_MAX }
@@ -122,19 +168,16 @@ impl Rows {
         let version = self.last + 1;
         let content = request.content.copy()?;
         self.mark(version, request.row, request.client, request.number)?;
-        match self.current.insert(request.row, Row { version, content }) {
-            Ok(Some(former)) => {
-                self.by_version.remove(&former.version);
+        match self.put(request.row, Row { version, content }) {
+            Ok(former) => {
+                self.advance(version, former);
+                Ok(version)
             }
-            Ok(None) => {}
-            Err(_) => {
-                // The row is new, so this was the client's first write on it.
-                self.by_version.remove(&version);
-                self.yours.remove(&(request.client, request.row));
-                return Err(NodeFault::Memory);
+            Err(fault) => {
+                // The row is new, so this is the client's first write on it.
+                self.unmark(version, request.row, request.client);
+                Err(fault)
             }
         }
-        self.last = version;
-        Ok(version)
     }
 }

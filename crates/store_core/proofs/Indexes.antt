@@ -24,6 +24,10 @@ pub whatever_comes : {T E P : Type 0} (r : Result T E) → P → OnErr r P
 whatever_comes (Ok x) p = tt
 whatever_comes (Err e) p = p
 
+pub next_absent : (stored : List Stored) (old : Rows) → IsIndexed stored old → tree.get nat_cmp old.by_version (old.last + 1) ≡ None
+next_absent stored old i =
+    ap (λ n. tree.get nat_cmp old.by_version (n + 1)) i.last ∙ ap (lookup (is_at (nat_cmp (length stored + 1)))) i.by_version ∙ next_is_absent stored i.numbered
+
 -- equal entries, one index
 pub stays : (stored : List Stored) (old new : Rows) → IsIndexed stored old
     → new.last ≡ old.last → new.current.entries ≡ old.current.entries → new.by_version.entries ≡ old.by_version.entries

@@ -1,3 +1,4 @@
 pub mod Histories
 pub mod Versions
 pub mod Indexes
+pub mod Decisions

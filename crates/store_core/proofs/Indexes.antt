@@ -1,9 +1,9 @@
 -- The indexes of a history, as they stay and as the history goes on.
-use Rattle.std.proofs.Common.{◌≡◌, ℕ, ◌+◌, ◌<◌, ◌≤◌, Bool, true, false, cond, List, [], ◌∷◌, ◌++◌, length, length-append, Option, Some, None, refl, sym, ap, ◌∙◌, arith, rules}
+use Rattle.std.proofs.Common.{◌≡◌, ℕ, ◌+◌, ◌<◌, Bool, true, false, cond, List, [], ◌∷◌, ◌++◌, length, length-append, Option, Some, None, refl, sym, ap, ◌∙◌, arith}
 use Rattle.std.specs.Prelude.{Result, Ok, Err, OnErr, option_map, ◌==◌, ◌&&◌}
 use Rattle.std.specs.BTreeMap as tree
-use Rattle.std.specs.BTreeMap.{BTreeMap, insert_entry, is_at}
-use Rattle.std.specs.Map.{remove_entry, lookup}
+use Rattle.std.specs.BTreeMap.{insert_entry, is_at}
+use Rattle.std.specs.Map.{lookup}
 use Rattle.std.specs.Ordering.{nat_cmp, is_eq, ordering_then}
 use Rattle.std.specs.Cmp.{unsigned_tied, tied_then}
 use Rattle.std.specs.Cmp.Lexicographic.{slice_cmp}
@@ -16,9 +16,9 @@ use Rattle.sync_msgs.specs.declared.message.Yours.{Yours}
 use Rattle.step_tables.specs.Store.{Stored, is_of_row, is_of_client, current_of, yours_of, yours_in}
 use Rattle.store_core.specs.declared.rows.Row.{Row}
 use Rattle.store_core.specs.declared.rows.Rows.{Rows}
-use Rattle.store_core.specs.Holds.{IsIndexed, IsNumberedFrom, row_of, changes_of, write_cmp, yours_or_none, without_version}
+use Rattle.store_core.specs.Holds.{IsIndexed, row_of, write_cmp, yours_or_none, without_version}
 use Rattle.store_core.proofs.Histories.{one_row, last_where-push, numbered-push, no_yours}
-use Rattle.store_core.proofs.Versions.{next_is_absent, insert_undone, versions_after}
+use Rattle.store_core.proofs.Versions.{next_is_absent, versions_after}
 
 pub whatever_comes : {T E P : Type 0} (r : Result T E) → P → OnErr r P
 whatever_comes (Ok x) p = tt

@@ -7,3 +7,6 @@ mod rows;
 
 pub use fault::NodeFault;
 pub use node::TableNode;
+
+#[cfg(test)]
+mod tests;

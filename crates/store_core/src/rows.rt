@@ -2,13 +2,13 @@
 ghost use Rattle.std.specs.Prelude.{◌≡◌, ◌+◌, ◌<◌, [], ◌∷◌, ◌++◌, cond, Some, None, slice_get, option_copied, option_map, OnOk, OnErr, IfOk, IfErr, List, ℕ};
 ghost use Rattle.std.specs.BTreeMap as tree;
 ghost use Rattle.std.specs.BTreeMap.{insert_entry, is_at};
-ghost use Rattle.std.specs.Map.{remove_entry};
-ghost use Rattle.std.specs.Cmp.Lexicographic.{slice_cmp};
-ghost use Rattle.table_model.specs.History.{same_row};
 ghost use Rattle.std.specs.BTreeMap.Range.{entries_between};
-ghost use Rattle.std.specs.declared.ops.Bound.TheVariants.{Excluded, Unbounded};
+ghost use Rattle.std.specs.Cmp.Lexicographic.{slice_cmp};
+ghost use Rattle.std.specs.Map.{remove_entry};
 ghost use Rattle.std.specs.Ordering.{nat_cmp, is_eq};
-ghost use Rattle.step_tables.specs.Store.{Stored, entry_for, current_of, yours_of, next_changed, accept};
+ghost use Rattle.std.specs.declared.ops.Bound.TheVariants.{Excluded, Unbounded};
+ghost use Rattle.table_model.specs.History.{same_row};
+ghost use Rattle.step_tables.specs.Store.{Stored, entry_for, current_of, yours_of, next_changed};
 ghost use Rattle.store_core.specs.Holds.{IsIndexed, row_of, write_cmp, without_version};
 
 use crate::fault::NodeFault;

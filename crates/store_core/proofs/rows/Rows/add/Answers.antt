@@ -1,5 +1,5 @@
-use Rattle.std.proofs.Common.{◌≡◌, ◌∙◌, ap, sym, subst, refl, Some, cond, ◌+◌, ◌++◌, ◌∷◌, []}
-use Rattle.std.specs.Prelude.{option_map, ℕ, List, Option}
+use Rattle.std.proofs.Common.{◌∙◌, ap, sym, subst, refl, Some, cond, ◌+◌, ◌++◌, ◌∷◌, []}
+use Rattle.std.specs.Prelude.{option_map, ℕ, List}
 use Rattle.std.specs.BTreeMap as tree
 use Rattle.std.specs.BTreeMap.{BTreeMap, insert_entry, is_at}
 use Rattle.std.specs.Map.{lookup, remove_entry}
@@ -9,7 +9,7 @@ use Rattle.row_value.specs.declared.content.Content.{Content}
 use Rattle.table_model.specs.History.{same_row}
 use Rattle.table_model.specs.declared.entry.Entry.{Entry}
 use Rattle.sync_msgs.specs.declared.message.Yours.{Yours}
-use Rattle.step_tables.specs.Store.{Stored, entry_for}
+use Rattle.step_tables.specs.Store.{Stored}
 use Rattle.store_core.specs.declared.rows.Row.{Row}
 use Rattle.store_core.specs.Holds.{IsIndexed, without_version, yours_or_none, write_cmp}
 use Rattle.store_core.proofs.Indexes.{whatever_comes, next_absent, stays, yours_back, goes_on}

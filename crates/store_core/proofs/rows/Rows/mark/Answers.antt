@@ -1,6 +1,5 @@
 use Rattle.store_core.proofs.Versions.{insert_undone}
-use Rattle.store_core.proofs.Histories.{no_yours}
-use Rattle.std.proofs.Common.{◌≡◌, ◌∙◌, ap}
+use Rattle.std.proofs.Common.{◌∙◌}
 use Rattle.store_core.proofs.rows.Rows.mark.Goals as goal
 
 pub returns-in-Ok-clause-yours : goal.returns-in-Ok-clause-yours

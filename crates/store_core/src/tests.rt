@@ -1,8 +1,8 @@
 use super::*;
 use row_value::{Cell, Content, RowId, Sequence, Version, WriteNo};
-use std::alloc::{AllocError, Global};
+use std::alloc::Global;
 use std::test::Fail;
-use sync_msgs::{Message, Out, Outcome, PullRequest, PullResponse, SyncRequest, Yours};
+use sync_msgs::{Message, Out, Outcome, PullRequest, SyncRequest, Yours};
 use table_model::{Fact, Node};
 
 const CLIENT: Node = Node::Client(3);
@@ -30,53 +30,10 @@ fn number_in(content: &Content) -> Option<i64> {
     }
 }
 
-/// Client 3 writes a row on table 7.
-fn write(
-    alloc: Global,
-    row: RowId,
-    number: WriteNo,
-    base: Version,
-    value: i64,
-) -> Result<Message, NodeFault> {
-    Ok(Message::SyncRequest(SyncRequest {
-        client: 3,
-        token: 0,
-        table: 7,
-        row,
-        number,
-        base,
-        content: content(alloc, value)?,
-    }))
-}
-
-/// Client 3 asks for the next change of table 7.
-fn pull(position: Version) -> Message {
-    Message::PullRequest(PullRequest {
-        client: 3,
-        token: 0,
-        table: 7,
-        position,
-    })
-}
-
-/// What the table makes of one message.
-fn told(node: &mut TableNode, message: &Message) -> Result<Out, NodeFault> {
-    node.deliver(CLIENT, message)?;
-    Ok(node.take_out())
-}
-
 /// The one outcome that is sent to the client.
-fn outcome_of(out: &Out) -> Option<Outcome> {
+fn outcome_in(out: &Out) -> Option<Outcome> {
     match out.messages.as_slice() {
         [(Some(Node::Client(3)), Message::SyncResponse(response))] => Some(response.outcome),
-        _ => None,
-    }
-}
-
-/// The one answer to a pull that is sent to the client.
-fn answer_of(out: &Out) -> Option<&PullResponse> {
-    match out.messages.as_slice() {
-        [(Some(Node::Client(3)), Message::PullResponse(response))] => Some(response),
         _ => None,
     }
 }
@@ -89,58 +46,101 @@ fn accepted_in(out: &Out) -> Option<(Version, Version)> {
     }
 }
 
+/// What is sent and told as client 3 writes a row of table 7.
+fn write(
+    alloc: Global,
+    node: &mut TableNode,
+    row: RowId,
+    number: WriteNo,
+    base: Version,
+) -> Result<(Option<Outcome>, Option<(Version, Version)>), NodeFault> {
+    let message = Message::SyncRequest(SyncRequest {
+        client: 3,
+        token: 0,
+        table: 7,
+        row,
+        number,
+        base,
+        content: content(alloc, 5)?,
+    });
+    node.deliver(CLIENT, &message)?;
+    let out = node.take_out();
+    Ok((outcome_in(&out), accepted_in(&out)))
+}
+
+/// Where an answer to a pull leads, the table's last version, and the client's last write on the row.
+fn answer_in(out: &Out) -> Option<(Version, Version, Option<Yours>)> {
+    match out.messages.as_slice() {
+        [(Some(Node::Client(3)), Message::PullResponse(response))] => {
+            let yours = response.header.as_ref().map(|header| header.yours);
+            Some((response.to, response.latest, yours))
+        }
+        _ => None,
+    }
+}
+
+/// What client 3 is answered as it pulls table 7.
+fn pull(
+    node: &mut TableNode,
+    position: Version,
+) -> Result<Option<(Version, Version, Option<Yours>)>, NodeFault> {
+    let message = Message::PullRequest(PullRequest {
+        client: 3,
+        token: 0,
+        table: 7,
+        position,
+    });
+    node.deliver(CLIENT, &message)?;
+    Ok(answer_in(&node.take_out()))
+}
+
+/// The version and the number that the node shows of a row.
+fn shown(node: &TableNode, row: RowId) -> Result<(Version, Option<i64>), NodeFault> {
+    let (version, content) = node.show(&row)?;
+    Ok((version, number_in(&content)))
+}
+
 #[test]
 fn writes_are_accepted_once_and_never_too_late(rt: HostRuntime) -> Result<(), Fail> {
     let mut node = TableNode::new(rt.alloc(), 7);
-    let first = write(rt.alloc(), row(1), 1, 0, 5)?;
-    let second = write(rt.alloc(), row(1), 4, 1, 6)?;
-    let out = told(&mut node, &first)?;
-    assert_eq!(rt; outcome_of(&out), Some(Outcome::Accepted { version: 1 }));
-    assert_eq!(rt; accepted_in(&out), Some((1, 0)));
-    let out = told(&mut node, &second)?;
-    assert_eq!(rt; outcome_of(&out), Some(Outcome::Accepted { version: 2 }));
-    assert_eq!(rt; accepted_in(&out), Some((2, 1)));
-    let out = told(&mut node, &second)?;
-    assert_eq!(rt; outcome_of(&out), Some(Outcome::Again { version: 2 }));
-    assert_eq!(rt; out.facts.len(), 0);
-    let out = told(&mut node, &first)?;
-    assert_eq!(rt; outcome_of(&out), Some(Outcome::Late { last: 4 }));
-    assert_eq!(rt; out.facts.len(), 0);
-    let (version, content) = node.show(&row(1))?;
-    assert_eq!(rt; version, 2);
-    assert_eq!(rt; number_in(&content), Some(6));
-    assert_eq!(rt; node.show(&row(2)).err(), Some(NodeFault::NoRow));
+    let (outcome, accepted) = write(rt.alloc(), &mut node, row(1), 1, 0)?;
+    assert_eq!(rt; outcome, Some(Outcome::Accepted { version: 1 }));
+    assert_eq!(rt; accepted, Some((1, 0)));
+    let (outcome, accepted) = write(rt.alloc(), &mut node, row(1), 4, 1)?;
+    assert_eq!(rt; outcome, Some(Outcome::Accepted { version: 2 }));
+    assert_eq!(rt; accepted, Some((2, 1)));
+    let (outcome, accepted) = write(rt.alloc(), &mut node, row(1), 4, 1)?;
+    assert_eq!(rt; outcome, Some(Outcome::Again { version: 2 }));
+    assert_eq!(rt; accepted, None);
+    let (outcome, accepted) = write(rt.alloc(), &mut node, row(1), 1, 0)?;
+    assert_eq!(rt; outcome, Some(Outcome::Late { last: 4 }));
+    assert_eq!(rt; accepted, None);
+    assert_eq!(rt; shown(&node, row(1)), Ok((2, Some(5))));
+    assert_eq!(rt; shown(&node, row(2)), Err(NodeFault::NoRow));
     Ok(())
 }
 
 #[test]
 fn a_pull_answers_the_next_change_as_it_is_now(rt: HostRuntime) -> Result<(), Fail> {
     let mut node = TableNode::new(rt.alloc(), 7);
-    told(&mut node, &write(rt.alloc(), row(1), 1, 0, 5)?)?;
-    told(&mut node, &write(rt.alloc(), row(2), 2, 0, 8)?)?;
-    // position, version and value of the row, its client's last number
-    let before = [(0, 1, 5, 1), (1, 2, 8, 2)];
-    for (position, version, value, number) in before {
-        let out = told(&mut node, &pull(position))?;
-        let answer = answer_of(&out).ok_or("no answer")?;
-        assert_eq!(rt;
-            (answer.from, answer.to, answer.latest),
-            (position, version, 2)
-        );
-        let header = answer.header.as_ref().ok_or("no row")?;
-        assert_eq!(rt; header.version, version);
-        assert_eq!(rt; header.yours, Yours { number, version });
-        assert_eq!(rt; number_in(&header.content), Some(value));
-    }
-    told(&mut node, &write(rt.alloc(), row(1), 3, 1, 6)?)?;
-    for (position, to) in [(0, 2), (1, 2), (2, 3)] {
-        let out = told(&mut node, &pull(position))?;
-        let answer = answer_of(&out).ok_or("no answer")?;
-        assert_eq!(rt; (answer.to, answer.latest), (to, 3));
-    }
-    let out = told(&mut node, &pull(3))?;
-    let answer = answer_of(&out).ok_or("no answer")?;
-    assert_eq!(rt; (answer.to, answer.latest), (3, 3));
-    assert!(rt; answer.header.is_none());
+    write(rt.alloc(), &mut node, row(1), 1, 0)?;
+    write(rt.alloc(), &mut node, row(2), 2, 0)?;
+    let first = Yours {
+        number: 1,
+        version: 1,
+    };
+    assert_eq!(rt; pull(&mut node, 0)?, Some((1, 2, Some(first))));
+    write(rt.alloc(), &mut node, row(1), 3, 1)?;
+    let second = Yours {
+        number: 2,
+        version: 2,
+    };
+    let third = Yours {
+        number: 3,
+        version: 3,
+    };
+    assert_eq!(rt; pull(&mut node, 0)?, Some((2, 3, Some(second))));
+    assert_eq!(rt; pull(&mut node, 2)?, Some((3, 3, Some(third))));
+    assert_eq!(rt; pull(&mut node, 3)?, Some((3, 3, None)));
     Ok(())
 }

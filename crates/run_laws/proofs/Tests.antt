@@ -18,6 +18,9 @@ second_of_both : (a b : Bool) → (a && b) ≡ true → b ≡ true
 second_of_both true b h = h
 second_of_both false b h = absurd cc
 
+pub both_true : (a b : Bool) → (a && b) ≡ true → (a ≡ true) × (b ≡ true)
+both_true a b h = (first_of_both a b h, second_of_both a b h)
+
 pub eqb-refl : (a : ℕ) → (a == a) ≡ true
 eqb-refl a = grind (arith, nat_tests)
 

@@ -73,28 +73,28 @@ module _ (packets : List Packet) (before : List TextLine) (node : Client) (table
 
   content : content_at table version before ≡ Some out.content
   content =
-    let w = store.written st.0 st.1 in
-    let u = x.written in
-    let one : w.0 ≡ u.0 = writes.once w.0 u.0 w.1 u.1
+      let w = store.written st.0 st.1 in
+      let u = x.written in
+      let one : w.0 ≡ u.0 = writes.once w.0 u.0 w.1 u.1
       (w.2 ∙ (ap (λ (e : Entry). e.client) st.2 ∙ (entry.4 ∙ sym u.2)))
       (w.3 ∙ (ap (λ (e : Entry). e.number) st.2 ∙ (entry.5 ∙ sym u.3))) in
-    ap (λ v. content_at table v before) (sym (ap (λ (e : Entry). e.version) st.2 ∙ entry.3))
-    ∙ (store.content st.0 st.1 ∙ ap Some (sym w.6 ∙ (ap (λ (z : Write). z.content) one ∙ u.6)))
+      ap (λ v. content_at table v before) (sym (ap (λ (e : Entry). e.version) st.2 ∙ entry.3))
+      ∙ (store.content st.0 st.1 ∙ ap Some (sym w.6 ∙ (ap (λ (z : Write). z.content) one ∙ u.6)))
 
   -- what the position covers stays read: the version is above the row's, so the position doesn't cover it
   not_covered : current (history_of table before) row ≤ opened.position → ⊥
   not_covered le =
-    let c = o.covered row le in
-    let m = (current_is 0 stored row store.counts).most st.0 st.1 (ap (λ (e : Entry). e.row) st.2 ∙ entry.2) in
-    let h = ap (λ l. current l row) store.history in
-    let v = ap (λ (e : Entry). e.version) st.2 ∙ entry.3 in
-    let a = above in omega arith
+      let c = o.covered row le in
+      let m = (current_is 0 stored row store.counts).most st.0 st.1 (ap (λ (e : Entry). e.row) st.2 ∙ entry.2) in
+      let h = ap (λ l. current l row) store.history in
+      let v = ap (λ (e : Entry). e.version) st.2 ∙ entry.3 in
+      let a = above in omega arith
 
   module _ (after : List TextLine) (adds : Adds before after (fact ∷ [])) where
     quiet : (t : ℕ) (q : List ℕ) → (t ≡ table → q ≡ row → ⊥) → (write : Write) → last_write node.number t q before ≡ Some write
         → is_acked write.client write.number (told (fact ∷ [])) ≡ false
     quiet t q apart_ write e =
-      let n = other_number before node.number table out.number row out.content writes x.written t q apart_ write e in differ write n
+        let n = other_number before node.number table out.number row out.content writes x.written t q apart_ write e in differ write n
       where
         differ : (write : Write) → write.number ≢ out.number → is_acked write.client write.number (told (fact ∷ [])) ≡ false
         differ write n = grind (arith, nat_tests)
@@ -105,24 +105,25 @@ module _ (packets : List Packet) (before : List TextLine) (node : Client) (table
       out = None;
     })))
     answered_client = take_client packets packets before after node table opened row (fact ∷ []) adds tell quiet (λ t q number r. r) k is
-      (record { main = without out.number slots.main; shadow = Some (record { version = version; content = out.content }); out = None })
-      opened.position
-      (acked_slots packets packets before after node table opened row (fact ∷ []) adds tell quiet (λ t q number r. r) k is
+        (record { main = without out.number slots.main; shadow = Some (record { version = version; content = out.content }); out = None })
+        opened.position
+        (acked_slots packets packets before after node table opened row (fact ∷ []) adds tell quiet (λ t q number r. r) k is
         (record { version = version; content = out.content }) above has_entry content own_read out waits acks)
-      (let h = adds.positions node.number table in let p = o.position in omega arith)
-      o.behind
-      (λ le. absurd (not_covered le))
-      (λ q apart_ le. o.covered q le)
+        (let h = adds.positions node.number table in let p = o.position in omega arith)
+        o.behind
+        (λ le. absurd (not_covered le))
+        (λ q apart_ le. o.covered q le)
 
     pub answered_writes : WritesKept after
     answered_writes = writes_stay before after (fact ∷ []) adds refl (λ client number a. written client number a (told_of client number a)) writes
       where
         told_of : (client number : ℕ) → is_acked client number (told (fact ∷ [])) ≡ true → (node.number ≡ client) × (out.number ≡ number)
         told_of client number a = grind (arith, nat_tests)
+
         written : (client number : ℕ) → is_acked client number (told (fact ∷ [])) ≡ true → (node.number ≡ client) × (out.number ≡ number) → number ≤ length (writes_of client before)
         written client number a e =
-          let w = x.written in
-          subst (λ n. n ≤ length (writes_of client before)) (w.3 ∙ e.1)
+            let w = x.written in
+            subst (λ n. n ≤ length (writes_of client before)) (w.3 ∙ e.1)
             (subst (λ c. w.0.number ≤ length (writes_of c before)) (w.2 ∙ e.0) (writes.most w.0 w.1))
 
   -- behind lines that add nothing

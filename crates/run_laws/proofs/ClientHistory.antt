@@ -47,9 +47,9 @@ unfolding Among
 counts_same n [] a b c p q v = absurd p
 counts_same n (x ∷ xs) a b c (inl s) (inl t) v = sym s ∙ t
 counts_same n (x ∷ xs) a b c (inl s) (inr q) v =
-  let h = counts_above (n + 1) xs b c.1 q in let w : x.entry.version ≡ a.entry.version = ap (λ (y : Stored). y.entry.version) s in absurd (omega (arith, c.0))
+    let h = counts_above (n + 1) xs b c.1 q in let w : x.entry.version ≡ a.entry.version = ap (λ (y : Stored). y.entry.version) s in absurd (omega (arith, c.0))
 counts_same n (x ∷ xs) a b c (inr p) (inl t) v =
-  let h = counts_above (n + 1) xs a c.1 p in let w : x.entry.version ≡ b.entry.version = ap (λ (y : Stored). y.entry.version) t in absurd (omega (arith, c.0))
+    let h = counts_above (n + 1) xs a c.1 p in let w : x.entry.version ≡ b.entry.version = ap (λ (y : Stored). y.entry.version) t in absurd (omega (arith, c.0))
 counts_same n (x ∷ xs) a b c (inr p) (inr q) v = counts_same (n + 1) xs a b c.1 p q v
 
 -- ---- the last entry that passes a test
@@ -78,6 +78,7 @@ last_is test n (x ∷ xs) c = subst (λ o. LastIs test (x ∷ xs) o) (sym (last_
       ];
     }
     here false is none = λ s a. elim a [ inl e ↦ sym (ap test e) ∙ is | inr b ↦ none s b ]
+
     go : (o : Option Stored) → LastIs test xs o → LastIs test (x ∷ xs) (option_or o (if test x then Some x else None))
     go None none = here (test x) refl none
     go (Some last) is = record {
@@ -85,8 +86,8 @@ last_is test n (x ∷ xs) c = subst (λ o. LastIs test (x ∷ xs) o) (sym (last_
       passes = is.passes;
       most = λ s a t. elim a [
         | inl e ↦
-          let v : x.entry.version ≡ s.entry.version = ap (λ (y : Stored). y.entry.version) e in
-          let h = counts_above (n + 1) xs last c.1 is.among in omega (arith, c.0)
+            let v : x.entry.version ≡ s.entry.version = ap (λ (y : Stored). y.entry.version) e in
+            let h = counts_above (n + 1) xs last c.1 is.among in omega (arith, c.0)
         | inr b ↦ is.most s b t
       ];
     }
@@ -110,11 +111,11 @@ last_where-map : {X Y : Type 0} (test : Y → Bool) (f : X → Y) (xs : List X)
     → last_where test (map f xs) ≡ option_map f (last_where (λ x. test (f x)) xs)
 last_where-map test f [] = refl
 last_where-map test f (x ∷ xs) =
-  last_where-cons test (f x) (map f xs)
-  ∙ ap (λ o. option_or o (if test (f x) then Some (f x) else None)) (last_where-map test f xs)
-  ∙ ap (option_or (option_map f (last_where (λ x. test (f x)) xs))) (if_some-map f (test (f x)) x)
-  ∙ option_or-map f (last_where (λ x. test (f x)) xs) (if test (f x) then Some x else None)
-  ∙ ap (option_map f) (sym (last_where-cons (λ x. test (f x)) x xs))
+    last_where-cons test (f x) (map f xs)
+    ∙ ap (λ o. option_or o (if test (f x) then Some (f x) else None)) (last_where-map test f xs)
+    ∙ ap (option_or (option_map f (last_where (λ x. test (f x)) xs))) (if_some-map f (test (f x)) x)
+    ∙ option_or-map f (last_where (λ x. test (f x)) xs) (if test (f x) then Some x else None)
+    ∙ ap (option_map f) (sym (last_where-cons (λ x. test (f x)) x xs))
 
 pub row_true : (a b : List ℕ) → same_row a b ≡ true → a ≡ b
 row_true a b e = elim (same_row_tells a b) [ inl p ↦ p.1 | inr p ↦ let f = p.0 in absurd cc ]
@@ -124,7 +125,7 @@ row_is a b e = elim (same_row_tells a b) [ inl p ↦ p.0 | inr p ↦ absurd (p.1
 
 pub current_is : (n : ℕ) (stored : List Stored) (row : List ℕ) → Counts n stored → CurrentIs stored row (current (entries_of stored) row)
 current_is n stored row c =
-  subst (CurrentIs stored row) (ap version_of (sym (last_where-map (history.is_of_row row) (λ (s : Stored). s.entry) stored)))
+    subst (CurrentIs stored row) (ap version_of (sym (last_where-map (history.is_of_row row) (λ (s : Stored). s.entry) stored)))
     (go (last_where (is_of_row row) stored) (last_is (is_of_row row) n stored c))
   where
     go : (o : Option Stored) → LastIs (is_of_row row) stored o → CurrentIs stored row (version_of (option_map (λ (s : Stored). s.entry) o))
@@ -144,7 +145,7 @@ pub record IsNextChange (position : ℕ) (stored : List Stored) (s : Stored) : T
   pub above : position < s.entry.version
   pub last : (x : Stored) → Among stored x → x.entry.row ≡ s.entry.row → x.entry.version ≤ s.entry.version
   pub first : (x : Stored) → Among stored x → position < x.entry.version → x.entry.version < s.entry.version
-    → (y : Stored) × Among stored y × (y.entry.row ≡ x.entry.row) × (x.entry.version < y.entry.version)
+      → (y : Stored) × Among stored y × (y.entry.row ≡ x.entry.row) × (x.entry.version < y.entry.version)
 
 any_found : {X : Type 0} (test : X → Bool) (xs : List X) → list_any test xs ≡ true → (x : X) × Among xs x × (test x ≡ true)
 unfolding Among
@@ -181,6 +182,7 @@ next_is position n (x ∷ xs) s c e = go (nat_lt position x.entry.version) refl 
       ];
       first = λ y a p l. let h = counts_above n (x ∷ xs) y c a in absurd (omega (arith, c.0));
     })
+
     later : (position < x.entry.version → list_any (is_of_row x.entry.row) xs ≡ true) → IsNextChange position xs s → IsNextChange position (x ∷ xs) s
     later found is = let h = counts_above (n + 1) xs s c.1 is.among in record {
       among = inr is.among;
@@ -191,15 +193,17 @@ next_is position n (x ∷ xs) s c e = go (nat_lt position x.entry.version) refl 
       ];
       first = λ y a p l. elim a [
         | inl e ↦
-          let v : x.entry.version ≡ y.entry.version = ap (λ (z : Stored). z.entry.version) e in
-          let f = any_found (is_of_row x.entry.row) xs (found (omega arith)) in
-          let g = counts_above (n + 1) xs f.0 c.1 f.1 in
-          (f.0, inr f.1, row_true f.0.entry.row x.entry.row f.2 ∙ ap (λ (z : Stored). z.entry.row) e, omega (arith, c.0))
+            let v : x.entry.version ≡ y.entry.version = ap (λ (z : Stored). z.entry.version) e in
+            let f = any_found (is_of_row x.entry.row) xs (found (omega arith)) in
+            let g = counts_above (n + 1) xs f.0 c.1 f.1 in
+            (f.0, inr f.1, row_true f.0.entry.row x.entry.row f.2 ∙ ap (λ (z : Stored). z.entry.row) e, omega (arith, c.0))
         | inr b ↦ let r = is.first y b p l in (r.0, inr r.1, r.2, r.3)
       ];
     }
+
     below : (nat_lt position x.entry.version ≡ true → position < x.entry.version) × (nat_lt position x.entry.version ≡ false → position < x.entry.version → ⊥)
     below = (λ e. grind (arith, nat_tests), λ e l. grind (arith, nat_tests))
+
     go : (p : Bool) → nat_lt position x.entry.version ≡ p → (q : Bool) → list_any (is_of_row x.entry.row) xs ≡ q
         → (next_changed position xs ≡ Some s → IsNextChange position xs s)
         → (if p && not q then Some x else next_changed position xs) ≡ Some s → IsNextChange position (x ∷ xs) s

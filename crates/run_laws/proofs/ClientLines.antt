@@ -65,48 +65,48 @@ pub adds : (before : List TextLine) (answer : Answer) (some : List Fact) (n : �
     → Adds before (before ++ answer_lines answer (some ++ sent_from n sends)) some
 adds before answer some n sends = let sent : List TextLine = told (sent_from n sends) in let all = told-append some (sent_from n sends) in record {
   history = λ table.
-    history-append table before _ ∙ ap (λ l. history_of table before ++ history_of table l) all
-    ∙ ap (λ l. history_of table before ++ l) (history-append table (told some) sent ∙ ap (λ l. history_of table (told some) ++ l) (sent_history table n sends) ∙ append-nil _);
+      history-append table before _ ∙ ap (λ l. history_of table before ++ history_of table l) all
+      ∙ ap (λ l. history_of table before ++ l) (history-append table (told some) sent ∙ ap (λ l. history_of table (told some) ++ l) (sent_history table n sends) ∙ append-nil _);
   writes =
-    writes-append before _ ∙ ap (λ l. all_writes before ++ all_writes l) all
-    ∙ ap (λ l. all_writes before ++ l) (writes-append (told some) sent ∙ ap (λ l. all_writes (told some) ++ l) (sent_writes n sends) ∙ append-nil _);
+      writes-append before _ ∙ ap (λ l. all_writes before ++ all_writes l) all
+      ∙ ap (λ l. all_writes before ++ l) (writes-append (told some) sent ∙ ap (λ l. all_writes (told some) ++ l) (sent_writes n sends) ∙ append-nil _);
   reads = λ client table row.
-    let a = read-append client table row before (answer_lines answer (some ++ sent_from n sends)) in
-    let b = ap (read_of client table row) all in
-    let c = read-append client table row (told some) sent in
-    let d = sent_reads client table row n sends in omega arith;
+      let a = read-append client table row before (answer_lines answer (some ++ sent_from n sends)) in
+      let b = ap (read_of client table row) all in
+      let c = read-append client table row (told some) sent in
+      let d = sent_reads client table row n sends in omega arith;
   positions = λ client table.
-    let a = position-append client table before (answer_lines answer (some ++ sent_from n sends)) in
-    let b = ap (position_of client table) all in
-    let c = position-append client table (told some) sent in
-    let d = sent_positions client table n sends in omega arith;
+      let a = position-append client table before (answer_lines answer (some ++ sent_from n sends)) in
+      let b = ap (position_of client table) all in
+      let c = position-append client table (told some) sent in
+      let d = sent_positions client table n sends in omega arith;
   acked = λ client number.
-    acked-append client number before _ ∙ ap (λ l. is_acked client number before || is_acked client number l) all
-    ∙ ap (λ b. is_acked client number before || b) (acked-append client number (told some) sent ∙ ap (λ b. is_acked client number (told some) || b) (sent_acked client number n sends) ∙ or-false _);
+      acked-append client number before _ ∙ ap (λ l. is_acked client number before || is_acked client number l) all
+      ∙ ap (λ b. is_acked client number before || b) (acked-append client number (told some) sent ∙ ap (λ b. is_acked client number (told some) || b) (sent_acked client number n sends) ∙ or-false _);
 }
 
 -- one more fact
 pub adds_push : (before after : List TextLine) (some : List Fact) (fact : Fact) → Adds before after some → Adds before (after ++ text.Fact fact ∷ []) (some ++ fact ∷ [])
 adds_push before after some fact a = let one : List Fact = fact ∷ [] in let all = told-append some one in record {
   history = λ table.
-    history-append table after _ ∙ ap (λ l. l ++ history_of table (told one)) (a.history table) ∙ append_assoc (history_of table before) (history_of table (told some)) (history_of table (told one))
-    ∙ ap (λ l. history_of table before ++ l) (sym (history-append table (told some) (told one)) ∙ ap (history_of table) (sym all));
+      history-append table after _ ∙ ap (λ l. l ++ history_of table (told one)) (a.history table) ∙ append_assoc (history_of table before) (history_of table (told some)) (history_of table (told one))
+      ∙ ap (λ l. history_of table before ++ l) (sym (history-append table (told some) (told one)) ∙ ap (history_of table) (sym all));
   writes =
-    writes-append after _ ∙ ap (λ l. l ++ all_writes (told one)) a.writes ∙ append_assoc (all_writes before) (all_writes (told some)) (all_writes (told one))
-    ∙ ap (λ l. all_writes before ++ l) (sym (writes-append (told some) (told one)) ∙ ap all_writes (sym all));
+      writes-append after _ ∙ ap (λ l. l ++ all_writes (told one)) a.writes ∙ append_assoc (all_writes before) (all_writes (told some)) (all_writes (told one))
+      ∙ ap (λ l. all_writes before ++ l) (sym (writes-append (told some) (told one)) ∙ ap all_writes (sym all));
   reads = λ client table row.
-    let p = read-append client table row after (told one) in
-    let b = ap (read_of client table row) all in
-    let c = read-append client table row (told some) (told one) in
-    let d = a.reads client table row in omega arith;
+      let p = read-append client table row after (told one) in
+      let b = ap (read_of client table row) all in
+      let c = read-append client table row (told some) (told one) in
+      let d = a.reads client table row in omega arith;
   positions = λ client table.
-    let p = position-append client table after (told one) in
-    let b = ap (position_of client table) all in
-    let c = position-append client table (told some) (told one) in
-    let d = a.positions client table in omega arith;
+      let p = position-append client table after (told one) in
+      let b = ap (position_of client table) all in
+      let c = position-append client table (told some) (told one) in
+      let d = a.positions client table in omega arith;
   acked = λ client number.
-    acked-append client number after _ ∙ ap (λ b. b || is_acked client number (told one)) (a.acked client number) ∙ or_assoc (is_acked client number before) (is_acked client number (told some)) (is_acked client number (told one))
-    ∙ ap (λ b. is_acked client number before || b) (sym (acked-append client number (told some) (told one)) ∙ ap (is_acked client number) (sym all));
+      acked-append client number after _ ∙ ap (λ b. b || is_acked client number (told one)) (a.acked client number) ∙ or_assoc (is_acked client number before) (is_acked client number (told some)) (is_acked client number (told one))
+      ∙ ap (λ b. is_acked client number before || b) (sym (acked-append client number (told some) (told one)) ∙ ap (is_acked client number) (sym all));
 }
   where
     or_assoc : (x y z : Bool) → ((x || y) || z) ≡ (x || (y || z))
@@ -118,7 +118,7 @@ adds_push before after some fact a = let one : List Fact = fact ∷ [] in let al
 pub along-append : (P : List TextLine → TextLine → Type 0) (before xs ys : List TextLine) → Along P before xs → Along P (before ++ xs) ys → Along P before (xs ++ ys)
 along-append P before [] ys a b = subst (λ l. Along P l ys) (append-nil before) b
 along-append P before (x ∷ xs) ys a b =
-  (a.0, along-append P (before ++ x ∷ []) xs ys a.1 (subst (λ l. Along P l ys) (sym (append_assoc before (x ∷ []) xs)) b))
+    (a.0, along-append P (before ++ x ∷ []) xs ys a.1 (subst (λ l. Along P l ys) (sym (append_assoc before (x ∷ []) xs)) b))
 
 along_sent : (Q : List TextLine → Fact → Type 0) → ((b : List TextLine) (n : ℕ) (p : Packet) → Q b (sent_fact n p))
     → (before : List TextLine) (n : ℕ) (sends : List Packet) → Along (λ b line. OfFact (Q b) line) before (told (sent_from n sends))
@@ -130,9 +130,11 @@ pub along_lines : (Q : List TextLine → Fact → Type 0) → ((b : List TextLin
     → (before : List TextLine) (answer : Answer) (some : List Fact) (n : ℕ) (sends : List Packet)
     → ((after : List TextLine) → Adds before after [] → Along (λ b line. OfFact (Q b) line) after (told some))
     → Along (λ b line. OfFact (Q b) line) before (answer_lines answer (some ++ sent_from n sends))
-along_lines Q sent before answer some n sends holds =
-  (tt, subst (λ l. Along (λ b line. OfFact (Q b) line) (before ++ text.Answer answer ∷ []) l) (sym (told-append some (sent_from n sends)))
-    (along-append _ _ (told some) (told (sent_from n sends)) (holds _ (adds before answer [] n [])) (along_sent Q sent _ n sends)))
+along_lines Q sent before answer some n sends holds = (
+  tt,
+  subst (λ l. Along (λ b line. OfFact (Q b) line) (before ++ text.Answer answer ∷ []) l) (sym (told-append some (sent_from n sends)))
+      (along-append _ _ (told some) (told (sent_from n sends)) (holds _ (adds before answer [] n [])) (along_sent Q sent _ n sends)),
+)
 
 -- ---- facts of one client
 

@@ -116,6 +116,7 @@ last_where_some test (y ∷ xs) x e = go (λ s. last_where_some test xs x s) (la
     here : (b : Bool) → test y ≡ b → (if b then Some y else None) ≡ Some x → Among (y ∷ xs) x × (test x ≡ true)
     here true is s = let same : y ≡ x = cc in (inl same, subst (λ z. test z ≡ true) same is)
     here false is s = absurd cc
+
     go : (last_where test xs ≡ Some x → Among xs x × (test x ≡ true)) → (o : Option _) → last_where test xs ≡ o → option_or o (if test y then Some y else None) ≡ Some x → Among (y ∷ xs) x × (test x ≡ true)
     go later None is s = here (test y) refl s
     go later (Some z) is s = let r = later (is ∙ s) in (inr r.0, r.1)
@@ -207,21 +208,27 @@ rising-insert (e ∷ es) row slots r = go (row_cmp row e.0) refl (rising-insert 
   where
     go : (o : Ordering) → row_cmp row e.0 ≡ o → Rising (insert_entry row_cmp es row slots)
         → Rising (match_ordering o ((row, slots) ∷ e ∷ es) ((e.0, slots) ∷ es) (e ∷ insert_entry row_cmp es row slots))
-    go Less is later = ((λ other a. elim a [
-      | inl s ↦ subst (λ (z : List ℕ × Slots). row_cmp row z.0 ≡ Less) s is
-      | inr b ↦ nat_list_cmp_total.trans row e.0 other.0 is (r.0 other b)
-    ]), r)
+    go Less is later = (
+      (λ other a. elim a [
+        | inl s ↦ subst (λ (z : List ℕ × Slots). row_cmp row z.0 ≡ Less) s is
+        | inr b ↦ nat_list_cmp_total.trans row e.0 other.0 is (r.0 other b)
+      ]),
+      r,
+    )
     go Equal is later = (r.0, r.1)
-    go Greater is later = ((λ other a. elim (rising_inserted es row slots other a) [
-      | inl s ↦ subst (λ z. row_cmp e.0 z ≡ Less) (sym s) (nat_list_cmp_total.antisymm e.0 row ∙ ap ordering_reverse is)
-      | inr y ↦ subst (λ z. row_cmp e.0 z ≡ Less) y.2 (r.0 y.0 y.1)
-    ]), later)
+    go Greater is later = (
+      (λ other a. elim (rising_inserted es row slots other a) [
+        | inl s ↦ subst (λ z. row_cmp e.0 z ≡ Less) (sym s) (nat_list_cmp_total.antisymm e.0 row ∙ ap ordering_reverse is)
+        | inr y ↦ subst (λ z. row_cmp e.0 z ≡ Less) y.2 (r.0 y.0 y.1)
+      ]),
+      later,
+    )
 
 pub rising_found : (rows : List (List ℕ × Slots)) (x : List ℕ × Slots) → Rising rows → Among rows x → lookup (is_at (row_cmp x.0)) rows ≡ Some x.1
 unfolding Rising Among
 rising_found [] x r a = absurd a
 rising_found (e ∷ es) x r (inl s) = subst (λ (z : List ℕ × Slots). lookup (is_at (row_cmp z.0)) (e ∷ es) ≡ Some z.1) s
-  (ap (λ o. cond (is_eq o) (Some e.1) (lookup (is_at (row_cmp e.0)) es)) (tied_itself nat_list_cmp_total e.0))
+    (ap (λ o. cond (is_eq o) (Some e.1) (lookup (is_at (row_cmp e.0)) es)) (tied_itself nat_list_cmp_total e.0))
 rising_found (e ∷ es) x r (inr b) =
-  ap (λ o. cond (is_eq o) (Some e.1) (lookup (is_at (row_cmp x.0)) es)) (nat_list_cmp_total.antisymm x.0 e.0 ∙ ap ordering_reverse (r.0 x b))
-  ∙ rising_found es x r.1 b
+    ap (λ o. cond (is_eq o) (Some e.1) (lookup (is_at (row_cmp x.0)) es)) (nat_list_cmp_total.antisymm x.0 e.0 ∙ ap ordering_reverse (r.0 x b))
+    ∙ rising_found es x r.1 b

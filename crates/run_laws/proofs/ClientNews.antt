@@ -77,14 +77,14 @@ module _ (packets more : List Packet) (before : List TextLine) (node : Client) (
   module _ (read : version ≤ version_in slots.shadow) where
     pub already_client : (after : List TextLine) → Adds before after (moves ∷ []) → ClientKept more after node.number (with_table node table (made slots))
     already_client after adds =
-      take_client packets more before after node table opened row (moves ∷ []) adds (tell_position node.number table row 0 0 version) (λ t q apart_ write e. refl) old k is
+        take_client packets more before after node table opened row (moves ∷ []) adds (tell_position node.number table row 0 0 version) (λ t q apart_ write e. refl) old k is
         slots version
         (slots_stay packets more before after node.number table (lines_same before after (moves ∷ []) node.number adds (apart node.number (moves ∷ []) (refl, tt)))
-          row slots (record {
-            open_ = open_same before after (moves ∷ []) node.number table row adds refl (λ write e. refl);
-            read = let h = adds.reads node.number table row in omega arith;
-            requested = λ number r. inl (old table row number r);
-          }) (o.slots row))
+        row slots (record {
+          open_ = open_same before after (moves ∷ []) node.number table row adds refl (λ write e. refl);
+          read = let h = adds.reads node.number table row in omega arith;
+          requested = λ number r. inl (old table row number r);
+        }) (o.slots row))
         (at_version after (moves ∷ []) adds moved_to) behind
         (next_read_already packets before node table opened writes stored store latest k is s next read) covers
 
@@ -101,18 +101,18 @@ module _ (packets more : List Packet) (before : List TextLine) (node : Client) (
 
     pub newer_client : (after : List TextLine) → Adds before after (news ∷ moves ∷ []) → ClientKept more after node.number (with_table node table (made newer))
     newer_client after adds =
-      let tell = tell_new node.number table row 0 0 version in
-      take_client packets more before after node table opened row (news ∷ moves ∷ []) adds tell (λ t q apart_ write e. refl) old k is newer version
+        let tell = tell_new node.number table row 0 0 version in
+        take_client packets more before after node table opened row (news ∷ moves ∷ []) adds tell (λ t q apart_ write e. refl) old k is newer version
         (newer_slots packets more before after node table opened row (news ∷ moves ∷ []) adds tell (λ t q apart_ write e. refl) old k is shadow above
-          (next_entry packets before node table opened writes stored store latest k is s next)
-          (next_content packets before node table opened writes stored store latest k is s next)
-          (let h = read_new node.number table row 0 0 version in omega arith) (λ write e. refl) later)
+        (next_entry packets before node table opened writes stored store latest k is s next)
+        (next_content packets before node table opened writes stored store latest k is s next)
+        (let h = read_new node.number table row 0 0 version in omega arith) (λ write e. refl) later)
         (at_version after (news ∷ moves ∷ []) adds (let m = moved_to in omega arith)) behind now_current covers
 
     new_is_read : (after : List TextLine) → Adds before after [] → IsRead after news
     new_is_read after adds = (
       entry_stays before after (lines_same before after [] node.number adds (apart node.number [] tt)) table row version
-        (next_entry packets before node table opened writes stored store latest k is s next),
+          (next_entry packets before node table opened writes stored store latest k is s next),
       (let h = adds.reads node.number table row in let r = (o.slots row).read in let a = above in omega arith),
     )
 
@@ -144,48 +144,48 @@ module _ (packets more : List Packet) (before : List TextLine) (node : Client) (
     quiet : (t : ℕ) (q : List ℕ) → (t ≡ table → q ≡ row → ⊥) → (write : Write) → last_write node.number t q before ≡ Some write
         → is_acked write.client write.number (told (acks ∷ news ∷ moves ∷ [])) ≡ false
     quiet t q apart_ write e = acks_not node.number table row out.number at version write
-      (other_number before node.number table out.number row out.content writes x.written t q apart_ write e)
+        (other_number before node.number table out.number row out.content writes x.written t q apart_ write e)
 
     pub dropped_client : (after : List TextLine) → Adds before after (acks ∷ news ∷ moves ∷ []) → ClientKept more after node.number (with_table node table (made dropped))
     dropped_client after adds =
-      let tell = tell_acked node.number table row out.number at version in
-      take_client packets more before after node table opened row (acks ∷ news ∷ moves ∷ []) adds tell quiet old k is dropped version
+        let tell = tell_acked node.number table row out.number at version in
+        take_client packets more before after node table opened row (acks ∷ news ∷ moves ∷ []) adds tell quiet old k is dropped version
         (acked_slots packets more before after node table opened row (acks ∷ news ∷ moves ∷ []) adds tell quiet old k is shadow above
-          (next_entry packets before node table opened writes stored store latest k is s next)
-          (next_content packets before node table opened writes stored store latest k is s next)
-          (let h = read_new node.number table row 0 0 version in let a = read_acked node.number table row out.number at version in let e = entry.2 in omega arith)
-          out waits (acks_it node.number table row out.number at version))
+        (next_entry packets before node table opened writes stored store latest k is s next)
+        (next_content packets before node table opened writes stored store latest k is s next)
+        (let h = read_new node.number table row 0 0 version in let a = read_acked node.number table row out.number at version in let e = entry.2 in omega arith)
+        out waits (acks_it node.number table row out.number at version))
         (at_version after (acks ∷ news ∷ moves ∷ []) adds (let m = moved_to in omega arith)) behind now_current covers
 
     pub dropped_writes : (after : List TextLine) → Adds before after (acks ∷ news ∷ moves ∷ []) → WritesKept after
     dropped_writes after adds = writes_stay before after (acks ∷ news ∷ moves ∷ []) adds refl (λ client number a.
-      let e = acks_who node.number table row out.number at version client number a in
-      let w = x.written in
-      subst (λ n. n ≤ length (writes_of client before)) (w.3 ∙ e.1)
+        let e = acks_who node.number table row out.number at version client number a in
+        let w = x.written in
+        subst (λ n. n ≤ length (writes_of client before)) (w.3 ∙ e.1)
         (subst (λ c. w.0.number ≤ length (writes_of c before)) (w.2 ∙ e.0) (writes.most w.0 w.1))) writes
 
     pub dropped_kept : (after : List TextLine) → Adds before after [] → IsKept after acks
     dropped_kept after adds =
-      entry_of_stays before after (lines_same before after [] node.number adds (apart node.number [] tt)) table row at node.number out.number entry.0
+        entry_of_stays before after (lines_same before after [] node.number adds (apart node.number [] tt)) table row at node.number out.number entry.0
 
     pub dropped_read : (after : List TextLine) → Adds before after []
         → IsRead after acks × (IsRead (after ++ text.Fact acks ∷ []) news × IsRead ((after ++ text.Fact acks ∷ []) ++ text.Fact news ∷ []) moves)
     dropped_read after adds =
-      let same = lines_same before after [] node.number adds (apart node.number [] tt) in
-      let one = adds_push before after [] acks adds in
-      let two = adds_push before (after ++ text.Fact acks ∷ []) (acks ∷ []) news one in
-      let at_read = read_acked node.number table row out.number at version in
-      let r = (o.slots row).read in (
-        (
-          entry_stays before after same table row at (entry.0.0, entry.0.1, entry.0.2, entry.0.3),
-          (let h = adds.reads node.number table row in let e = entry.1 in omega arith),
-        ),
-        (
+        let same = lines_same before after [] node.number adds (apart node.number [] tt) in
+        let one = adds_push before after [] acks adds in
+        let two = adds_push before (after ++ text.Fact acks ∷ []) (acks ∷ []) news one in
+        let at_read = read_acked node.number table row out.number at version in
+        let r = (o.slots row).read in (
           (
-            entry_stays before (after ++ text.Fact acks ∷ []) (lines_same before (after ++ text.Fact acks ∷ []) (acks ∷ []) node.number one (apart node.number (acks ∷ []) (refl, tt))) table row version
-              (next_entry packets before node table opened writes stored store latest k is s next),
-            (let h = one.reads node.number table row in let e = entry.2 in let a = above in omega arith),
+            entry_stays before after same table row at (entry.0.0, entry.0.1, entry.0.2, entry.0.3),
+            (let h = adds.reads node.number table row in let e = entry.1 in omega arith),
           ),
-          position_is_read more before ((after ++ text.Fact acks ∷ []) ++ text.Fact news ∷ []) (acks ∷ news ∷ []) node table version opened (made dropped) two refl low dropped_client refl,
-        ),
-      )
+          (
+            (
+              entry_stays before (after ++ text.Fact acks ∷ []) (lines_same before (after ++ text.Fact acks ∷ []) (acks ∷ []) node.number one (apart node.number (acks ∷ []) (refl, tt))) table row version
+                  (next_entry packets before node table opened writes stored store latest k is s next),
+              (let h = one.reads node.number table row in let e = entry.2 in let a = above in omega arith),
+            ),
+            position_is_read more before ((after ++ text.Fact acks ∷ []) ++ text.Fact news ∷ []) (acks ∷ news ∷ []) node table version opened (made dropped) two refl low dropped_client refl,
+          ),
+        )

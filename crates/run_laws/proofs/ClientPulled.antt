@@ -92,7 +92,7 @@ pub covered_read : (packets : List Packet) (after : List TextLine) (client table
     → ClientKept packets after client node → table_at node table ≡ Some opened
     → (q : List ℕ) → current (history_of table after) q ≤ opened.position → read_of client table q after ≡ current (history_of table after) q
 covered_read packets after client table node opened k is q le =
-  let o = k.tables table opened is in sym (o.slots q).read ∙ o.covered q le
+    let o = k.tables table opened is in sym (o.slots q).read ∙ o.covered q le
 
 -- a table of a client behind a change of it
 pub table_there : (node : Client) (table : ℕ) (opened : ClientTable) → table_at (with_table node table opened) table ≡ Some opened
@@ -107,15 +107,14 @@ pub position_is_read : (packets : List Packet) (before after : List TextLine) (s
     → made.position ≡ version
     → IsRead after (facts.Position node.number table version)
 position_is_read packets before after some node table version opened made adds still low kept is =
-  let after' : List TextLine = after ++ text.Fact (facts.Position node.number table version) ∷ [] in
-  let more : Adds before after' (some ++ facts.Position node.number table version ∷ []) = adds_push before after some (facts.Position node.number table version) adds in
-  let same : Adds after after' (facts.Position node.number table version ∷ []) = adds_told after (facts.Position node.number table version ∷ []) in
-  (
-    (let h = adds.positions node.number table in omega arith),
-    λ row le.
-      let history : history_of table after' ≡ history_of table after = same.history table ∙ append-nil (history_of table after) in
-      let c = covered_read packets after' node.number table (with_table node table made) made (kept after' more) (table_there node table made) row
-        (subst (λ v. current (history_of table after') row ≤ v) (sym is) (subst (λ l. current l row ≤ version) (sym history) le)) in
-      let r = same.reads node.number table row in
-      let e = ap (λ l. current l row) history in omega arith
-  )
+    let after' : List TextLine = after ++ text.Fact (facts.Position node.number table version) ∷ [] in
+    let more : Adds before after' (some ++ facts.Position node.number table version ∷ []) = adds_push before after some (facts.Position node.number table version) adds in
+    let same : Adds after after' (facts.Position node.number table version ∷ []) = adds_told after (facts.Position node.number table version ∷ []) in (
+      (let h = adds.positions node.number table in omega arith),
+      λ row le.
+          let history : history_of table after' ≡ history_of table after = same.history table ∙ append-nil (history_of table after) in
+          let c = covered_read packets after' node.number table (with_table node table made) made (kept after' more) (table_there node table made) row
+          (subst (λ v. current (history_of table after') row ≤ v) (sym is) (subst (λ l. current l row ≤ version) (sym history) le)) in
+          let r = same.reads node.number table row in
+          let e = ap (λ l. current l row) history in omega arith,
+    )

@@ -85,21 +85,21 @@ module _ (packets : List Packet) (before : List TextLine) (node : Client) (table
       at_most : (x : Option Shadow) → slots.shadow ≡ x → version_in x ≤ current (history_of table before) row
       at_most None e = omega arith
       at_most (Some shadow) e =
-        let h = ((o.slots row).shadow shadow e).1 in
-        let st = stored_entry before table stored store.history store.counts h.0 h.1 in
-        let m = (now row).most st.0 st.1 (ap (λ (x : Entry). x.row) st.2 ∙ h.2) in
-        let v = ap (λ (x : Entry). x.version) st.2 ∙ h.3 in omega arith
+          let h = ((o.slots row).shadow shadow e).1 in
+          let st = stored_entry before table stored store.history store.counts h.0 h.1 in
+          let m = (now row).most st.0 st.1 (ap (λ (x : Entry). x.row) st.2 ∙ h.2) in
+          let v = ap (λ (x : Entry). x.version) st.2 ∙ h.3 in omega arith
 
   -- what the new position covers of other rows the old one covered
   next_covers : (q : List ℕ) → q ≢ row → current (history_of table before) q ≤ version → opened.position < current (history_of table before) q → ⊥
   next_covers q apart_ le above =
-    let x = (now q).some (omega arith) in
-    let front = counts_front latest 0 stored x.0 store.counts x.1 (let u = up_to in let v = x.3 in omega arith) in
-    let differs : x.0.entry.version ≢ version = λ e.
+      let x = (now q).some (omega arith) in
+      let front = counts_front latest 0 stored x.0 store.counts x.1 (let u = up_to in let v = x.3 in omega arith) in
+      let differs : x.0.entry.version ≢ version = λ e.
       apart_ (sym x.2 ∙ ap (λ (z : Stored). z.entry.row) (counts_same 0 stored x.0 s store.counts x.1 there e)) in
-    let y = next.first x.0 front (let v = x.3 in omega arith) (let v = x.3 in let d = differs in omega arith) in
-    let m = (now q).most y.0 (among_take latest stored y.0 y.1) (y.2 ∙ x.2) in
-    let v = x.3 in let l = y.3 in omega arith
+      let y = next.first x.0 front (let v = x.3 in omega arith) (let v = x.3 in let d = differs in omega arith) in
+      let m = (now q).most y.0 (among_take latest stored y.0 y.1) (y.2 ∙ x.2) in
+      let v = x.3 in let l = y.3 in omega arith
 
   pub next_covered : (q : List ℕ) → q ≢ row → current (history_of table before) q ≤ version
       → version_in (slots_at opened q).shadow ≡ current (history_of table before) q
@@ -121,14 +121,14 @@ module _ (packets : List Packet) (before : List TextLine) (node : Client) (table
       → e.client ≡ node.number → e.row ≡ row → e.number ≡ out.number → version < e.version
   next_later out above e a c r n = elim (at_most_or_above e.version version) [
     | inl le ↦
-      let st = stored_entry before table stored store.history store.counts e a in
-      let v = ap (λ (x : Entry). x.version) st.2 in
-      let front = counts_front latest 0 stored st.0 store.counts st.1 (let u = up_to in omega arith) in
-      let of : is_of_client node.number row st.0 ≡ true =
+        let st = stored_entry before table stored store.history store.counts e a in
+        let v = ap (λ (x : Entry). x.version) st.2 in
+        let front = counts_front latest 0 stored st.0 store.counts st.1 (let u = up_to in omega arith) in
+        let of : is_of_client node.number row st.0 ≡ true =
         subst (λ z. is_of_client z row st.0 ≡ true) (ap (λ (x : Entry). x.client) st.2 ∙ c)
-          (subst (λ z. is_of_client st.0.entry.client z st.0 ≡ true) (ap (λ (x : Entry). x.row) st.2 ∙ r) (is_of_client-own st.0)) in
-      let number : st.0.entry.number ≡ out.number = ap (λ (x : Entry). x.number) st.2 ∙ n in
-      absurd (go yours yours_is st.0 st.1 front of number above)
+        (subst (λ z. is_of_client st.0.entry.client z st.0 ≡ true) (ap (λ (x : Entry). x.row) st.2 ∙ r) (is_of_client-own st.0)) in
+        let number : st.0.entry.number ≡ out.number = ap (λ (x : Entry). x.number) st.2 ∙ n in
+        absurd (go yours yours_is st.0 st.1 front of number above)
     | inr l ↦ l
   ]
     where
@@ -136,14 +136,14 @@ module _ (packets : List Packet) (before : List TextLine) (node : Client) (table
           → is_of_client node.number row x ≡ true → x.entry.number ≡ out.number → (yours_in y).number < out.number → ⊥
       go None none x p q t n l = let f = none x q in absurd cc
       go (Some y) last x p q t n l =
-        let m = last.most x q t in
-        let a = is_of_client-is node.number row x t in
-        let b = is_of_client-is node.number row y last.passes in
-        elim (at_most_or_above y.entry.version x.entry.version) [
-          | inl le ↦
-            let same = ap (λ (z : Stored). z.entry.number) (counts_same 0 stored x y store.counts p (among_take latest stored y last.among) (omega arith)) in omega arith
-          | inr lt ↦ let rises = store.rises x y p (among_take latest stored y last.among) (a.0 ∙ sym b.0) (a.1 ∙ sym b.1) lt in omega arith
-        ]
+          let m = last.most x q t in
+          let a = is_of_client-is node.number row x t in
+          let b = is_of_client-is node.number row y last.passes in
+          elim (at_most_or_above y.entry.version x.entry.version) [
+            | inl le ↦
+                let same = ap (λ (z : Stored). z.entry.number) (counts_same 0 stored x y store.counts p (among_take latest stored y last.among) (omega arith)) in omega arith
+            | inr lt ↦ let rises = store.rises x y p (among_take latest stored y last.among) (a.0 ∙ sym b.0) (a.1 ∙ sym b.1) lt in omega arith
+          ]
 
   -- where it is at most that of `yours`, `yours` is Out's entry
   pub next_accepted : (out : Out) → slots.out ≡ Some out → out.number ≤ (yours_in yours).number
@@ -153,15 +153,16 @@ module _ (packets : List Packet) (before : List TextLine) (node : Client) (table
     where
       x : OutKept packets before node.number table row slots out
       x = (o.slots row).out out waits
+
       go : (y : Option Stored) → LastIs (is_of_client node.number row) (take latest stored) y → out.number ≤ (yours_in y).number
           → HasEntryOf before table row (yours_in y).version node.number out.number
           × (version_in slots.shadow < (yours_in y).version) × ((yours_in y).version ≤ version)
       go None none le = let w = x.written in let l = writes.least w.0 w.1 in let n = w.3 in absurd (omega arith)
       go (Some y) last le =
-        let b = is_of_client-is node.number row y last.passes in
-        let p = among_take latest stored y last.among in
-        let r = store.requested y p in
-        let most = x.last y.entry.number (r.0, r.1, r.2, r.3, r.4 ∙ b.0, r.5, r.6 ∙ b.1, r.7) in
-        let number : y.entry.number ≡ out.number = omega arith in
-        let a = entry_stored before table stored store.history store.counts y p in
-        ((y.entry, a, b.1, refl, b.0, number), x.later y.entry a b.0 b.1 number, next.last y last.among b.1)
+          let b = is_of_client-is node.number row y last.passes in
+          let p = among_take latest stored y last.among in
+          let r = store.requested y p in
+          let most = x.last y.entry.number (r.0, r.1, r.2, r.3, r.4 ∙ b.0, r.5, r.6 ∙ b.1, r.7) in
+          let number : y.entry.number ≡ out.number = omega arith in
+          let a = entry_stored before table stored store.history store.counts y p in
+          ((y.entry, a, b.1, refl, b.0, number), x.later y.entry a b.0 b.1 number, next.last y last.among b.1)

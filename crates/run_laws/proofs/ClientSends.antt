@@ -74,16 +74,22 @@ first_is (entry ∷ rows) first e = go (first_is rows first) entry.1.out refl en
   where
     later : IsFirst rows first.0 first.1 → IsFirst (entry ∷ rows) first.0 first.1
     later f = record { slots = f.slots; main = f.main; among = inr f.among; empty = f.empty; is_main = f.is_main; is = f.is }
+
     go : (first_to_send rows ≡ Some first → IsFirst rows first.0 first.1)
         → (o : Option Out) → entry.1.out ≡ o → (m : Option Main) → entry.1.main ≡ m
         → or_later entry.0 (to_send o m entry.1.shadow) (first_to_send rows) ≡ Some first → IsFirst (entry ∷ rows) first.0 first.1
     go f (Some out) is m n e = later (f e)
     go f None is None n e = later (f e)
     go f None is (Some main) n e =
-      let same : (entry.0, out_for entry.1.shadow main) ≡ first = cc in
-      subst (λ (x : List ℕ × Out). IsFirst (entry ∷ rows) x.0 x.1) same (record {
-        slots = entry.1; main = main; among = inl refl; empty = is; is_main = n; is = refl;
-      })
+        let same : (entry.0, out_for entry.1.shadow main) ≡ first = cc in
+        subst (λ (x : List ℕ × Out). IsFirst (entry ∷ rows) x.0 x.1) same (record {
+          slots = entry.1;
+          main = main;
+          among = inl refl;
+          empty = is;
+          is_main = n;
+          is = refl;
+        })
 
 pub slots_found : (opened : ClientTable) (row : List ℕ) (slots : Slots) → Rising opened.rows → Among opened.rows (row, slots) → slots_at opened row ≡ slots
 slots_found opened row slots r a = ap or_none (rising_found opened.rows (row, slots) r a)
@@ -109,10 +115,10 @@ main_wrote before client table row main e = go (open_write client table row befo
     go : (o : Option Write) → open_write client table row before ≡ o → option_map main_of o ≡ Some main → Wrote before client main.number table row main.content
     go None is f = absurd cc
     go (Some write) is f =
-      let a = last_where_some (is_on client table row) (all_writes before) write (open_is_last before client table row write is) in
-      let on = is_on-is client table row write a.1 in
-      let m : main_of write ≡ main = cc in
-      (write, a.0, on.0, ap (λ (x : Main). x.number) m, on.1, on.2, ap (λ (x : Main). x.content) m)
+        let a = last_where_some (is_on client table row) (all_writes before) write (open_is_last before client table row write is) in
+        let on = is_on-is client table row write a.1 in
+        let m : main_of write ≡ main = cc in
+        (write, a.0, on.0, ap (λ (x : Main). x.number) m, on.1, on.2, ap (λ (x : Main). x.content) m)
 
 -- ---- a table of which requests are sent
 
@@ -130,17 +136,16 @@ module _ (packets : List Packet) (before after : List TextLine) (node : Client) 
   again_waits : (client t : ℕ) (q : List ℕ) (number : ℕ) → Asks again client t q number
       → (t ≡ table) × ((out : Out) × ((slots_at opened q).out ≡ Some out) × (out.number ≡ number))
   again_waits client t q number a =
-    let r = resent_is node.number table opened.rows (messages.SyncRequest a.0) a.1 in
-    let e : a.0 ≡ record { client = node.number; token = 0; table = table; row = r.entry.0; number = r.out.number; base = r.out.base; content = r.out.content } = messages_same a.0 _ r.is in
-    let row : r.entry.0 ≡ q = sym (ap (λ (x : SyncRequest). x.row) e) ∙ a.4 in
-    (
-      sym a.3 ∙ ap (λ (x : SyncRequest). x.table) e,
-      (
-        r.out,
-        ap (λ (s : Slots). s.out) (ap (slots_at opened) (sym row) ∙ slots_found opened r.entry.0 r.entry.1 o.rising r.among) ∙ r.waits,
-        sym (ap (λ (x : SyncRequest). x.number) e) ∙ a.5,
-      ),
-    )
+      let r = resent_is node.number table opened.rows (messages.SyncRequest a.0) a.1 in
+      let e : a.0 ≡ record { client = node.number; token = 0; table = table; row = r.entry.0; number = r.out.number; base = r.out.base; content = r.out.content } = messages_same a.0 _ r.is in
+      let row : r.entry.0 ≡ q = sym (ap (λ (x : SyncRequest). x.row) e) ∙ a.4 in (
+        sym a.3 ∙ ap (λ (x : SyncRequest). x.table) e,
+        (
+          r.out,
+          ap (λ (s : Slots). s.out) (ap (slots_at opened) (sym row) ∙ slots_found opened r.entry.0 r.entry.1 o.rising r.among) ∙ r.waits,
+          sym (ap (λ (x : SyncRequest). x.number) e) ∙ a.5,
+        ),
+      )
     where
       messages_same : (a b : SyncRequest) → messages.SyncRequest a ≡ messages.SyncRequest b → a ≡ b
       messages_same a b e = cc
@@ -149,14 +154,18 @@ module _ (packets : List Packet) (before after : List TextLine) (node : Client) 
   pub again_kept : (request : SyncRequest) → Among again (messages.SyncRequest request)
       → RequestKept after request × (request.client ≡ node.number)
   again_kept request a =
-    let r = resent_is node.number table opened.rows (messages.SyncRequest request) a in
-    let waits : (slots_at opened r.entry.0).out ≡ Some r.out = ap (λ (s : Slots). s.out) (slots_found opened r.entry.0 r.entry.1 o.rising r.among) ∙ r.waits in
-    let out = (o.slots r.entry.0).out r.out waits in
-    let sent : SyncRequest = record { client = node.number; token = 0; table = table; row = r.entry.0; number = r.out.number; base = r.out.base; content = r.out.content } in
-    let e : sent ≡ request = cc (r.is) in
-    subst (λ (x : SyncRequest). RequestKept after x × (x.client ≡ node.number)) e
-      ((wrote_stays before after same node.number r.out.number table r.entry.0 r.out.content out.written,
-        elim out.base [ inl z ↦ inl z | inr h ↦ inr (entry_stays before after same table r.entry.0 r.out.base h) ]), refl)
+      let r = resent_is node.number table opened.rows (messages.SyncRequest request) a in
+      let waits : (slots_at opened r.entry.0).out ≡ Some r.out = ap (λ (s : Slots). s.out) (slots_found opened r.entry.0 r.entry.1 o.rising r.among) ∙ r.waits in
+      let out = (o.slots r.entry.0).out r.out waits in
+      let sent : SyncRequest = record { client = node.number; token = 0; table = table; row = r.entry.0; number = r.out.number; base = r.out.base; content = r.out.content } in
+      let e : sent ≡ request = cc (r.is) in
+      subst (λ (x : SyncRequest). RequestKept after x × (x.client ≡ node.number)) e (
+        (
+          wrote_stays before after same node.number r.out.number table r.entry.0 r.out.content out.written,
+          elim out.base [ inl z ↦ inl z | inr h ↦ inr (entry_stays before after same table r.entry.0 r.out.base h) ],
+        ),
+        refl,
+      )
 
   -- ---- nothing new is sent
 
@@ -184,12 +193,13 @@ module _ (packets : List Packet) (before after : List TextLine) (node : Client) 
       where
         go : (t : ℕ) (x : ClientTable) → table_at node t ≡ Some x → (t ≡ table) ⊎ (t ≢ table) → OpenedKept more after node.number t x
         go t x at (inl e) =
-          let there : table_at node table ≡ Some x = ap (table_at node) (sym e) ∙ at in
-          let one : opened ≡ x = cc (is, there) in
-          subst (λ z. OpenedKept more after node.number z x) (sym e) (subst (λ z. OpenedKept more after node.number table z) one
+            let there : table_at node table ≡ Some x = ap (table_at node) (sym e) ∙ at in
+            let one : opened ≡ x = cc (is, there) in
+            subst (λ z. OpenedKept more after node.number z x) (sym e) (subst (λ z. OpenedKept more after node.number table z) one
             (opened_stays packets more before after node.number table same opened again_row (let h = adds.positions node.number table in omega arith) o))
         go t x at (inr apart_) = let f = again_table t apart_ in
-          opened_stays packets more before after node.number t same x (λ q. f.rows q (slots_at x q)) f.position (k.tables t x at)
+            opened_stays packets more before after node.number t same x (λ q. f.rows q (slots_at x q)) f.position (k.tables t x at)
+
         same_or_not : (a b : ℕ) → (a ≡ b) ⊎ (a ≢ b)
         same_or_not a b = grind arith
 
@@ -231,12 +241,12 @@ module _ (packets : List Packet) (before after : List TextLine) (node : Client) 
       | inr a ↦ elim (among_cases again (messages.SyncRequest sent ∷ []) (messages.SyncRequest a.0) a.1) [
         | inl b ↦ inr (inl (a.0, b, a.2, a.3, a.4, a.5))
         | inr b ↦
-          let e : sent ≡ a.0 = cc (among_one (messages.SyncRequest sent) (messages.SyncRequest a.0) b) in
-          inr (inr (
-            sym a.3 ∙ sym (ap (λ (x : SyncRequest). x.table) e),
-            sym a.4 ∙ sym (ap (λ (x : SyncRequest). x.row) e),
-            sym a.5 ∙ sym (ap (λ (x : SyncRequest). x.number) e),
-          ))
+            let e : sent ≡ a.0 = cc (among_one (messages.SyncRequest sent) (messages.SyncRequest a.0) b) in
+            inr (inr (
+              sym a.3 ∙ sym (ap (λ (x : SyncRequest). x.table) e),
+              sym a.4 ∙ sym (ap (λ (x : SyncRequest). x.row) e),
+              sym a.5 ∙ sym (ap (λ (x : SyncRequest). x.number) e),
+            ))
       ]
     ]
 
@@ -267,16 +277,19 @@ module _ (packets : List Packet) (before after : List TextLine) (node : Client) 
     -- no entry has the write that is sent first
     not_there : (entry : Entry) → Among (history_of table before) entry → entry.client ≡ node.number → entry.row ≡ row → entry.number ≡ first.1.number → ⊥
     not_there entry a c r n =
-      let st = stored_entry before table stored store.history store.counts entry a in
-      let asked_ = store.requested st.0 st.1 in
-      let asked' : Requested packets node.number table row f.main.number = (
-        asked_.0, asked_.1, asked_.2, asked_.3,
-        asked_.4 ∙ (ap (λ (e : Entry). e.client) st.2 ∙ c),
-        asked_.5,
-        asked_.6 ∙ (ap (λ (e : Entry). e.row) st.2 ∙ r),
-        asked_.7 ∙ (ap (λ (e : Entry). e.number) st.2 ∙ (n ∙ sym number_is)),
-      ) in
-      let l = s.unsent f.main has_main empty f.main.number asked' in omega arith
+        let st = stored_entry before table stored store.history store.counts entry a in
+        let asked_ = store.requested st.0 st.1 in
+        let asked' : Requested packets node.number table row f.main.number = (
+          asked_.0,
+          asked_.1,
+          asked_.2,
+          asked_.3,
+          asked_.4 ∙ (ap (λ (e : Entry). e.client) st.2 ∙ c),
+          asked_.5,
+          asked_.6 ∙ (ap (λ (e : Entry). e.row) st.2 ∙ r),
+          asked_.7 ∙ (ap (λ (e : Entry). e.number) st.2 ∙ (n ∙ sym number_is)),
+        ) in
+        let l = s.unsent f.main has_main empty f.main.number asked' in omega arith
 
     base_kept : (o : Option Shadow) → slots.shadow ≡ o → (version_in o ≡ 0) ⊎ HasEntry before table row (version_in o)
     base_kept None is = inl refl
@@ -285,10 +298,10 @@ module _ (packets : List Packet) (before after : List TextLine) (node : Client) 
     first_out : OutKept more after node.number table row new first.1
     first_out = record {
       written = subst (λ (x : Out). Wrote after node.number x.number table row x.content) out_is
-        (wrote_stays before after same node.number f.main.number table row f.main.content
+          (wrote_stays before after same node.number f.main.number table row f.main.content
           (main_wrote before node.number table row f.main (sym s.main ∙ has_main)));
       base = subst (λ (x : Out). (x.base ≡ 0) ⊎ HasEntry after table row x.base) out_is
-        (elim (base_kept slots.shadow refl) [ inl z ↦ inl z | inr h ↦ inr (entry_stays before after same table row (version_in slots.shadow) h) ]);
+          (elim (base_kept slots.shadow refl) [ inl z ↦ inl z | inr h ↦ inr (entry_stays before after same table row (version_in slots.shadow) h) ]);
       later = λ entry a c r n. absurd (not_there entry (subst (λ l. Among l entry) (same.history table) a) c r n);
       last = λ number r. elim (asked table row number r) [
         | inl old ↦ let l = s.unsent f.main has_main empty number old in let n = number_is in omega arith
@@ -303,17 +316,17 @@ module _ (packets : List Packet) (before after : List TextLine) (node : Client) 
       main = s.main ∙ ap (option_map main_of) (sym (open_same before after [] node.number table row adds refl (λ write is. refl)));
       read = let h = adds.reads node.number table row in let r = s.read in omega arith;
       shadow = λ shadow e. let h = s.shadow shadow e in
-        (h.0, entry_stays before after same table row shadow.version h.1, same.contents table shadow.version shadow.content h.2);
+          (h.0, entry_stays before after same table row shadow.version h.1, same.contents table shadow.version shadow.content h.2);
       out = λ out e. let e' : first.1 ≡ out = cc in subst (λ (x : Out). OutKept more after node.number table row new x) e' first_out;
       unsent = λ main e none number r. absurd cc;
     }
 
     pub first_client : ClientKept more after node.number (with_table node table (with_slots opened row new))
     first_client = client_put packets more before after node.number same node table node.last (with_slots opened row new) k first_table
-      (opened_put packets more before after node.number table same opened row new opened.position o other_row first_slots
+        (opened_put packets more before after node.number table same opened row new opened.position o other_row first_slots
         (let h = adds.positions node.number table in let p = o.position in omega arith) o.behind
         (λ q le. ap version_in (shadow_same q) ∙ o.covered q le))
-      (k.last ∙ sym (ap (λ (l : List Write). length l) (same_writes_of before after [] node.number adds refl)))
+        (k.last ∙ sym (ap (λ (l : List Write). length l) (same_writes_of before after [] node.number adds refl)))
       where
         shadow_same : (q : List ℕ) → (slots_at (with_slots opened row new) q).shadow ≡ (slots_at opened q).shadow
         shadow_same q = elim (slots-put opened row new q) [
@@ -327,6 +340,6 @@ module _ (packets : List Packet) (before after : List TextLine) (node : Client) 
     first_kept request a = elim (among_cases again (messages.SyncRequest sent ∷ []) (messages.SyncRequest request) a) [
       | inl b ↦ again_kept request b
       | inr b ↦
-        let e : sent ≡ request = cc (among_one (messages.SyncRequest sent) (messages.SyncRequest request) b) in
-        subst (λ (x : SyncRequest). RequestKept after x × (x.client ≡ node.number)) e ((first_out.written, first_out.base), refl)
+          let e : sent ≡ request = cc (among_one (messages.SyncRequest sent) (messages.SyncRequest request) b) in
+          subst (λ (x : SyncRequest). RequestKept after x × (x.client ≡ node.number)) e ((first_out.written, first_out.base), refl)
     ]

@@ -1,30 +1,27 @@
 -- An answer that a client's write was accepted: the row is read at the version of the write's entry.
-use Rattle.std.proofs.Common.{◌≡◌, ◌≢◌, ◌⊎◌, ℕ, ◌+◌, ◌<◌, ◌≤◌, max, Bool, true, false, ◌||◌, List, [], ◌∷◌, ◌++◌, length, Option, Some, None, refl, ap, sym, ◌∙◌, subst, arith, inl, inr}
+use Rattle.std.proofs.Common.{◌≡◌, ◌≢◌, ◌⊎◌, ℕ, ◌<◌, ◌≤◌, true, false, List, [], ◌∷◌, length, Some, None, refl, ap, sym, ◌∙◌, subst, arith, inl, inr}
 use Rattle.std.proofs.lemmas.Bool.Decides.{nat_tests}
 use Rattle.std.specs.Prelude.{◌==◌}
 use Rattle.table_model.specs.declared.entry.Entry.{Entry}
 use Rattle.table_model.specs.declared.line.Fact.{Fact}
-use Rattle.table_model.specs.declared.line.Fact.TheVariants as facts
 use Rattle.table_model.specs.declared.line.TextLine.{TextLine}
 use Rattle.table_model.specs.declared.line.Write.{Write}
 use Rattle.table_model.specs.History.{history_of, current, same_row}
-use Rattle.table_model.specs.Writes.{all_writes, writes_of, last_write}
+use Rattle.table_model.specs.Writes.{writes_of, last_write}
 use Rattle.step_tables.specs.declared.slots.Out.{Out}
-use Rattle.step_tables.specs.declared.slots.Shadow.{Shadow}
 use Rattle.step_tables.specs.declared.slots.Slots.{Slots}
-use Rattle.step_tables.specs.Store.{Stored, entries_of}
+use Rattle.step_tables.specs.Store.{Stored}
 use Rattle.step_tables.specs.Client.{Client, ClientTable, slots_at, with_slots, table_at, with_table, version_in, without, acked}
 use Rattle.run_laws.specs.World.{Packet, told}
-use Rattle.run_laws.specs.Lines.{read_of, position_of, content_at, is_acked}
+use Rattle.run_laws.specs.Lines.{read_of, content_at, is_acked}
 use Rattle.run_laws.specs.Sound.{Among, HasEntry, HasEntryOf, IsRead, IsKept}
-use Rattle.run_laws.proofs.Kept.{WritesKept, Requested, TableKept, OutKept, SlotsKept, OpenedKept, ClientKept}
+use Rattle.run_laws.proofs.Kept.{WritesKept, TableKept, OutKept, OpenedKept, ClientKept}
 use Rattle.run_laws.proofs.Versions.{stored_entry}
-use Rattle.run_laws.proofs.ClientNeeds.{same_row_tells}
 use Rattle.run_laws.proofs.ClientHistory.{current_is}
-use Rattle.run_laws.proofs.ClientLines.{Adds, apart}
+use Rattle.run_laws.proofs.ClientLines.{AddsFacts, apart}
 use Rattle.run_laws.proofs.ClientRows.{lines_same, entry_stays, entry_of_stays}
 use Rattle.run_laws.proofs.ClientCalls.{writes_stay}
-use Rattle.run_laws.proofs.Lists.{same_row-refl}
+use Rattle.run_laws.proofs.Lists.{same_row-refl, same_row_tells}
 use Rattle.run_laws.proofs.ClientTakes.{TellOf, other_number, take_client, acked_slots}
 
 module _ (packets : List Packet) (before : List TextLine) (node : Client) (table : ℕ) (opened : ClientTable) (row : List ℕ) (out : Out) (version : ℕ)
@@ -90,7 +87,7 @@ module _ (packets : List Packet) (before : List TextLine) (node : Client) (table
       let v = ap (λ (e : Entry). e.version) st.2 ∙ entry.3 in
       let a = above in omega arith
 
-  module _ (after : List TextLine) (adds : Adds before after (fact ∷ [])) where
+  module _ (after : List TextLine) (adds : AddsFacts before after (fact ∷ [])) where
     quiet : (t : ℕ) (q : List ℕ) → (t ≡ table → q ≡ row → ⊥) → (write : Write) → last_write node.number t q before ≡ Some write
         → is_acked write.client write.number (told (fact ∷ [])) ≡ false
     quiet t q apart_ write e =
@@ -127,7 +124,7 @@ module _ (packets : List Packet) (before : List TextLine) (node : Client) (table
             (subst (λ c. w.0.number ≤ length (writes_of c before)) (w.2 ∙ e.0) (writes.most w.0 w.1))
 
   -- behind lines that add nothing
-  module _ (after : List TextLine) (adds : Adds before after []) where
+  module _ (after : List TextLine) (adds : AddsFacts before after []) where
     pub answer_is_read : IsRead after fact
     answer_is_read = (
       entry_stays before after (lines_same before after [] node.number adds (apart node.number [] tt)) table row version has_entry,

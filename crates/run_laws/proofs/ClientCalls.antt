@@ -1,6 +1,6 @@
 -- What any call of a client keeps: the requests among what is sent, and the writes where none is begun.
-use Rattle.std.proofs.Common.{◌≡◌, ◌≢◌, ◌⊎◌, ℕ, ◌+◌, ◌<◌, ◌≤◌, Bool, true, false, ◌||◌, List, [], ◌∷◌, ◌++◌, length, Option, Some, None, refl, ap, sym, ◌∙◌, subst, arith, inl, inr, append-nil}
-use Rattle.std.specs.Prelude.{map, filter}
+use Rattle.std.proofs.Common.{◌≡◌, ◌⊎◌, ℕ, ◌<◌, ◌≤◌, Bool, true, false, ◌||◌, List, [], ◌++◌, length, Some, refl, ap, sym, ◌∙◌, subst, arith, inl, inr, append-nil}
+use Rattle.std.specs.Prelude.{filter}
 use Rattle.table_model.specs.declared.line.Fact.{Fact}
 use Rattle.table_model.specs.declared.line.TextLine.{TextLine}
 use Rattle.table_model.specs.declared.line.Write.{Write}
@@ -10,15 +10,14 @@ use Rattle.table_model.specs.Last.{last_where}
 use Rattle.sync_msgs.specs.declared.message.Message.{Message}
 use Rattle.sync_msgs.specs.declared.message.Message.TheVariants as messages
 use Rattle.sync_msgs.specs.declared.message.SyncRequest.{SyncRequest}
-use Rattle.step_tables.specs.declared.slots.Slots.{Slots}
-use Rattle.step_tables.specs.Client.{Client, ClientTable}
+use Rattle.step_tables.specs.Client.{Client}
 use Rattle.run_laws.specs.World.{World, Packet, told, packets_of}
 use Rattle.run_laws.specs.Lines.{is_acked}
 use Rattle.run_laws.specs.Sound.{Among}
 use Rattle.run_laws.proofs.Kept.{WritesKept, Requested, MessageKept, PacketKept, ClientKept}
-use Rattle.run_laws.proofs.ClientNeeds.{among_cases, among_map}
-use Rattle.run_laws.proofs.ClientLines.{Adds, AreApart, apart}
-use Rattle.run_laws.proofs.ClientRows.{RowSame, TableSame, open_same, lines_same, client_stays}
+use Rattle.run_laws.proofs.ClientLines.{AddsFacts, apart}
+use Rattle.run_laws.proofs.ClientRows.{TableSame, open_same, lines_same, client_stays}
+use Rattle.run_laws.proofs.Lists.{among_either, among_mapped}
 
 -- ---- what is sent
 
@@ -31,10 +30,10 @@ Asks sends client table row number =
 pub requested_cases : (packets : List Packet) (from to : Node) (sends : List Message) (client table : ℕ) (row : List ℕ) (number : ℕ)
     → Requested (packets ++ packets_of from to sends) client table row number
     → Requested packets client table row number ⊎ Asks sends client table row number
-requested_cases packets from to sends client table row number r = elim (among_cases packets (packets_of from to sends) r.0 r.2) [
+requested_cases packets from to sends client table row number r = elim (among_either packets (packets_of from to sends) r.0 r.2) [
   | inl a ↦ inl (r.0, r.1, a, r.3, r.4, r.5, r.6, r.7)
   | inr a ↦
-      let m = among_map (λ (message : Message). record { from = from; to = to; message = message }) sends r.0 a in
+      let m = among_mapped (λ (message : Message). record { from = from; to = to; message = message }) sends r.0 a in
       inr (r.1, subst (Among sends) (ap (λ (p : Packet). p.message) m.2 ∙ r.3) m.1, r.4, r.5, r.6, r.7)
 ]
 
@@ -54,11 +53,11 @@ requests_of_writes w packets before client writes kept table row number r =
 
 -- ---- writes
 
-pub same_writes_of : (before after : List TextLine) (some : List Fact) (client : ℕ) → Adds before after some → all_writes (told some) ≡ []
+pub same_writes_of : (before after : List TextLine) (some : List Fact) (client : ℕ) → AddsFacts before after some → all_writes (told some) ≡ []
     → writes_of client after ≡ writes_of client before
 same_writes_of before after some client adds none = ap (filter (is_by client)) (adds.writes ∙ ap (λ l. all_writes before ++ l) none ∙ append-nil _)
 
-pub writes_stay : (before after : List TextLine) (some : List Fact) → Adds before after some → all_writes (told some) ≡ []
+pub writes_stay : (before after : List TextLine) (some : List Fact) → AddsFacts before after some → all_writes (told some) ≡ []
     → ((client number : ℕ) → is_acked client number (told some) ≡ true → number ≤ length (writes_of client before))
     → WritesKept before → WritesKept after
 writes_stay before after some adds none acked k =
@@ -86,7 +85,7 @@ none_asked packets from to sends client none table row number r = elim (requeste
   | inr new ↦ absurd (none new.0 new.1)
 ]
 
-pub quiet_table : (packets more : List Packet) (before after : List TextLine) (client table : ℕ) → (adds : Adds before after [])
+pub quiet_table : (packets more : List Packet) (before after : List TextLine) (client table : ℕ) → (adds : AddsFacts before after [])
     → ((row : List ℕ) (number : ℕ) → Requested more client table row number → Requested packets client table row number)
     → TableSame packets more before after client table
 quiet_table packets more before after client table adds old = record {
@@ -98,7 +97,7 @@ quiet_table packets more before after client table adds old = record {
   position = let h = adds.positions client table in omega arith;
 }
 
-pub quiet_client : (packets more : List Packet) (before after : List TextLine) (node : Client) (adds : Adds before after [])
+pub quiet_client : (packets more : List Packet) (before after : List TextLine) (node : Client) (adds : AddsFacts before after [])
     → ((table : ℕ) (row : List ℕ) (number : ℕ) → Requested more node.number table row number → Requested packets node.number table row number)
     → ClientKept packets before node.number node → ClientKept more after node.number node
 quiet_client packets more before after node adds old k =

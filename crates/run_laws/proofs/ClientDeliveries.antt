@@ -1,12 +1,11 @@
 -- What a delivery to a client keeps: an answer to a request, or to a pull.
-use Rattle.std.proofs.Common.{◌≡◌, ◌≢◌, ◌⊎◌, ℕ, ◌+◌, ◌<◌, ◌≤◌, Bool, true, false, List, [], ◌∷◌, ◌++◌, length, take, Option, Some, None, refl, ap, sym, ◌∙◌, subst, arith, inl, inr, append-nil}
+use Rattle.std.proofs.Common.{◌≡◌, ℕ, ◌<◌, ◌≤◌, Bool, true, false, List, [], ◌∷◌, ◌++◌, take, Option, Some, None, refl, ap, sym, ◌∙◌, subst, arith, append-nil}
 use Rattle.std.proofs.lemmas.Bool.{eqb-true}
 use Rattle.std.proofs.lemmas.Bool.Decides.{nat_tests}
 use Rattle.std.specs.Prelude.{◌==◌, nat_le, nat_lt, option_map, if◌then◌else◌}
 use Rattle.table_model.specs.declared.entry.Entry.{Entry}
 use Rattle.table_model.specs.History.{history_of}
 use Rattle.table_model.specs.declared.line.Answer.TheVariants as answers
-use Rattle.table_model.specs.declared.line.Fact.{Fact}
 use Rattle.table_model.specs.declared.line.Fact.TheVariants as facts
 use Rattle.table_model.specs.declared.line.TextLine.{TextLine}
 use Rattle.table_model.specs.declared.node.Node.{Node}
@@ -20,21 +19,20 @@ use Rattle.sync_msgs.specs.declared.message.RowHeader.{RowHeader}
 use Rattle.sync_msgs.specs.declared.message.SyncRequest.{SyncRequest}
 use Rattle.sync_msgs.specs.declared.message.SyncResponse.{SyncResponse}
 use Rattle.step_tables.specs.declared.slots.Out.{Out}
-use Rattle.step_tables.specs.declared.slots.Slots.{Slots}
-use Rattle.step_tables.specs.Store.{Stored, next_changed, header_for, version_or, answer_for, yours_of, pull_answer}
-use Rattle.step_tables.specs.Client.{Client, ClientTable, ClientStep, Taken, table_at, slots_at, with_slots, with_table, version_in, without, shadow_of, answered, ignored, deliver_step, response_in, take_response, take_outcome, take_accepted, pulled_in, take_pulled, take_row, take_header, newer, next_pull, pull_from}
+use Rattle.step_tables.specs.Store.{Stored, next_changed, header_for, version_or}
+use Rattle.step_tables.specs.Client.{Client, ClientTable, ClientStep, Taken, table_at, slots_at, with_slots, with_table, version_in, without, shadow_of, ignored, deliver_step, response_in, take_response, take_outcome, take_accepted, pulled_in, take_pulled, take_header, newer, next_pull, pull_from}
 use Rattle.run_laws.specs.World.{World, Packet, the_store, packets_of}
 use Rattle.run_laws.specs.Sound.{Among, HasEntryOf}
 use Rattle.run_laws.proofs.Kept.{WritesKept, Requested, OutcomeKept, AnswerKept, MessageKept, TableKept, ClientKept, stored_in}
-use Rattle.run_laws.proofs.ClientStep.{ClientStepKept, sends_of, lines_of_step}
-use Rattle.run_laws.proofs.ClientNeeds.{among_one, among_none}
+use Rattle.run_laws.proofs.ClientStep.{ClientStepKept}
+use Rattle.run_laws.proofs.ClientTables.{among_one}
 use Rattle.run_laws.proofs.ClientHistory.{IsNextChange, next_is, counts_take}
-use Rattle.run_laws.proofs.ClientLines.{Adds}
 use Rattle.run_laws.proofs.ClientCalls.{none_asked, writes_stay}
 use Rattle.run_laws.proofs.ClientAnswers.{answered_client, answered_writes, answer_is_read, answer_is_kept}
 use Rattle.run_laws.proofs.ClientPulls.{next_later}
 use Rattle.run_laws.proofs.ClientNews.{already_client, already_read, newer_client, newer_read, dropped_client, dropped_writes, dropped_kept, dropped_read}
 use Rattle.run_laws.proofs.ClientSteps.{AreKept, client_is, step_of_parts, answered_kept}
+use Rattle.run_laws.proofs.Lists.{among_none}
 
 module _ (w : World) (before : List TextLine) (node : Client) (k : ClientKept w.packets before node.number node) (writes : WritesKept before)
     (stores : (t : ℕ) → TableKept w.packets before t (stored_in w t)) where

@@ -1,29 +1,22 @@
 -- A row that the Store answers to a pull: its position covers what has been read, and Out's write is behind it or above.
-use Rattle.std.proofs.Common.{◌≡◌, ◌≢◌, ◌⊎◌, ℕ, zero, suc, ◌+◌, ◌<◌, ◌≤◌, max, Bool, true, false, ◌||◌, List, [], ◌∷◌, ◌++◌, length, take, Option, Some, None, refl, ap, sym, ◌∙◌, subst, arith, inl, inr}
-use Rattle.std.proofs.lemmas.Bool.Decides.{nat_tests}
-use Rattle.std.specs.Prelude.{◌==◌}
+use Rattle.std.proofs.Common.{◌≡◌, ◌≢◌, ◌⊎◌, ℕ, zero, suc, ◌+◌, ◌<◌, ◌≤◌, true, List, [], ◌∷◌, length, take, Option, Some, None, refl, ap, sym, ◌∙◌, subst, arith, inl, inr}
 use Rattle.table_model.specs.declared.entry.Entry.{Entry}
-use Rattle.table_model.specs.declared.line.Fact.{Fact}
-use Rattle.table_model.specs.declared.line.Fact.TheVariants as facts
 use Rattle.table_model.specs.declared.line.TextLine.{TextLine}
-use Rattle.table_model.specs.declared.line.Write.{Write}
 use Rattle.table_model.specs.Last.{last_where}
-use Rattle.table_model.specs.History.{history_of, current, same_row}
-use Rattle.table_model.specs.Writes.{all_writes, writes_of, last_write}
+use Rattle.table_model.specs.History.{history_of, current}
 use Rattle.step_tables.specs.declared.slots.Out.{Out}
 use Rattle.step_tables.specs.declared.slots.Shadow.{Shadow}
 use Rattle.step_tables.specs.declared.slots.Slots.{Slots}
-use Rattle.step_tables.specs.Store.{Stored, entries_of, is_of_client, yours_of, yours_in, header_for}
-use Rattle.step_tables.specs.Client.{Client, ClientTable, slots_at, with_slots, table_at, with_table, version_in, without, acked}
-use Rattle.run_laws.specs.World.{Packet, told}
-use Rattle.run_laws.specs.Lines.{read_of, position_of, content_at, is_acked}
-use Rattle.run_laws.specs.Sound.{Among, HasEntry, HasEntryOf, IsRead, IsKept}
-use Rattle.run_laws.proofs.Kept.{WritesKept, Requested, Counts, TableKept, OutKept, SlotsKept, OpenedKept, ClientKept}
-use Rattle.run_laws.proofs.Lists.{same_row-refl}
+use Rattle.step_tables.specs.Store.{Stored, is_of_client, yours_in}
+use Rattle.step_tables.specs.Client.{Client, ClientTable, slots_at, table_at, version_in}
+use Rattle.run_laws.specs.World.{Packet}
+use Rattle.run_laws.specs.Lines.{content_at}
+use Rattle.run_laws.specs.Sound.{Among, HasEntry, HasEntryOf}
+use Rattle.run_laws.proofs.Kept.{WritesKept, Counts, TableKept, OutKept, OpenedKept, ClientKept}
 use Rattle.run_laws.proofs.Tests.{is_of_client-is, is_of_client-own}
-use Rattle.run_laws.proofs.Versions.{stored_entry, entry_stored, length_stored}
-use Rattle.run_laws.proofs.ClientNeeds.{among_take, same_row_tells}
-use Rattle.run_laws.proofs.ClientHistory.{CurrentIs, current_is, IsNextChange, IsLast, LastIs, last_is, counts_take, counts_front, counts_within, counts_same}
+use Rattle.run_laws.proofs.Versions.{stored_entry, entry_stored, length_stored, Counts-within, Counts-once}
+use Rattle.run_laws.proofs.ClientTables.{among_take}
+use Rattle.run_laws.proofs.ClientHistory.{CurrentIs, current_is, IsNextChange, LastIs, last_is, counts_take, counts_front}
 
 at_most_or_above : (a b : ℕ) → (a ≤ b) ⊎ (b < a)
 at_most_or_above a b = grind arith
@@ -65,7 +58,7 @@ module _ (packets : List Packet) (before : List TextLine) (node : Client) (table
 
   -- the position stays within the history
   pub next_behind : version ≤ length (history_of table before)
-  next_behind = let h = counts_within 0 stored s store.counts there in let l = length_stored before table stored store.history store.counts in omega arith
+  next_behind = let h = (Counts-within 0 stored s store.counts there).1 in let l = length_stored before table stored store.history store.counts in omega arith
 
   pub next_entry : HasEntry before table row version
   next_entry = (s.entry, entry_stored before table stored store.history store.counts s there, refl, refl)
@@ -90,16 +83,23 @@ module _ (packets : List Packet) (before : List TextLine) (node : Client) (table
           let m = (now row).most st.0 st.1 (ap (λ (x : Entry). x.row) st.2 ∙ h.2) in
           let v = ap (λ (x : Entry). x.version) st.2 ∙ h.3 in omega arith
 
+  -- an entry of another row has another version
+  another_version : (x : Stored) → Among stored x → (q : List ℕ) → q ≢ row → x.entry.row ≡ q → x.entry.version ≢ version
+  another_version x a q apart_ r e = apart_ (sym r ∙ ap (λ (z : Stored). z.entry.row) (Counts-once 0 stored x s store.counts a there e))
+
+  -- behind a row's current version stands no entry of it
+  no_later : (q : List ℕ) (x y : Stored) → x.entry.row ≡ q → x.entry.version ≡ current (history_of table before) q → Among stored y
+      → y.entry.row ≡ x.entry.row → x.entry.version < y.entry.version → ⊥
+  no_later q x y row_is at a same above = let m = (now q).most y a (same ∙ row_is) in omega arith
+
   -- what the new position covers of other rows the old one covered
   next_covers : (q : List ℕ) → q ≢ row → current (history_of table before) q ≤ version → opened.position < current (history_of table before) q → ⊥
   next_covers q apart_ le above =
       let x = (now q).some (omega arith) in
       let front = counts_front latest 0 stored x.0 store.counts x.1 (let u = up_to in let v = x.3 in omega arith) in
-      let differs : x.0.entry.version ≢ version = λ e.
-      apart_ (sym x.2 ∙ ap (λ (z : Stored). z.entry.row) (counts_same 0 stored x.0 s store.counts x.1 there e)) in
+      let differs = another_version x.0 x.1 q apart_ x.2 in
       let y = next.first x.0 front (let v = x.3 in omega arith) (let v = x.3 in let d = differs in omega arith) in
-      let m = (now q).most y.0 (among_take latest stored y.0 y.1) (y.2 ∙ x.2) in
-      let v = x.3 in let l = y.3 in omega arith
+      no_later q x.0 y.0 x.2 x.3 (among_take latest stored y.0 y.1) y.2 y.3
 
   pub next_covered : (q : List ℕ) → q ≢ row → current (history_of table before) q ≤ version
       → version_in (slots_at opened q).shadow ≡ current (history_of table before) q
@@ -141,7 +141,7 @@ module _ (packets : List Packet) (before : List TextLine) (node : Client) (table
           let b = is_of_client-is node.number row y last.passes in
           elim (at_most_or_above y.entry.version x.entry.version) [
             | inl le ↦
-                let same = ap (λ (z : Stored). z.entry.number) (counts_same 0 stored x y store.counts p (among_take latest stored y last.among) (omega arith)) in omega arith
+                let same = ap (λ (z : Stored). z.entry.number) (Counts-once 0 stored x y store.counts p (among_take latest stored y last.among) (omega arith)) in omega arith
             | inr lt ↦ let rises = store.rises x y p (among_take latest stored y last.among) (a.0 ∙ sym b.0) (a.1 ∙ sym b.1) lt in omega arith
           ]
 

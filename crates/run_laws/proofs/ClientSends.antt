@@ -1,14 +1,10 @@
 -- A client's sync: what it sends again is kept already, and what it sends first no entry has.
-use Rattle.std.proofs.Common.{◌≡◌, ◌≢◌, ◌⊎◌, ℕ, ◌+◌, ◌<◌, ◌≤◌, Bool, true, false, List, [], ◌∷◌, ◌++◌, length, Option, Some, None, refl, ap, sym, ◌∙◌, subst, arith, inl, inr}
+use Rattle.std.proofs.Common.{◌≡◌, ◌≢◌, ◌⊎◌, ℕ, Bool, true, false, List, [], ◌∷◌, ◌++◌, length, Option, Some, None, refl, ap, sym, ◌∙◌, subst, arith, inl, inr}
 use Rattle.std.specs.Prelude.{option_map, option_to_list, if◌then◌else◌}
-use Rattle.std.specs.Map.{lookup}
-use Rattle.std.specs.BTreeMap.{is_at}
 use Rattle.table_model.specs.declared.entry.Entry.{Entry}
 use Rattle.table_model.specs.declared.line.TextLine.{TextLine}
 use Rattle.table_model.specs.declared.line.Write.{Write}
-use Rattle.table_model.specs.declared.node.Node.{Node}
-use Rattle.table_model.specs.declared.node.Node.TheVariants as nodes
-use Rattle.table_model.specs.History.{history_of, current}
+use Rattle.table_model.specs.History.{history_of}
 use Rattle.table_model.specs.Writes.{all_writes, last_write, is_on}
 use Rattle.sync_msgs.specs.declared.message.Message.{Message}
 use Rattle.sync_msgs.specs.declared.message.Message.TheVariants as messages
@@ -18,17 +14,18 @@ use Rattle.step_tables.specs.declared.slots.Out.{Out}
 use Rattle.step_tables.specs.declared.slots.Shadow.{Shadow}
 use Rattle.step_tables.specs.declared.slots.Slots.{Slots}
 use Rattle.step_tables.specs.Store.{Stored}
-use Rattle.step_tables.specs.Client.{Client, ClientTable, row_cmp, or_none, slots_at, with_slots, table_at, with_table, version_in, request_for, resent, out_for, to_send, or_later, first_to_send}
-use Rattle.run_laws.specs.World.{Packet, the_store, packets_of}
+use Rattle.step_tables.specs.Client.{Client, ClientTable, or_none, slots_at, with_slots, table_at, with_table, version_in, request_for, resent, out_for, to_send, or_later, first_to_send}
+use Rattle.run_laws.specs.World.{Packet}
 use Rattle.run_laws.specs.Lines.{open_write, if_open, is_acked}
 use Rattle.run_laws.specs.Sound.{Among, HasEntry}
+use Rattle.run_laws.proofs.Lists.{among_either, among_last}
 use Rattle.run_laws.proofs.Kept.{Wrote, Requested, RequestKept, TableKept, OutKept, SlotsKept, OpenedKept, ClientKept, Rising, main_of}
 use Rattle.run_laws.proofs.Tests.{is_on-is}
 use Rattle.run_laws.proofs.Versions.{stored_entry}
-use Rattle.run_laws.proofs.ClientNeeds.{among_cases, among_one, rising_found, last_where_some, slots-put}
-use Rattle.run_laws.proofs.ClientLines.{Adds, apart}
-use Rattle.run_laws.proofs.ClientRows.{LinesSame, RowSame, TableSame, lines_same, entry_stays, wrote_stays, slots_stay, open_same, opened_stays, opened_put, client_put}
-use Rattle.run_laws.proofs.ClientCalls.{Asks, requested_cases, same_writes_of, quiet_table}
+use Rattle.run_laws.proofs.ClientTables.{among_one, rising_found, slots-put}
+use Rattle.run_laws.proofs.ClientLines.{AddsFacts, apart}
+use Rattle.run_laws.proofs.ClientRows.{LinesSame, RowSame, TableSame, lines_same, entry_stays, wrote_stays, open_same, opened_stays, opened_put, client_put}
+use Rattle.run_laws.proofs.ClientCalls.{Asks, same_writes_of, quiet_table}
 
 -- ---- what is sent
 
@@ -115,7 +112,7 @@ main_wrote before client table row main e = go (open_write client table row befo
     go : (o : Option Write) → open_write client table row before ≡ o → option_map main_of o ≡ Some main → Wrote before client main.number table row main.content
     go None is f = absurd cc
     go (Some write) is f =
-        let a = last_where_some (is_on client table row) (all_writes before) write (open_is_last before client table row write is) in
+        let a = among_last (is_on client table row) (all_writes before) write (open_is_last before client table row write is) in
         let on = is_on-is client table row write a.1 in
         let m : main_of write ≡ main = cc in
         (write, a.0, on.0, ap (λ (x : Main). x.number) m, on.1, on.2, ap (λ (x : Main). x.content) m)
@@ -123,7 +120,7 @@ main_wrote before client table row main e = go (open_write client table row befo
 -- ---- a table of which requests are sent
 
 module _ (packets : List Packet) (before after : List TextLine) (node : Client) (table : ℕ) (opened : ClientTable)
-    (adds : Adds before after []) (k : ClientKept packets before node.number node) (is : table_at node table ≡ Some opened) where
+    (adds : AddsFacts before after []) (k : ClientKept packets before node.number node) (is : table_at node table ≡ Some opened) where
   o : OpenedKept packets before node.number table opened
   o = k.tables table opened is
 
@@ -238,7 +235,7 @@ module _ (packets : List Packet) (before after : List TextLine) (node : Client) 
         ⊎ (Asks again node.number t q number ⊎ ((t ≡ table) × (q ≡ row) × (number ≡ first.1.number)))
     asked t q number r = elim (asks t q number r) [
       | inl old ↦ inl old
-      | inr a ↦ elim (among_cases again (messages.SyncRequest sent ∷ []) (messages.SyncRequest a.0) a.1) [
+      | inr a ↦ elim (among_either again (messages.SyncRequest sent ∷ []) (messages.SyncRequest a.0) a.1) [
         | inl b ↦ inr (inl (a.0, b, a.2, a.3, a.4, a.5))
         | inr b ↦
             let e : sent ≡ a.0 = cc (among_one (messages.SyncRequest sent) (messages.SyncRequest a.0) b) in
@@ -337,7 +334,7 @@ module _ (packets : List Packet) (before after : List TextLine) (node : Client) 
     -- each request that is sent is kept
     pub first_kept : (request : SyncRequest) → Among (again ++ messages.SyncRequest sent ∷ []) (messages.SyncRequest request)
         → RequestKept after request × (request.client ≡ node.number)
-    first_kept request a = elim (among_cases again (messages.SyncRequest sent ∷ []) (messages.SyncRequest request) a) [
+    first_kept request a = elim (among_either again (messages.SyncRequest sent ∷ []) (messages.SyncRequest request) a) [
       | inl b ↦ again_kept request b
       | inr b ↦
           let e : sent ≡ request = cc (among_one (messages.SyncRequest sent) (messages.SyncRequest request) b) in

@@ -1,5 +1,5 @@
 -- What a call of a client keeps: its own part, all writes, what it sends, and what holds along its lines.
-use Rattle.std.proofs.Common.{◌≡◌, ◌≢◌, ◌⊎◌, ℕ, ◌+◌, ◌<◌, ◌≤◌, Bool, true, false, List, [], ◌∷◌, ◌++◌, length, Option, Some, None, Result, Ok, Err, refl, ap, sym, ◌∙◌, subst, arith, inl, inr, append-nil}
+use Rattle.std.proofs.Common.{◌≡◌, ◌≢◌, ◌⊎◌, ℕ, List, [], ◌∷◌, ◌++◌, length, Option, Some, None, Result, Ok, Err, refl, ap, sym, ◌∙◌, subst, arith, inl, inr, append-nil}
 use Rattle.std.specs.List.{AllByRecursion}
 use Rattle.row_value.specs.declared.content.Content.{Content}
 use Rattle.row_value.specs.declared.fit.FitFault.{FitFault}
@@ -11,25 +11,25 @@ use Rattle.table_model.specs.declared.line.Fact.TheVariants as facts
 use Rattle.table_model.specs.declared.line.TextLine.{TextLine}
 use Rattle.table_model.specs.declared.line.TextLine.TheVariants as text
 use Rattle.table_model.specs.declared.line.Write.{Write}
-use Rattle.table_model.specs.declared.node.Node.{Node}
 use Rattle.table_model.specs.declared.node.Node.TheVariants as nodes
-use Rattle.table_model.specs.History.{history_of}
 use Rattle.sync_msgs.specs.declared.message.Message.{Message}
 use Rattle.sync_msgs.specs.declared.message.Message.TheVariants as messages
 use Rattle.sync_msgs.specs.declared.message.SyncRequest.{SyncRequest}
 use Rattle.step_tables.specs.declared.slots.Out.{Out}
 use Rattle.step_tables.specs.declared.slots.Slots.{Slots}
 use Rattle.step_tables.specs.Store.{Stored}
-use Rattle.step_tables.specs.Client.{Client, ClientTable, ClientStep, table_at, slots_at, answered, write_step, write_to, write_fitting, written, show_step, show_in, sync_step, sync_in, sync_first, resent, first_to_send, request_for, pull_step, pull_in, pull_from}
-use Rattle.run_laws.specs.World.{World, Packet, start, the_store, packets_of, told, sent_from, sent_fact, answer_lines}
+use Rattle.step_tables.specs.Client.{Client, ClientTable, ClientStep, table_at, answered, write_step, write_to, write_fitting, written, show_step, show_in, sync_step, sync_in, sync_first, resent, first_to_send, request_for, pull_step, pull_in, pull_from}
+use Rattle.run_laws.specs.World.{World, Packet, the_store, packets_of, told}
 use Rattle.run_laws.specs.Sound.{Among, Along, OfFact, IsNext, IsNumbered, IsOfWrite, HasBase, IsRead, IsKept}
+use Rattle.run_laws.proofs.Lists.{among_mapped, among_either, among_none}
 use Rattle.run_laws.proofs.Kept.{WritesKept, Requested, RequestKept, MessageKept, PacketKept, TableKept, ClientKept}
-use Rattle.run_laws.proofs.Silence.{Silent, SaysNothing, silent_step}
+use Rattle.run_laws.proofs.Along.{along_step}
+use Rattle.run_laws.proofs.Silence.{SaysNothing, silent_step}
 use Rattle.run_laws.proofs.ClientStep.{ClientStepKept, sends_of, lines_of_step}
-use Rattle.run_laws.proofs.ClientNeeds.{among_map, among_cases, among_one, among_none}
-use Rattle.run_laws.proofs.ClientLines.{Adds, IsOf, AreOf, adds, apart, along_lines}
+use Rattle.run_laws.proofs.ClientTables.{among_one}
+use Rattle.run_laws.proofs.ClientLines.{AddsFacts, IsOf, AreOf, adds, apart}
 use Rattle.run_laws.proofs.ClientCalls.{Asks, AreOfWrites, requested_cases, none_asked, quiet_client, writes_stay, same_writes_of}
-use Rattle.run_laws.proofs.ClientWrites.{write_for, written_kept, writes_kept}
+use Rattle.run_laws.proofs.ClientWrites.{written_kept, writes_kept}
 use Rattle.run_laws.proofs.ClientSends.{resent_is, again_kept, again_client, first_is, first_client, first_kept}
 
 -- ---- the parts of a step
@@ -88,15 +88,16 @@ packet_from client message = record { from = nodes.Client client; to = the_store
 
 -- along facts, behind lines that add nothing
 abbrev pub Holds : (List TextLine → Fact → Type 0) → List TextLine → List Fact → Type 0
-Holds Q before some = (past : List TextLine) → Adds before past [] → Along (λ b line. OfFact (Q b) line) past (told some)
+Holds Q before some = (past : List TextLine) → AddsFacts before past [] → Along (λ b line. OfFact (Q b) line) past (told some)
 
 pub step_of_parts : (w : World) (before : List TextLine) (client : ℕ) (step : ClientStep) → AreOf client step.facts
-    → ((after : List TextLine) → Adds before after step.facts → ClientKept (w.packets ++ sends_of client step) after client step.client
+    → ((after : List TextLine) → AddsFacts before after step.facts → ClientKept (w.packets ++ sends_of client step) after client step.client
     × WritesKept after × AreKept after client step.messages)
     → Holds IsNumbered before step.facts → Holds IsRead before step.facts → Holds IsKept before step.facts
     → ClientStepKept w before client step
 step_of_parts w before client step of parts numbered reads kept =
     let n : ℕ = length w.packets in
+    let answered_ : List TextLine = before ++ text.Answer step.answer ∷ [] in
     let sends : List Packet = sends_of client step in
     let after : List TextLine = before ++ lines_of_step w client step in
     let all = parts after (adds before step.answer step.facts n sends) in record {
@@ -111,18 +112,18 @@ step_of_parts w before client step of parts numbered reads kept =
           let m = packet_sent packet a in
           subst (PacketKept w after) m.2 (all.2 w m.0 m.1);
       lines = record {
-        history = along_lines IsNext (λ b n p. tt) before step.answer step.facts n sends (λ past a. along_of IsNext no_next client step.facts of past);
-        numbered = along_lines IsNumbered (λ b n p. tt) before step.answer step.facts n sends numbered;
-        origin = along_lines IsOfWrite (λ b n p. tt) before step.answer step.facts n sends (λ past a. along_of IsOfWrite no_origin client step.facts of past);
-        bases = along_lines HasBase (λ b n p. tt) before step.answer step.facts n sends (λ past a. along_of HasBase no_base client step.facts of past);
-        reads = along_lines IsRead (λ b n p. tt) before step.answer step.facts n sends reads;
-        kept = along_lines IsKept (λ b n p. tt) before step.answer step.facts n sends kept;
+        history = along_step IsNext (λ _ _ _ _ _. tt) before step.answer step.facts n sends (along_of IsNext no_next client step.facts of answered_);
+        numbered = along_step IsNumbered (λ _ _ _ _ _. tt) before step.answer step.facts n sends (numbered answered_ (adds before step.answer [] n []));
+        origin = along_step IsOfWrite (λ _ _ _ _ _. tt) before step.answer step.facts n sends (along_of IsOfWrite no_origin client step.facts of answered_);
+        bases = along_step HasBase (λ _ _ _ _ _. tt) before step.answer step.facts n sends (along_of HasBase no_base client step.facts of answered_);
+        reads = along_step IsRead (λ _ _ _ _ _. tt) before step.answer step.facts n sends (reads answered_ (adds before step.answer [] n []));
+        kept = along_step IsKept (λ _ _ _ _ _. tt) before step.answer step.facts n sends (kept answered_ (adds before step.answer [] n []));
       };
     }
   where
     packet_sent : (packet : Packet) → Among (sends_of client step) packet
         → (message : Message) × Among step.messages message × (packet_from client message ≡ packet)
-    packet_sent packet a = among_map (packet_from client) step.messages packet a
+    packet_sent packet a = among_mapped (packet_from client) step.messages packet a
 
 -- where all that is sent are requests
 requests_kept : (after : List TextLine) (client : ℕ) (sends : List Message)
@@ -230,7 +231,7 @@ module _ (w : World) (before : List TextLine) (node : Client)
             first_client w.packets before after node table opened a k is (stored table) (stores table) x (first_is opened.rows x e) more asks,
             writes_stay before after [] a refl (λ c n e. absurd cc) writes,
             requests_kept after node.number all
-                (λ message b. elim (among_cases again (request_for node.number table x.0 x.1 ∷ []) message b) [
+                (λ message b. elim (among_either again (request_for node.number table x.0 x.1 ∷ []) message b) [
                   | inl d ↦ resent_only node.number table opened.rows message d
                   | inr d ↦ (_, sym (among_one (request_for node.number table x.0 x.1) message d))
                 ])

@@ -1,5 +1,5 @@
 -- A row that a client takes: Out's write was accepted and is dropped, or the row is read and Out waits on.
-use Rattle.std.proofs.Common.{◌≡◌, ◌≢◌, ◌⊎◌, ℕ, ◌+◌, ◌<◌, ◌≤◌, Bool, true, false, ◌||◌, List, [], ◌∷◌, ◌++◌, length, Option, Some, None, refl, ap, sym, ◌∙◌, subst, arith, inl, inr, append-nil}
+use Rattle.std.proofs.Common.{◌≡◌, ◌≢◌, ℕ, ◌<◌, ◌≤◌, Bool, true, false, ◌||◌, List, [], ◌++◌, length, Option, Some, None, refl, ap, sym, ◌∙◌, subst, arith, inl, inr, append-nil}
 use Rattle.std.proofs.lemmas.Bool.Decides.{nat_tests}
 use Rattle.std.specs.Prelude.{option_map, ◌==◌, if◌then◌else◌}
 use Rattle.row_value.specs.declared.content.Content.{Content}
@@ -18,13 +18,13 @@ use Rattle.step_tables.specs.Client.{Client, ClientTable, slots_at, with_slots, 
 use Rattle.run_laws.specs.World.{Packet, told}
 use Rattle.run_laws.specs.Lines.{read_of, open_write, if_open, position_of, content_at, is_acked}
 use Rattle.run_laws.specs.Sound.{Among, HasEntry}
-use Rattle.run_laws.proofs.Kept.{WritesKept, Wrote, Requested, OutKept, SlotsKept, OpenedKept, ClientKept, main_of}
+use Rattle.run_laws.proofs.Kept.{WritesKept, Wrote, Requested, SlotsKept, OpenedKept, ClientKept, main_of}
 use Rattle.run_laws.proofs.Tests.{is_on-is}
-use Rattle.run_laws.proofs.ClientNeeds.{last_where_some, slots-put}
-use Rattle.run_laws.proofs.ClientLines.{Adds, AreOf, apart}
-use Rattle.run_laws.proofs.ClientRows.{LinesSame, RowSame, TableSame, lines_same, entry_stays, wrote_stays, open_same, opened_put, client_put}
+use Rattle.run_laws.proofs.ClientTables.{slots-put}
+use Rattle.run_laws.proofs.ClientLines.{AddsFacts, AreOf, apart}
+use Rattle.run_laws.proofs.ClientRows.{LinesSame, RowSame, lines_same, entry_stays, wrote_stays, open_same, opened_put, client_put}
 use Rattle.run_laws.proofs.ClientCalls.{same_writes_of}
-use Rattle.run_laws.proofs.ClientSends.{open_is_last}
+use Rattle.run_laws.proofs.Lists.{among_last}
 
 -- facts of one client that tell of one row of one table alone, and of no write
 pub record TellOf (client table : ℕ) (row : List ℕ) (some : List Fact) : Type 0 where
@@ -38,7 +38,7 @@ pub other_number : (before : List TextLine) (client table number : ℕ) (row : L
     → Wrote before client number table row content → (t : ℕ) (q : List ℕ) → (t ≡ table → q ≡ row → ⊥)
     → (write : Write) → last_write client t q before ≡ Some write → write.number ≢ number
 other_number before client table number row content writes w t q apart_ write is same =
-    let a = last_where_some (is_on client t q) (all_writes before) write is in
+    let a = among_last (is_on client t q) (all_writes before) write is in
     let on = is_on-is client t q write a.1 in
     let one : write ≡ w.0 = writes.once write w.0 a.0 w.1 (on.0 ∙ sym w.2) (same ∙ sym w.3) in
     apart_ (sym on.1 ∙ ap (λ (x : Write). x.table) one ∙ w.4) (sym on.2 ∙ ap (λ (x : Write). x.row) one ∙ w.5)
@@ -78,7 +78,7 @@ main_without before after client table number row main m same acks is some_ =
     go (Some write) l e = open_now write (is_acked write.client write.number before) refl (acks write l) e
 
 module _ (packets more : List Packet) (before after : List TextLine) (node : Client) (table : ℕ) (opened : ClientTable) (row : List ℕ)
-    (some : List Fact) (adds : Adds before after some) (tell : TellOf node.number table row some)
+    (some : List Fact) (adds : AddsFacts before after some) (tell : TellOf node.number table row some)
     (quiet : (t : ℕ) (q : List ℕ) → (t ≡ table → q ≡ row → ⊥) → (write : Write) → last_write node.number t q before ≡ Some write
     → is_acked write.client write.number (told some) ≡ false)
     (old : (t : ℕ) (q : List ℕ) (number : ℕ) → Requested more node.number t q number → Requested packets node.number t q number)
@@ -166,7 +166,7 @@ module _ (packets more : List Packet) (before after : List TextLine) (node : Cli
           main = main_without before after node.number table out.number row slots.main x.main.0
               (ap (λ l. last_where (is_on node.number table row) l) (adds.writes ∙ ap (λ l. all_writes before ++ l) tell.none ∙ append-nil (all_writes before)))
               (λ write e.
-              let by = (is_on-is node.number table row write (last_where_some (is_on node.number table row) (all_writes before) write e).1).0 in
+              let by = (is_on-is node.number table row write (among_last (is_on node.number table row) (all_writes before) write e).1).0 in
               adds.acked write.client write.number ∙ ap (λ b. is_acked write.client write.number before || b) (ap (λ c. is_acked c write.number (told some)) by ∙ acks write.number))
               s.main x.main.1;
           read = read_now;

@@ -1,28 +1,26 @@
 -- A client's write: its number is above all, and the row's Main is its last write, which is open.
-use Rattle.std.proofs.Common.{◌≡◌, ◌≢◌, ◌⊎◌, ℕ, ◌+◌, ◌<◌, ◌≤◌, Bool, true, false, ◌||◌, ◌&&◌, List, [], ◌∷◌, ◌++◌, length, length-append, Option, Some, None, refl, ap, sym, ◌∙◌, subst, arith, inl, inr}
+use Rattle.std.proofs.Common.{◌≡◌, ◌≢◌, ◌⊎◌, ℕ, ◌+◌, ◌<◌, ◌≤◌, Bool, true, false, ◌||◌, List, [], ◌∷◌, ◌++◌, length, length-append, Option, Some, None, refl, ap, sym, ◌∙◌, subst, arith, inl, inr}
 use Rattle.std.proofs.lemmas.Bool.Decides.{nat_tests}
 use Rattle.std.proofs.lemmas.List.Elements.{filter-append}
 use Rattle.std.specs.Prelude.{option_map, filter, if◌then◌else◌}
 use Rattle.row_value.specs.declared.content.Content.{Content}
-use Rattle.table_model.specs.declared.line.Fact.{Fact}
 use Rattle.table_model.specs.declared.line.Fact.TheVariants as facts
 use Rattle.table_model.specs.declared.line.TextLine.{TextLine}
 use Rattle.table_model.specs.declared.line.Write.{Write}
 use Rattle.table_model.specs.Last.{last_where}
-use Rattle.table_model.specs.History.{history_of, current, same_row}
 use Rattle.table_model.specs.Writes.{all_writes, writes_of, last_write, is_on, is_by}
 use Rattle.step_tables.specs.declared.slots.Main.{Main}
 use Rattle.step_tables.specs.declared.slots.Slots.{Slots}
 use Rattle.step_tables.specs.Client.{Client, ClientTable, slots_at, with_slots, table_at, with_table, version_in, main_for}
-use Rattle.run_laws.specs.World.{Packet, told}
-use Rattle.run_laws.specs.Lines.{read_of, open_write, if_open, is_acked, position_of}
-use Rattle.run_laws.specs.Sound.{Among, Along, OfFact, IsNumbered, IsRead}
-use Rattle.run_laws.proofs.Kept.{WritesKept, Requested, SlotsKept, OpenedKept, ClientKept, main_of}
-use Rattle.run_laws.proofs.ClientNeeds.{among_cases, among_one, last_where-push, same_row_tells, slots-put}
-use Rattle.run_laws.proofs.Lists.{same_row-refl}
+use Rattle.run_laws.specs.World.{Packet}
+use Rattle.run_laws.specs.Lines.{open_write, if_open, is_acked}
+use Rattle.run_laws.specs.Sound.{Among}
+use Rattle.run_laws.proofs.Kept.{WritesKept, SlotsKept, ClientKept, main_of}
+use Rattle.run_laws.proofs.ClientTables.{among_one, slots-put}
+use Rattle.run_laws.proofs.Lists.{same_row-refl, among_either, last_where-push, same_row_tells}
 use Rattle.run_laws.proofs.Tests.{is_on-is, is_on-own}
-use Rattle.run_laws.proofs.ClientLines.{Adds, AreApart, apart}
-use Rattle.run_laws.proofs.ClientRows.{LinesSame, RowSame, TableSame, lines_same, entry_stays, wrote_stays, opened_put, client_put}
+use Rattle.run_laws.proofs.ClientLines.{AddsFacts, apart}
+use Rattle.run_laws.proofs.ClientRows.{LinesSame, RowSame, lines_same, entry_stays, wrote_stays, opened_put, client_put}
 use Rattle.run_laws.proofs.ClientCalls.{AreOfWrites}
 
 -- the write that a client begins
@@ -40,7 +38,7 @@ abbrev pub slots_for : Client → ClientTable → List ℕ → Content → Slots
 slots_for node opened row content = record (slots_at opened row) { main = Some (main_for (node.last + 1) (slots_at opened row) content) }
 
 module _ (packets : List Packet) (before after : List TextLine) (node : Client) (table : ℕ) (opened : ClientTable) (row : List ℕ) (content : Content)
-    (adds : Adds before after (facts.Wrote (write_for node table opened row content) ∷ []))
+    (adds : AddsFacts before after (facts.Wrote (write_for node table opened row content) ∷ []))
     (writes : WritesKept before) (sent : AreOfWrites packets before node.number)
     (k : ClientKept packets before node.number node) (is : table_at node table ≡ Some opened) where
   abbrev write : Write
@@ -160,7 +158,7 @@ module _ (packets : List Packet) (before after : List TextLine) (node : Client) 
       ]
 
   among_after : (w : Write) → Among (all_writes after) w → Among (all_writes before) w ⊎ (write ≡ w)
-  among_after w a = elim (among_cases (all_writes before) (write ∷ []) w (subst (λ l. Among l w) adds.writes a)) [
+  among_after w a = elim (among_either (all_writes before) (write ∷ []) w (subst (λ l. Among l w) adds.writes a)) [
     | inl old ↦ inl old
     | inr new ↦ inr (among_one write w new)
   ]

@@ -33,11 +33,11 @@ shown_sound w before row (Some stored) k = at (current_of stored row)
 
 -- ---- the lines of a history
 
-entries_writes : (table : ℕ) (history : List Entry) → all_writes (entry_lines table history) ≡ []
+pub entries_writes : (table : ℕ) (history : List Entry) → all_writes (entry_lines table history) ≡ []
 entries_writes table [] = refl
 entries_writes table (entry ∷ history) = entries_writes table history
 
-entries_history : (t table : ℕ) (history : List Entry) → history_of t (entry_lines table history) ≡ []
+pub entries_history : (t table : ℕ) (history : List Entry) → history_of t (entry_lines table history) ≡ []
 entries_history t table [] = refl
 entries_history t table (entry ∷ history) = entries_history t table history
 

@@ -30,7 +30,8 @@ use Rattle.run_laws.proofs.ClientTables.{among_one}
 use Rattle.run_laws.proofs.ClientLines.{AddsFacts, IsOf, AreOf, adds, apart}
 use Rattle.run_laws.proofs.ClientCalls.{Asks, AreOfWrites, requested_cases, none_asked, quiet_client, writes_stay, same_writes_of}
 use Rattle.run_laws.proofs.ClientWrites.{written_kept, writes_kept}
-use Rattle.run_laws.proofs.ClientSends.{resent_is, again_kept, again_client, first_is, first_client, first_kept}
+use Rattle.run_laws.proofs.ClientRequests.{resent_is, first_is}
+use Rattle.run_laws.proofs.ClientSends.{again_kept, again_client, first_client, first_kept}
 
 -- ---- the parts of a step
 

@@ -17,7 +17,7 @@ use Rattle.run_laws.specs.Lines.{read_of, content_at, is_acked}
 use Rattle.run_laws.specs.Sound.{Among, HasEntry, HasEntryOf, IsRead, IsKept}
 use Rattle.run_laws.proofs.Kept.{WritesKept, TableKept, OutKept, OpenedKept, ClientKept}
 use Rattle.run_laws.proofs.Versions.{stored_entry}
-use Rattle.run_laws.proofs.ClientHistory.{current_is}
+use Rattle.run_laws.proofs.LastEntries.{current_is}
 use Rattle.run_laws.proofs.ClientLines.{AddsFacts, apart}
 use Rattle.run_laws.proofs.ClientRows.{lines_same, entry_stays, entry_of_stays}
 use Rattle.run_laws.proofs.ClientCalls.{writes_stay}

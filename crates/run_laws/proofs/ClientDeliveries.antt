@@ -26,7 +26,7 @@ use Rattle.run_laws.specs.Sound.{Among, HasEntryOf}
 use Rattle.run_laws.proofs.Kept.{WritesKept, Requested, OutcomeKept, AnswerKept, MessageKept, TableKept, ClientKept, stored_in}
 use Rattle.run_laws.proofs.ClientStep.{ClientStepKept}
 use Rattle.run_laws.proofs.ClientTables.{among_one}
-use Rattle.run_laws.proofs.ClientHistory.{IsNextChange, next_is, counts_take}
+use Rattle.run_laws.proofs.LastEntries.{IsNextChange, next_is, counts_take}
 use Rattle.run_laws.proofs.ClientCalls.{none_asked, writes_stay}
 use Rattle.run_laws.proofs.ClientAnswers.{answered_client, answered_writes, answer_is_read, answer_is_kept}
 use Rattle.run_laws.proofs.ClientPulls.{next_later}

@@ -16,7 +16,7 @@ use Rattle.run_laws.specs.World.{Packet, told}
 use Rattle.run_laws.specs.Lines.{position_of, is_acked}
 use Rattle.run_laws.specs.Sound.{Among, HasEntryOf, IsRead, IsKept}
 use Rattle.run_laws.proofs.Kept.{WritesKept, Requested, TableKept, OutKept, OpenedKept, ClientKept}
-use Rattle.run_laws.proofs.ClientHistory.{IsNextChange}
+use Rattle.run_laws.proofs.LastEntries.{IsNextChange}
 use Rattle.run_laws.proofs.ClientLines.{AddsFacts, adds_push, apart}
 use Rattle.run_laws.proofs.ClientRows.{lines_same, entry_stays, entry_of_stays, slots_stay, open_same}
 use Rattle.run_laws.proofs.ClientCalls.{writes_stay}

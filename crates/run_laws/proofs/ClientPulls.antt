@@ -16,7 +16,7 @@ use Rattle.run_laws.proofs.Kept.{WritesKept, Counts, TableKept, OutKept, OpenedK
 use Rattle.run_laws.proofs.Tests.{is_of_client-is, is_of_client-own}
 use Rattle.run_laws.proofs.Versions.{stored_entry, entry_stored, length_stored, Counts-within, Counts-once}
 use Rattle.run_laws.proofs.ClientTables.{among_take}
-use Rattle.run_laws.proofs.ClientHistory.{CurrentIs, current_is, IsNextChange, LastIs, last_is, counts_take, counts_front}
+use Rattle.run_laws.proofs.LastEntries.{CurrentIs, current_is, IsNextChange, LastIs, last_is, counts_take, counts_front}
 
 at_most_or_above : (a b : ℕ) → (a ≤ b) ⊎ (b < a)
 at_most_or_above a b = grind arith

@@ -24,7 +24,8 @@ use Rattle.run_laws.proofs.Grows.{HasBase-more}
 use Rattle.run_laws.proofs.Stays.{adds_nothing}
 use Rattle.run_laws.proofs.Holds.{LinesHold, StepSound, quiet_holds}
 use Rattle.run_laws.proofs.StoreAnswers.{dropped_kept, pulled_kept, again_kept, late_kept}
-use Rattle.run_laws.proofs.StoreAccepts.{IsTaken, HasOrigin-more, taken_origin, taken_next, accepted_kept}
+use Rattle.run_laws.proofs.StoreOrigins.{IsTaken, HasOrigin-more, taken_origin, taken_next}
+use Rattle.run_laws.proofs.StoreAccepts.{accepted_kept}
 
 pub accepted_holds : (w : World) (before : List TextLine) (request : SyncRequest) (from : Node) (stored : List Stored) → WorldKept w before → IsTaken w before request from stored
     → LinesHold before (after_store w request.table from (accept request.table stored request)).lines

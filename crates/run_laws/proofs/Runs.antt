@@ -1,13 +1,13 @@
 -- Every run is sound, and a transcript goes on by the lines of one more event.
-use Rattle.std.proofs.Common.{◌≡◌, ℕ, List, [], ◌∷◌, ◌++◌, refl, sym, ap, ◌∙◌, subst, append-nil, append_assoc}
+use Rattle.std.proofs.Common.{◌≡◌, List, [], ◌∷◌, ◌++◌, refl, sym, ap, ◌∙◌, subst, append-nil, append_assoc}
 use Rattle.table_model.specs.declared.event.Event.{Event}
 use Rattle.table_model.specs.declared.event.Event.TheVariants as events
 use Rattle.table_model.specs.declared.line.TextLine.{TextLine}
 use Rattle.run_laws.specs.World.{World, start, step}
-use Rattle.run_laws.specs.Turns.{Turn, lines_of, turns_from, world_from, turns, world_after, transcript}
+use Rattle.run_laws.specs.Turns.{lines_of, turns_from, world_from, turns, world_after, transcript}
 use Rattle.run_laws.specs.Sound.{AlongTurns, IsShown, IsCurrent, IsSound}
 use Rattle.run_laws.proofs.Kept.{WorldKept}
-use Rattle.run_laws.proofs.Holds.{LinesHold, LinesHold-nil, LinesHold-append, StepSound}
+use Rattle.run_laws.proofs.Holds.{LinesHold, LinesHold-nil, LinesHold-append}
 use Rattle.run_laws.proofs.Shapes.{all_shaped}
 use Rattle.run_laws.proofs.Showings.{show_shown, store_current, histories_current}
 use Rattle.run_laws.proofs.Sights.{in_sight}

@@ -1,37 +1,22 @@
 -- The entry that a new write gets at the Store has its origin.
-use Rattle.std.proofs.Common.{◌≡◌, ◌≢◌, ◌⊎◌, ℕ, ◌+◌, ◌<◌, ◌≤◌, Bool, true, false, cond, List, [], ◌∷◌, ◌++◌, length, Option, Some, None, refl, sym, ap, ◌∙◌, subst, arith, append-nil, inl, inr, true≢false}
-use Rattle.std.specs.Prelude.{◌==◌}
-use Rattle.std.proofs.lemmas.Bool.{eqb-true, cases_lt}
-use Rattle.std.proofs.lemmas.List.{map-append}
+use Rattle.std.proofs.Common.{◌≡◌, ◌≢◌, ◌⊎◌, ℕ, ◌+◌, ◌<◌, ◌≤◌, true, List, [], ◌++◌, length, Option, Some, None, sym, ap, ◌∙◌, subst, arith, inl, inr, true≢false}
+use Rattle.std.proofs.lemmas.Bool.{cases_lt}
 use Rattle.table_model.specs.declared.entry.Entry.{Entry}
-use Rattle.table_model.specs.declared.line.Answer.TheVariants.{Done}
-use Rattle.table_model.specs.declared.line.Fact.TheVariants as facts
 use Rattle.table_model.specs.declared.line.TextLine.{TextLine}
-use Rattle.table_model.specs.declared.line.TextLine.TheVariants as text
 use Rattle.table_model.specs.declared.line.Write.{Write}
 use Rattle.table_model.specs.declared.node.Node.{Node}
 use Rattle.table_model.specs.declared.node.Node.TheVariants as nodes
 use Rattle.table_model.specs.History.{history_of}
-use Rattle.table_model.specs.Writes.{all_writes}
 use Rattle.table_model.specs.Last.{last_where}
-use Rattle.sync_msgs.specs.declared.message.Message.{Message}
-use Rattle.sync_msgs.specs.declared.message.Message.TheVariants as messages
-use Rattle.sync_msgs.specs.declared.message.Outcome.TheVariants as outcomes
 use Rattle.sync_msgs.specs.declared.message.SyncRequest.{SyncRequest}
-use Rattle.step_tables.specs.Store.{Stored, accept, entry_for, entries_of, respond, yours_of, yours_in, is_of_client}
-use Rattle.run_laws.specs.World.{World, Packet, stored_at, the_store, packets_of, after_store, answer_lines, told, sent_from}
-use Rattle.run_laws.specs.Lines.{content_at}
-use Rattle.run_laws.specs.Sound.{Among, HasWrite, HasEntryOf, HasOrigin}
-use Rattle.run_laws.proofs.Lists.{among_push, among_right, among_here, among_cases, among_either, among_mapped, among_cons, among_none}
-use Rattle.run_laws.proofs.Tests.{is_of_client-is, is_of_client-own, eqb-refl, eqb-apart}
-use Rattle.run_laws.proofs.Appends.{step_history, sent_writes}
-use Rattle.run_laws.proofs.Silence.{Silent, silent_step}
-use Rattle.run_laws.proofs.Kept.{Counts, Wrote, Requested, RequestKept, MessageKept, PacketKept, TableKept, WritesKept, WorldKept, stored_in, stored_or_none}
-use Rattle.run_laws.proofs.Grows.{Extends, extends_same, requested_more, requested_before, Wrote-more, content_at-more, write_stays, HasWrite-more, PacketKept-more}
-use Rattle.run_laws.proofs.Versions.{Counts-push, Counts-once, Counts-within, stored_entry, entry_stored, length_stored, content_at-write}
-use Rattle.run_laws.proofs.Stays.{Adds, adds_nothing, WritesKept-stays, TableKept-stays, ClientKept-stays, AbsentKept-stays}
-use Rattle.run_laws.proofs.Quiet.{stored-put, versions_within}
-use Rattle.run_laws.proofs.StoreAnswers.{StepKept}
+use Rattle.step_tables.specs.Store.{Stored, entry_for, yours_of, yours_in, is_of_client}
+use Rattle.run_laws.specs.World.{World, stored_at}
+use Rattle.run_laws.specs.Sound.{Among, HasOrigin}
+use Rattle.run_laws.proofs.Tests.{is_of_client-is, is_of_client-own}
+use Rattle.run_laws.proofs.Kept.{Requested, RequestKept, TableKept, WorldKept, stored_in, stored_or_none}
+use Rattle.run_laws.proofs.Grows.{HasWrite-more}
+use Rattle.run_laws.proofs.Versions.{Counts-once, stored_entry, length_stored}
+use Rattle.run_laws.proofs.Stays.{adds_nothing}
 use Rattle.run_laws.proofs.LastEntries.{LastIs, last_is}
 
 -- an origin stays behind lines that add to no history

@@ -38,7 +38,7 @@ module _ (w : World) (before : List TextLine) (client : ℕ) (node : Client) (k 
   pub deliver_kept : (packet : Packet) → Among w.packets packet → packet.to ≡ nodes.Client client → ClientStepKept w before client (deliver_step node packet.message)
   deliver_kept packet a to = under (deliver_step node packet.message)
       (delivered_kept w before node own k.writes k.tables packet.from packet.message
-        (subst (λ n. MessageKept w before packet.from n packet.message) to_node (k.packets packet a)))
+      (subst (λ n. MessageKept w before packet.from n packet.message) to_node (k.packets packet a)))
     where
       to_node : packet.to ≡ nodes.Client node.number
       to_node = to ∙ sym (ap nodes.Client numbered)

@@ -1,28 +1,22 @@
 -- What the facts of a pulled row tell, and that the client keeps its rows behind them.
-use Rattle.std.proofs.Common.{◌≡◌, ◌≢◌, ◌⊎◌, ℕ, ◌+◌, ◌<◌, ◌≤◌, max, Bool, true, false, ◌||◌, List, [], ◌∷◌, ◌++◌, length, take, Option, Some, None, refl, ap, sym, ◌∙◌, subst, arith, inl, inr, append-nil}
+use Rattle.std.proofs.Common.{◌≡◌, ◌≢◌, ◌⊎◌, ℕ, ◌≤◌, true, false, List, [], ◌∷◌, ◌++◌, Some, refl, ap, sym, ◌∙◌, subst, arith, inl, inr, append-nil}
 use Rattle.std.proofs.lemmas.Bool.Decides.{nat_tests}
 use Rattle.std.specs.Prelude.{◌==◌}
-use Rattle.table_model.specs.declared.entry.Entry.{Entry}
 use Rattle.table_model.specs.declared.line.Fact.{Fact}
 use Rattle.table_model.specs.declared.line.Fact.TheVariants as facts
 use Rattle.table_model.specs.declared.line.TextLine.{TextLine}
 use Rattle.table_model.specs.declared.line.TextLine.TheVariants as text
 use Rattle.table_model.specs.declared.line.Write.{Write}
 use Rattle.table_model.specs.History.{history_of, current, same_row}
-use Rattle.table_model.specs.Writes.{all_writes, writes_of, last_write}
-use Rattle.step_tables.specs.declared.slots.Out.{Out}
-use Rattle.step_tables.specs.declared.slots.Shadow.{Shadow}
-use Rattle.step_tables.specs.declared.slots.Slots.{Slots}
-use Rattle.step_tables.specs.Client.{Client, ClientTable, slots_at, with_slots, table_at, with_table, version_in, without, acked}
+use Rattle.step_tables.specs.Client.{Client, ClientTable, table_at, with_table, acked}
 use Rattle.run_laws.specs.World.{Packet, told}
 use Rattle.run_laws.specs.Lines.{read_of, position_of, is_acked}
-use Rattle.run_laws.specs.Sound.{HasEntry, HasEntryOf, Along, OfFact, IsRead, IsKept}
-use Rattle.run_laws.proofs.Kept.{WritesKept, Requested, SlotsKept, OpenedKept, ClientKept}
-use Rattle.run_laws.proofs.Lists.{same_row-refl}
-use Rattle.run_laws.proofs.ClientNeeds.{same_row_tells, table-put}
-use Rattle.run_laws.proofs.ClientLines.{Adds, adds_told, adds_push, apart}
-use Rattle.run_laws.proofs.ClientRows.{lines_same, entry_stays, entry_of_stays}
-use Rattle.run_laws.proofs.ClientTakes.{TellOf, other_number}
+use Rattle.run_laws.specs.Sound.{IsRead}
+use Rattle.run_laws.proofs.Kept.{ClientKept}
+use Rattle.run_laws.proofs.Lists.{same_row-refl, same_row_tells}
+use Rattle.run_laws.proofs.ClientTables.{table-put}
+use Rattle.run_laws.proofs.ClientLines.{AddsFacts, adds_told, adds_push}
+use Rattle.run_laws.proofs.ClientTakes.{TellOf}
 
 -- ---- what the facts tell
 
@@ -92,7 +86,7 @@ pub covered_read : (packets : List Packet) (after : List TextLine) (client table
     → ClientKept packets after client node → table_at node table ≡ Some opened
     → (q : List ℕ) → current (history_of table after) q ≤ opened.position → read_of client table q after ≡ current (history_of table after) q
 covered_read packets after client table node opened k is q le =
-  let o = k.tables table opened is in sym (o.slots q).read ∙ o.covered q le
+    let o = k.tables table opened is in sym (o.slots q).read ∙ o.covered q le
 
 -- a table of a client behind a change of it
 pub table_there : (node : Client) (table : ℕ) (opened : ClientTable) → table_at (with_table node table opened) table ≡ Some opened
@@ -100,22 +94,21 @@ table_there node table opened = elim (table-put node table opened table) [ inl p
 
 -- the line of a position, where the client behind it is kept
 pub position_is_read : (packets : List Packet) (before after : List TextLine) (some : List Fact) (node : Client) (table version : ℕ) (opened : ClientTable) (made : ClientTable)
-    → Adds before after some → position_of node.number table (told some) ≡ 0
+    → AddsFacts before after some → position_of node.number table (told some) ≡ 0
     → position_of node.number table before ≤ version
-    → (((after' : List TextLine) → Adds before after' (some ++ facts.Position node.number table version ∷ [])
+    → (((after' : List TextLine) → AddsFacts before after' (some ++ facts.Position node.number table version ∷ [])
     → ClientKept packets after' node.number (with_table node table made)))
     → made.position ≡ version
     → IsRead after (facts.Position node.number table version)
 position_is_read packets before after some node table version opened made adds still low kept is =
-  let after' : List TextLine = after ++ text.Fact (facts.Position node.number table version) ∷ [] in
-  let more : Adds before after' (some ++ facts.Position node.number table version ∷ []) = adds_push before after some (facts.Position node.number table version) adds in
-  let same : Adds after after' (facts.Position node.number table version ∷ []) = adds_told after (facts.Position node.number table version ∷ []) in
-  (
-    (let h = adds.positions node.number table in omega arith),
-    λ row le.
-      let history : history_of table after' ≡ history_of table after = same.history table ∙ append-nil (history_of table after) in
-      let c = covered_read packets after' node.number table (with_table node table made) made (kept after' more) (table_there node table made) row
-        (subst (λ v. current (history_of table after') row ≤ v) (sym is) (subst (λ l. current l row ≤ version) (sym history) le)) in
-      let r = same.reads node.number table row in
-      let e = ap (λ l. current l row) history in omega arith
-  )
+    let after' : List TextLine = after ++ text.Fact (facts.Position node.number table version) ∷ [] in
+    let more : AddsFacts before after' (some ++ facts.Position node.number table version ∷ []) = adds_push before after some (facts.Position node.number table version) adds in
+    let same : AddsFacts after after' (facts.Position node.number table version ∷ []) = adds_told after (facts.Position node.number table version ∷ []) in (
+      (let h = adds.positions node.number table in omega arith),
+      λ row le.
+          let history : history_of table after' ≡ history_of table after = same.history table ∙ append-nil (history_of table after) in
+          let c = covered_read packets after' node.number table (with_table node table made) made (kept after' more) (table_there node table made) row
+          (subst (λ v. current (history_of table after') row ≤ v) (sym is) (subst (λ l. current l row ≤ version) (sym history) le)) in
+          let r = same.reads node.number table row in
+          let e = ap (λ l. current l row) history in omega arith,
+    )

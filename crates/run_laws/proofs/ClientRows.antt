@@ -1,5 +1,5 @@
 -- What stays true of a client's rows, tables and calls where the lines and packets that come say nothing of them.
-use Rattle.std.proofs.Common.{◌≡◌, ◌≢◌, ◌⊎◌, ℕ, ◌+◌, ◌<◌, ◌≤◌, Bool, true, false, ◌||◌, List, [], ◌∷◌, ◌++◌, length, Option, Some, None, refl, ap, sym, ◌∙◌, subst, arith, inl, inr, append-nil}
+use Rattle.std.proofs.Common.{◌≡◌, ◌≢◌, ◌⊎◌, ℕ, ◌≤◌, Bool, true, false, ◌||◌, List, [], ◌++◌, length, Option, Some, None, refl, ap, sym, ◌∙◌, subst, arith, inl, inr, append-nil}
 use Rattle.std.proofs.lemmas.List.Folds.{find-append}
 use Rattle.std.specs.Prelude.{option_map, if◌then◌else◌}
 use Rattle.std.specs.Option.{option_or}
@@ -14,13 +14,14 @@ use Rattle.table_model.specs.History.{history_of, current}
 use Rattle.table_model.specs.Writes.{all_writes, writes_of, last_write, is_on}
 use Rattle.step_tables.specs.declared.slots.Out.{Out}
 use Rattle.step_tables.specs.declared.slots.Slots.{Slots}
-use Rattle.step_tables.specs.Client.{Client, ClientTable, slots_at, with_slots, table_at, with_table, version_in}
+use Rattle.step_tables.specs.Client.{Client, ClientTable, slots_at, with_slots, with_table, version_in}
 use Rattle.run_laws.specs.World.{Packet, told}
 use Rattle.run_laws.specs.Lines.{read_of, open_write, if_open, position_of, content_at, content_of, write_of, is_write, entry_at, is_acked}
 use Rattle.run_laws.specs.Sound.{Among, HasEntry, HasEntryOf}
+use Rattle.run_laws.proofs.Lists.{among_left}
 use Rattle.run_laws.proofs.Kept.{Wrote, Requested, OutKept, SlotsKept, OpenedKept, ClientKept, main_of}
-use Rattle.run_laws.proofs.ClientNeeds.{among_left, slots-put, table-put, rising-insert}
-use Rattle.run_laws.proofs.ClientLines.{Adds, AreApart}
+use Rattle.run_laws.proofs.ClientTables.{slots-put, table-put, rising-insert}
+use Rattle.run_laws.proofs.ClientLines.{AddsFacts, AreApart}
 
 -- ---- lines that add to no history
 
@@ -36,19 +37,20 @@ content_found before after more content is (Some entry) e = go (write_of entry.c
   where
     found : write_of entry.client entry.number after ≡ option_or (write_of entry.client entry.number before) (find (is_write entry.client entry.number) more)
     found = ap (find (is_write entry.client entry.number)) is ∙ find-append (is_write entry.client entry.number) (all_writes before) more
+
     go : (o : Option Write) → option_map (λ (write : Write). write.content) o ≡ Some content
         → write_of entry.client entry.number after ≡ option_or o (find (is_write entry.client entry.number) more)
         → content_of after (Some entry) ≡ Some content
     go None f w = absurd cc
     go (Some write) f w = ap (option_map (λ (write : Write). write.content)) w ∙ f
 
-pub lines_same : (before after : List TextLine) (some : List Fact) (client : ℕ) → Adds before after some → AreApart client some → LinesSame before after
+pub lines_same : (before after : List TextLine) (some : List Fact) (client : ℕ) → AddsFacts before after some → AreApart client some → LinesSame before after
 lines_same before after some client adds apart = record {
   history = λ table. adds.history table ∙ ap (λ l. history_of table before ++ l) (apart.history table) ∙ append-nil _;
   grows = λ write a. subst (λ l. Among l write) (sym adds.writes) (among_left (all_writes before) (all_writes (told some)) write a);
   contents = λ table version content e.
-    ap (λ l. content_of after (entry_at version l)) (adds.history table ∙ ap (λ l. history_of table before ++ l) (apart.history table) ∙ append-nil _)
-    ∙ content_found before after (all_writes (told some)) content adds.writes (entry_at version (history_of table before)) e;
+      ap (λ l. content_of after (entry_at version l)) (adds.history table ∙ ap (λ l. history_of table before ++ l) (apart.history table) ∙ append-nil _)
+      ∙ content_found before after (all_writes (told some)) content adds.writes (entry_at version (history_of table before)) e;
 }
 
 module _ (before after : List TextLine) (same : LinesSame before after) where
@@ -69,21 +71,21 @@ pub record RowSame (packets more : List Packet) (before after : List TextLine) (
   pub open_ : open_write client table row after ≡ open_write client table row before
   pub read : read_of client table row after ≡ read_of client table row before
   pub requested : (number : ℕ) → Requested more client table row number
-    → Requested packets client table row number ⊎ ((out : Out) × (slots.out ≡ Some out) × (out.number ≡ number))
+      → Requested packets client table row number ⊎ ((out : Out) × (slots.out ≡ Some out) × (out.number ≡ number))
 
 -- a row's last write is open still, where the new facts don't tell of it
-pub open_same : (before after : List TextLine) (some : List Fact) (client table : ℕ) (row : List ℕ) → Adds before after some
+pub open_same : (before after : List TextLine) (some : List Fact) (client table : ℕ) (row : List ℕ) → AddsFacts before after some
     → all_writes (told some) ≡ []
     → ((write : Write) → last_write client table row before ≡ Some write → is_acked write.client write.number (told some) ≡ false)
     → open_write client table row after ≡ open_write client table row before
 open_same before after some client table row adds none quiet =
-  ap (λ l. if_open after (last_where (is_on client table row) l)) (adds.writes ∙ ap (λ l. all_writes before ++ l) none ∙ append-nil _)
-  ∙ go (last_write client table row before) quiet
+    ap (λ l. if_open after (last_where (is_on client table row) l)) (adds.writes ∙ ap (λ l. all_writes before ++ l) none ∙ append-nil _)
+    ∙ go (last_write client table row before) quiet
   where
     go : (o : Option Write) → ((write : Write) → o ≡ Some write → is_acked write.client write.number (told some) ≡ false) → if_open after o ≡ if_open before o
     go None f = refl
     go (Some write) f = ap (λ b. if b then None else Some write)
-      (adds.acked write.client write.number ∙ ap (λ b. is_acked write.client write.number before || b) (f write refl) ∙ or_false (is_acked write.client write.number before))
+        (adds.acked write.client write.number ∙ ap (λ b. is_acked write.client write.number before || b) (f write refl) ∙ or_false (is_acked write.client write.number before))
       where
         or_false : (a : Bool) → (a || false) ≡ a
         or_false true = refl
@@ -109,7 +111,7 @@ module _ (packets more : List Packet) (before after : List TextLine) (client tab
     main = k.main ∙ ap (option_map main_of) (sym s.open_);
     read = k.read ∙ sym s.read;
     shadow = λ shadow is. let h = k.shadow shadow is in
-      (h.0, entry_stays before after same table row shadow.version h.1, same.contents table shadow.version shadow.content h.2);
+        (h.0, entry_stays before after same table row shadow.version h.1, same.contents table shadow.version shadow.content h.2);
     out = λ out is. out_stays row slots out is s (k.out out is);
     unsent = λ main is none number r. elim (s.requested number r) [
       | inl old ↦ k.unsent main is none number old

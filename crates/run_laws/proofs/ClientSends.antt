@@ -1,123 +1,33 @@
 -- A client's sync: what it sends again is kept already, and what it sends first no entry has.
-use Rattle.std.proofs.Common.{◌≡◌, ◌≢◌, ◌⊎◌, ℕ, ◌+◌, ◌<◌, ◌≤◌, Bool, true, false, List, [], ◌∷◌, ◌++◌, length, Option, Some, None, refl, ap, sym, ◌∙◌, subst, arith, inl, inr}
-use Rattle.std.specs.Prelude.{option_map, option_to_list, if◌then◌else◌}
-use Rattle.std.specs.Map.{lookup}
-use Rattle.std.specs.BTreeMap.{is_at}
+use Rattle.std.proofs.Common.{◌≡◌, ◌≢◌, ◌⊎◌, ℕ, List, [], ◌∷◌, ◌++◌, length, Option, Some, None, refl, ap, sym, ◌∙◌, subst, arith, inl, inr}
+use Rattle.std.specs.Prelude.{option_map}
 use Rattle.table_model.specs.declared.entry.Entry.{Entry}
 use Rattle.table_model.specs.declared.line.TextLine.{TextLine}
 use Rattle.table_model.specs.declared.line.Write.{Write}
-use Rattle.table_model.specs.declared.node.Node.{Node}
-use Rattle.table_model.specs.declared.node.Node.TheVariants as nodes
-use Rattle.table_model.specs.History.{history_of, current}
-use Rattle.table_model.specs.Writes.{all_writes, last_write, is_on}
+use Rattle.table_model.specs.History.{history_of}
 use Rattle.sync_msgs.specs.declared.message.Message.{Message}
 use Rattle.sync_msgs.specs.declared.message.Message.TheVariants as messages
 use Rattle.sync_msgs.specs.declared.message.SyncRequest.{SyncRequest}
-use Rattle.step_tables.specs.declared.slots.Main.{Main}
 use Rattle.step_tables.specs.declared.slots.Out.{Out}
 use Rattle.step_tables.specs.declared.slots.Shadow.{Shadow}
 use Rattle.step_tables.specs.declared.slots.Slots.{Slots}
 use Rattle.step_tables.specs.Store.{Stored}
-use Rattle.step_tables.specs.Client.{Client, ClientTable, row_cmp, or_none, slots_at, with_slots, table_at, with_table, version_in, request_for, resent, out_for, to_send, or_later, first_to_send}
-use Rattle.run_laws.specs.World.{Packet, the_store, packets_of}
-use Rattle.run_laws.specs.Lines.{open_write, if_open, is_acked}
+use Rattle.step_tables.specs.Client.{Client, ClientTable, slots_at, with_slots, table_at, with_table, version_in, request_for, resent, out_for}
+use Rattle.run_laws.specs.World.{Packet}
 use Rattle.run_laws.specs.Sound.{Among, HasEntry}
-use Rattle.run_laws.proofs.Kept.{Wrote, Requested, RequestKept, TableKept, OutKept, SlotsKept, OpenedKept, ClientKept, Rising, main_of}
-use Rattle.run_laws.proofs.Tests.{is_on-is}
+use Rattle.run_laws.proofs.Lists.{among_either}
+use Rattle.run_laws.proofs.Kept.{Wrote, Requested, RequestKept, TableKept, OutKept, SlotsKept, OpenedKept, ClientKept, main_of}
 use Rattle.run_laws.proofs.Versions.{stored_entry}
-use Rattle.run_laws.proofs.ClientNeeds.{among_cases, among_one, rising_found, last_where_some, slots-put}
-use Rattle.run_laws.proofs.ClientLines.{Adds, apart}
-use Rattle.run_laws.proofs.ClientRows.{LinesSame, RowSame, TableSame, lines_same, entry_stays, wrote_stays, slots_stay, open_same, opened_stays, opened_put, client_put}
-use Rattle.run_laws.proofs.ClientCalls.{Asks, requested_cases, same_writes_of, quiet_table}
-
--- ---- what is sent
-
--- a message that is sent again is Out's of a row
-pub record IsResent (client table : ℕ) (rows : List (List ℕ × Slots)) (message : Message) : Type 0 where
-  pub entry : List ℕ × Slots
-  pub out : Out
-  pub among : Among rows entry
-  pub waits : entry.1.out ≡ Some out
-  pub is : message ≡ request_for client table entry.0 out
-
-later_row : (client table : ℕ) (entry : List ℕ × Slots) (rows : List (List ℕ × Slots)) (message : Message)
-    → IsResent client table rows message → IsResent client table (entry ∷ rows) message
-unfolding Among
-later_row client table entry rows message r = record { entry = r.entry; out = r.out; among = inr r.among; waits = r.waits; is = r.is }
-
-pub resent_is : (client table : ℕ) (rows : List (List ℕ × Slots)) (message : Message)
-    → Among (resent client table rows) message → IsResent client table rows message
-unfolding Among
-resent_is client table [] message a = absurd a
-resent_is client table (entry ∷ rows) message a = go (resent_is client table rows message) entry.1.out refl a
-  where
-    go : (Among (resent client table rows) message → IsResent client table rows message) → (o : Option Out) → entry.1.out ≡ o
-        → Among (option_to_list (option_map (request_for client table entry.0) o) ++ resent client table rows) message
-        → IsResent client table (entry ∷ rows) message
-    go later None is b = later_row client table entry rows message (later b)
-    go later (Some out) is (inl e) = record { entry = entry; out = out; among = inl refl; waits = is; is = sym e }
-    go later (Some out) is (inr b) = later_row client table entry rows message (later b)
-
--- what is sent first is a row's Main, where no Out waits
-pub record IsFirst (rows : List (List ℕ × Slots)) (row : List ℕ) (out : Out) : Type 0 where
-  pub slots : Slots
-  pub main : Main
-  pub among : Among rows (row, slots)
-  pub empty : slots.out ≡ None
-  pub is_main : slots.main ≡ Some main
-  pub is : out_for slots.shadow main ≡ out
-
-pub first_is : (rows : List (List ℕ × Slots)) (first : List ℕ × Out) → first_to_send rows ≡ Some first → IsFirst rows first.0 first.1
-unfolding Among
-first_is [] first e = absurd cc
-first_is (entry ∷ rows) first e = go (first_is rows first) entry.1.out refl entry.1.main refl e
-  where
-    later : IsFirst rows first.0 first.1 → IsFirst (entry ∷ rows) first.0 first.1
-    later f = record { slots = f.slots; main = f.main; among = inr f.among; empty = f.empty; is_main = f.is_main; is = f.is }
-    go : (first_to_send rows ≡ Some first → IsFirst rows first.0 first.1)
-        → (o : Option Out) → entry.1.out ≡ o → (m : Option Main) → entry.1.main ≡ m
-        → or_later entry.0 (to_send o m entry.1.shadow) (first_to_send rows) ≡ Some first → IsFirst (entry ∷ rows) first.0 first.1
-    go f (Some out) is m n e = later (f e)
-    go f None is None n e = later (f e)
-    go f None is (Some main) n e =
-      let same : (entry.0, out_for entry.1.shadow main) ≡ first = cc in
-      subst (λ (x : List ℕ × Out). IsFirst (entry ∷ rows) x.0 x.1) same (record {
-        slots = entry.1; main = main; among = inl refl; empty = is; is_main = n; is = refl;
-      })
-
-pub slots_found : (opened : ClientTable) (row : List ℕ) (slots : Slots) → Rising opened.rows → Among opened.rows (row, slots) → slots_at opened row ≡ slots
-slots_found opened row slots r a = ap or_none (rising_found opened.rows (row, slots) r a)
-
--- ---- Main's write
-
-pub open_is_last : (before : List TextLine) (client table : ℕ) (row : List ℕ) (write : Write)
-    → open_write client table row before ≡ Some write → last_write client table row before ≡ Some write
-open_is_last before client table row write e = go (last_write client table row before) e
-  where
-    go : (o : Option Write) → if_open before o ≡ Some write → o ≡ Some write
-    go None f = absurd cc
-    go (Some w) f = at (is_acked w.client w.number before) f
-      where
-        at : (b : Bool) → (if b then None else Some w) ≡ Some write → Some w ≡ Some write
-        at true g = absurd cc
-        at false g = g
-
-pub main_wrote : (before : List TextLine) (client table : ℕ) (row : List ℕ) (main : Main)
-    → option_map main_of (open_write client table row before) ≡ Some main → Wrote before client main.number table row main.content
-main_wrote before client table row main e = go (open_write client table row before) refl e
-  where
-    go : (o : Option Write) → open_write client table row before ≡ o → option_map main_of o ≡ Some main → Wrote before client main.number table row main.content
-    go None is f = absurd cc
-    go (Some write) is f =
-      let a = last_where_some (is_on client table row) (all_writes before) write (open_is_last before client table row write is) in
-      let on = is_on-is client table row write a.1 in
-      let m : main_of write ≡ main = cc in
-      (write, a.0, on.0, ap (λ (x : Main). x.number) m, on.1, on.2, ap (λ (x : Main). x.content) m)
+use Rattle.run_laws.proofs.ClientTables.{among_one, slots-put}
+use Rattle.run_laws.proofs.ClientLines.{AddsFacts, apart}
+use Rattle.run_laws.proofs.ClientRows.{LinesSame, RowSame, TableSame, lines_same, entry_stays, wrote_stays, open_same, opened_stays, opened_put, client_put}
+use Rattle.run_laws.proofs.ClientCalls.{Asks, same_writes_of, quiet_table}
+use Rattle.run_laws.proofs.ClientRequests.{resent_is, IsFirst, slots_found, main_wrote}
 
 -- ---- a table of which requests are sent
 
 module _ (packets : List Packet) (before after : List TextLine) (node : Client) (table : ℕ) (opened : ClientTable)
-    (adds : Adds before after []) (k : ClientKept packets before node.number node) (is : table_at node table ≡ Some opened) where
+    (adds : AddsFacts before after []) (k : ClientKept packets before node.number node) (is : table_at node table ≡ Some opened) where
   o : OpenedKept packets before node.number table opened
   o = k.tables table opened is
 
@@ -130,17 +40,16 @@ module _ (packets : List Packet) (before after : List TextLine) (node : Client) 
   again_waits : (client t : ℕ) (q : List ℕ) (number : ℕ) → Asks again client t q number
       → (t ≡ table) × ((out : Out) × ((slots_at opened q).out ≡ Some out) × (out.number ≡ number))
   again_waits client t q number a =
-    let r = resent_is node.number table opened.rows (messages.SyncRequest a.0) a.1 in
-    let e : a.0 ≡ record { client = node.number; token = 0; table = table; row = r.entry.0; number = r.out.number; base = r.out.base; content = r.out.content } = messages_same a.0 _ r.is in
-    let row : r.entry.0 ≡ q = sym (ap (λ (x : SyncRequest). x.row) e) ∙ a.4 in
-    (
-      sym a.3 ∙ ap (λ (x : SyncRequest). x.table) e,
-      (
-        r.out,
-        ap (λ (s : Slots). s.out) (ap (slots_at opened) (sym row) ∙ slots_found opened r.entry.0 r.entry.1 o.rising r.among) ∙ r.waits,
-        sym (ap (λ (x : SyncRequest). x.number) e) ∙ a.5,
-      ),
-    )
+      let r = resent_is node.number table opened.rows (messages.SyncRequest a.0) a.1 in
+      let e : a.0 ≡ record { client = node.number; token = 0; table = table; row = r.entry.0; number = r.out.number; base = r.out.base; content = r.out.content } = messages_same a.0 _ r.is in
+      let row : r.entry.0 ≡ q = sym (ap (λ (x : SyncRequest). x.row) e) ∙ a.4 in (
+        sym a.3 ∙ ap (λ (x : SyncRequest). x.table) e,
+        (
+          r.out,
+          ap (λ (s : Slots). s.out) (ap (slots_at opened) (sym row) ∙ slots_found opened r.entry.0 r.entry.1 o.rising r.among) ∙ r.waits,
+          sym (ap (λ (x : SyncRequest). x.number) e) ∙ a.5,
+        ),
+      )
     where
       messages_same : (a b : SyncRequest) → messages.SyncRequest a ≡ messages.SyncRequest b → a ≡ b
       messages_same a b e = cc
@@ -149,14 +58,18 @@ module _ (packets : List Packet) (before after : List TextLine) (node : Client) 
   pub again_kept : (request : SyncRequest) → Among again (messages.SyncRequest request)
       → RequestKept after request × (request.client ≡ node.number)
   again_kept request a =
-    let r = resent_is node.number table opened.rows (messages.SyncRequest request) a in
-    let waits : (slots_at opened r.entry.0).out ≡ Some r.out = ap (λ (s : Slots). s.out) (slots_found opened r.entry.0 r.entry.1 o.rising r.among) ∙ r.waits in
-    let out = (o.slots r.entry.0).out r.out waits in
-    let sent : SyncRequest = record { client = node.number; token = 0; table = table; row = r.entry.0; number = r.out.number; base = r.out.base; content = r.out.content } in
-    let e : sent ≡ request = cc (r.is) in
-    subst (λ (x : SyncRequest). RequestKept after x × (x.client ≡ node.number)) e
-      ((wrote_stays before after same node.number r.out.number table r.entry.0 r.out.content out.written,
-        elim out.base [ inl z ↦ inl z | inr h ↦ inr (entry_stays before after same table r.entry.0 r.out.base h) ]), refl)
+      let r = resent_is node.number table opened.rows (messages.SyncRequest request) a in
+      let waits : (slots_at opened r.entry.0).out ≡ Some r.out = ap (λ (s : Slots). s.out) (slots_found opened r.entry.0 r.entry.1 o.rising r.among) ∙ r.waits in
+      let out = (o.slots r.entry.0).out r.out waits in
+      let sent : SyncRequest = record { client = node.number; token = 0; table = table; row = r.entry.0; number = r.out.number; base = r.out.base; content = r.out.content } in
+      let e : sent ≡ request = cc (r.is) in
+      subst (λ (x : SyncRequest). RequestKept after x × (x.client ≡ node.number)) e (
+        (
+          wrote_stays before after same node.number r.out.number table r.entry.0 r.out.content out.written,
+          elim out.base [ inl z ↦ inl z | inr h ↦ inr (entry_stays before after same table r.entry.0 r.out.base h) ],
+        ),
+        refl,
+      )
 
   -- ---- nothing new is sent
 
@@ -184,12 +97,13 @@ module _ (packets : List Packet) (before after : List TextLine) (node : Client) 
       where
         go : (t : ℕ) (x : ClientTable) → table_at node t ≡ Some x → (t ≡ table) ⊎ (t ≢ table) → OpenedKept more after node.number t x
         go t x at (inl e) =
-          let there : table_at node table ≡ Some x = ap (table_at node) (sym e) ∙ at in
-          let one : opened ≡ x = cc (is, there) in
-          subst (λ z. OpenedKept more after node.number z x) (sym e) (subst (λ z. OpenedKept more after node.number table z) one
+            let there : table_at node table ≡ Some x = ap (table_at node) (sym e) ∙ at in
+            let one : opened ≡ x = cc (is, there) in
+            subst (λ z. OpenedKept more after node.number z x) (sym e) (subst (λ z. OpenedKept more after node.number table z) one
             (opened_stays packets more before after node.number table same opened again_row (let h = adds.positions node.number table in omega arith) o))
         go t x at (inr apart_) = let f = again_table t apart_ in
-          opened_stays packets more before after node.number t same x (λ q. f.rows q (slots_at x q)) f.position (k.tables t x at)
+            opened_stays packets more before after node.number t same x (λ q. f.rows q (slots_at x q)) f.position (k.tables t x at)
+
         same_or_not : (a b : ℕ) → (a ≡ b) ⊎ (a ≢ b)
         same_or_not a b = grind arith
 
@@ -228,15 +142,15 @@ module _ (packets : List Packet) (before after : List TextLine) (node : Client) 
         ⊎ (Asks again node.number t q number ⊎ ((t ≡ table) × (q ≡ row) × (number ≡ first.1.number)))
     asked t q number r = elim (asks t q number r) [
       | inl old ↦ inl old
-      | inr a ↦ elim (among_cases again (messages.SyncRequest sent ∷ []) (messages.SyncRequest a.0) a.1) [
+      | inr a ↦ elim (among_either again (messages.SyncRequest sent ∷ []) (messages.SyncRequest a.0) a.1) [
         | inl b ↦ inr (inl (a.0, b, a.2, a.3, a.4, a.5))
         | inr b ↦
-          let e : sent ≡ a.0 = cc (among_one (messages.SyncRequest sent) (messages.SyncRequest a.0) b) in
-          inr (inr (
-            sym a.3 ∙ sym (ap (λ (x : SyncRequest). x.table) e),
-            sym a.4 ∙ sym (ap (λ (x : SyncRequest). x.row) e),
-            sym a.5 ∙ sym (ap (λ (x : SyncRequest). x.number) e),
-          ))
+            let e : sent ≡ a.0 = cc (among_one (messages.SyncRequest sent) (messages.SyncRequest a.0) b) in
+            inr (inr (
+              sym a.3 ∙ sym (ap (λ (x : SyncRequest). x.table) e),
+              sym a.4 ∙ sym (ap (λ (x : SyncRequest). x.row) e),
+              sym a.5 ∙ sym (ap (λ (x : SyncRequest). x.number) e),
+            ))
       ]
     ]
 
@@ -267,16 +181,19 @@ module _ (packets : List Packet) (before after : List TextLine) (node : Client) 
     -- no entry has the write that is sent first
     not_there : (entry : Entry) → Among (history_of table before) entry → entry.client ≡ node.number → entry.row ≡ row → entry.number ≡ first.1.number → ⊥
     not_there entry a c r n =
-      let st = stored_entry before table stored store.history store.counts entry a in
-      let asked_ = store.requested st.0 st.1 in
-      let asked' : Requested packets node.number table row f.main.number = (
-        asked_.0, asked_.1, asked_.2, asked_.3,
-        asked_.4 ∙ (ap (λ (e : Entry). e.client) st.2 ∙ c),
-        asked_.5,
-        asked_.6 ∙ (ap (λ (e : Entry). e.row) st.2 ∙ r),
-        asked_.7 ∙ (ap (λ (e : Entry). e.number) st.2 ∙ (n ∙ sym number_is)),
-      ) in
-      let l = s.unsent f.main has_main empty f.main.number asked' in omega arith
+        let st = stored_entry before table stored store.history store.counts entry a in
+        let asked_ = store.requested st.0 st.1 in
+        let asked' : Requested packets node.number table row f.main.number = (
+          asked_.0,
+          asked_.1,
+          asked_.2,
+          asked_.3,
+          asked_.4 ∙ (ap (λ (e : Entry). e.client) st.2 ∙ c),
+          asked_.5,
+          asked_.6 ∙ (ap (λ (e : Entry). e.row) st.2 ∙ r),
+          asked_.7 ∙ (ap (λ (e : Entry). e.number) st.2 ∙ (n ∙ sym number_is)),
+        ) in
+        let l = s.unsent f.main has_main empty f.main.number asked' in omega arith
 
     base_kept : (o : Option Shadow) → slots.shadow ≡ o → (version_in o ≡ 0) ⊎ HasEntry before table row (version_in o)
     base_kept None is = inl refl
@@ -285,10 +202,10 @@ module _ (packets : List Packet) (before after : List TextLine) (node : Client) 
     first_out : OutKept more after node.number table row new first.1
     first_out = record {
       written = subst (λ (x : Out). Wrote after node.number x.number table row x.content) out_is
-        (wrote_stays before after same node.number f.main.number table row f.main.content
+          (wrote_stays before after same node.number f.main.number table row f.main.content
           (main_wrote before node.number table row f.main (sym s.main ∙ has_main)));
       base = subst (λ (x : Out). (x.base ≡ 0) ⊎ HasEntry after table row x.base) out_is
-        (elim (base_kept slots.shadow refl) [ inl z ↦ inl z | inr h ↦ inr (entry_stays before after same table row (version_in slots.shadow) h) ]);
+          (elim (base_kept slots.shadow refl) [ inl z ↦ inl z | inr h ↦ inr (entry_stays before after same table row (version_in slots.shadow) h) ]);
       later = λ entry a c r n. absurd (not_there entry (subst (λ l. Among l entry) (same.history table) a) c r n);
       last = λ number r. elim (asked table row number r) [
         | inl old ↦ let l = s.unsent f.main has_main empty number old in let n = number_is in omega arith
@@ -303,17 +220,17 @@ module _ (packets : List Packet) (before after : List TextLine) (node : Client) 
       main = s.main ∙ ap (option_map main_of) (sym (open_same before after [] node.number table row adds refl (λ write is. refl)));
       read = let h = adds.reads node.number table row in let r = s.read in omega arith;
       shadow = λ shadow e. let h = s.shadow shadow e in
-        (h.0, entry_stays before after same table row shadow.version h.1, same.contents table shadow.version shadow.content h.2);
+          (h.0, entry_stays before after same table row shadow.version h.1, same.contents table shadow.version shadow.content h.2);
       out = λ out e. let e' : first.1 ≡ out = cc in subst (λ (x : Out). OutKept more after node.number table row new x) e' first_out;
       unsent = λ main e none number r. absurd cc;
     }
 
     pub first_client : ClientKept more after node.number (with_table node table (with_slots opened row new))
     first_client = client_put packets more before after node.number same node table node.last (with_slots opened row new) k first_table
-      (opened_put packets more before after node.number table same opened row new opened.position o other_row first_slots
+        (opened_put packets more before after node.number table same opened row new opened.position o other_row first_slots
         (let h = adds.positions node.number table in let p = o.position in omega arith) o.behind
         (λ q le. ap version_in (shadow_same q) ∙ o.covered q le))
-      (k.last ∙ sym (ap (λ (l : List Write). length l) (same_writes_of before after [] node.number adds refl)))
+        (k.last ∙ sym (ap (λ (l : List Write). length l) (same_writes_of before after [] node.number adds refl)))
       where
         shadow_same : (q : List ℕ) → (slots_at (with_slots opened row new) q).shadow ≡ (slots_at opened q).shadow
         shadow_same q = elim (slots-put opened row new q) [
@@ -324,9 +241,9 @@ module _ (packets : List Packet) (before after : List TextLine) (node : Client) 
     -- each request that is sent is kept
     pub first_kept : (request : SyncRequest) → Among (again ++ messages.SyncRequest sent ∷ []) (messages.SyncRequest request)
         → RequestKept after request × (request.client ≡ node.number)
-    first_kept request a = elim (among_cases again (messages.SyncRequest sent ∷ []) (messages.SyncRequest request) a) [
+    first_kept request a = elim (among_either again (messages.SyncRequest sent ∷ []) (messages.SyncRequest request) a) [
       | inl b ↦ again_kept request b
       | inr b ↦
-        let e : sent ≡ request = cc (among_one (messages.SyncRequest sent) (messages.SyncRequest request) b) in
-        subst (λ (x : SyncRequest). RequestKept after x × (x.client ≡ node.number)) e ((first_out.written, first_out.base), refl)
+          let e : sent ≡ request = cc (among_one (messages.SyncRequest sent) (messages.SyncRequest request) b) in
+          subst (λ (x : SyncRequest). RequestKept after x × (x.client ≡ node.number)) e ((first_out.written, first_out.base), refl)
     ]

@@ -1,9 +1,8 @@
 -- A step of a client, once it is known what it keeps of the client and of its lines, keeps what the world keeps.
-use Rattle.std.proofs.Common.{◌≡◌, ◌≢◌, ◌⊎◌, ℕ, ◌+◌, ◌<◌, ◌≤◌, Bool, true, false, cond, List, [], ◌∷◌, ◌++◌, length, Option, Some, None, refl, sym, ap, ◌∙◌, subst, arith, inl, inr}
+use Rattle.std.proofs.Common.{◌≡◌, ◌≢◌, ◌⊎◌, ℕ, Bool, true, false, cond, List, [], ◌++◌, length, Some, None, refl, sym, ◌∙◌, subst, arith, inl, inr}
 use Rattle.std.specs.Prelude.{◌==◌}
 use Rattle.std.proofs.lemmas.Bool.{eqb-true}
 use Rattle.std.proofs.lemmas.Bool.Decides.{nat_tests}
-use Rattle.table_model.specs.declared.entry.Entry.{Entry}
 use Rattle.table_model.specs.declared.line.TextLine.{TextLine}
 use Rattle.table_model.specs.declared.node.Node.TheVariants as nodes
 use Rattle.table_model.specs.History.{history_of}
@@ -15,7 +14,7 @@ use Rattle.run_laws.specs.Sound.{Among}
 use Rattle.run_laws.proofs.Lists.{among_either, lookup-insert_nat}
 use Rattle.run_laws.proofs.Silence.{Silent}
 use Rattle.run_laws.proofs.Kept.{Requested, ClientKept, AbsentKept, PacketKept, WritesKept, WorldKept, stored_in}
-use Rattle.run_laws.proofs.Grows.{Extends, extends_same, requested_before, PacketKept-more}
+use Rattle.run_laws.proofs.Grows.{extends_same, requested_before, PacketKept-more}
 use Rattle.run_laws.proofs.Stays.{Adds, adds_nothing, TableKept-stays, ClientKept-stays, AbsentKept-stays}
 use Rattle.run_laws.proofs.Quiet.{versions_within}
 use Rattle.run_laws.proofs.Holds.{LinesHold, StepSound}

@@ -1,5 +1,5 @@
 -- What a call of a client keeps: its own part, all writes, what it sends, and what holds along its lines.
-use Rattle.std.proofs.Common.{◌≡◌, ◌≢◌, ◌⊎◌, ℕ, ◌+◌, ◌<◌, ◌≤◌, Bool, true, false, List, [], ◌∷◌, ◌++◌, length, Option, Some, None, Result, Ok, Err, refl, ap, sym, ◌∙◌, subst, arith, inl, inr, append-nil}
+use Rattle.std.proofs.Common.{◌≡◌, ◌≢◌, ◌⊎◌, ℕ, List, [], ◌∷◌, ◌++◌, length, Option, Some, None, Result, Ok, Err, refl, ap, sym, ◌∙◌, subst, arith, inl, inr, append-nil}
 use Rattle.std.specs.List.{AllByRecursion}
 use Rattle.row_value.specs.declared.content.Content.{Content}
 use Rattle.row_value.specs.declared.fit.FitFault.{FitFault}
@@ -11,26 +11,27 @@ use Rattle.table_model.specs.declared.line.Fact.TheVariants as facts
 use Rattle.table_model.specs.declared.line.TextLine.{TextLine}
 use Rattle.table_model.specs.declared.line.TextLine.TheVariants as text
 use Rattle.table_model.specs.declared.line.Write.{Write}
-use Rattle.table_model.specs.declared.node.Node.{Node}
 use Rattle.table_model.specs.declared.node.Node.TheVariants as nodes
-use Rattle.table_model.specs.History.{history_of}
 use Rattle.sync_msgs.specs.declared.message.Message.{Message}
 use Rattle.sync_msgs.specs.declared.message.Message.TheVariants as messages
 use Rattle.sync_msgs.specs.declared.message.SyncRequest.{SyncRequest}
 use Rattle.step_tables.specs.declared.slots.Out.{Out}
 use Rattle.step_tables.specs.declared.slots.Slots.{Slots}
 use Rattle.step_tables.specs.Store.{Stored}
-use Rattle.step_tables.specs.Client.{Client, ClientTable, ClientStep, table_at, slots_at, answered, write_step, write_to, write_fitting, written, show_step, show_in, sync_step, sync_in, sync_first, resent, first_to_send, request_for, pull_step, pull_in, pull_from}
-use Rattle.run_laws.specs.World.{World, Packet, start, the_store, packets_of, told, sent_from, sent_fact, answer_lines}
+use Rattle.step_tables.specs.Client.{Client, ClientTable, ClientStep, table_at, answered, write_step, write_to, write_fitting, written, show_step, show_in, sync_step, sync_in, sync_first, resent, first_to_send, request_for, pull_step, pull_in, pull_from}
+use Rattle.run_laws.specs.World.{World, Packet, the_store, packets_of, told}
 use Rattle.run_laws.specs.Sound.{Among, Along, OfFact, IsNext, IsNumbered, IsOfWrite, HasBase, IsRead, IsKept}
+use Rattle.run_laws.proofs.Lists.{among_mapped, among_either, among_none}
 use Rattle.run_laws.proofs.Kept.{WritesKept, Requested, RequestKept, MessageKept, PacketKept, TableKept, ClientKept}
-use Rattle.run_laws.proofs.Silence.{Silent, SaysNothing, silent_step}
+use Rattle.run_laws.proofs.Along.{along_step}
+use Rattle.run_laws.proofs.Silence.{SaysNothing, silent_step}
 use Rattle.run_laws.proofs.ClientStep.{ClientStepKept, sends_of, lines_of_step}
-use Rattle.run_laws.proofs.ClientNeeds.{among_map, among_cases, among_one, among_none}
-use Rattle.run_laws.proofs.ClientLines.{Adds, IsOf, AreOf, adds, apart, along_lines}
+use Rattle.run_laws.proofs.ClientTables.{among_one}
+use Rattle.run_laws.proofs.ClientLines.{AddsFacts, IsOf, AreOf, adds, apart}
 use Rattle.run_laws.proofs.ClientCalls.{Asks, AreOfWrites, requested_cases, none_asked, quiet_client, writes_stay, same_writes_of}
-use Rattle.run_laws.proofs.ClientWrites.{write_for, written_kept, writes_kept}
-use Rattle.run_laws.proofs.ClientSends.{resent_is, again_kept, again_client, first_is, first_client, first_kept}
+use Rattle.run_laws.proofs.ClientWrites.{written_kept, writes_kept}
+use Rattle.run_laws.proofs.ClientRequests.{resent_is, first_is}
+use Rattle.run_laws.proofs.ClientSends.{again_kept, again_client, first_client, first_kept}
 
 -- ---- the parts of a step
 
@@ -88,41 +89,42 @@ packet_from client message = record { from = nodes.Client client; to = the_store
 
 -- along facts, behind lines that add nothing
 abbrev pub Holds : (List TextLine → Fact → Type 0) → List TextLine → List Fact → Type 0
-Holds Q before some = (past : List TextLine) → Adds before past [] → Along (λ b line. OfFact (Q b) line) past (told some)
+Holds Q before some = (past : List TextLine) → AddsFacts before past [] → Along (λ b line. OfFact (Q b) line) past (told some)
 
 pub step_of_parts : (w : World) (before : List TextLine) (client : ℕ) (step : ClientStep) → AreOf client step.facts
-    → ((after : List TextLine) → Adds before after step.facts → ClientKept (w.packets ++ sends_of client step) after client step.client
+    → ((after : List TextLine) → AddsFacts before after step.facts → ClientKept (w.packets ++ sends_of client step) after client step.client
     × WritesKept after × AreKept after client step.messages)
     → Holds IsNumbered before step.facts → Holds IsRead before step.facts → Holds IsKept before step.facts
     → ClientStepKept w before client step
 step_of_parts w before client step of parts numbered reads kept =
-  let n : ℕ = length w.packets in
-  let sends : List Packet = sends_of client step in
-  let after : List TextLine = before ++ lines_of_step w client step in
-  let all = parts after (adds before step.answer step.facts n sends) in record {
-  client_kept = all.0;
-  writes = all.1;
-  others = λ other apart_. silent_step other step.answer step.facts n sends (says_nothing client other apart_ step.facts of);
-  history = λ table. (adds [] step.answer step.facts n sends).history table ∙ (apart client step.facts of).history table;
-  own = λ packet request a is.
-    let m = packet_sent packet a in
-    sym (client_is client request.client (all.2 w (messages.SyncRequest request) (subst (Among step.messages) (ap (λ (p : Packet). p.message) m.2 ∙ is) m.1)).1);
-  sent = λ packet a.
-    let m = packet_sent packet a in
-    subst (PacketKept w after) m.2 (all.2 w m.0 m.1);
-  lines = record {
-    history = along_lines IsNext (λ b n p. tt) before step.answer step.facts n sends (λ past a. along_of IsNext no_next client step.facts of past);
-    numbered = along_lines IsNumbered (λ b n p. tt) before step.answer step.facts n sends numbered;
-    origin = along_lines IsOfWrite (λ b n p. tt) before step.answer step.facts n sends (λ past a. along_of IsOfWrite no_origin client step.facts of past);
-    bases = along_lines HasBase (λ b n p. tt) before step.answer step.facts n sends (λ past a. along_of HasBase no_base client step.facts of past);
-    reads = along_lines IsRead (λ b n p. tt) before step.answer step.facts n sends reads;
-    kept = along_lines IsKept (λ b n p. tt) before step.answer step.facts n sends kept;
-  };
-}
+    let n : ℕ = length w.packets in
+    let answered_ : List TextLine = before ++ text.Answer step.answer ∷ [] in
+    let sends : List Packet = sends_of client step in
+    let after : List TextLine = before ++ lines_of_step w client step in
+    let all = parts after (adds before step.answer step.facts n sends) in record {
+      client_kept = all.0;
+      writes = all.1;
+      others = λ other apart_. silent_step other step.answer step.facts n sends (says_nothing client other apart_ step.facts of);
+      history = λ table. (adds [] step.answer step.facts n sends).history table ∙ (apart client step.facts of).history table;
+      own = λ packet request a is.
+          let m = packet_sent packet a in
+          sym (client_is client request.client (all.2 w (messages.SyncRequest request) (subst (Among step.messages) (ap (λ (p : Packet). p.message) m.2 ∙ is) m.1)).1);
+      sent = λ packet a.
+          let m = packet_sent packet a in
+          subst (PacketKept w after) m.2 (all.2 w m.0 m.1);
+      lines = record {
+        history = along_step IsNext (λ _ _ _ _ _. tt) before step.answer step.facts n sends (along_of IsNext no_next client step.facts of answered_);
+        numbered = along_step IsNumbered (λ _ _ _ _ _. tt) before step.answer step.facts n sends (numbered answered_ (adds before step.answer [] n []));
+        origin = along_step IsOfWrite (λ _ _ _ _ _. tt) before step.answer step.facts n sends (along_of IsOfWrite no_origin client step.facts of answered_);
+        bases = along_step HasBase (λ _ _ _ _ _. tt) before step.answer step.facts n sends (along_of HasBase no_base client step.facts of answered_);
+        reads = along_step IsRead (λ _ _ _ _ _. tt) before step.answer step.facts n sends (reads answered_ (adds before step.answer [] n []));
+        kept = along_step IsKept (λ _ _ _ _ _. tt) before step.answer step.facts n sends (kept answered_ (adds before step.answer [] n []));
+      };
+    }
   where
     packet_sent : (packet : Packet) → Among (sends_of client step) packet
         → (message : Message) × Among step.messages message × (packet_from client message ≡ packet)
-    packet_sent packet a = among_map (packet_from client) step.messages packet a
+    packet_sent packet a = among_mapped (packet_from client) step.messages packet a
 
 -- where all that is sent are requests
 requests_kept : (after : List TextLine) (client : ℕ) (sends : List Message)
@@ -130,9 +132,9 @@ requests_kept : (after : List TextLine) (client : ℕ) (sends : List Message)
     → ((request : SyncRequest) → Among sends (messages.SyncRequest request) → RequestKept after request × (request.client ≡ client))
     → AreKept after client sends
 requests_kept after client sends only kept w message a =
-  let r = only message a in
-  let q = kept r.0 (subst (Among sends) r.1 a) in
-  subst (MessageKept w after (nodes.Client client) the_store) (sym r.1) (q.0, ap nodes.Client (sym q.1))
+    let r = only message a in
+    let q = kept r.0 (subst (Among sends) r.1 a) in
+    subst (MessageKept w after (nodes.Client client) the_store) (sym r.1) (q.0, ap nodes.Client (sym q.1))
 
 resent_only : (client table : ℕ) (rows : List (List ℕ × Slots)) (message : Message) → Among (resent client table rows) message
     → (request : SyncRequest) × (message ≡ messages.SyncRequest request)
@@ -147,12 +149,12 @@ module _ (w : World) (before : List TextLine) (node : Client)
       → ((after : List TextLine) → AreKept after node.number sends)
       → ClientStepKept w before node.number (record { client = node; answer = answer; messages = sends; facts = [] })
   silent_kept answer sends none sent = step_of_parts w before node.number (record { client = node; answer = answer; messages = sends; facts = [] }) tt
-    (λ after a. (
-      quiet_client w.packets (w.packets ++ packets_of (nodes.Client node.number) the_store sends) before after node a (none_asked w.packets (nodes.Client node.number) the_store sends node.number none) k,
-      writes_stay before after [] a refl (λ c n e. absurd cc) writes,
-      sent after,
-    ))
-    (λ past a. tt) (λ past a. tt) (λ past a. tt)
+      (λ after a. (
+        quiet_client w.packets (w.packets ++ packets_of (nodes.Client node.number) the_store sends) before after node a (none_asked w.packets (nodes.Client node.number) the_store sends node.number none) k,
+        writes_stay before after [] a refl (λ c n e. absurd cc) writes,
+        sent after,
+      ))
+      (λ past a. tt) (λ past a. tt) (λ past a. tt)
 
   pub answered_kept : (answer : Answer) → ClientStepKept w before node.number (answered node answer)
   answered_kept answer = silent_kept answer [] (λ request a. among_none _ a) (λ after v message a. absurd (among_none message a))
@@ -167,15 +169,16 @@ module _ (w : World) (before : List TextLine) (node : Client)
           → ClientStepKept w before node.number (write_fitting node table opened row content fits)
       fitting opened is (Err fault) = answered_kept _
       fitting opened is (Ok fits) = step_of_parts w before node.number (written node table opened row content) (refl, tt)
-        (λ after a. (
-          subst (λ p. ClientKept p after node.number (written node table opened row content).client) (sym (append-nil w.packets))
-            (written_kept w.packets before after node table opened row content a writes sent k is),
-          writes_kept w.packets before after node table opened row content a writes sent k is,
-          λ v message b. absurd (among_none message b),
-        ))
-        (λ past a. (inl (let h = ap (λ (l : List Write). length l) (same_writes_of before past [] node.number a refl) in let l = k.last in omega arith), tt))
-        (λ past a. ((let h = a.reads node.number table row in let r = ((k.tables table opened is).slots row).read in omega arith), tt))
-        (λ past a. (tt, tt))
+          (λ after a. (
+            subst (λ p. ClientKept p after node.number (written node table opened row content).client) (sym (append-nil w.packets))
+                (written_kept w.packets before after node table opened row content a writes sent k is),
+            writes_kept w.packets before after node table opened row content a writes sent k is,
+            λ v message b. absurd (among_none message b),
+          ))
+          (λ past a. (inl (let h = ap (λ (l : List Write). length l) (same_writes_of before past [] node.number a refl) in let l = k.last in omega arith), tt))
+          (λ past a. ((let h = a.reads node.number table row in let r = ((k.tables table opened is).slots row).read in omega arith), tt))
+          (λ past a. (tt, tt))
+
       go : (o : Option ClientTable) → table_at node table ≡ o → ClientStepKept w before node.number (write_to node table row content o)
       go None is = answered_kept _
       go (Some opened) is = fitting opened is (fit_of opened.schema content)
@@ -197,8 +200,8 @@ module _ (w : World) (before : List TextLine) (node : Client)
       go : (o : Option ClientTable) → ClientStepKept w before node.number (pull_in node table o)
       go None = answered_kept _
       go (Some opened) = silent_kept answers.Done (pull_from node.number table opened.position ∷ [])
-        (λ request a. let e = among_one (pull_from node.number table opened.position) (messages.SyncRequest request) a in absurd cc)
-        (λ after v message a. subst (MessageKept v after (nodes.Client node.number) the_store) (among_one (pull_from node.number table opened.position) message a) refl)
+          (λ request a. let e = among_one (pull_from node.number table opened.position) (messages.SyncRequest request) a in absurd cc)
+          (λ after v message a. subst (MessageKept v after (nodes.Client node.number) the_store) (among_one (pull_from node.number table opened.position) message a) refl)
 
   -- ---- sync
 
@@ -209,33 +212,34 @@ module _ (w : World) (before : List TextLine) (node : Client)
       first : (opened : ClientTable) → table_at node table ≡ Some opened → (f : Option (List ℕ × Out)) → first_to_send opened.rows ≡ f
           → ClientStepKept w before node.number (sync_first node table opened (resent node.number table opened.rows) f)
       first opened is None e =
-        let again : List Message = resent node.number table opened.rows in
-        step_of_parts w before node.number (sync_first node table opened again None) tt
+          let again : List Message = resent node.number table opened.rows in
+          step_of_parts w before node.number (sync_first node table opened again None) tt
           (λ after a. (
             again_client w.packets before after node table opened a k is (w.packets ++ packets_of (nodes.Client node.number) the_store again)
-              (λ t q n r. requested_cases w.packets (nodes.Client node.number) the_store again node.number t q n r),
+                (λ t q n r. requested_cases w.packets (nodes.Client node.number) the_store again node.number t q n r),
             writes_stay before after [] a refl (λ c n e. absurd cc) writes,
             requests_kept after node.number again (λ message b. resent_only node.number table opened.rows message b) (again_kept w.packets before after node table opened a k is),
           ))
           (λ past a. tt) (λ past a. tt) (λ past a. tt)
       first opened is (Some x) e =
-        let again : List Message = resent node.number table opened.rows in
-        let all : List Message = again ++ request_for node.number table x.0 x.1 ∷ [] in
-        let more : List Packet = w.packets ++ packets_of (nodes.Client node.number) the_store all in
-        let asks : (t : ℕ) (q : List ℕ) (n : ℕ) → Requested more node.number t q n → Requested w.packets node.number t q n ⊎ Asks all node.number t q n =
+          let again : List Message = resent node.number table opened.rows in
+          let all : List Message = again ++ request_for node.number table x.0 x.1 ∷ [] in
+          let more : List Packet = w.packets ++ packets_of (nodes.Client node.number) the_store all in
+          let asks : (t : ℕ) (q : List ℕ) (n : ℕ) → Requested more node.number t q n → Requested w.packets node.number t q n ⊎ Asks all node.number t q n =
           λ t q n r. requested_cases w.packets (nodes.Client node.number) the_store all node.number t q n r in
-        step_of_parts w before node.number (sync_first node table opened again (Some x)) tt
+          step_of_parts w before node.number (sync_first node table opened again (Some x)) tt
           (λ after a. (
             first_client w.packets before after node table opened a k is (stored table) (stores table) x (first_is opened.rows x e) more asks,
             writes_stay before after [] a refl (λ c n e. absurd cc) writes,
             requests_kept after node.number all
-              (λ message b. elim (among_cases again (request_for node.number table x.0 x.1 ∷ []) message b) [
-                | inl d ↦ resent_only node.number table opened.rows message d
-                | inr d ↦ (_, sym (among_one (request_for node.number table x.0 x.1) message d))
-              ])
-              (first_kept w.packets before after node table opened a k is (stored table) (stores table) x (first_is opened.rows x e) more asks),
+                (λ message b. elim (among_either again (request_for node.number table x.0 x.1 ∷ []) message b) [
+                  | inl d ↦ resent_only node.number table opened.rows message d
+                  | inr d ↦ (_, sym (among_one (request_for node.number table x.0 x.1) message d))
+                ])
+                (first_kept w.packets before after node table opened a k is (stored table) (stores table) x (first_is opened.rows x e) more asks),
           ))
           (λ past a. tt) (λ past a. tt) (λ past a. tt)
+
       go : (o : Option ClientTable) → table_at node table ≡ o → ClientStepKept w before node.number (sync_in node table o)
       go None is = answered_kept _
       go (Some opened) is = first opened is (first_to_send opened.rows) refl

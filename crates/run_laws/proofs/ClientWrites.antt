@@ -1,28 +1,26 @@
 -- A client's write: its number is above all, and the row's Main is its last write, which is open.
-use Rattle.std.proofs.Common.{◌≡◌, ◌≢◌, ◌⊎◌, ℕ, ◌+◌, ◌<◌, ◌≤◌, Bool, true, false, ◌||◌, ◌&&◌, List, [], ◌∷◌, ◌++◌, length, length-append, Option, Some, None, refl, ap, sym, ◌∙◌, subst, arith, inl, inr}
+use Rattle.std.proofs.Common.{◌≡◌, ◌≢◌, ◌⊎◌, ℕ, ◌+◌, ◌<◌, ◌≤◌, Bool, true, false, ◌||◌, List, [], ◌∷◌, ◌++◌, length, length-append, Option, Some, None, refl, ap, sym, ◌∙◌, subst, arith, inl, inr}
 use Rattle.std.proofs.lemmas.Bool.Decides.{nat_tests}
 use Rattle.std.proofs.lemmas.List.Elements.{filter-append}
 use Rattle.std.specs.Prelude.{option_map, filter, if◌then◌else◌}
 use Rattle.row_value.specs.declared.content.Content.{Content}
-use Rattle.table_model.specs.declared.line.Fact.{Fact}
 use Rattle.table_model.specs.declared.line.Fact.TheVariants as facts
 use Rattle.table_model.specs.declared.line.TextLine.{TextLine}
 use Rattle.table_model.specs.declared.line.Write.{Write}
 use Rattle.table_model.specs.Last.{last_where}
-use Rattle.table_model.specs.History.{history_of, current, same_row}
 use Rattle.table_model.specs.Writes.{all_writes, writes_of, last_write, is_on, is_by}
 use Rattle.step_tables.specs.declared.slots.Main.{Main}
 use Rattle.step_tables.specs.declared.slots.Slots.{Slots}
 use Rattle.step_tables.specs.Client.{Client, ClientTable, slots_at, with_slots, table_at, with_table, version_in, main_for}
-use Rattle.run_laws.specs.World.{Packet, told}
-use Rattle.run_laws.specs.Lines.{read_of, open_write, if_open, is_acked, position_of}
-use Rattle.run_laws.specs.Sound.{Among, Along, OfFact, IsNumbered, IsRead}
-use Rattle.run_laws.proofs.Kept.{WritesKept, Requested, SlotsKept, OpenedKept, ClientKept, main_of}
-use Rattle.run_laws.proofs.ClientNeeds.{among_cases, among_one, last_where-push, same_row_tells, slots-put}
-use Rattle.run_laws.proofs.Lists.{same_row-refl}
+use Rattle.run_laws.specs.World.{Packet}
+use Rattle.run_laws.specs.Lines.{open_write, if_open, is_acked}
+use Rattle.run_laws.specs.Sound.{Among}
+use Rattle.run_laws.proofs.Kept.{WritesKept, SlotsKept, ClientKept, main_of}
+use Rattle.run_laws.proofs.ClientTables.{among_one, slots-put}
+use Rattle.run_laws.proofs.Lists.{same_row-refl, among_either, last_where-push, same_row_tells}
 use Rattle.run_laws.proofs.Tests.{is_on-is, is_on-own}
-use Rattle.run_laws.proofs.ClientLines.{Adds, AreApart, apart}
-use Rattle.run_laws.proofs.ClientRows.{LinesSame, RowSame, TableSame, lines_same, entry_stays, wrote_stays, opened_put, client_put}
+use Rattle.run_laws.proofs.ClientLines.{AddsFacts, apart}
+use Rattle.run_laws.proofs.ClientRows.{LinesSame, RowSame, lines_same, entry_stays, wrote_stays, opened_put, client_put}
 use Rattle.run_laws.proofs.ClientCalls.{AreOfWrites}
 
 -- the write that a client begins
@@ -40,7 +38,7 @@ abbrev pub slots_for : Client → ClientTable → List ℕ → Content → Slots
 slots_for node opened row content = record (slots_at opened row) { main = Some (main_for (node.last + 1) (slots_at opened row) content) }
 
 module _ (packets : List Packet) (before after : List TextLine) (node : Client) (table : ℕ) (opened : ClientTable) (row : List ℕ) (content : Content)
-    (adds : Adds before after (facts.Wrote (write_for node table opened row content) ∷ []))
+    (adds : AddsFacts before after (facts.Wrote (write_for node table opened row content) ∷ []))
     (writes : WritesKept before) (sent : AreOfWrites packets before node.number)
     (k : ClientKept packets before node.number node) (is : table_at node table ≡ Some opened) where
   abbrev write : Write
@@ -74,7 +72,7 @@ module _ (packets : List Packet) (before after : List TextLine) (node : Client) 
 
   opens : open_write node.number table row after ≡ Some write
   opens = ap (if_open after) (last_after table row ∙ ap (λ b. if b then Some write else last_write node.number table row before) is_on_it)
-    ∙ ap (λ b. if b then None else Some write) (acked_same node.number (node.last + 1) ∙ fresh)
+      ∙ ap (λ b. if b then None else Some write) (acked_same node.number (node.last + 1) ∙ fresh)
 
   if_open_same : (o : Option Write) → if_open after o ≡ if_open before o
   if_open_same None = refl
@@ -98,7 +96,7 @@ module _ (packets : List Packet) (before after : List TextLine) (node : Client) 
 
   written_of : writes_of node.number after ≡ writes_of node.number before ++ write ∷ []
   written_of = ap (filter (is_by node.number)) adds.writes ∙ filter-append (is_by node.number) (all_writes before) (write ∷ [])
-    ∙ ap (λ b. writes_of node.number before ++ (if b then write ∷ [] else [])) by_it
+      ∙ ap (λ b. writes_of node.number before ++ (if b then write ∷ [] else [])) by_it
     where
       by_it : is_by node.number write ≡ true
       by_it = grind (arith, nat_tests)
@@ -108,28 +106,31 @@ module _ (packets : List Packet) (before after : List TextLine) (node : Client) 
 
   more_of : (client : ℕ) → length (writes_of client before) ≤ length (writes_of client after)
   more_of client =
-    let h = ap (λ (l : List Write). length l) (ap (filter (is_by client)) adds.writes ∙ filter-append (is_by client) (all_writes before) (write ∷ [])) in
-    let a = length-append (writes_of client before) (filter (is_by client) (write ∷ [])) in omega arith
+      let h = ap (λ (l : List Write). length l) (ap (filter (is_by client)) adds.writes ∙ filter-append (is_by client) (all_writes before) (write ∷ [])) in
+      let a = length-append (writes_of client before) (filter (is_by client) (write ∷ [])) in omega arith
 
   new_slots : SlotsKept packets after node.number table row (slots_for node opened row content)
   new_slots = let s = (k.tables table opened is).slots row in record {
     main = ap (option_map main_of) (sym opens);
     read = let h = adds.reads node.number table row in let r = s.read in omega arith;
     shadow = λ shadow e. let h = s.shadow shadow e in
-      (h.0, entry_stays before after same table row shadow.version h.1, same.contents table shadow.version shadow.content h.2);
+        (h.0, entry_stays before after same table row shadow.version h.1, same.contents table shadow.version shadow.content h.2);
     out = λ out e. let o = s.out out e in record {
       written = wrote_stays before after same node.number out.number table row out.content o.written;
       base = elim o.base [ inl z ↦ inl z | inr h ↦ inr (entry_stays before after same table row out.base h) ];
       later = λ entry a c r n. o.later entry (subst (λ l. Among l entry) (same.history table) a) c r n;
       last = o.last;
-      main = (main_for (node.last + 1) (slots_at opened row) content, refl,
+      main = (
+        main_for (node.last + 1) (slots_at opened row) content,
+        refl,
         (let w = o.written in
-          let m : w.0.number ≤ length (writes_of node.number before) = subst (λ c. w.0.number ≤ length (writes_of c before)) w.2 (writes.most w.0 w.1) in
-          let n = w.3 in let l = k.last in omega arith));
+            let m : w.0.number ≤ length (writes_of node.number before) = subst (λ c. w.0.number ≤ length (writes_of c before)) w.2 (writes.most w.0 w.1) in
+            let n = w.3 in let l = k.last in omega arith),
+      );
     };
     unsent = λ main e none number r.
-      let h = sent table row number r in let l = k.last in
-      let m : node.last + 1 ≡ main.number = ap (λ (o : Option Main). number_of o) e in omega arith;
+        let h = sent table row number r in let l = k.last in
+        let m : node.last + 1 ≡ main.number = ap (λ (o : Option Main). number_of o) e in omega arith;
   }
     where
       number_of : Option Main → ℕ
@@ -139,16 +140,16 @@ module _ (packets : List Packet) (before after : List TextLine) (node : Client) 
   pub written_kept : ClientKept packets after node.number
       (with_table (record node { last = node.last + 1 }) table (with_slots opened row (slots_for node opened row content)))
   written_kept = client_put packets packets before after node.number same node table (node.last + 1) (with_slots opened row (slots_for node opened row content)) k
-    (λ t apart_. record {
-      rows = λ q slots. others t q slots (off_table t q apart_);
-      position = let h = adds.positions node.number t in omega arith;
-    })
-    (opened_put packets packets before after node.number table same opened row (slots_for node opened row content) opened.position
+      (λ t apart_. record {
+        rows = λ q slots. others t q slots (off_table t q apart_);
+        position = let h = adds.positions node.number t in omega arith;
+      })
+      (opened_put packets packets before after node.number table same opened row (slots_for node opened row content) opened.position
       (k.tables table opened is) (λ q apart_. others table q (slots_at opened q) (off_row q apart_)) new_slots
       (let h = adds.positions node.number table in let p = (k.tables table opened is).position in omega arith)
       (k.tables table opened is).behind
       (λ q le. ap version_in (shadow_same q) ∙ (k.tables table opened is).covered q le))
-    last_is
+      last_is
     where
       shadow_same : (q : List ℕ) → (slots_at (with_slots opened row (slots_for node opened row content)) q).shadow ≡ (slots_at opened q).shadow
       shadow_same q = elim (slots-put opened row (slots_for node opened row content) q) [
@@ -157,23 +158,23 @@ module _ (packets : List Packet) (before after : List TextLine) (node : Client) 
       ]
 
   among_after : (w : Write) → Among (all_writes after) w → Among (all_writes before) w ⊎ (write ≡ w)
-  among_after w a = elim (among_cases (all_writes before) (write ∷ []) w (subst (λ l. Among l w) adds.writes a)) [
+  among_after w a = elim (among_either (all_writes before) (write ∷ []) w (subst (λ l. Among l w) adds.writes a)) [
     | inl old ↦ inl old
     | inr new ↦ inr (among_one write w new)
   ]
 
   above : (w : Write) → Among (all_writes before) w → w.client ≡ node.number → w.number ≤ node.last
   above w a by = let m : w.number ≤ length (writes_of node.number before) = subst (λ c. w.number ≤ length (writes_of c before)) by (writes.most w a) in
-    let l = k.last in omega arith
+      let l = k.last in omega arith
 
   newest_after : (w last : Write) → Among (all_writes before) w ⊎ (write ≡ w) → (b : Bool) → is_on w.client w.table w.row write ≡ b
       → (if b then Some write else last_write w.client w.table w.row before) ≡ Some last → w.number ≤ last.number
   newest_after w last (inl old) true on e =
-    let h = above w old (sym (is_on-is w.client w.table w.row write on).0) in
-    let l : write ≡ last = cc in let n = ap (λ (x : Write). x.number) l in omega arith
+      let h = above w old (sym (is_on-is w.client w.table w.row write on).0) in
+      let l : write ≡ last = cc in let n = ap (λ (x : Write). x.number) l in omega arith
   newest_after w last (inl old) false on e = writes.newest w last old e
   newest_after w last (inr new) true on e =
-    let l : w ≡ last = cc in let n = ap (λ (x : Write). x.number) l in omega arith
+      let l : w ≡ last = cc in let n = ap (λ (x : Write). x.number) l in omega arith
   newest_after w last (inr new) false on e = let own = is_on-own w in let on' : is_on w.client w.table w.row w ≡ false = subst (λ x. is_on w.client w.table w.row x ≡ false) new on in absurd cc
 
   pub writes_kept : WritesKept after
@@ -187,13 +188,13 @@ module _ (packets : List Packet) (before after : List TextLine) (node : Client) 
       | inl old ↦ elim (among_after b q) [
         | inl old' ↦ writes.once a b old old' c n
         | inr e ↦
-          let h = above a old (c ∙ ap (λ (x : Write). x.client) (sym e)) in
-          let m : b.number ≡ node.last + 1 = ap (λ (x : Write). x.number) (sym e) in absurd (omega arith)
+            let h = above a old (c ∙ ap (λ (x : Write). x.client) (sym e)) in
+            let m : b.number ≡ node.last + 1 = ap (λ (x : Write). x.number) (sym e) in absurd (omega arith)
       ]
       | inr e ↦ elim (among_after b q) [
         | inl old' ↦
-          let h = above b old' (sym c ∙ ap (λ (x : Write). x.client) (sym e)) in
-          let m : a.number ≡ node.last + 1 = ap (λ (x : Write). x.number) (sym e) in absurd (omega arith)
+            let h = above b old' (sym c ∙ ap (λ (x : Write). x.client) (sym e)) in
+            let m : a.number ≡ node.last + 1 = ap (λ (x : Write). x.number) (sym e) in absurd (omega arith)
         | inr f ↦ sym e ∙ f
       ]
     ];

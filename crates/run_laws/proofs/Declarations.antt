@@ -1,25 +1,20 @@
 -- Declarations of tables and of clients keep what the world keeps.
-use Rattle.std.proofs.Common.{◌≡◌, ◌≢◌, ◌⊎◌, ℕ, ◌+◌, ◌<◌, ◌≤◌, Bool, true, false, cond, List, [], ◌∷◌, ◌++◌, length, Option, Some, None, refl, sym, ap, ◌∙◌, subst, arith, append-nil, inl, inr}
+use Rattle.std.proofs.Common.{◌≡◌, ℕ, Bool, true, false, cond, List, [], ◌∷◌, length, Option, Some, None, refl, sym, ap, ◌∙◌, subst, arith, append-nil}
 use Rattle.std.specs.Prelude.{◌==◌, option_map}
-use Rattle.std.specs.Ordering.{nat_cmp}
-use Rattle.std.specs.BTreeMap.{is_at, insert_entry}
-use Rattle.std.specs.Map.{lookup}
 use Rattle.std.proofs.lemmas.Bool.{eqb-true}
 use Rattle.row_value.specs.declared.schema.Schema.{Schema}
 use Rattle.table_model.specs.declared.line.TextLine.{TextLine}
 use Rattle.table_model.specs.declared.line.Write.{Write}
-use Rattle.table_model.specs.History.{history_of, current}
 use Rattle.table_model.specs.Writes.{all_writes, writes_of, last_write, is_by, is_on}
-use Rattle.step_tables.specs.declared.slots.Slots.{Slots}
 use Rattle.step_tables.specs.Store.{Stored}
 use Rattle.step_tables.specs.Client.{Client, ClientTable, table_at, opened, no_slots}
 use Rattle.run_laws.specs.World.{World, Packet, schema_at, stored_at, client_at, silent, declared, joined, open_all, with_opened}
-use Rattle.run_laws.specs.Lines.{open_write, if_open, read_of, position_of}
+use Rattle.run_laws.specs.Lines.{open_write, if_open}
 use Rattle.run_laws.specs.Sound.{Among}
 use Rattle.run_laws.proofs.Lists.{among_last, among_none, among_filter, lookup-insert_nat}
 use Rattle.run_laws.proofs.Tests.{is_on-is, eqb-refl}
 use Rattle.run_laws.proofs.Silence.{Silent}
-use Rattle.run_laws.proofs.Kept.{Requested, Rising, SlotsKept, OpenedKept, ClientKept, AbsentKept, WorldKept, stored_in, stored_or_none, main_of}
+use Rattle.run_laws.proofs.Kept.{Rising, SlotsKept, OpenedKept, ClientKept, AbsentKept, WorldKept, stored_in, stored_or_none, main_of}
 use Rattle.run_laws.proofs.Quiet.{IsQuiet, quiet_kept, stored-put}
 use Rattle.run_laws.proofs.Holds.{LinesHold-nil, StepSound}
 

@@ -1,5 +1,5 @@
 -- A script of so many events makes no more writes, and no more entries.
-use Rattle.std.proofs.Common.{◌≡◌, ℕ, ◌+◌, ◌≤◌, Bool, true, false, cond, List, [], ◌∷◌, ◌++◌, filter, length, Option, Some, None, Result, Ok, Err, refl, sym, ap, ◌∙◌, subst, append-nil, length-append, arith}
+use Rattle.std.proofs.Common.{◌≡◌, ℕ, ◌+◌, ◌≤◌, Bool, true, false, cond, List, [], ◌∷◌, ◌++◌, filter, length, Option, Some, None, Result, Ok, Err, ap, ◌∙◌, length-append, arith}
 use Rattle.std.specs.Prelude.{slice_get, nat_lt, nat_le, ◌==◌, if◌then◌else◌}
 use Rattle.row_value.specs.declared.content.Content.{Content}
 use Rattle.row_value.specs.declared.fit.FitFault.{FitFault}
@@ -30,9 +30,9 @@ use Rattle.step_tables.specs.declared.slots.Out.{Out}
 use Rattle.step_tables.specs.declared.slots.Slots.{Slots}
 use Rattle.step_tables.specs.Store.{Stored, StoreStep, accept, unchanged, decide, respond, yours_of, entry_for, entries_of, current_of, store_step}
 use Rattle.step_tables.specs.Client.{Client, ClientStep, ClientTable, Taken, table_at, slots_at, write_to, write_fitting, write_step, show_in, show_step, sync_in, sync_first, sync_step, resent, first_to_send, pull_in, pull_step, deliver_step, response_in, take_response, take_outcome, pulled_in, take_pulled, take_row, take_header, newer, version_in, ignored, without, shadow_of, acked}
-use Rattle.run_laws.specs.World.{World, WorldStep, Packet, start, stored_at, client_at, the_store, packets_of, after_client, after_store, at_client, call, to_store, to_client, carried, delivered, table_in, store_row, store_shows, history_lines, entry_lines, answer_lines, sent_from, told, step}
+use Rattle.run_laws.specs.World.{World, Packet, start, stored_at, client_at, the_store, packets_of, at_client, call, to_store, to_client, carried, delivered, table_in, store_row, store_shows, history_lines, answer_lines, sent_from, told, step}
 use Rattle.run_laws.specs.Turns.{lines_of, turns_from, transcript}
-use Rattle.run_laws.proofs.Appends.{all_writes-append, history_of-append, told-append, step_writes, step_history}
+use Rattle.run_laws.proofs.Appends.{all_writes-append, history_of-append, step_writes, step_history}
 use Rattle.run_laws.proofs.Looks.{entries_writes, entries_history}
 
 -- lines that tell one write at most, and add one entry at most to a table

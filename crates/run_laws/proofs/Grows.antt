@@ -1,5 +1,5 @@
 -- What stays true as lines, histories and packets grow.
-use Rattle.std.proofs.Common.{◌≡◌, ◌≢◌, ◌⊎◌, ℕ, ◌+◌, ◌<◌, ◌≤◌, Bool, true, false, List, [], ◌∷◌, ◌++◌, length, take, Option, Some, None, refl, sym, ap, ◌∙◌, subst, arith, append-nil, inl, inr, length-append}
+use Rattle.std.proofs.Common.{◌≡◌, ◌≢◌, ◌⊎◌, ℕ, ◌≤◌, List, [], ◌++◌, length, take, Option, Some, None, refl, sym, ap, ◌∙◌, subst, arith, append-nil, inl, inr, length-append}
 use Rattle.std.specs.Prelude.{option_map, ◌==◌}
 use Rattle.std.specs.List.{find}
 use Rattle.std.proofs.lemmas.List.{take-append-le}
@@ -14,15 +14,14 @@ use Rattle.sync_msgs.specs.declared.message.Message.{Message}
 use Rattle.sync_msgs.specs.declared.message.Message.TheVariants as messages
 use Rattle.sync_msgs.specs.declared.message.Outcome.{Outcome}
 use Rattle.sync_msgs.specs.declared.message.Outcome.TheVariants as outcomes
-use Rattle.sync_msgs.specs.declared.message.PullRequest.{PullRequest}
 use Rattle.sync_msgs.specs.declared.message.PullResponse.{PullResponse}
 use Rattle.sync_msgs.specs.declared.message.SyncRequest.{SyncRequest}
 use Rattle.sync_msgs.specs.declared.message.SyncResponse.{SyncResponse}
-use Rattle.step_tables.specs.Store.{Stored, pull_answer}
+use Rattle.step_tables.specs.Store.{Stored}
 use Rattle.run_laws.specs.World.{World, Packet}
 use Rattle.run_laws.specs.Lines.{content_at, content_of, entry_at, write_of, is_write}
 use Rattle.run_laws.specs.Sound.{Among, HasWrite, HasEntry, HasEntryOf}
-use Rattle.run_laws.proofs.Lists.{among_left, among_right, among_either, find_left}
+use Rattle.run_laws.proofs.Lists.{among_left, among_either, find_left}
 use Rattle.run_laws.proofs.Appends.{all_writes-append, history_of-append}
 use Rattle.run_laws.proofs.Kept.{Wrote, Requested, RequestKept, OutcomeKept, AnswerKept, MessageKept, PacketKept, stored_in}
 

@@ -1,10 +1,10 @@
 -- What each line of a step says holds behind the lines before it.
-use Rattle.std.proofs.Common.{◌≡◌, ℕ, List, [], ◌∷◌, ◌++◌, refl, subst}
+use Rattle.std.proofs.Common.{ℕ, List, [], ◌∷◌, ◌++◌}
 use Rattle.table_model.specs.declared.entry.Entry.{Entry}
 use Rattle.table_model.specs.declared.line.Answer.{Answer}
 use Rattle.table_model.specs.declared.line.TextLine.{TextLine}
 use Rattle.table_model.specs.declared.line.TextLine.TheVariants as text
-use Rattle.run_laws.specs.World.{World, WorldStep, Packet, sent_from, answer_lines, entry_lines}
+use Rattle.run_laws.specs.World.{WorldStep, Packet, sent_from, answer_lines, entry_lines}
 use Rattle.run_laws.specs.Sound.{Along, OfFact, IsNext, IsNumbered, IsOfWrite, HasBase, IsRead, IsKept}
 use Rattle.run_laws.proofs.Along.{along-append, along_step}
 use Rattle.run_laws.proofs.Kept.{WorldKept}

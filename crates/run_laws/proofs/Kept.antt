@@ -1,6 +1,6 @@
 -- What a world keeps of the lines that its events have written. It is split by node: each table of the Store, each
 -- client and each packet has its part.
-use Rattle.std.proofs.Common.{◌≡◌, ◌≢◌, ◌⊎◌, ℕ, ◌+◌, ◌<◌, ◌≤◌, List, [], ◌∷◌, ◌++◌, length, take, Option, Some, None}
+use Rattle.std.proofs.Common.{◌≡◌, ◌⊎◌, ℕ, ◌+◌, ◌<◌, ◌≤◌, List, [], ◌∷◌, length, take, Option, Some, None}
 use Rattle.std.specs.Prelude.{true, option_map}
 use Rattle.std.specs.declared.cmp.Ordering.TheVariants.{Less}
 use Rattle.row_value.specs.declared.content.Content.{Content}
@@ -15,7 +15,6 @@ use Rattle.sync_msgs.specs.declared.message.Message.{Message}
 use Rattle.sync_msgs.specs.declared.message.Message.TheVariants as messages
 use Rattle.sync_msgs.specs.declared.message.Outcome.{Outcome}
 use Rattle.sync_msgs.specs.declared.message.Outcome.TheVariants as outcomes
-use Rattle.sync_msgs.specs.declared.message.PullRequest.{PullRequest}
 use Rattle.sync_msgs.specs.declared.message.PullResponse.{PullResponse}
 use Rattle.sync_msgs.specs.declared.message.SyncRequest.{SyncRequest}
 use Rattle.sync_msgs.specs.declared.message.SyncResponse.{SyncResponse}
@@ -27,7 +26,7 @@ use Rattle.step_tables.specs.Store.{Stored, entries_of, pull_answer}
 use Rattle.step_tables.specs.Client.{Client, ClientTable, row_cmp, slots_at, table_at, version_in}
 use Rattle.run_laws.specs.World.{World, Packet, stored_at, client_at}
 use Rattle.run_laws.specs.Lines.{read_of, open_write, position_of, content_at, is_acked}
-use Rattle.run_laws.specs.Sound.{Among, HasWrite, HasEntry, HasEntryOf}
+use Rattle.run_laws.specs.Sound.{Among, HasEntry, HasEntryOf}
 
 -- ---- writes
 

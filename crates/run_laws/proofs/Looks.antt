@@ -1,5 +1,5 @@
 -- What the Store shows changes nothing.
-use Rattle.std.proofs.Common.{◌≡◌, ℕ, ◌+◌, false, List, [], ◌∷◌, ◌++◌, length, Option, Some, None, refl, sym, ap, ◌∙◌, subst, append-nil}
+use Rattle.std.proofs.Common.{◌≡◌, ℕ, false, List, [], ◌∷◌, ◌++◌, length, Option, Some, None, refl, sym, ap, subst, append-nil}
 use Rattle.std.specs.Prelude.{max}
 use Rattle.table_model.specs.declared.entry.Entry.{Entry}
 use Rattle.table_model.specs.declared.line.Answer.{Answer}
@@ -11,7 +11,7 @@ use Rattle.table_model.specs.declared.line.Write.{Write}
 use Rattle.table_model.specs.History.{history_of}
 use Rattle.table_model.specs.Writes.{all_writes}
 use Rattle.step_tables.specs.Store.{Stored, entries_of, current_of}
-use Rattle.run_laws.specs.World.{World, Packet, stored_at, answered, store_row, store_shows, history_lines, entry_lines, answer_lines}
+use Rattle.run_laws.specs.World.{World, answered, store_row, store_shows, history_lines, entry_lines, answer_lines}
 use Rattle.run_laws.specs.Lines.{read_of, position_of, is_acked}
 use Rattle.run_laws.specs.Sound.{Among}
 use Rattle.run_laws.proofs.Lists.{among_none}

@@ -1,5 +1,5 @@
 -- A step that tells nothing of writes and rows keeps what the world keeps.
-use Rattle.std.proofs.Common.{◌≡◌, ◌≢◌, ◌⊎◌, ℕ, ◌+◌, ◌<◌, ◌≤◌, Bool, true, false, cond, List, [], ◌∷◌, ◌++◌, length, Option, Some, None, refl, sym, ap, ◌∙◌, subst, arith, append-nil, inl, inr}
+use Rattle.std.proofs.Common.{◌≡◌, ◌⊎◌, ℕ, ◌≤◌, Bool, true, false, cond, List, [], ◌++◌, length, Some, refl, sym, ap, ◌∙◌, subst, append-nil, inl, inr}
 use Rattle.std.specs.Prelude.{◌==◌}
 use Rattle.std.specs.Ordering.{nat_cmp}
 use Rattle.std.specs.BTreeMap.{is_at, insert_entry}
@@ -11,13 +11,12 @@ use Rattle.table_model.specs.History.{history_of}
 use Rattle.table_model.specs.Writes.{all_writes}
 use Rattle.sync_msgs.specs.declared.message.Message.TheVariants as messages
 use Rattle.sync_msgs.specs.declared.message.SyncRequest.{SyncRequest}
-use Rattle.step_tables.specs.Client.{Client}
 use Rattle.step_tables.specs.Store.{Stored}
 use Rattle.run_laws.specs.World.{World, Packet, client_at, answer_lines}
 use Rattle.run_laws.specs.Sound.{Among}
 use Rattle.run_laws.proofs.Lists.{lookup-insert_nat, among_either, among_none}
 use Rattle.run_laws.proofs.Silence.{Silent, silent_answer}
-use Rattle.run_laws.proofs.Kept.{Requested, TableKept, ClientKept, AbsentKept, PacketKept, WorldKept, stored_in, stored_or_none}
+use Rattle.run_laws.proofs.Kept.{Requested, TableKept, PacketKept, WorldKept, stored_in, stored_or_none}
 use Rattle.run_laws.proofs.Grows.{Extends, extends_same, requested_before, PacketKept-more}
 use Rattle.run_laws.proofs.Versions.{version_within}
 use Rattle.run_laws.proofs.Stays.{Adds, adds_nothing, WritesKept-stays, TableKept-stays, ClientKept-stays, AbsentKept-stays}

@@ -1,13 +1,16 @@
 -- Every run is sound, and a transcript goes on by the lines of one more event.
-use Rattle.std.proofs.Common.{◌≡◌, ℕ, List, [], ◌∷◌, ◌++◌, refl, sym, ap, ◌∙◌, subst, append-nil, append_assoc}
+use Rattle.std.proofs.Common.{◌≡◌, ℕ, List, [], ◌∷◌, ◌++◌, refl, sym, ap, ◌∙◌, subst, append-nil, append_assoc, ◌≤◌, length, Some, arith}
 use Rattle.table_model.specs.declared.event.Event.{Event}
 use Rattle.table_model.specs.declared.event.Event.TheVariants as events
 use Rattle.table_model.specs.declared.line.TextLine.{TextLine}
-use Rattle.run_laws.specs.World.{World, start, step}
-use Rattle.run_laws.specs.Turns.{Turn, lines_of, turns_from, world_from, turns, world_after, transcript}
+use Rattle.step_tables.specs.Client.{Client}
+use Rattle.run_laws.specs.World.{World, start, step, client_at}
+use Rattle.run_laws.specs.Turns.{lines_of, turns_from, world_from, turns, world_after, transcript}
 use Rattle.run_laws.specs.Sound.{AlongTurns, IsShown, IsCurrent, IsSound}
-use Rattle.run_laws.proofs.Kept.{WorldKept}
-use Rattle.run_laws.proofs.Holds.{LinesHold, LinesHold-nil, LinesHold-append, StepSound}
+use Rattle.run_laws.proofs.Kept.{WorldKept, stored_in}
+use Rattle.run_laws.proofs.Versions.{length_stored}
+use Rattle.run_laws.proofs.Few.{writes_few, histories_few}
+use Rattle.run_laws.proofs.Holds.{LinesHold, LinesHold-nil, LinesHold-append}
 use Rattle.run_laws.proofs.Shapes.{all_shaped}
 use Rattle.run_laws.proofs.Showings.{show_shown, store_current, histories_current}
 use Rattle.run_laws.proofs.Sights.{in_sight}
@@ -99,3 +102,23 @@ world_after-push script event = world_from-push start script event
 
 pub transcript-push : (script : List Event) (event : Event) → transcript (script ++ event ∷ []) ≡ transcript script ++ (step (world_after script) event).lines
 transcript-push script event = lines_from-push start script event
+
+-- ---- the world behind a script
+
+pub world_kept : (script : List Event) → WorldKept (world_after script) (transcript script)
+world_kept script = run_kept [] script start start_kept
+
+-- the number of a client's last write is no more than the events
+pub last_few : (script : List Event) (client : ℕ) (node : Client) → client_at (world_after script) client ≡ Some node → node.last ≤ length script
+last_few script client node there =
+    let last = ((world_kept script).clients client node there).last in
+    let few = writes_few client script in
+    omega arith
+
+-- nor is the last version of a table
+pub stored_few : (script : List Event) (table : ℕ) → length (stored_in (world_after script) table) ≤ length script
+stored_few script table =
+    let kept = (world_kept script).tables table in
+    let long = length_stored (transcript script) table (stored_in (world_after script) table) kept.history kept.counts in
+    let few = histories_few table script in
+    omega arith

@@ -1,5 +1,5 @@
 -- Each turn has the shape of its event.
-use Rattle.std.proofs.Common.{◌≡◌, ℕ, ◌+◌, List, [], ◌∷◌, ◌++◌, length, Option, Some, None, Result, Ok, Err, refl, sym, ap, append-nil}
+use Rattle.std.proofs.Common.{◌≡◌, ℕ, List, [], ◌∷◌, ◌++◌, length, Option, Some, None, Result, Ok, Err, refl, sym, ap, append-nil}
 use Rattle.std.specs.Prelude.{Bool, true, false, slice_get, ◌==◌, if◌then◌else◌}
 use Rattle.std.proofs.lemmas.List.{length-map}
 use Rattle.row_value.specs.declared.content.Content.{Content}
@@ -9,7 +9,6 @@ use Rattle.table_model.specs.declared.event.Event.{Event}
 use Rattle.table_model.specs.declared.event.Event.TheVariants as events
 use Rattle.table_model.specs.declared.line.Answer.{Answer}
 use Rattle.table_model.specs.declared.line.Answer.TheVariants as answers
-use Rattle.table_model.specs.declared.line.Fact.{Fact}
 use Rattle.table_model.specs.declared.line.Refusal.TheVariants as refusals
 use Rattle.table_model.specs.declared.line.Shown.{Shown}
 use Rattle.table_model.specs.declared.line.TextLine.{TextLine}
@@ -24,7 +23,7 @@ use Rattle.sync_msgs.specs.declared.message.Outcome.TheVariants as outcomes
 use Rattle.step_tables.specs.declared.slots.Out.{Out}
 use Rattle.step_tables.specs.Store.{Stored, StoreStep, entries_of, current_of, store_step}
 use Rattle.step_tables.specs.Client.{Client, ClientStep, ClientTable, table_at, slots_at, write_to, write_fitting, write_step, show_in, show_step, show_answer, shown_in, sync_in, sync_first, sync_step, resent, first_to_send, pull_in, pull_step, deliver_step, response_in, take_response, take_outcome, pulled_in, take_pulled, take_row, take_header, ignored}
-use Rattle.run_laws.specs.World.{World, WorldStep, Packet, stored_at, client_at, schema_at, the_store, packets_of, at_client, call, to_store, to_client, carried, delivered, table_in, store_row, store_shows, history_lines, entry_lines, answer_lines, sent_from, step}
+use Rattle.run_laws.specs.World.{World, Packet, stored_at, client_at, the_store, packets_of, at_client, call, to_store, to_client, carried, delivered, table_in, store_row, store_shows, history_lines, entry_lines, answer_lines, sent_from, step}
 use Rattle.run_laws.specs.Turns.{turns_from}
 use Rattle.run_laws.specs.Sound.{IsForm, IsCounted, IsAnswered, IsShaped, Shape}
 

@@ -1,32 +1,28 @@
 -- What is shown is what the lines before say.
-use Rattle.std.proofs.Common.{◌≡◌, ◌⊎◌, ℕ, ◌+◌, ◌<◌, ◌≤◌, Bool, true, false, List, [], ◌∷◌, ◌++◌, length, Option, Some, None, refl, sym, ap, ◌∙◌, subst, arith, inl, inr}
-use Rattle.std.specs.Prelude.{◌==◌, option_map, if◌then◌else◌}
+use Rattle.std.proofs.Common.{◌≡◌, ℕ, ◌<◌, false, List, [], ◌∷◌, length, Option, Some, None, refl, sym, ap, ◌∙◌, subst, arith, inl, inr}
+use Rattle.std.specs.Prelude.{◌==◌, option_map}
 use Rattle.std.proofs.lemmas.Bool.Decides.{nat_tests}
 use Rattle.row_value.specs.declared.content.Content.{Content}
 use Rattle.table_model.specs.declared.entry.Entry.{Entry}
-use Rattle.table_model.specs.declared.event.Event.{Event}
 use Rattle.table_model.specs.declared.event.Event.TheVariants as events
-use Rattle.table_model.specs.declared.line.Answer.{Answer}
 use Rattle.table_model.specs.declared.line.Answer.TheVariants as answers
 use Rattle.table_model.specs.declared.line.Refusal.TheVariants as refusals
 use Rattle.table_model.specs.declared.line.Shown.{Shown}
 use Rattle.table_model.specs.declared.line.TextLine.{TextLine}
 use Rattle.table_model.specs.declared.line.TextLine.TheVariants as text
 use Rattle.table_model.specs.declared.line.Write.{Write}
-use Rattle.table_model.specs.Last.{last_where}
 use Rattle.table_model.specs.History.{history_of, current, version_of}
 use Rattle.table_model.specs.History as histories
-use Rattle.step_tables.specs.declared.slots.Main.{Main}
 use Rattle.step_tables.specs.declared.slots.Shadow.{Shadow}
 use Rattle.step_tables.specs.declared.slots.Slots.{Slots}
 use Rattle.step_tables.specs.Store.{Stored, entries_of, current_of}
 use Rattle.step_tables.specs.Store as stores
 use Rattle.step_tables.specs.Client.{Client, ClientTable, table_at, slots_at, version_in, shown_in, show_in, show_answer, show_step}
 use Rattle.run_laws.specs.World.{World, Packet, stored_at, client_at, at_client, after_client, store_row, store_shows, history_lines, entry_lines, answer_lines, step}
-use Rattle.run_laws.specs.Lines.{open_write, read_of, content_at, shown_by, shown_of, clean}
-use Rattle.run_laws.specs.Sound.{Among, IsShown, IsCurrent, HasEntry}
-use Rattle.run_laws.proofs.Lists.{among_last, last_where-map, among_cons, among_none}
-use Rattle.run_laws.proofs.Kept.{SlotsKept, WorldKept, TableKept, main_of, stored_in, stored_or_none}
+use Rattle.run_laws.specs.Lines.{open_write, read_of, content_at, shown_by, shown_of}
+use Rattle.run_laws.specs.Sound.{Among, IsShown, IsCurrent}
+use Rattle.run_laws.proofs.Lists.{among_last, last_where-map}
+use Rattle.run_laws.proofs.Kept.{SlotsKept, WorldKept, TableKept, main_of, stored_or_none}
 use Rattle.run_laws.proofs.Versions.{Counts-within}
 
 -- ---- what a client shows

@@ -1,17 +1,15 @@
 -- No write is lost from sight.
-use Rattle.std.proofs.Common.{◌≡◌, ◌⊎◌, ℕ, ◌+◌, ◌<◌, ◌≤◌, Bool, true, false, List, [], ◌∷◌, ◌++◌, Option, Some, None, refl, sym, ap, ◌∙◌, subst, arith, inl, inr, append-nil, append_assoc}
-use Rattle.std.specs.Prelude.{◌||◌, ◌&&◌, ◌==◌, if◌then◌else◌}
+use Rattle.std.proofs.Common.{◌≡◌, ◌⊎◌, ℕ, ◌<◌, ◌≤◌, Bool, true, false, List, [], ◌∷◌, ◌++◌, Some, None, refl, sym, ap, ◌∙◌, subst, arith, inl, inr, append_assoc}
+use Rattle.std.specs.Prelude.{◌||◌, ◌==◌, if◌then◌else◌}
 use Rattle.std.proofs.lemmas.Bool.{eqb-true, cases_lt}
 use Rattle.table_model.specs.declared.entry.Entry.{Entry}
-use Rattle.table_model.specs.declared.line.Fact.{Fact}
 use Rattle.table_model.specs.declared.line.Fact.TheVariants as facts
-use Rattle.table_model.specs.declared.line.Shown.TheVariants.{Mine}
 use Rattle.table_model.specs.declared.line.TextLine.{TextLine}
 use Rattle.table_model.specs.declared.line.TextLine.TheVariants as text
 use Rattle.table_model.specs.declared.line.Write.{Write}
 use Rattle.table_model.specs.Writes.{all_writes, last_write, is_on}
 use Rattle.run_laws.specs.World.{World}
-use Rattle.run_laws.specs.Lines.{of_fact, acks, is_acked, if_open, open_write, shown_by, shown_of, read_of}
+use Rattle.run_laws.specs.Lines.{of_fact, acks, is_acked, if_open, open_write, shown_by, read_of}
 use Rattle.run_laws.specs.Sound.{Among, Along, OfFact, IsKept, HasEntryOf, IsInSight, InSight}
 use Rattle.run_laws.proofs.Lists.{last_some, among_last}
 use Rattle.run_laws.proofs.Tests.{is_on-is, is_on-own, both_true}

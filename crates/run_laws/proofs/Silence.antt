@@ -1,20 +1,18 @@
 -- Lines that say nothing of a client leave all that is said of it.
-use Rattle.std.proofs.Common.{◌≡◌, ◌≢◌, ◌⊎◌, ℕ, ◌+◌, Bool, true, false, List, [], ◌∷◌, ◌++◌, filter, Option, Some, None, refl, sym, ap, ◌∙◌, subst, arith, append-nil, true≢false, inl, inr}
-use Rattle.std.specs.Prelude.{◌||◌, max, ◌==◌}
+use Rattle.std.proofs.Common.{◌≡◌, ◌≢◌, ℕ, Bool, true, false, List, [], ◌∷◌, ◌++◌, filter, Option, Some, None, refl, ap, ◌∙◌, subst, arith, append-nil, inl, inr}
+use Rattle.std.specs.Prelude.{◌||◌, ◌==◌}
 use Rattle.std.specs.List.{AllByRecursion}
-use Rattle.std.proofs.lemmas.List.Elements.{filter-append}
 use Rattle.table_model.specs.declared.line.Answer.{Answer}
 use Rattle.table_model.specs.declared.line.Fact.{Fact}
 use Rattle.table_model.specs.declared.line.Fact.TheVariants as facts
 use Rattle.table_model.specs.declared.line.TextLine.{TextLine}
 use Rattle.table_model.specs.declared.line.Write.{Write}
-use Rattle.table_model.specs.History.{same_row}
 use Rattle.table_model.specs.Last.{last_where}
 use Rattle.table_model.specs.Writes.{all_writes, writes_of, last_write, is_by, is_on}
 use Rattle.run_laws.specs.World.{Packet, told, sent_from, answer_lines}
 use Rattle.run_laws.specs.Lines.{read_of, read_by, position_of, moves_to, is_acked, acks, open_write, if_open}
 use Rattle.run_laws.specs.Sound.{Among}
-use Rattle.run_laws.proofs.Lists.{among_cons, among_filtered, last_where_stays, among_last}
+use Rattle.run_laws.proofs.Lists.{last_where_stays, among_last}
 use Rattle.run_laws.proofs.Tests.{eqb-apart, is_on-is}
 use Rattle.run_laws.proofs.Appends.{all_writes-append, writes_of-append, read_of-append, position_of-append, is_acked-append, step_writes, step_reads, step_positions, step_acks}
 

@@ -1,26 +1,24 @@
 -- What is kept of a node stays under lines that say nothing of it.
-use Rattle.std.proofs.Common.{◌≡◌, ◌≢◌, ◌⊎◌, ℕ, ◌+◌, ◌<◌, ◌≤◌, Bool, true, false, cond, List, [], ◌∷◌, ◌++◌, length, Option, Some, None, refl, sym, ap, ◌∙◌, subst, arith, append-nil, inl, inr}
+use Rattle.std.proofs.Common.{◌≡◌, ◌⊎◌, ℕ, ◌+◌, ◌<◌, ◌≤◌, Bool, true, false, cond, List, [], ◌∷◌, ◌++◌, length, Option, Some, None, refl, sym, ap, ◌∙◌, subst, arith, append-nil, inl, inr}
 use Rattle.std.specs.Prelude.{option_map}
 use Rattle.std.proofs.lemmas.List.{length_push}
 use Rattle.table_model.specs.declared.entry.Entry.{Entry}
 use Rattle.table_model.specs.declared.line.TextLine.{TextLine}
 use Rattle.table_model.specs.declared.line.Write.{Write}
 use Rattle.table_model.specs.History.{same_row, history_of, current, version_of, last_entry, is_of_row}
-use Rattle.table_model.specs.Writes.{all_writes, writes_of, last_write}
-use Rattle.step_tables.specs.declared.slots.Main.{Main}
+use Rattle.table_model.specs.Writes.{all_writes}
 use Rattle.step_tables.specs.declared.slots.Out.{Out}
 use Rattle.step_tables.specs.declared.slots.Shadow.{Shadow}
 use Rattle.step_tables.specs.declared.slots.Slots.{Slots}
 use Rattle.step_tables.specs.Store.{Stored}
-use Rattle.step_tables.specs.Client.{Client, ClientTable, slots_at, table_at, version_in}
+use Rattle.step_tables.specs.Client.{Client, ClientTable, slots_at, version_in}
 use Rattle.run_laws.specs.World.{Packet}
-use Rattle.run_laws.specs.Lines.{read_of, open_write, position_of, content_at}
 use Rattle.run_laws.specs.Sound.{Among, HasEntry}
-use Rattle.run_laws.proofs.Lists.{among_left, among_cases, last_where-push}
-use Rattle.run_laws.proofs.Appends.{all_writes-append, writes_of-append, history_of-append, last_write-append}
+use Rattle.run_laws.proofs.Lists.{among_cases, last_where-push}
+use Rattle.run_laws.proofs.Appends.{all_writes-append, history_of-append}
 use Rattle.run_laws.proofs.Silence.{Silent, silent_writes_of, silent_read, silent_position, silent_acks, silent_open}
-use Rattle.run_laws.proofs.Grows.{requested_more, write_stays, Wrote-more, HasEntry-more, HasBase-more, content_at-more}
-use Rattle.run_laws.proofs.Kept.{WritesKept, Wrote, Requested, Counts, TableKept, OutKept, SlotsKept, OpenedKept, ClientKept, AbsentKept, main_of}
+use Rattle.run_laws.proofs.Grows.{requested_more, Wrote-more, HasEntry-more, HasBase-more, content_at-more}
+use Rattle.run_laws.proofs.Kept.{WritesKept, Requested, TableKept, OutKept, SlotsKept, OpenedKept, ClientKept, AbsentKept, main_of}
 
 -- a history as it was, or with its next entry
 abbrev pub Adds : List Entry → List Entry → Type 0

@@ -1,5 +1,5 @@
 -- A message to the Store that adds no entry: what is sent in answer is kept.
-use Rattle.std.proofs.Common.{◌≡◌, ◌≢◌, ◌⊎◌, ℕ, ◌+◌, ◌<◌, ◌≤◌, Bool, true, false, cond, List, [], ◌∷◌, ◌++◌, length, take, Option, Some, None, refl, sym, ap, ◌∙◌, subst, arith, append-nil, inl, inr}
+use Rattle.std.proofs.Common.{◌≡◌, ◌≢◌, ◌⊎◌, ℕ, Bool, true, false, cond, List, [], ◌∷◌, ◌++◌, length, take, Option, Some, None, refl, sym, ap, ◌∙◌, subst, arith, inl, inr}
 use Rattle.std.specs.Prelude.{◌==◌}
 use Rattle.std.proofs.lemmas.Bool.{eqb-true}
 use Rattle.std.proofs.Math.Seq.{take-length}
@@ -12,8 +12,7 @@ use Rattle.sync_msgs.specs.declared.message.Message.TheVariants as messages
 use Rattle.sync_msgs.specs.declared.message.Outcome.TheVariants as outcomes
 use Rattle.sync_msgs.specs.declared.message.PullRequest.{PullRequest}
 use Rattle.sync_msgs.specs.declared.message.SyncRequest.{SyncRequest}
-use Rattle.sync_msgs.specs.declared.message.Yours.{Yours}
-use Rattle.step_tables.specs.Store.{Stored, StoreStep, unchanged, respond, pull_answer, yours_of, yours_in, is_of_client}
+use Rattle.step_tables.specs.Store.{Stored, unchanged, respond, pull_answer, yours_of, yours_in, is_of_client}
 use Rattle.table_model.specs.Last.{last_where}
 use Rattle.run_laws.specs.World.{World, WorldStep, Packet, stored_at, the_store, packets_of, after_store, answer_lines, sent_from}
 use Rattle.run_laws.specs.Sound.{Among, HasEntryOf}

@@ -1,5 +1,5 @@
 -- A message to the Store keeps what the world keeps, and its lines hold.
-use Rattle.std.proofs.Common.{◌≡◌, ◌≢◌, ◌⊎◌, ℕ, ◌+◌, ◌<◌, ◌≤◌, Bool, true, false, cond, List, [], ◌∷◌, ◌++◌, length, Option, Some, None, refl, sym, ap, ◌∙◌, subst, arith}
+use Rattle.std.proofs.Common.{◌≡◌, ◌+◌, Bool, true, false, List, [], ◌∷◌, length, Some, refl, sym, ap, ◌∙◌, subst, arith}
 use Rattle.std.specs.Prelude.{◌==◌, nat_lt, if◌then◌else◌}
 use Rattle.std.proofs.lemmas.Bool.{eqb-true}
 use Rattle.std.proofs.lemmas.Bool.Decides.{nat_tests}
@@ -15,16 +15,17 @@ use Rattle.sync_msgs.specs.declared.message.Message.TheVariants as messages
 use Rattle.sync_msgs.specs.declared.message.Outcome.TheVariants as outcomes
 use Rattle.sync_msgs.specs.declared.message.SyncRequest.{SyncRequest}
 use Rattle.sync_msgs.specs.declared.message.Yours.{Yours}
-use Rattle.step_tables.specs.Store.{Stored, StoreStep, accept, unchanged, decide, entry_for, respond, yours_of, store_step, pull_answer}
+use Rattle.step_tables.specs.Store.{Stored, accept, unchanged, decide, entry_for, respond, yours_of, store_step, pull_answer}
 use Rattle.run_laws.specs.World.{World, Packet, stored_at, the_store, packets_of, after_store, table_in}
 use Rattle.run_laws.specs.Sound.{Among, IsNext, IsNumbered, IsOfWrite, HasBase, IsRead, IsKept}
 use Rattle.run_laws.proofs.Along.{along_step}
-use Rattle.run_laws.proofs.Kept.{MessageKept, PacketKept, RequestKept, Requested, WorldKept}
+use Rattle.run_laws.proofs.Kept.{MessageKept, RequestKept, Requested, WorldKept}
 use Rattle.run_laws.proofs.Grows.{HasBase-more}
 use Rattle.run_laws.proofs.Stays.{adds_nothing}
 use Rattle.run_laws.proofs.Holds.{LinesHold, StepSound, quiet_holds}
 use Rattle.run_laws.proofs.StoreAnswers.{dropped_kept, pulled_kept, again_kept, late_kept}
-use Rattle.run_laws.proofs.StoreAccepts.{IsTaken, HasOrigin-more, taken_origin, taken_next, accepted_kept}
+use Rattle.run_laws.proofs.StoreOrigins.{IsTaken, HasOrigin-more, taken_origin, taken_next}
+use Rattle.run_laws.proofs.StoreAccepts.{accepted_kept}
 
 pub accepted_holds : (w : World) (before : List TextLine) (request : SyncRequest) (from : Node) (stored : List Stored) → WorldKept w before → IsTaken w before request from stored
     → LinesHold before (after_store w request.table from (accept request.table stored request)).lines

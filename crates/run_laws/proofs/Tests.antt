@@ -5,10 +5,10 @@ use Rattle.std.proofs.lemmas.Bool.{eqb-true}
 use Rattle.std.proofs.lemmas.Bool.Decides.{nat_tests}
 use Rattle.table_model.specs.declared.line.Write.{Write}
 use Rattle.table_model.specs.History.{same_row}
-use Rattle.table_model.specs.Writes.{is_on, is_by}
+use Rattle.table_model.specs.Writes.{is_on}
 use Rattle.step_tables.specs.Store.{Stored, is_of_client}
-use Rattle.run_laws.specs.Lines.{is_write, is_place}
-use Rattle.run_laws.proofs.Lists.{same_row-is, same_row-refl, same_row_tells}
+use Rattle.run_laws.specs.Lines.{is_write}
+use Rattle.run_laws.proofs.Lists.{same_row-is, same_row-refl}
 
 first_of_both : (a b : Bool) → (a && b) ≡ true → a ≡ true
 first_of_both true b h = refl

@@ -1,10 +1,8 @@
 -- The versions of a table's entries are 1, 2, 3 and so on.
-use Rattle.std.proofs.Common.{◌≡◌, ◌≢◌, ◌⊎◌, ℕ, ◌+◌, ◌<◌, ◌≤◌, Bool, true, false, cond, List, [], ◌∷◌, ◌++◌, length, Option, Some, None, refl, sym, ap, ◌∙◌, subst, arith, inl, inr, true≢false}
-use Rattle.std.specs.Prelude.{map, option_map, ◌==◌}
-use Rattle.std.specs.List.{find}
+use Rattle.std.proofs.Common.{◌≡◌, ℕ, ◌+◌, ◌<◌, ◌≤◌, Bool, List, [], ◌∷◌, ◌++◌, length, Some, sym, ap, ◌∙◌, subst, arith, inl, inr}
+use Rattle.std.specs.Prelude.{option_map, ◌==◌}
 use Rattle.std.proofs.lemmas.Bool.{eqb-true}
 use Rattle.std.proofs.lemmas.List.{length-map}
-use Rattle.row_value.specs.declared.content.Content.{Content}
 use Rattle.table_model.specs.declared.entry.Entry.{Entry}
 use Rattle.table_model.specs.declared.line.TextLine.{TextLine}
 use Rattle.table_model.specs.declared.line.Write.{Write}
@@ -12,7 +10,7 @@ use Rattle.table_model.specs.History.{history_of}
 use Rattle.table_model.specs.Writes.{all_writes}
 use Rattle.step_tables.specs.Store.{Stored, entries_of}
 use Rattle.run_laws.specs.Lines.{content_at, content_of, entry_at, write_of, is_write}
-use Rattle.run_laws.specs.Sound.{Among, HasEntry}
+use Rattle.run_laws.specs.Sound.{Among}
 use Rattle.run_laws.proofs.Lists.{among_mapped, among_map, among_found, find_some}
 use Rattle.run_laws.proofs.Tests.{is_write-is, is_write-own, eqb-refl}
 use Rattle.run_laws.proofs.Kept.{Counts, WritesKept}

@@ -1,5 +1,5 @@
 -- What every transcript keeps, said of whole lists of turns and of lines.
-use Rattle.std.specs.Prelude.{◌≡◌, ◌≢◌, ◌⊎◌, ℕ, ◌+◌, ◌<◌, ◌≤◌, Bool, true, false, List, [], ◌∷◌, ◌++◌, length, map, Some, None, MatchBool}
+use Rattle.std.specs.Prelude.{◌≡◌, ◌≢◌, ◌⊎◌, ℕ, ◌+◌, ◌<◌, ◌≤◌, Bool, true, false, List, [], ◌∷◌, ◌++◌, length, Some, None, MatchBool}
 use Rattle.std.specs.List.{AllByRecursion}
 use Rattle.row_value.specs.declared.content.Content.{Content}
 use Rattle.table_model.specs.declared.entry.Entry.{Entry}
@@ -15,7 +15,7 @@ use Rattle.table_model.specs.declared.line.Fact.TheVariants as facts
 use Rattle.table_model.specs.declared.line.Refusal.TheVariants as refusals
 use Rattle.table_model.specs.declared.line.TextLine.{TextLine}
 use Rattle.table_model.specs.declared.line.TextLine.TheVariants as text
-use Rattle.table_model.specs.History.{same_row, history_of, current}
+use Rattle.table_model.specs.History.{history_of, current}
 use Rattle.table_model.specs.Writes.{all_writes, writes_of}
 use Rattle.run_laws.specs.World.{told, entry_lines}
 use Rattle.run_laws.specs.Turns.{Turn, lines_of}
@@ -112,9 +112,9 @@ IsNumbered before fact = Unit {0}
 pub record HasOrigin (before : List TextLine) (table : ℕ) (entry : Entry) : Type 0 where
   pub written : HasWrite before entry.client entry.number table entry.row
   pub once : (other : ℕ) (earlier : Entry) → Among (history_of other before) earlier
-    → earlier.client ≡ entry.client → earlier.number ≢ entry.number
+      → earlier.client ≡ entry.client → earlier.number ≢ entry.number
   pub rises : (earlier : Entry) → Among (history_of table before) earlier
-    → earlier.client ≡ entry.client → earlier.row ≡ entry.row → earlier.number < entry.number
+      → earlier.client ≡ entry.client → earlier.row ≡ entry.row → earlier.number < entry.number
 
 abbrev pub IsOfWrite : List TextLine → Fact → Type 0
 IsOfWrite before (facts.Accepted table entry) = HasOrigin before table entry

@@ -1,25 +1,19 @@
 -- What the versions of a table's history say of its last entries, and of the next change above a position.
-use Rattle.std.proofs.Common.{◌≡◌, ◌≢◌, ◌⊎◌, ℕ, zero, suc, ◌+◌, ◌<◌, ◌≤◌, Bool, true, false, ◌&&◌, not, cond, List, [], ◌∷◌, length, take, Option, Some, None, refl, ap, sym, ◌∙◌, subst, arith, inl, inr}
+use Rattle.std.proofs.Common.{◌≡◌, ℕ, zero, suc, ◌+◌, ◌<◌, ◌≤◌, Bool, true, false, ◌&&◌, not, List, [], ◌∷◌, take, Option, Some, None, refl, ap, sym, ◌∙◌, subst, arith, inl, inr}
 use Rattle.std.proofs.lemmas.Bool.Decides.{nat_tests}
-use Rattle.std.specs.Prelude.{◌==◌, nat_lt, map, option_map, ◌||◌, if◌then◌else◌}
+use Rattle.std.specs.Prelude.{nat_lt, option_map, ◌||◌, if◌then◌else◌}
 use Rattle.std.specs.Option.{option_or}
 use Rattle.std.specs.List.{list_any}
-use Rattle.table_model.specs.declared.entry.Entry.{Entry}
 use Rattle.table_model.specs.Last.{last_where}
 use Rattle.table_model.specs.History as history
 use Rattle.table_model.specs.History.{same_row, current, version_of, last_entry}
-use Rattle.step_tables.specs.Store.{Stored, entries_of, is_of_row, is_of_client, next_changed, yours_of}
+use Rattle.step_tables.specs.Store.{Stored, entries_of, is_of_row, next_changed}
 use Rattle.run_laws.specs.Sound.{Among}
 use Rattle.run_laws.proofs.Kept.{Counts}
-use Rattle.run_laws.proofs.ClientNeeds.{among_here, among_there, among_uncons, among_none, last_where-cons, same_row_tells}
+use Rattle.run_laws.proofs.Lists.{last_where-cons, same_row_tells, same_row-is, last_where-map}
+use Rattle.run_laws.proofs.Versions.{Counts-within}
 
 -- ---- versions
-
-pub counts_above : (n : ℕ) (stored : List Stored) (s : Stored) → Counts n stored → Among stored s → n < s.entry.version
-unfolding Among
-counts_above n [] s k a = absurd a
-counts_above n (x ∷ xs) s k (inl e) = let v : x.entry.version ≡ s.entry.version = ap (λ (y : Stored). y.entry.version) e in omega (arith, k.0)
-counts_above n (x ∷ xs) s k (inr a) = let h = counts_above (n + 1) xs s k.1 a in omega arith
 
 pub counts_take : (k n : ℕ) (stored : List Stored) → Counts n stored → Counts n (take k stored)
 counts_take zero n stored c = tt
@@ -30,27 +24,9 @@ counts_take (suc k) n (x ∷ xs) c = (c.0, counts_take k (n + 1) xs c.1)
 pub counts_front : (k n : ℕ) (stored : List Stored) (s : Stored) → Counts n stored → Among stored s → s.entry.version ≤ n + k → Among (take k stored) s
 unfolding Among
 counts_front k n [] s c a v = absurd a
-counts_front zero n (x ∷ xs) s c a v = let h = counts_above n (x ∷ xs) s c a in absurd (omega arith)
+counts_front zero n (x ∷ xs) s c a v = let h = (Counts-within n (x ∷ xs) s c a).0 in absurd (omega arith)
 counts_front (suc k) n (x ∷ xs) s c (inl e) v = inl e
 counts_front (suc k) n (x ∷ xs) s c (inr a) v = inr (counts_front k (n + 1) xs s c.1 a (omega arith))
-
-pub counts_within : (n : ℕ) (stored : List Stored) (s : Stored) → Counts n stored → Among stored s → s.entry.version ≤ n + length stored
-unfolding Among
-counts_within n [] s c a = absurd a
-counts_within n (x ∷ xs) s c (inl e) = let v : x.entry.version ≡ s.entry.version = ap (λ (y : Stored). y.entry.version) e in omega (arith, c.0)
-counts_within n (x ∷ xs) s c (inr a) = let h = counts_within (n + 1) xs s c.1 a in omega arith
-
--- two entries of one version are one
-pub counts_same : (n : ℕ) (stored : List Stored) (a b : Stored) → Counts n stored → Among stored a → Among stored b
-    → a.entry.version ≡ b.entry.version → a ≡ b
-unfolding Among
-counts_same n [] a b c p q v = absurd p
-counts_same n (x ∷ xs) a b c (inl s) (inl t) v = sym s ∙ t
-counts_same n (x ∷ xs) a b c (inl s) (inr q) v =
-  let h = counts_above (n + 1) xs b c.1 q in let w : x.entry.version ≡ a.entry.version = ap (λ (y : Stored). y.entry.version) s in absurd (omega (arith, c.0))
-counts_same n (x ∷ xs) a b c (inr p) (inl t) v =
-  let h = counts_above (n + 1) xs a c.1 p in let w : x.entry.version ≡ b.entry.version = ap (λ (y : Stored). y.entry.version) t in absurd (omega (arith, c.0))
-counts_same n (x ∷ xs) a b c (inr p) (inr q) v = counts_same (n + 1) xs a b c.1 p q v
 
 -- ---- the last entry that passes a test
 
@@ -78,6 +54,7 @@ last_is test n (x ∷ xs) c = subst (λ o. LastIs test (x ∷ xs) o) (sym (last_
       ];
     }
     here false is none = λ s a. elim a [ inl e ↦ sym (ap test e) ∙ is | inr b ↦ none s b ]
+
     go : (o : Option Stored) → LastIs test xs o → LastIs test (x ∷ xs) (option_or o (if test x then Some x else None))
     go None none = here (test x) refl none
     go (Some last) is = record {
@@ -85,8 +62,8 @@ last_is test n (x ∷ xs) c = subst (λ o. LastIs test (x ∷ xs) o) (sym (last_
       passes = is.passes;
       most = λ s a t. elim a [
         | inl e ↦
-          let v : x.entry.version ≡ s.entry.version = ap (λ (y : Stored). y.entry.version) e in
-          let h = counts_above (n + 1) xs last c.1 is.among in omega (arith, c.0)
+            let v : x.entry.version ≡ s.entry.version = ap (λ (y : Stored). y.entry.version) e in
+            let h = (Counts-within (n + 1) xs last c.1 is.among).0 in omega (arith, c.0)
         | inr b ↦ is.most s b t
       ];
     }
@@ -98,33 +75,12 @@ pub record CurrentIs (stored : List Stored) (row : List ℕ) (version : ℕ) : T
   pub most : (s : Stored) → Among stored s → s.entry.row ≡ row → s.entry.version ≤ version
   pub some : 0 < version → (s : Stored) × Among stored s × (s.entry.row ≡ row) × (s.entry.version ≡ version)
 
-option_or-map : {X Y : Type 0} (f : X → Y) (o p : Option X) → option_or (option_map f o) (option_map f p) ≡ option_map f (option_or o p)
-option_or-map f None p = refl
-option_or-map f (Some x) p = refl
-
-if_some-map : {X Y : Type 0} (f : X → Y) (b : Bool) (x : X) → (if b then Some (f x) else None) ≡ option_map f (if b then Some x else None)
-if_some-map f true x = refl
-if_some-map f false x = refl
-
-last_where-map : {X Y : Type 0} (test : Y → Bool) (f : X → Y) (xs : List X)
-    → last_where test (map f xs) ≡ option_map f (last_where (λ x. test (f x)) xs)
-last_where-map test f [] = refl
-last_where-map test f (x ∷ xs) =
-  last_where-cons test (f x) (map f xs)
-  ∙ ap (λ o. option_or o (if test (f x) then Some (f x) else None)) (last_where-map test f xs)
-  ∙ ap (option_or (option_map f (last_where (λ x. test (f x)) xs))) (if_some-map f (test (f x)) x)
-  ∙ option_or-map f (last_where (λ x. test (f x)) xs) (if test (f x) then Some x else None)
-  ∙ ap (option_map f) (sym (last_where-cons (λ x. test (f x)) x xs))
-
-pub row_true : (a b : List ℕ) → same_row a b ≡ true → a ≡ b
-row_true a b e = elim (same_row_tells a b) [ inl p ↦ p.1 | inr p ↦ let f = p.0 in absurd cc ]
-
 pub row_is : (a b : List ℕ) → a ≡ b → same_row a b ≡ true
 row_is a b e = elim (same_row_tells a b) [ inl p ↦ p.0 | inr p ↦ absurd (p.1 e) ]
 
 pub current_is : (n : ℕ) (stored : List Stored) (row : List ℕ) → Counts n stored → CurrentIs stored row (current (entries_of stored) row)
 current_is n stored row c =
-  subst (CurrentIs stored row) (ap version_of (sym (last_where-map (history.is_of_row row) (λ (s : Stored). s.entry) stored)))
+    subst (CurrentIs stored row) (ap version_of (sym (last_where-map (history.is_of_row row) (λ (s : Stored). s.entry) stored)))
     (go (last_where (is_of_row row) stored) (last_is (is_of_row row) n stored c))
   where
     go : (o : Option Stored) → LastIs (is_of_row row) stored o → CurrentIs stored row (version_of (option_map (λ (s : Stored). s.entry) o))
@@ -134,7 +90,7 @@ current_is n stored row c =
     }
     go (Some s) is = record {
       most = λ x a e. is.most x a (row_is x.entry.row row e);
-      some = λ p. (s, is.among, row_true s.entry.row row is.passes, refl);
+      some = λ p. (s, is.among, same_row-is s.entry.row row is.passes, refl);
     }
 
 -- ---- the next change
@@ -144,7 +100,7 @@ pub record IsNextChange (position : ℕ) (stored : List Stored) (s : Stored) : T
   pub above : position < s.entry.version
   pub last : (x : Stored) → Among stored x → x.entry.row ≡ s.entry.row → x.entry.version ≤ s.entry.version
   pub first : (x : Stored) → Among stored x → position < x.entry.version → x.entry.version < s.entry.version
-    → (y : Stored) × Among stored y × (y.entry.row ≡ x.entry.row) × (x.entry.version < y.entry.version)
+      → (y : Stored) × Among stored y × (y.entry.row ≡ x.entry.row) × (x.entry.version < y.entry.version)
 
 any_found : {X : Type 0} (test : X → Bool) (xs : List X) → list_any test xs ≡ true → (x : X) × Among xs x × (test x ≡ true)
 unfolding Among
@@ -179,10 +135,11 @@ next_is position n (x ∷ xs) s c e = go (nat_lt position x.entry.version) refl 
         | inl e ↦ let v : x.entry.version ≡ y.entry.version = ap (λ (z : Stored). z.entry.version) e in omega arith
         | inr b ↦ let f = any_none (is_of_row x.entry.row) xs y none b in let t = row_is y.entry.row x.entry.row r in absurd cc
       ];
-      first = λ y a p l. let h = counts_above n (x ∷ xs) y c a in absurd (omega (arith, c.0));
+      first = λ y a p l. let h = (Counts-within n (x ∷ xs) y c a).0 in absurd (omega (arith, c.0));
     })
+
     later : (position < x.entry.version → list_any (is_of_row x.entry.row) xs ≡ true) → IsNextChange position xs s → IsNextChange position (x ∷ xs) s
-    later found is = let h = counts_above (n + 1) xs s c.1 is.among in record {
+    later found is = let h = (Counts-within (n + 1) xs s c.1 is.among).0 in record {
       among = inr is.among;
       above = is.above;
       last = λ y a r. elim a [
@@ -191,15 +148,17 @@ next_is position n (x ∷ xs) s c e = go (nat_lt position x.entry.version) refl 
       ];
       first = λ y a p l. elim a [
         | inl e ↦
-          let v : x.entry.version ≡ y.entry.version = ap (λ (z : Stored). z.entry.version) e in
-          let f = any_found (is_of_row x.entry.row) xs (found (omega arith)) in
-          let g = counts_above (n + 1) xs f.0 c.1 f.1 in
-          (f.0, inr f.1, row_true f.0.entry.row x.entry.row f.2 ∙ ap (λ (z : Stored). z.entry.row) e, omega (arith, c.0))
+            let v : x.entry.version ≡ y.entry.version = ap (λ (z : Stored). z.entry.version) e in
+            let f = any_found (is_of_row x.entry.row) xs (found (omega arith)) in
+            let g = (Counts-within (n + 1) xs f.0 c.1 f.1).0 in
+            (f.0, inr f.1, same_row-is f.0.entry.row x.entry.row f.2 ∙ ap (λ (z : Stored). z.entry.row) e, omega (arith, c.0))
         | inr b ↦ let r = is.first y b p l in (r.0, inr r.1, r.2, r.3)
       ];
     }
+
     below : (nat_lt position x.entry.version ≡ true → position < x.entry.version) × (nat_lt position x.entry.version ≡ false → position < x.entry.version → ⊥)
     below = (λ e. grind (arith, nat_tests), λ e l. grind (arith, nat_tests))
+
     go : (p : Bool) → nat_lt position x.entry.version ≡ p → (q : Bool) → list_any (is_of_row x.entry.row) xs ≡ q
         → (next_changed position xs ≡ Some s → IsNextChange position xs s)
         → (if p && not q then Some x else next_changed position xs) ≡ Some s → IsNextChange position (x ∷ xs) s

@@ -1,16 +1,30 @@
 -- Where the whole input spells a script, no line is bad and no limit is passed.
-use Rattle.std.proofs.Common.{◌≡◌, ◌⊎◌, ℕ, ◌<◌, ◌≤◌, List, [], ◌∷◌, length, refl, sym, ap, subst, ◌∙◌, inl, inr, length-append, arith}
+use Rattle.std.proofs.Common.{◌≡◌, ◌⊎◌, ℕ, ◌+◌, ◌<◌, ◌≤◌, Bool, true, false, eqb, cond, List, [], ◌∷◌, ◌++◌, length, Option, Some, None, refl, sym, ap, subst, ◌∙◌, inl, inr, append_assoc, length-append, arith}
+use Rattle.std.specs.Prelude.{nat_lt, slice_get}
 use Rattle.table_model.specs.declared.event.Event.{Event}
 use Rattle.table_model.specs.declared.event.Event.TheVariants as events
-use Rattle.run_laws.specs.Turns.{transcript}
-use Rattle.run_laws.proofs.Runs.{writes_few}
+use Rattle.table_model.specs.declared.node.Node.{Node}
+use Rattle.table_model.specs.declared.node.Node.TheVariants as nodes
+use Rattle.row_value.specs.declared.content.Content.{Content}
+use Rattle.sync_msgs.specs.declared.message.Message.{Message}
+use Rattle.sync_msgs.specs.declared.message.Message.TheVariants as messages
+use Rattle.step_tables.specs.Store.{Stored, StoreStep, yours_of, entry_for, accept, store_step}
+use Rattle.step_tables.specs.Client.{Client}
+use Rattle.run_laws.specs.World.{Packet, client_at, stored_at, table_in}
+use Rattle.run_laws.specs.Turns.{world_after}
+use Rattle.run_laws.proofs.Kept.{stored_or_none}
+use Rattle.run_laws.proofs.Runs.{last_few, stored_few}
+use Rattle.world_steps.specs.Holds.{SpendsNumber, SpendsVersion, SpendsAt, SpendsPacket, Spends}
 use Rattle.stab_io.specs.Lines.{Next, Line, End, LineTooLong, InputTooLong}
 use Rattle.script_text.specs.declared.fault.BadLine.{BadLine}
 use Rattle.script_text.specs.Names.{Names, no_names}
 use Rattle.script_text.specs.Grammar.{IsPassed, Spells, IsFault, PassesLimit}
-use Rattle.simba_top.specs.World.{IsSpent}
+use Rattle.simba_top.specs.declared.run.TheConstants.{MOST_LINES}
+use Rattle.simba_top.specs.declared.row_names.TheConstants.{MOST_ROWS}
+use Rattle.simba_top.specs.RowNames.{rows_named, FewRows, NamesTooMany}
 use Rattle.simba_top.specs.Script.{next_in, Behind, Spelled, IsFront, IsWhole}
 use Rattle.simba_top.specs.Ends.{IsBadAt, IsLimitAt}
+use Rattle.simba_top.proofs.RowNames.{rows_grow}
 use Rattle.simba_top.proofs.Fronts.{Grammar, none_is_end, not_end, same_line, spelled_few, rest_of_front}
 
 -- behind a front of a whole input stands its end, or a line that is passed over or spells an event
@@ -46,15 +60,83 @@ one_more : (total : ℕ) (rest : List ℕ) (lines : List (List ℕ)) → Behind 
 one_more total rest [] behind some = absurd (let e = ap (λ (b : List ℕ). length b) behind in omega (arith, e, some))
 one_more total rest (line ∷ lines) behind some = omega arith
 
--- a client can't have made its last write: a script has too few lines
-not_spent : (input : List ℕ) (script : List Event) (count : ℕ) (names : Names) (rest : List ℕ) (event : Event)
-    → IsFront input script count names rest → IsSpent (transcript script) event → ⊥
-not_spent input script count names rest (events.Store store) front spent = spent
-not_spent input script count names rest (events.Table table schema) front spent = spent
-not_spent input script count names rest (events.Client client gate tables) front spent = spent
-not_spent input script count names rest (events.Show client table row) front spent = spent
-not_spent input script count names rest (events.Write client table row content) front spent =
-    omega (arith, spent, writes_few client script, spelled_few no_names front.lines script names front.spelled, front.counted, front.few)
+-- ---- the numbers of a script's writes and versions are no more than its events
+
+pick : (b c : Bool) (x y z : StoreStep) (most : ℕ) → length x.stored ≤ most → length y.stored ≤ most → length z.stored ≤ most
+    → length (cond b x (cond c y z)).stored ≤ most
+pick true c x y z most p q r = p
+pick false true x y z most p q r = q
+pick false false x y z most p q r = r
+
+-- a message adds one version at most
+store_few : (table : ℕ) (stored : List Stored) (message : Message) → length (store_step table stored message).stored ≤ length stored + 1
+store_few table stored (messages.SyncRequest request) =
+    pick (eqb (yours_of stored request.client request.row).number request.number) (nat_lt request.number (yours_of stored request.client request.row).number)
+    _ _ (accept table stored request) (length stored + 1) (omega arith) (omega arith)
+    (let e = length-append stored (record { entry = entry_for stored request; content = request.content } ∷ []) in omega (arith, e))
+store_few table stored (messages.PullRequest request) = omega arith
+store_few table stored (messages.SyncResponse response) = omega arith
+store_few table stored (messages.PullResponse response) = omega arith
+
+module _ (script : List Event) (few : length script ≤ MOST_LINES) where
+  no_number : (client table : ℕ) (row : List ℕ) (content : Content) (o : Option Client) → client_at (world_after script) client ≡ o
+      → SpendsNumber o table row content → ⊥
+  no_number client table row content None there spent = spent
+  no_number client table row content (Some node) there spent = let last = spent.1 in omega (arith, last, last_few script client node there, few)
+
+  no_version : (packet : Packet) (o : Option (List Stored)) → stored_at (world_after script) (table_in packet.message) ≡ o → SpendsVersion o packet → ⊥
+  no_version packet None there spent = spent
+  no_version packet (Some stored) there spent =
+      let held : length stored ≤ length script =
+      subst (λ (o : Option (List Stored)). length (stored_or_none o) ≤ length script) there (stored_few script (table_in packet.message)) in
+      omega (arith, spent, store_few (table_in packet.message) stored packet.message, held, few)
+
+  no_packet_at : (packet : Packet) (to : Node) → SpendsAt (world_after script) packet to → ⊥
+  no_packet_at packet (nodes.Store store) spent = no_version packet (stored_at (world_after script) (table_in packet.message)) refl spent
+  no_packet_at packet (nodes.Client client) spent = spent
+  no_packet_at packet (nodes.Gate gate) spent = spent
+
+  no_packet : (o : Option Packet) → SpendsPacket (world_after script) o → ⊥
+  no_packet None spent = spent
+  no_packet (Some packet) spent = no_packet_at packet packet.to spent
+
+  not_spent : (event : Event) → Spends (world_after script) event → ⊥
+  not_spent (events.Write client table row content) spent = no_number client table row content (client_at (world_after script) client) refl spent
+  not_spent (events.Deliver packet) spent = no_packet (slice_get (world_after script).packets packet) spent
+  not_spent (events.Store store) spent = spent
+  not_spent (events.Table table schema) spent = spent
+  not_spent (events.Client client gate tables) spent = spent
+  not_spent (events.Show client table row) spent = spent
+  not_spent (events.Sync client table) spent = spent
+  not_spent (events.Pull client table) spent = spent
+  not_spent (events.StoreShow table row) spent = spent
+  not_spent (events.History table) spent = spent
+
+front_few : (input : List ℕ) (script : List Event) (count : ℕ) (names : Names) (rest : List ℕ) → IsFront input script count names rest → length script ≤ MOST_LINES
+front_few input script count names rest front = omega (arith, spelled_few no_names front.lines script names front.spelled, front.counted, front.few)
+
+-- ---- nor does an event name a row too many
+
+-- the event that the line behind a front of a whole input spells is the script's next
+event_next : Grammar → (total : ℕ) (names after : Names) (rest : List ℕ) (lines : List (List ℕ)) (script : List Event) (line left : List ℕ) (event : Event)
+    → Behind total rest lines [] → Spelled names lines script after → next_in total rest ≡ Line line left → Spells names line event
+    → (more : List Event) × (script ≡ event ∷ more)
+event_next grammar total names after rest [] script line left event behind spelled next spells =
+    absurd (not_end total line left (subst (λ (b : List ℕ). next_in total b ≡ Line line left) (sym behind) next))
+event_next grammar total names after rest (same ∷ lines) script line left event behind (inl s) next spells =
+    absurd (grammar.passed_spells names same event s.0
+    (subst (λ (l : List ℕ). Spells names l event) (same_line total rest line same left behind.0 next behind.1) spells))
+event_next grammar total names after rest (same ∷ lines) script line left event behind (inr s) next spells =
+    let one : s.0 ≡ event = grammar.one_event names same s.0 event s.3
+    (subst (λ (l : List ℕ). Spells names l event) (same_line total rest line same left behind.0 next behind.1) spells) in
+    (s.1, s.2 ∙ ap (λ (e : Event). e ∷ s.1) one)
+
+not_too_many : (script whole more : List Event) (event : Event) → whole ≡ script ++ event ∷ more → FewRows whole → NamesTooMany script event → ⊥
+not_too_many script whole more event is few many =
+    let longer : script ++ event ∷ more ≡ (script ++ event ∷ []) ++ more = sym (append_assoc script (event ∷ []) more) in
+    let fits : length (rows_named many.0 ((script ++ event ∷ []) ++ more)) ≤ MOST_ROWS =
+    subst (λ (events : List Event). length (rows_named many.0 events) ≤ MOST_ROWS) (is ∙ longer) (few many.0) in
+    omega (arith, many.1, rows_grow many.0 (script ++ event ∷ []) more, fits)
 
 pub not_limit : Grammar → (input : List ℕ) (script whole : List Event) (count limit : ℕ) → IsLimitAt input script count limit → IsWhole input whole → ⊥
 not_limit grammar input script whole count limit at all =
@@ -65,8 +147,11 @@ not_limit grammar input script whole count limit at all =
           (let longer = ap (λ (ls : List (List ℕ)). length ls) more.more ∙ length-append at.front.lines more.lines in
           omega (arith, p.1, longer, at.front.counted, all.2.counted, all.2.few, one_more (length input) at.rest more.lines more.behind p.2))
       | inr (inr (inl p)) ↦ no_limit (length input) at.rest more.lines LineTooLong more.behind p.2 (inl refl)
-      | inr (inr (inr (inl p))) ↦ not_spent input script count at.names at.rest p.2.2 at.front p.2.5
-      | inr (inr (inr (inr p))) ↦
+      | inr (inr (inr (inl p))) ↦ not_spent script (front_few input script count at.names at.rest at.front) p.2.2 p.2.5
+      | inr (inr (inr (inr (inl p)))) ↦
+          (let next = event_next grammar (length input) at.names all.1 at.rest more.lines more.events p.2.0 p.2.1 p.2.2 more.behind more.spelled p.2.3 p.2.4 in
+          not_too_many script whole next.0 p.2.2 (more.grows ∙ ap (λ (events : List Event). script ++ events) next.1) all.2.rows p.2.5)
+      | inr (inr (inr (inr (inr p)))) ↦
           line_apart (λ names line. PassesLimit names line limit) (λ names line. grammar.passed_limit names line limit)
           (λ names line event. grammar.spells_limit names line event limit)
           (length input) at.names all.1 at.rest more.lines more.events p.1.0 p.1.1 more.behind more.spelled p.1.2 p.1.3

@@ -6,6 +6,7 @@ use Rattle.script_text.specs.declared.fault.BadLine.{BadLine}
 use Rattle.script_text.specs.Names.{Names, no_names, with_event}
 use Rattle.script_text.specs.Grammar.{IsPassed, Spells, IsFault, PassesLimit}
 use Rattle.simba_top.specs.declared.run.TheConstants.{MOST_LINES}
+use Rattle.simba_top.specs.RowNames.{FewRows}
 use Rattle.simba_top.specs.Script.{next_in, Behind, Spelled, IsFront, IsWhole}
 
 -- what the proofs here take of the grammar: a line has one meaning
@@ -69,20 +70,22 @@ module _ (input : List ℕ) (script : List Event) (count : ℕ) (names : Names) 
     spelled = passed-push no_names front.lines script names line front.spelled passed;
     counted = counted;
     few = omega arith;
+    rows = front.rows;
   }
 
-  pub front_event : (event : Event) → Spells names line event → IsFront input (script ++ event ∷ []) (count + 1) (with_event names event) left
-  front_event event spells = record {
+  pub front_event : (event : Event) → Spells names line event → FewRows (script ++ event ∷ []) → IsFront input (script ++ event ∷ []) (count + 1) (with_event names event) left
+  front_event event spells rows = record {
     lines = front.lines ++ line ∷ [];
     behind = behind-push (length input) input front.lines rest line left front.behind next;
     spelled = event-push no_names front.lines script names line event front.spelled spells;
     counted = counted;
     few = omega arith;
+    rows = rows;
   }
 
 -- the empty front
 pub front_start : (input : List ℕ) → IsFront input [] 0 no_names input
-front_start input = record { lines = []; behind = refl; spelled = (refl, refl); counted = refl; few = lit≤ tt }
+front_start input = record { lines = []; behind = refl; spelled = (refl, refl); counted = refl; few = lit≤ tt; rows = λ table. lit≤ tt }
 
 -- there are no more events than lines
 pub spelled_few : (names : Names) (lines : List (List ℕ)) (script : List Event) (after : Names) → Spelled names lines script after → length script ≤ length lines

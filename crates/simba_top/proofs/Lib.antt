@@ -1,5 +1,4 @@
-pub mod Keys
-pub mod Worlds
+pub mod RowNames
 pub mod Fronts
 pub mod Grammars
 pub mod Complete

@@ -9,8 +9,9 @@ use Rattle.std.proofs.lemmas.Grind.{flat_map-append}
 use Rattle.std.proofs.lemmas.List.Folds.{flat_map-map}
 use Rattle.table_model.specs.declared.event.Event.{Event}
 use Rattle.table_model.specs.declared.line.TextLine.{TextLine}
-use Rattle.run_laws.specs.Turns.{lines_for, transcript}
-use Rattle.run_laws.proofs.Runs.{transcript-push}
+use Rattle.run_laws.specs.World.{step}
+use Rattle.run_laws.specs.Turns.{world_after, transcript}
+use Rattle.run_laws.proofs.Runs.{world_after-push, transcript-push}
 use Rattle.stab_io.specs.Lines.{Line, End, LineTooLong, InputTooLong, next_of}
 use Rattle.stab_io.specs.Reading.{Reading, ahead, IsNextLine, ComesNext, CountsAll, IsFirstPast}
 use Rattle.stab_io.specs.declared.line_fault.LineFault.{LineFault}
@@ -23,12 +24,15 @@ use Rattle.script_text.specs.Grammar.{IsPassed, Spells}
 use Rattle.script_text.specs.Text.{text_of, transcript_text}
 use Rattle.simba_top.specs.declared.turn.Run.{Run}
 use Rattle.simba_top.specs.declared.run.TheConstants.{MOST_LINES}
-use Rattle.simba_top.specs.World.{IsAt}
+use Rattle.world_steps.specs.Holds.{Holds}
+use Rattle.run_laws.specs.World as laws
+use Rattle.simba_top.specs.RowNames.{HasRows, FewRows}
+use Rattle.simba_top.specs.declared.row_names.RowNames.{RowNames}
 use Rattle.simba_top.specs.Script.{next_in, IsFront, IsWhole}
 use Rattle.simba_top.specs.Stops.{of_line}
 use Rattle.simba_top.specs.Ends.{text_of_run, IsFull, IsLimitAt, IsCutOff}
 use Rattle.simba_top.specs.Stands.{IsReady, Stands, HasLine, GoesOn, IsCause}
-use Rattle.simba_top.specs.declared.world.World.{World}
+use Rattle.world_steps.specs.declared.world.World.{World}
 use Rattle.simba_top.proofs.Fronts.{front_start, front_passed, front_event}
 
 some_and : {X : Type 0} (o : Option X) (P : X → Type 0) → IsSomeAnd o P → (x : X) × (o ≡ Some x) × P x
@@ -45,13 +49,14 @@ known (Some x) f = f x refl
 
 -- the run at its start
 pub stands_new : (input : List ℕ) (run : Run) → run.reader ≡ record { used = 0; held = []; stopped = None; limits = record { line = LINE_LIMIT; input = INPUT_LIMIT } }
-    → run.names ≡ no_names → run.count ≡ 0 → IsAt [] [] run.world → Stands input [] run (Some input)
-stands_new input run reader names count world = record {
+    → run.names ≡ no_names → run.count ≡ 0 → HasRows [] run.rows → Holds (world_after []) run.world → Stands input [] run (Some input)
+stands_new input run reader names count rows world = record {
   rest = input;
   front = rw (names, count) (front_start input);
   here = ap (λ (r : Reading). ahead r (Some input)) reader;
   used = let e = ap (λ (r : Reading). r.used) reader in omega (arith, e);
   world = world;
+  rows = rows;
 }
 
 -- what comes next in the input, as the reader sees it
@@ -100,6 +105,7 @@ module _ (input : List ℕ) (script : List Event) (run : Run) (left : Option (Li
           here = found.1;
           used = counted ∙ stands.used;
           world = stands.world;
+          rows = stands.rows;
         }
 
     pub next_found : (found : Option (Vec ℕ)) → IfSome found (λ line. IsNextLine run.reader left line.items after left')
@@ -159,7 +165,7 @@ module _ (input : List ℕ) (script : List Event) (run : Run) (left : Option (Li
 
 -- the lines of one event more, and their text
 step_texts : (script : List Event) (event : Event) (told : List TextLine) (texts : List (List ℕ))
-    → told ≡ lines_for script (transcript script) event → texts ≡ map (λ (line : TextLine). text_of line ++ 10 ∷ []) told
+    → told ≡ (step (world_after script) event).lines → texts ≡ map (λ (line : TextLine). text_of line ++ 10 ∷ []) told
     → (transcript script ++ told ≡ transcript (script ++ event ∷ []))
     × (text_of_run (script ++ event ∷ []) ≡ text_of_run script ++ flat_map (λ (text : List ℕ). text) texts)
 step_texts script event told texts is text =
@@ -183,24 +189,27 @@ module _ (input : List ℕ) (script : List Event) (line : List ℕ) (run : Run) 
       here = has.here;
       used = has.used;
       world = has.world;
+      rows = has.rows;
     },
     sym (append-nil (text_of_run script)),
   )
 
-  pub carries_out : (event : Event) (names : Names) (world : World) (told : List TextLine) (texts : List (List ℕ)) → Spells run.names line event
+  pub carries_out : (event : Event) (names : Names) (rows : RowNames) (world : World) (told : List TextLine) (texts : List (List ℕ)) → Spells run.names line event
       → names ≡ with_event run.names event
-      → (told ≡ lines_for script (transcript script) event) × IsAt (script ++ event ∷ []) (transcript script ++ told) world
+      → HasRows (script ++ event ∷ []) rows → FewRows (script ++ event ∷ [])
+      → told ≡ (step (world_after script) event).lines → Holds (step (world_after script) event).world world
       → texts ≡ map (λ (line : TextLine). text_of line ++ 10 ∷ []) told
-      → GoesOn input script (record run { names = names; world = world; count = run.count + 1 }) left texts
-  carries_out event names world told texts spells named stepped text =
-      let goes = step_texts script event told texts stepped.0 text in (
+      → GoesOn input script (record run { names = names; rows = rows; world = world; count = run.count + 1 }) left texts
+  carries_out event names rows world told texts spells named has_rows few_rows lines stepped text =
+      let goes = step_texts script event told texts lines text in (
         script ++ event ∷ [],
         record {
           rest = has.rest;
-          front = rw named (front_event input script run.count run.names has.before line has.rest has.front has.next few event spells);
+          front = rw named (front_event input script run.count run.names has.before line has.rest has.front has.next few event spells few_rows);
           here = has.here;
           used = has.used;
-          world = subst (λ (lines : List TextLine). IsAt (script ++ event ∷ []) lines world) goes.0 stepped.1;
+          world = subst (λ (w : laws.World). Holds w world) (sym (world_after-push script event)) stepped;
+          rows = has_rows;
         },
         goes.1,
       )

@@ -2,7 +2,7 @@
 use Rattle.std.specs.Prelude.{◌≡◌, ◌⊎◌, ℕ, ◌+◌, ◌-◌, ◌<◌, ◌≤◌, List, [], ◌∷◌, ◌++◌, length, codes, Option}
 use Rattle.std.specs.Io.KnownBytes.{Appends}
 use Rattle.table_model.specs.declared.event.Event.{Event}
-use Rattle.run_laws.specs.Turns.{turns, transcript}
+use Rattle.run_laws.specs.Turns.{turns, world_after, transcript}
 use Rattle.run_laws.specs.Sound.{IsSound}
 use Rattle.stab_io.specs.declared.limits.TheConstants.{LINE_LIMIT, INPUT_LIMIT}
 use Rattle.stab_io.specs.Lines.{Line, LineTooLong, InputTooLong, HasNoNewline}
@@ -11,7 +11,8 @@ use Rattle.script_text.specs.Names.{Names}
 use Rattle.script_text.specs.Grammar.{Spells, IsFault, PassesLimit}
 use Rattle.script_text.specs.Text.{stop_text, transcript_text}
 use Rattle.simba_top.specs.declared.run.TheConstants.{MOST_LINES}
-use Rattle.simba_top.specs.World.{IsSpent}
+use Rattle.world_steps.specs.Holds.{Spends}
+use Rattle.simba_top.specs.RowNames.{NamesTooMany}
 use Rattle.simba_top.specs.Script.{next_in, IsFront}
 
 -- the transcript of a script, as bytes
@@ -38,7 +39,8 @@ abbrev pub IsFull : List ℕ → List ℕ → Type 0
 IsFull input rest = length input - length rest ≡ INPUT_LIMIT
 
 -- the line behind these is the first that passes a limit: 1 the input's bytes, 2 its lines, 3 the bytes of a line,
--- 11 the numbers of a client's writes, or one on what the line declares. The first byte past a limit decides, so behind
+-- 9 the rows that a script names in a table, 11 versions and the numbers of a client's writes, or one on what the line
+-- declares. The first byte past a limit decides, so behind
 -- the most lines any byte does, whatever is behind it
 abbrev pub Passes : List ℕ → List Event → ℕ → Names → List ℕ → ℕ → Type 0
 Passes input script count names rest limit =
@@ -46,9 +48,11 @@ Passes input script count names rest limit =
     ⊎ (((limit ≡ 2) × (count ≡ MOST_LINES) × (0 < length rest) × (length input - length rest < INPUT_LIMIT))
     ⊎ (((limit ≡ 3) × (count < MOST_LINES) × (next_in (length input) rest ≡ LineTooLong))
     ⊎ (((limit ≡ 11) × (count < MOST_LINES) × ((line : List ℕ) × (left : List ℕ) × (event : Event)
-    × (next_in (length input) rest ≡ Line line left) × Spells names line event × IsSpent (transcript script) event))
+    × (next_in (length input) rest ≡ Line line left) × Spells names line event × Spends (world_after script) event))
+    ⊎ (((limit ≡ 9) × (count < MOST_LINES) × ((line : List ℕ) × (left : List ℕ) × (event : Event)
+    × (next_in (length input) rest ≡ Line line left) × Spells names line event × NamesTooMany script event))
     ⊎ ((count < MOST_LINES) × ((line : List ℕ) × (left : List ℕ)
-    × (next_in (length input) rest ≡ Line line left) × PassesLimit names line limit)))))
+    × (next_in (length input) rest ≡ Line line left) × PassesLimit names line limit))))))
 
 pub record IsLimitAt (input : List ℕ) (script : List Event) (count limit : ℕ) : Type 0 where
   pub names : Names

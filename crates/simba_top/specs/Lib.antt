@@ -1,4 +1,4 @@
-pub mod World
+pub mod RowNames
 pub mod Script
 pub mod Ends
 pub mod Stops

@@ -6,6 +6,7 @@ use Rattle.stab_io.specs.Lines.{Next, Line, next_of}
 use Rattle.script_text.specs.Names.{Names, no_names, with_event}
 use Rattle.script_text.specs.Grammar.{IsPassed, Spells}
 use Rattle.simba_top.specs.declared.run.TheConstants.{MOST_LINES}
+use Rattle.simba_top.specs.RowNames.{FewRows}
 
 -- what comes next in an input of this length, where these bytes are left of it
 abbrev pub next_in : ℕ → List ℕ → Next
@@ -23,13 +24,15 @@ Spelled names (line ∷ lines) script after =
     (IsPassed line × Spelled names lines script after)
     ⊎ ((event : Event) × (more : List Event) × (script ≡ event ∷ more) × Spells names line event × Spelled (with_event names event) lines more after)
 
--- the first lines of an input, as many as `count`, spell this script; then these names are declared and these bytes left
+-- the first lines of an input, as many as `count`, spell this script, which names no more rows than it may; then these
+-- names are declared and these bytes left
 pub record IsFront (input : List ℕ) (script : List Event) (count : ℕ) (names : Names) (rest : List ℕ) : Type 0 where
   pub lines : List (List ℕ)
   pub behind : Behind (length input) input lines rest
   pub spelled : Spelled no_names lines script names
   pub counted : count ≡ length lines
   pub few : count ≤ MOST_LINES
+  pub rows : FewRows script
 
 -- the whole input spells this script
 abbrev pub IsWhole : List ℕ → List Event → Type 0

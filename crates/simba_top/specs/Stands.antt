@@ -3,7 +3,7 @@ use Rattle.std.specs.Prelude.{◌≡◌, ℕ, ◌+◌, ◌≤◌, List, ◌++◌
 use Rattle.std.specs.List.{flat_map}
 use Rattle.std.specs.Io.KnownBytes.{Appends}
 use Rattle.table_model.specs.declared.event.Event.{Event}
-use Rattle.run_laws.specs.Turns.{transcript}
+use Rattle.run_laws.specs.Turns.{world_after}
 use Rattle.stab_io.specs.Faults.{Rose, AppendsFront}
 use Rattle.stab_io.specs.Lines.{Line}
 use Rattle.stab_io.specs.Reading.{ahead}
@@ -13,7 +13,8 @@ use Rattle.simba_top.specs.declared.run.TheConstants.{MOST_LINES}
 use Rattle.simba_top.specs.declared.stop.Stop.{Stop}
 use Rattle.simba_top.specs.declared.stop.Stop.TheVariants.{Read, Put, Memory, BadLine, Limit}
 use Rattle.simba_top.specs.declared.turn.Run.{Run}
-use Rattle.simba_top.specs.World.{IsAt}
+use Rattle.world_steps.specs.Holds.{Holds}
+use Rattle.simba_top.specs.RowNames.{HasRows}
 use Rattle.simba_top.specs.Script.{next_in, IsFront, IsWhole}
 use Rattle.simba_top.specs.Ends.{text_of_run, stopped_text, IsBadAt, IsLimitAt, IsCutOff, IsTextOf}
 
@@ -29,7 +30,8 @@ pub record Stands (input : List ℕ) (script : List Event) (run : Run) (left : O
   pub front : IsFront input script run.count run.names rest
   pub here : ahead run.reader left ≡ Some rest
   pub used : run.reader.used + length rest ≡ length input
-  pub world : IsAt script (transcript script) run.world
+  pub world : Holds (world_after script) run.world
+  pub rows : HasRows script run.rows
 
 -- the same, where a line has been read that isn't carried out
 pub record HasLine (input : List ℕ) (script : List Event) (line : List ℕ) (run : Run) (left : Option (List ℕ)) : Type 0 where
@@ -39,7 +41,8 @@ pub record HasLine (input : List ℕ) (script : List Event) (line : List ℕ) (r
   pub next : next_in (length input) before ≡ Line line rest
   pub here : ahead run.reader left ≡ Some rest
   pub used : run.reader.used + length rest ≡ length input
-  pub world : IsAt script (transcript script) run.world
+  pub world : Holds (world_after script) run.world
+  pub rows : HasRows script run.rows
 
 -- the run goes on to a longer script, whose transcript goes on by these texts
 abbrev pub GoesOn : List ℕ → List Event → Run → Option (List ℕ) → List (List ℕ) → Type 0

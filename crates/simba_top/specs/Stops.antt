@@ -4,8 +4,8 @@ use Rattle.stab_io.specs.declared.line_fault.LineFault.{LineFault}
 use Rattle.stab_io.specs.declared.line_fault.LineFault.TheVariants as line_faults
 use Rattle.script_text.specs.declared.fault.ScriptFault.{ScriptFault}
 use Rattle.script_text.specs.declared.fault.ScriptFault.TheVariants as script_faults
-use Rattle.simba_top.specs.declared.world.WorldFault.{WorldFault}
-use Rattle.simba_top.specs.declared.world.WorldFault.TheVariants as world_faults
+use Rattle.world_steps.specs.declared.fault.WorldFault.{WorldFault}
+use Rattle.world_steps.specs.declared.fault.WorldFault.TheVariants as world_faults
 use Rattle.simba_top.specs.declared.stop.Stop.{Stop}
 use Rattle.simba_top.specs.declared.stop.Stop.TheVariants.{Read, Put, Memory, BadLine, Limit}
 
@@ -21,7 +21,7 @@ of_script (script_faults.Limit limit) = Limit limit
 of_script script_faults.Memory = Memory
 
 abbrev pub of_world : WorldFault → Stop
-of_world world_faults.Spent = Limit 11
+of_world (world_faults.Limit code count) = Limit code
 of_world world_faults.Memory = Memory
 
 abbrev pub status_of : {T : Type 0} → Result T Stop → ℕ

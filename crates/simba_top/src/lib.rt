@@ -2,11 +2,11 @@
 #![tactic(auto)]
 
 mod laws;
+mod row_names;
 mod run;
 mod stop;
 mod turn;
-mod world;
 
 pub use laws::one_script;
+pub use row_names::MOST_ROWS;
 pub use run::{MOST_LINES, run_simba};
-pub use world::{Lines, WorldFault};

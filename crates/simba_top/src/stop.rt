@@ -2,10 +2,10 @@ ghost use Rattle.std.specs.Prelude.{◌≡◌};
 ghost use Rattle.simba_top.specs.declared.stop.Stop.TheVariants as stops;
 ghost use Rattle.simba_top.specs.Stops.{of_line, of_script, of_world};
 
-use crate::world::WorldFault;
 use script_text::{BadLine, ScriptFault};
 use stab_io::{Failed, LineFault};
 use std::alloc::{AllocError, AllocFailed};
+use world_steps::WorldFault;
 
 /// Why a run ends before the end of its script.
 #[derive(Drop, Clone, Copy)]
@@ -52,7 +52,7 @@ impl From<WorldFault> for Stop {
 
     fn from(fault: WorldFault) -> Stop {
         match fault {
-            WorldFault::Spent => Stop::Limit(11),
+            WorldFault::Limit { code, .. } => Stop::Limit(code),
             WorldFault::Memory => Stop::Memory,
         }
     }

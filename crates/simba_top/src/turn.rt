@@ -10,20 +10,22 @@ ghost use Rattle.simba_top.specs.Script.{IsWhole};
 ghost use Rattle.simba_top.specs.Ends.{text_of_run};
 ghost use Rattle.simba_top.specs.Stands.{IsReady, Stands, HasLine, Goes, GoesOn, IsCause, EndedBy, Stopped, IsDone, CountsReads, CountsPuts};
 
+use crate::row_names::RowNames;
 use crate::run::MOST_LINES;
 use crate::stop::Stop;
-use crate::world::{Lines, World};
 use row_value::Bytes;
 use script_text::{Declared, line_text, parse_line, stop_text};
 use stab_io::{Failed, LineReader, Sink, Source};
 use std::alloc::{AllocError, Global};
 use table_model::{Event, TextLine};
+use world_steps::{Lines, World};
 
 /// A run over a script: what its lines so far have made.
 #[derive(Drop)]
 pub(crate) struct Run {
     reader: LineReader,
     names: Declared,
+    rows: RowNames,
     world: World,
     // the lines so far
     count: u64,
@@ -68,6 +70,7 @@ impl Run {
         Run {
             reader: LineReader::new(alloc),
             names: Declared::new(alloc),
+            rows: RowNames::new(alloc),
             world: World::new(alloc),
             count: 0,
             alloc,
@@ -216,6 +219,7 @@ impl Run {
         ensures fault { IfErr result (λ stop. (stop ≢ Stop.Read) × (stop ≢ Stop.Put)) }
     {
         self.names.add(event)?;
+        self.rows.add(event)?;
         let lines = self.world.step(event)?;
         let texts = texts_of(self.alloc, &lines)?;
         self.count += 1;

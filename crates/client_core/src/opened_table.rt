@@ -138,11 +138,13 @@ impl OpenedTable {
     {
         let stage = stage_of(&slots);
         self.rows.insert(row, slots)?;
-        if self.index.mark(row, stage).is_err() {
-            self.rows.remove(&row);
-            return Err(AllocError);
+        match self.index.mark(row, stage) {
+            Ok(()) => Ok(()),
+            Err(refused) => {
+                self.rows.remove(&row);
+                Err(refused)
+            }
         }
-        Ok(())
     }
 
     /// Changes a row that there is or isn't yet.
@@ -160,9 +162,10 @@ impl OpenedTable {
             return self.add(row, slots);
         };
         self.index.mark(row, stage_after(slots, &change))?;
-        if let Some(slots) = self.rows.get_mut(&row) {
-            apply(slots, change);
-        }
+        let Some(slots) = self.rows.get_mut(&row) else {
+            unreachable!()
+        };
+        apply(slots, change);
         Ok(())
     }
 

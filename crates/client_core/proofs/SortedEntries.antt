@@ -15,6 +15,16 @@ use Rattle.std.proofs.lemmas.Map.Keys.{sorted_head, sorted_tail}
 use Rattle.std.proofs.lemmas.Map.Entries.{none_below_head}
 use Rattle.client_core.specs.Index.{keys_where}
 
+module _ {K X : Type 0} where
+  -- what holds of each key holds of those whose values pass
+  pub keys_where-all : (P : K → Type 0) (test : X → Bool) (es : List (K × X)) → AllByRecursion P (keys_of es) → AllByRecursion P (keys_where test es)
+  keys_where-all P test [] a = a
+  keys_where-all P test (e ∷ es) a =
+      elim (test e.1) as (λ b. AllByRecursion P (cond b (e.0 ∷ keys_where test es) (keys_where test es))) [
+        | true ↦ (a.0, keys_where-all P test es a.1)
+        | false ↦ keys_where-all P test es a.1
+      ]
+
 module _ {K : Type 0} {R : K → K → Ordering} (o : IsTotalOrder R) where
   -- a key below all of them goes to their front
   insert_key_first : (k : K) (ks : List K) → AllByRecursion (λ q. R k q ≡ Less) ks → insert_key R ks k ≡ k ∷ ks
@@ -61,15 +71,6 @@ module _ {K X : Type 0} {R : K → K → Ordering} (o : IsTotalOrder R) where
         | Equal ↦ λ is. let there : Some e.1 ≡ None = rw is at h in cc
         | Greater ↦ λ is. rw (is, is) (ap (λ (xs : List (K × X)). e ∷ xs) (remove_entry-insert_entry k v es (rw is at h)))
       ] refl
-
-  -- what holds of each key holds of those whose values pass
-  pub keys_where-all : (P : K → Type 0) (test : X → Bool) (es : List (K × X)) → AllByRecursion P (keys_of es) → AllByRecursion P (keys_where test es)
-  keys_where-all P test [] a = a
-  keys_where-all P test (e ∷ es) a =
-      elim (test e.1) as (λ b. AllByRecursion P (cond b (e.0 ∷ keys_where test es) (keys_where test es))) [
-        | true ↦ (a.0, keys_where-all P test es a.1)
-        | false ↦ keys_where-all P test es a.1
-      ]
 
   -- the keys behind an entry are above what its key is above
   above : (k : K) (e : K × X) (es : List (K × X)) (test : X → Bool) → IsStrictlySortedBy R (keys_of (e ∷ es)) → R k e.0 ≡ Less

@@ -3,19 +3,19 @@ ghost use Rattle.std.specs.Prelude.{◌≡◌, None, map, option_copied, IfOk, I
 ghost use Rattle.std.specs.Map.{lookup};
 ghost use Rattle.std.specs.BTreeMap.{is_at};
 ghost use Rattle.row_value.specs.Fit.{fit_of};
-ghost use Rattle.step_tables.specs.Client.{first_to_send, opened, out_for, resent, row_cmp, shown_in, slots_at, with_slots};
+ghost use Rattle.step_tables.specs.Client.{first_to_send, opened, resent, row_cmp, shown_in, slots_at, with_slots};
 ghost use Rattle.client_core.specs.Changes.{changed};
 ghost use Rattle.client_core.specs.Plans.{planned};
 ghost use Rattle.client_core.specs.State.{to_owner};
 
 use crate::change::{Change, Plan, apply, stage_after, stage_of};
-use crate::outgoing::sync_request;
+use crate::outgoing::{request_again, to_send};
 use crate::row_index::RowIndex;
 use row_value::{ClientNo, Content, FitFault, RowId, Schema, TableNo, Version, fits};
 use std::alloc::{AllocError, Global};
 use std::collections::BTreeMap;
 use std::marker::Model;
-use step_tables::{Main, Out, Shadow, Slots};
+use step_tables::{Out, Slots};
 use sync_msgs::Addressed;
 use table_model::Shown;
 
@@ -37,21 +37,6 @@ impl Model for OpenedTable {
     ghost view = { λ t. record { schema = t.schema; position = t.position; rows = t.rows.entries } };
 
     ghost invariant = { λ t. IsIndex t.rows.entries t.index.outs.keys t.index.ready.keys };
-}
-
-/// Main as it is sent.
-fn out_for(shadow: &Option<Shadow>, main: &Main) -> Result<Out, AllocError>
-    ensures { IfOk result (λ out. out ≡ out_for shadow.now main.now) }
-{
-    Ok(Out {
-        number: main.number,
-        read: main.read,
-        base: match shadow {
-            Some(shadow) => shadow.version,
-            None => 0,
-        },
-        content: main.content.copy()?,
-    })
 }
 
 impl OpenedTable {
@@ -110,8 +95,8 @@ impl OpenedTable {
     {
         let mut sent = Vec::new(alloc);
         for row in &self.index.outs {
-            if let Some(Slots { out: Some(out), .. }) = self.rows.get(row) {
-                sent.push((None, sync_request(client, table, *row, out)?))?;
+            if let Some(request) = request_again(client, table, *row, self.rows.get(row))? {
+                sent.push((None, request))?;
             }
         }
         Ok(sent)
@@ -121,12 +106,15 @@ impl OpenedTable {
     pub(crate) fn next_out(&self) -> Result<Option<(RowId, Out)>, AllocError>
         ensures { IfOk result (λ next. next ≡ first_to_send self.now.rows) }
     {
-        let Some(row) = self.index.ready.first() else {
+        let Some(row) = self.index.first_ready() else {
             return Ok(None);
         };
-        match self.rows.get(row) {
-            Some(Slots { main: Some(main), shadow, .. }) => Ok(Some((*row, out_for(shadow, main)?))),
-            _ => Ok(None),
+        let Some(slots) = self.rows.get(&row) else {
+            return Ok(None);
+        };
+        match to_send(slots)? {
+            Some(out) => Ok(Some((row, out))),
+            None => Ok(None),
         }
     }
 

@@ -1,11 +1,11 @@
 //! The messages that a client sends. They go to the owner of their table.
-ghost use Rattle.std.specs.Prelude.{◌≡◌, map, IfOk};
-ghost use Rattle.step_tables.specs.Client.{request_for, pull_from, next_pull};
+ghost use Rattle.std.specs.Prelude.{◌≡◌, map, option_copied, option_map, IfOk};
+ghost use Rattle.step_tables.specs.Client.{next_pull, or_none, pull_from, request_for, to_send};
 ghost use Rattle.client_core.specs.State.{to_owner};
 
 use row_value::{ClientNo, RowId, TableNo, Version};
 use std::alloc::{AllocError, Global};
-use step_tables::Out;
+use step_tables::{Out, Slots};
 use sync_msgs::{Addressed, Message, PullRequest, PullResponse, SyncRequest};
 
 /// The request that the Store accepts a write.
@@ -25,6 +25,45 @@ pub(crate) fn sync_request(
         number: out.number,
         base: out.base,
         content: out.content.copy()?,
+    }))
+}
+
+/// The request of a row whose write waits for its answer.
+pub(crate) fn request_again(
+    client: ClientNo,
+    table: TableNo,
+    row: RowId,
+    slots: Option<&Slots>,
+) -> Result<Option<Message>, AllocError>
+    ensures { IfOk result (λ again. again
+        ≡ option_map (request_for client table row) (or_none (option_copied slots.entry)).out) }
+{
+    match slots {
+        Some(Slots { out: Some(out), .. }) => Ok(Some(sync_request(client, table, row, out)?)),
+        _ => Ok(None),
+    }
+}
+
+/// What a row sends next: its Main, where nothing of it waits for an answer.
+pub(crate) fn to_send(slots: &Slots) -> Result<Option<Out>, AllocError>
+    ensures { IfOk result (λ out. out ≡ to_send slots.now.out slots.now.main slots.now.shadow) }
+{
+    let Slots {
+        main: Some(main),
+        shadow,
+        out: None,
+    } = slots
+    else {
+        return Ok(None);
+    };
+    Ok(Some(Out {
+        number: main.number,
+        read: main.read,
+        base: match shadow {
+            Some(shadow) => shadow.version,
+            None => 0,
+        },
+        content: main.content.copy()?,
     }))
 }
 

@@ -1,5 +1,5 @@
 //! Which rows of a table wait for an answer, and which have something to send.
-ghost use Rattle.std.specs.Prelude.{◌≡◌, OnOk, OnErr};
+ghost use Rattle.std.specs.Prelude.{◌≡◌, slice_get, OnOk, OnErr};
 ghost use Rattle.std.specs.BTreeSet.{IsEmpty};
 ghost use Rattle.client_core.specs.Marks.{outs_marked, ready_marked};
 
@@ -34,6 +34,13 @@ impl RowIndex {
             outs: BTreeSet::new(alloc),
             ready: BTreeSet::new(alloc),
         }
+    }
+
+    /// The first row that has something to send.
+    pub(crate) fn first_ready(&self) -> Option<RowId>
+        ensures { result ≡ slice_get self.now.ready.keys 0 }
+    {
+        self.ready.first().copied()
     }
 
     /// The row is at this stage now. Where memory is refused nothing changes.

@@ -25,5 +25,5 @@ returns-in-Err-clause-err c =
 
 pub invariant_of-self-in-Ok : goal.invariant_of-self-in-Ok
 invariant_of-self-in-Ok c =
-    rw c.in_ok-insert.ensures.entries (IsIndex-insert_entry _ _ _ _ _ c.args.row c.args.slots c.in_ok-insert.ensures.was_ordered c.self.invariant
+    rw c.in_ok-insert.ensures.entries (IsIndex-insert_entry _ _ _ _ _ c.args.row c.args.slots (rw c.in_ok-insert.ensures.entries at c.in_ok-insert.ensures.ordered) c.self.invariant
         (rw c.stage_of-stage.ensures at c.in-Ok.ensures.outs) (rw c.stage_of-stage.ensures at c.in-Ok.ensures.ready))

@@ -16,7 +16,7 @@ invariant_of-self-2 c =
     let same : c.in-Some.slots.now ≡ c.in-Some-get_mut.slots.now = cc (c.in-Some.ensures.value, c.in-Some-get_mut.ensures.value) in
     let stage : c.stage_after.result ≡ stage_of slots = c.stage_after.ensures
         ∙ ap (λ (s : Slots). stage_of (changed s c.args.change)) same ∙ ap stage_of (sym c.apply-2.ensures) in
-    rw placed (IsIndex-insert_entry rows _ _ _ _ row slots c.get_mut.ensures.ordered c.self.invariant
+    rw placed (IsIndex-insert_entry rows _ _ _ _ row slots (rw placed at (c.get_mut.follows.holds slots).4) c.self.invariant
         (rw stage at c.in_ok-mark.ensures.outs) (rw stage at c.in_ok-mark.ensures.ready))
 
 pub returns-clause-ok : goal.returns-clause-ok

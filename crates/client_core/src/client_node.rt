@@ -1,8 +1,8 @@
 //! A client's node: its calls, the messages that it takes, and what it sends and tells.
-ghost use Rattle.std.specs.Prelude.{◌≡◌, ◌<◌, [], Some, IfOk, IfErr, IsSome, OnOk, OnErr};
-ghost use Rattle.step_tables.specs.Client.{ClientTable, answered, deliver_step, opened, pull_step, pulled_in, response_in, show_step, sync_step, table_at, with_table, write_step};
+ghost use Rattle.std.specs.Prelude.{◌≡◌, ◌<◌, ◌≤◌, [], Some, IfOk, IfErr, IsSome, OnOk, OnErr};
+ghost use Rattle.step_tables.specs.Client.{ClientTable, answered, deliver_step, opened, pull_step, pulled_in, response_in, show_step, sync_step, table_at, with_table, write_step, written};
 ghost use Rattle.client_core.specs.Causes.{IsCause, IsWriteCause};
-ghost use Rattle.client_core.specs.Drawn.{IsDrawn};
+ghost use Rattle.client_core.specs.NextNumber.{next_number};
 ghost use Rattle.client_core.specs.Plans.{carried_out};
 ghost use Rattle.client_core.specs.State.{nothing_gathered, stepped};
 
@@ -93,21 +93,8 @@ impl ClientNode {
         ensures causes { IfErr result (IsWriteCause self.old.client (write_step self.old.client table row content.now)) }
         ensures kept { OnErr result (self.new ≡ self.old) }
     {
-        let write = self.drawn(table, row, content)?;
-        let number = write.number;
-        let main = Main {
-            number,
-            read: write.read,
-            content: write.content.copy()?,
-        };
-        let plan = Plan {
-            row,
-            change: Change::Write(main),
-            position: None,
-        };
-        let told = vec![in self.alloc; Fact::Wrote(write)]?;
-        self.carry_out(table, plan, Vec::new(self.alloc), told)?;
-        self.last = number;
+        let number = self.next_number(table, content)?;
+        self.write_next(table, row, content)?;
         Ok(number)
     }
 
@@ -141,24 +128,10 @@ impl ClientNode {
         ensures causes { IfErr result (IsCause self.old.client (sync_step self.old.client table)) }
         ensures kept { OnErr result (self.new ≡ self.old) }
     {
-        let Some(opened) = self.tables.get(&table) else {
+        if !self.tables.contains_key(&table) {
             return Err(CallFault::NoTable);
-        };
-        let mut sent = opened.requests(self.alloc, self.number, table)?;
-        let Some((row, out)) = opened.next_out()? else {
-            let count = sent.len() as u64;
-            self.messages.append(&mut sent)?;
-            return Ok(count);
-        };
-        sent.push((None, sync_request(self.number, table, row, &out)?))?;
-        let count = sent.len() as u64;
-        let plan = Plan {
-            row,
-            change: Change::Send(out),
-            position: None,
-        };
-        self.carry_out(table, plan, sent, Vec::new(self.alloc))?;
-        Ok(count)
+        }
+        Ok(self.sync_opened(table)?)
     }
 
     /// Asks for the next change of the table above the position.
@@ -212,11 +185,10 @@ impl ClientNode {
         }
     }
 
-    /// The write with the next number.
-    fn drawn(&self, table: TableNo, row: RowId, content: &Content) -> Result<Write, CallFault>
-        ensures opened { OnOk result (IsSome (table_at self.now.client table)) }
-        ensures drawn { IfOk result (λ write. IsDrawn self.now.client table row content.now write) }
-        ensures causes { IfErr result (IsWriteCause self.now.client (write_step self.now.client table row content.now)) }
+    /// The number of the next write, which is to be of this content.
+    fn next_number(&self, table: TableNo, content: &Content) -> Result<WriteNo, CallFault>
+        ensures number { result ≡ next_number self.now.client table content.now }
+        ensures within { self.now.client.last ≤ NUMBER_MAX }
     {
         let Some(opened) = self.tables.get(&table) else {
             return Err(CallFault::NoTable);
@@ -225,14 +197,76 @@ impl ClientNode {
         if self.last >= NUMBER_MAX {
             return Err(CallFault::Spent { last: self.last });
         }
-        Ok(Write {
+        Ok(self.last + 1)
+    }
+
+    /// Writes a row of an opened table with the next number.
+    fn write_next(
+        &mut self,
+        table: TableNo,
+        row: RowId,
+        content: &Content,
+    ) -> Result<(), AllocError>
+        requires room { self.old.client.last < NUMBER_MAX }
+        requires opened { IsSome (table_at self.old.client table) }
+        ensures ok { (opened : ClientTable) → table_at self.old.client table ≡ Some opened
+            → OnOk result (self.new ≡ stepped self.old (written self.old.client table opened row content.now)) }
+        ensures err { OnErr result (self.new ≡ self.old) }
+    {
+        let Some(opened) = self.tables.get(&table) else {
+            unreachable!()
+        };
+        let number = self.last + 1;
+        let read = version_read(opened.slots(&row));
+        let main = Main {
+            number,
+            read,
+            content: content.copy()?,
+        };
+        let write = Write {
             client: self.number,
-            number: self.last + 1,
+            number,
             table,
             row,
-            read: version_read(opened.slots(&row)),
+            read,
             content: content.copy()?,
-        })
+        };
+        let plan = Plan {
+            row,
+            change: Change::Write(main),
+            position: None,
+        };
+        let told = vec![in self.alloc; Fact::Wrote(write)]?;
+        self.carry_out(table, plan, Vec::new(self.alloc), told)?;
+        self.last = number;
+        Ok(())
+    }
+
+    /// Sends what an opened table has to send. Answers how many requests that were.
+    fn sync_opened(&mut self, table: TableNo) -> Result<u64, AllocError>
+        requires { IsSome (table_at self.old.client table) }
+        ensures done { OnOk result (self.new ≡ stepped self.old (sync_step self.old.client table)) }
+        ensures number { IfOk result (λ number. (sync_step self.old.client table).answer ≡ Answer.Number number) }
+        ensures err { OnErr result (self.new ≡ self.old) }
+    {
+        let Some(opened) = self.tables.get(&table) else {
+            unreachable!()
+        };
+        let mut sent = opened.requests(self.alloc, self.number, table)?;
+        let Some((row, out)) = opened.next_out()? else {
+            let count = sent.len() as u64;
+            self.messages.append(&mut sent)?;
+            return Ok(count);
+        };
+        sent.push((None, sync_request(self.number, table, row, &out)?))?;
+        let count = sent.len() as u64;
+        let plan = Plan {
+            row,
+            change: Change::Send(out),
+            position: None,
+        };
+        self.carry_out(table, plan, sent, Vec::new(self.alloc))?;
+        Ok(count)
     }
 
     /// Carries out a plan in an opened table, sends these messages and tells these facts.
@@ -248,11 +282,11 @@ impl ClientNode {
             → OnOk result (self.new ≡ carried_out self.old table opened plan sent.items told.items) }
         ensures err { OnErr result (self.new ≡ self.old) }
     {
+        self.messages.reserve(sent.len())?;
+        self.facts.reserve(told.len())?;
         let Some(opened) = self.tables.get_mut(&table) else {
             unreachable!()
         };
-        self.messages.reserve(sent.len())?;
-        self.facts.reserve(told.len())?;
         opened.carry_out(plan)?;
         self.messages.append(&mut sent).unwrap();
         self.facts.append(&mut told).unwrap();

@@ -1,5 +1,5 @@
 -- The faults with which a call ends.
-use Rattle.std.proofs.Common.{◌≡◌, ℕ, ◌≤◌, List, ◌+◌, ◌<◌, false, true, Bool, cond, Option, Some, None, Result, Ok, Err, IsSome, sym, refl, ap, ◌∙◌, arith}
+use Rattle.std.proofs.Common.{◌≡◌, ℕ, ◌≤◌, List, ◌+◌, false, true, cond, Option, Some, None, Result, Ok, Err, IsSome, refl, arith}
 use Rattle.std.specs.Prelude.{nat_le}
 use Rattle.std.specs.Result.{IfErr, IsErrAnd}
 use Rattle.stab_base.specs.declared.limits.TheConstants.{NUMBER_MAX}
@@ -8,7 +8,7 @@ use Rattle.row_value.specs.declared.fit.FitFault.{FitFault}
 use Rattle.row_value.specs.declared.fit.FitFault.TheVariants as fits
 use Rattle.row_value.specs.Fit.{fit_of}
 use Rattle.table_model.specs.declared.line.Shown.{Shown}
-use Rattle.step_tables.specs.Client.{Client, ClientStep, ClientTable, pull_step, show_answer, show_step, shown_in, slots_at, table_at, write_fitting, write_step, write_to, written}
+use Rattle.step_tables.specs.Client.{Client, ClientStep, ClientTable, pull_step, show_answer, show_step, shown_in, slots_at, table_at, write_fitting, write_step, write_to}
 use Rattle.client_core.specs.declared.call_fault.CallFault.{CallFault}
 use Rattle.client_core.specs.declared.call_fault.CallFault.TheVariants.{Memory, NoTable, Spent}
 use Rattle.client_core.specs.Causes.{IsCause, IsTaken, IsWriteCause}
@@ -40,7 +40,7 @@ module _ (client : Client) (number : ℕ) (row : List ℕ) (content : Content) (
   spent : Err fault ≡ number_behind client.last → (table : ClientTable) → IsWriteCause client (write_fitting client number table row content (Ok tt)) fault
   spent is table =
       elim (nat_le NUMBER_MAX client.last) as (λ b. nat_le NUMBER_MAX client.last ≡ b → Err fault ≡ cond b (Err (Spent client.last)) (Ok (client.last + 1))
-          → IsWriteCause client (write_fitting client number table row content (Ok tt)) fault) [
+      → IsWriteCause client (write_fitting client number table row content (Ok tt)) fault) [
         | true ↦ λ above e. let same : fault ≡ Spent client.last = cc in let last : client.last ≡ NUMBER_MAX = grind (arith, nat_tests) in rw same (tt, last, last)
         | false ↦ λ below e. absurd (cc)
       ] refl is
@@ -58,40 +58,3 @@ module _ (client : Client) (number : ℕ) (row : List ℕ) (content : Content) (
 
   pub no_number_is_cause : Err fault ≡ next_number client number content → IsWriteCause client (write_step client number row content) fault
   no_number_is_cause is = not_opened (table_at client number) is
-
--- the step where there is a number
-pub record IsDrawn (client : Client) (number : ℕ) (row : List ℕ) (content : Content) (next : ℕ) : Type 0 where
-  pub table : ClientTable
-  pub there : table_at client number ≡ Some table
-  pub room : client.last < NUMBER_MAX
-  pub number_is : next ≡ client.last + 1
-  pub step_is : write_step client number row content ≡ written client number table row content
-
-module _ (client : Client) (number : ℕ) (row : List ℕ) (content : Content) (next : ℕ) where
-  drawn_behind : (table : ClientTable) → table_at client number ≡ Some table → fit_of table.schema content ≡ Ok tt
-      → Ok next ≡ number_behind client.last → IsDrawn client number row content next
-  drawn_behind table there fit is =
-      elim (nat_le NUMBER_MAX client.last) as (λ b. nat_le NUMBER_MAX client.last ≡ b → Ok next ≡ cond b (Err (Spent client.last)) (Ok (client.last + 1))
-          → IsDrawn client number row content next) [
-        | true ↦ λ above e. absurd (cc)
-        | false ↦ λ below e. record {
-          table = table;
-          there = there;
-          room = grind (arith, nat_tests);
-          number_is = cc;
-          step_is = ap (write_to client number row content) there ∙ ap (write_fitting client number table row content) fit;
-        }
-      ] refl is
-
-  drawn_fitting : (table : ClientTable) → table_at client number ≡ Some table → (fit : Result (Unit {0}) FitFault) → fit_of table.schema content ≡ fit
-      → Ok next ≡ number_if_fitting client.last fit → IsDrawn client number row content next
-  drawn_fitting table there (Ok fitting) fit is = drawn_behind table there fit is
-  drawn_fitting table there (Err fault) fit is = absurd (cc)
-
-  drawn_in : (table : Option ClientTable) → table_at client number ≡ table → Ok next ≡ number_in client.last content table
-      → IsDrawn client number row content next
-  drawn_in None there is = absurd (cc)
-  drawn_in (Some table) there is = drawn_fitting table there (fit_of table.schema content) refl is
-
-  pub drawn : Ok next ≡ next_number client number content → IsDrawn client number row content next
-  drawn is = drawn_in (table_at client number) refl is

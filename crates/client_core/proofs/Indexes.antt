@@ -2,7 +2,7 @@
 use Rattle.std.proofs.Common.{◌≡◌, ℕ, Bool, true, false, cond, List, [], ◌∷◌, ◌++◌, Option, Some, None, refl, sym, ap, ◌∙◌}
 use Rattle.std.specs.Prelude.{is_some, option_map, option_to_list, slice_get}
 use Rattle.std.specs.declared.cmp.Ordering.TheVariants.{Less, Greater}
-use Rattle.std.specs.Ordering.{nat_cmp, ordering_reverse}
+use Rattle.std.specs.Ordering.{ordering_reverse}
 use Rattle.std.specs.Cmp.{tied_itself}
 use Rattle.std.specs.Cmp.Lexicographic.{nat_list_cmp_total}
 use Rattle.std.specs.FinMap.{slice_cmp-IsAntisymmetric, nat_cmp-IsAntisymmetric}
@@ -85,7 +85,7 @@ requests_past : (client table : ℕ) (entry : List ℕ × Slots) (rows : List (L
 requests_past client table entry rows [] a = refl
 requests_past client table entry rows (key ∷ keys) a =
     rw (lookup_past entry rows key a.0) (ap (λ (more : List Message). option_to_list (request_again client table key (lookup (is_at (row_cmp key)) rows)) ++ more)
-        (requests_past client table entry rows keys a.1))
+    (requests_past client table entry rows keys a.1))
 
 -- the rows that wait for their answers give all that is sent again
 requests_at-keys_where : (client table : ℕ) (rows : List (List ℕ × Slots)) → IsStrictlySortedBy row_cmp (keys_of rows)
@@ -93,11 +93,11 @@ requests_at-keys_where : (client table : ℕ) (rows : List (List ℕ × Slots)) 
 requests_at-keys_where client table [] s = refl
 requests_at-keys_where client table (entry ∷ rows) s =
     let more : requests_at client table (entry ∷ rows) (keys_where is_out rows) ≡ resent client table rows =
-        requests_past client table entry rows (keys_where is_out rows)
-            (keys_where-all (λ key. row_cmp entry.0 key ≡ Less) is_out rows (sorted_head row_cmp entry.0 (keys_of rows) s))
-        ∙ requests_at-keys_where client table rows (sorted_tail row_cmp entry.0 (keys_of rows) s) in
+    requests_past client table entry rows (keys_where is_out rows)
+    (keys_where-all (λ key. row_cmp entry.0 key ≡ Less) is_out rows (sorted_head row_cmp entry.0 (keys_of rows) s))
+    ∙ requests_at-keys_where client table rows (sorted_tail row_cmp entry.0 (keys_of rows) s) in
     elim entry.1.out as (λ o. entry.1.out ≡ o → requests_at client table (entry ∷ rows) (cond (is_some o) (entry.0 ∷ keys_where is_out rows) (keys_where is_out rows))
-        ≡ option_to_list (option_map (request_for client table entry.0) o) ++ resent client table rows) [
+    ≡ option_to_list (option_map (request_for client table entry.0) o) ++ resent client table rows) [
       | Some out ↦ λ is. rw (tied_itself nat_list_cmp_total entry.0, is) (ap (λ (requests : List Message). request_for client table entry.0 out ∷ requests) more)
       | None ↦ λ is. more
     ] refl
@@ -122,11 +122,11 @@ next_at-keys_where [] s = refl
 next_at-keys_where (entry ∷ rows) s =
     let ready : Option Out = to_send entry.1.out entry.1.main entry.1.shadow in
     let more : next_at (entry ∷ rows) (slice_get (keys_where is_ready rows) 0) ≡ first_to_send rows =
-        next_past entry rows (keys_where is_ready rows)
-            (keys_where-all (λ key. row_cmp entry.0 key ≡ Less) is_ready rows (sorted_head row_cmp entry.0 (keys_of rows) s))
-        ∙ next_at-keys_where rows (sorted_tail row_cmp entry.0 (keys_of rows) s) in
+    next_past entry rows (keys_where is_ready rows)
+    (keys_where-all (λ key. row_cmp entry.0 key ≡ Less) is_ready rows (sorted_head row_cmp entry.0 (keys_of rows) s))
+    ∙ next_at-keys_where rows (sorted_tail row_cmp entry.0 (keys_of rows) s) in
     elim ready as (λ o. ready ≡ o → next_at (entry ∷ rows) (slice_get (cond (is_some o) (entry.0 ∷ keys_where is_ready rows) (keys_where is_ready rows)) 0)
-        ≡ or_later entry.0 o (first_to_send rows)) [
+    ≡ or_later entry.0 o (first_to_send rows)) [
       | Some out ↦ λ is. rw (tied_itself nat_list_cmp_total entry.0, is) refl
       | None ↦ λ is. more
     ] refl

@@ -91,16 +91,16 @@ module _ {K X : Type 0} {R : K → K → Ordering} (o : IsTotalOrder R) where
         elim (R k e.0) as (λ r. R k e.0 ≡ r → keys_where test (insert_entry R (e ∷ es) k v) ≡ insert_key R (keys_where test (e ∷ es)) k) [
           | Less ↦ λ is. rw (is, t) (sym (insert_key_first o k (keys_where test (e ∷ es)) (above k e es test s is)))
           | Equal ↦ λ is. rw (is, t) (
-            elim (test e.1) as (λ b. e.0 ∷ keys_where test es ≡ insert_key R (cond b (e.0 ∷ keys_where test es) (keys_where test es)) k) [
-              | true ↦ rw is refl
-              | false ↦ ap (λ (x : K). x ∷ keys_where test es) (sym (same k e.0 is)) ∙ sym (insert_key_first o k (keys_where test es) (behind k e es test s is))
-            ])
+              elim (test e.1) as (λ b. e.0 ∷ keys_where test es ≡ insert_key R (cond b (e.0 ∷ keys_where test es) (keys_where test es)) k) [
+                | true ↦ rw is refl
+                | false ↦ ap (λ (x : K). x ∷ keys_where test es) (sym (same k e.0 is)) ∙ sym (insert_key_first o k (keys_where test es) (behind k e es test s is))
+              ])
           | Greater ↦ λ is. rw is (
-            elim (test e.1) as (λ b. cond b (e.0 ∷ keys_where test (insert_entry R es k v)) (keys_where test (insert_entry R es k v))
-                ≡ insert_key R (cond b (e.0 ∷ keys_where test es) (keys_where test es)) k) [
-              | true ↦ rw is (ap (λ (xs : List K). e.0 ∷ xs) more)
-              | false ↦ more
-            ])
+              elim (test e.1) as (λ b. cond b (e.0 ∷ keys_where test (insert_entry R es k v)) (keys_where test (insert_entry R es k v))
+              ≡ insert_key R (cond b (e.0 ∷ keys_where test es) (keys_where test es)) k) [
+                | true ↦ rw is (ap (λ (xs : List K). e.0 ∷ xs) more)
+                | false ↦ more
+              ])
         ] refl
 
     -- one whose value doesn't isn't
@@ -112,14 +112,14 @@ module _ {K X : Type 0} {R : K → K → Ordering} (o : IsTotalOrder R) where
         elim (R k e.0) as (λ r. R k e.0 ≡ r → keys_where test (insert_entry R (e ∷ es) k v) ≡ remove_key (is_at (R k)) (keys_where test (e ∷ es))) [
           | Less ↦ λ is. rw (is, t) (sym (remove_key_missing o k (keys_where test (e ∷ es)) (above k e es test s is)))
           | Equal ↦ λ is. rw (is, t) (
-            elim (test e.1) as (λ b. keys_where test es ≡ remove_key (is_at (R k)) (cond b (e.0 ∷ keys_where test es) (keys_where test es))) [
-              | true ↦ rw is refl
-              | false ↦ sym (remove_key_missing o k (keys_where test es) (behind k e es test s is))
-            ])
+              elim (test e.1) as (λ b. keys_where test es ≡ remove_key (is_at (R k)) (cond b (e.0 ∷ keys_where test es) (keys_where test es))) [
+                | true ↦ rw is refl
+                | false ↦ sym (remove_key_missing o k (keys_where test es) (behind k e es test s is))
+              ])
           | Greater ↦ λ is. rw is (
-            elim (test e.1) as (λ b. cond b (e.0 ∷ keys_where test (insert_entry R es k v)) (keys_where test (insert_entry R es k v))
-                ≡ remove_key (is_at (R k)) (cond b (e.0 ∷ keys_where test es) (keys_where test es))) [
-              | true ↦ rw is (ap (λ (xs : List K). e.0 ∷ xs) more)
-              | false ↦ more
-            ])
+              elim (test e.1) as (λ b. cond b (e.0 ∷ keys_where test (insert_entry R es k v)) (keys_where test (insert_entry R es k v))
+              ≡ remove_key (is_at (R k)) (cond b (e.0 ∷ keys_where test es) (keys_where test es))) [
+                | true ↦ rw is (ap (λ (xs : List K). e.0 ∷ xs) more)
+                | false ↦ more
+              ])
         ] refl

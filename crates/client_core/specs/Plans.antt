@@ -10,7 +10,7 @@ use Rattle.client_core.specs.State.{NodeState}
 
 abbrev pub planned : ClientTable → Plan → ClientTable
 planned table plan = record (with_slots table plan.row (changed (slots_at table plan.row) plan.change)) {
-  position = unwrap_or plan.position table.position
+  position = unwrap_or plan.position table.position;
 }
 
 abbrev pub carried_out : NodeState → ℕ → ClientTable → Plan → List (Option Node × Message) → List Fact → NodeState

@@ -1,5 +1,5 @@
 -- A client's node: the client, and what it has gathered to send and to tell.
-use Rattle.std.specs.Prelude.{List, [], ◌∷◌, ◌++◌, map, Option, None}
+use Rattle.std.specs.Prelude.{[], ◌++◌, map, Option, None}
 use Rattle.table_model.specs.declared.node.Node.{Node}
 use Rattle.sync_msgs.specs.declared.message.Message.{Message}
 use Rattle.sync_msgs.specs.declared.out.Out.{Out}

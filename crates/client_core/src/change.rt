@@ -18,9 +18,7 @@ pub(crate) enum Change {
     /// The row is read.
     Read(Shadow),
     /// Out's write was accepted at this version.
-    Accept {
-        version: Version,
-    },
+    Accept { version: Version },
     /// Out's write was accepted, and the row is read.
     AcceptAndRead(Shadow),
 }

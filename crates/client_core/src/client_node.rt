@@ -42,8 +42,8 @@ impl Model for ClientNode {
     ghost Value = { NodeState };
 
     ghost view = { λ n. record {
-        client = record { number = n.number; last = n.last; tables = n.tables.entries };
-        out = record { messages = n.messages.items; facts = n.facts.items };
+      client = record { number = n.number; last = n.last; tables = n.tables.entries };
+      out = record { messages = n.messages.items; facts = n.facts.items };
     } };
 
     ghost invariant = { λ n. n.last ≤ NUMBER_MAX };
@@ -308,13 +308,15 @@ impl ClientNode {
             change: Change::Accept { version },
             position: None,
         };
-        let told = vec![in self.alloc; Fact::Acked {
-            client: self.number,
-            number: response.number,
-            table: response.table,
-            row: response.row,
-            version,
-        }]?;
+        let told = vec![in self.alloc;
+            Fact::Acked {
+                client: self.number,
+                number: response.number,
+                table: response.table,
+                row: response.row,
+                version,
+            },
+        ]?;
         self.carry_out(response.table, plan, Vec::new(self.alloc), told)
     }
 

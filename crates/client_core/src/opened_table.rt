@@ -77,11 +77,21 @@ impl OpenedTable {
         ensures err { OnErr result (IsSome (shown_in (slots_at self.now row.now).main (slots_at self.now row.now).shadow)) }
     {
         Ok(match self.slots(row) {
-            Some(Slots { main: Some(main), .. }) => Some(Shown::Mine {
+            Some(
+                Slots {
+                    main: Some(main),
+                    ..
+                },
+            ) => Some(Shown::Mine {
                 number: main.number,
                 content: main.content.copy()?,
             }),
-            Some(Slots { shadow: Some(shadow), .. }) => Some(Shown::Clean {
+            Some(
+                Slots {
+                    shadow: Some(shadow),
+                    ..
+                },
+            ) => Some(Shown::Clean {
                 version: shadow.version,
                 content: shadow.content.copy()?,
             }),
@@ -90,7 +100,12 @@ impl OpenedTable {
     }
 
     /// The requests that wait for their answers, by rising row.
-    pub(crate) fn requests(&self, alloc: Global, client: ClientNo, table: TableNo) -> Result<Vec<Addressed>, AllocError>
+    pub(crate) fn requests(
+        &self,
+        alloc: Global,
+        client: ClientNo,
+        table: TableNo,
+    ) -> Result<Vec<Addressed>, AllocError>
         ensures { IfOk result (λ sent. sent.items ≡ map to_owner (resent client table self.now.rows)) }
     {
         let mut sent = Vec::new(alloc);

@@ -37,7 +37,12 @@ pub(crate) fn version_read(slots: Option<&Slots>) -> Version
     ensures { result ≡ version_in (or_none (option_copied slots.entry)).shadow }
 {
     match slots {
-        Some(Slots { shadow: Some(shadow), .. }) => shadow.version,
+        Some(
+            Slots {
+                shadow: Some(shadow),
+                ..
+            },
+        ) => shadow.version,
         _ => 0,
     }
 }

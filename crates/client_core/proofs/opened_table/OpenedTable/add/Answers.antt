@@ -12,7 +12,7 @@ invariant_of-self-in-Err c =
     let row = c.args.row in let rows = c.self.inside.rows.entries in
     let absent : lookup (is_at (row_cmp row)) rows ≡ None = ap (λ (t : ClientTable). lookup (is_at (row_cmp row)) t.rows) c.self.view_is ∙ c.requires in
     let back : c.remove.new.self.entries ≡ rows = c.remove.ensures.entries ∙ ap (remove_entry (is_at (row_cmp row))) c.in_ok-insert.ensures.entries
-        ∙ remove_entry-insert_entry nat_list_cmp_total row c.args.slots rows absent in
+    ∙ remove_entry-insert_entry nat_list_cmp_total row c.args.slots rows absent in
     IsIndex-same rows _ _ _ _ _ back c.in-Err.ensures.outs_kept c.in-Err.ensures.ready_kept c.self.invariant
 
 pub returns-in-Err-clause-err : goal.returns-in-Err-clause-err
@@ -20,10 +20,10 @@ returns-in-Err-clause-err c =
     let row = c.args.row in let rows = c.self.inside.rows.entries in
     let absent : lookup (is_at (row_cmp row)) rows ≡ None = ap (λ (t : ClientTable). lookup (is_at (row_cmp row)) t.rows) c.self.view_is ∙ c.requires in
     let back : c.remove.new.self.entries ≡ rows = c.remove.ensures.entries ∙ ap (remove_entry (is_at (row_cmp row))) c.in_ok-insert.ensures.entries
-        ∙ remove_entry-insert_entry nat_list_cmp_total row c.args.slots rows absent in
+    ∙ remove_entry-insert_entry nat_list_cmp_total row c.args.slots rows absent in
     rw back c.self.view_is
 
 pub invariant_of-self-in-Ok : goal.invariant_of-self-in-Ok
 invariant_of-self-in-Ok c =
     rw c.in_ok-insert.ensures.entries (IsIndex-insert_entry _ _ _ _ _ c.args.row c.args.slots (rw c.in_ok-insert.ensures.entries at c.in_ok-insert.ensures.ordered) c.self.invariant
-        (rw c.stage_of-stage.ensures at c.in-Ok.ensures.outs) (rw c.stage_of-stage.ensures at c.in-Ok.ensures.ready))
+    (rw c.stage_of-stage.ensures at c.in-Ok.ensures.outs) (rw c.stage_of-stage.ensures at c.in-Ok.ensures.ready))

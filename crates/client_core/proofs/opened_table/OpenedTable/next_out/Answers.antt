@@ -1,7 +1,6 @@
-use Rattle.std.proofs.Common.{◌≡◌, ℕ, List, Option, Some, None, sym, ap, ◌∙◌}
-use Rattle.std.specs.Prelude.{option_map, slice_get}
+use Rattle.std.proofs.Common.{sym, ap, ◌∙◌}
+use Rattle.std.specs.Prelude.{option_map}
 use Rattle.step_tables.specs.declared.slots.Out.{Out}
-use Rattle.step_tables.specs.declared.slots.Slots.{Slots}
 use Rattle.client_core.proofs.Indexes.{next_at, next_at-first, next_of}
 use Rattle.client_core.proofs.opened_table.OpenedTable.next_out.Goals as goal
 

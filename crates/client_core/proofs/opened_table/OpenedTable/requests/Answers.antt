@@ -1,4 +1,4 @@
-use Rattle.std.proofs.Common.{◌≡◌, map, append-nil, sym, ap, ◌∙◌}
+use Rattle.std.proofs.Common.{map, append-nil, sym, ap, ◌∙◌}
 use Rattle.client_core.specs.State.{to_owner}
 use Rattle.client_core.proofs.Indexes.{requests_at-outs}
 use Rattle.client_core.proofs.opened_table.OpenedTable.requests.Goals as goal

@@ -11,3 +11,6 @@ mod row_index;
 
 pub use call_fault::CallFault;
 pub use client_node::ClientNode;
+
+#[cfg(test)]
+mod tests;

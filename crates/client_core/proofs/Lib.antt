@@ -1,0 +1,4 @@
+pub mod Exits
+pub mod Indexes
+pub mod Responses
+pub mod SortedEntries

@@ -1,2 +1,4 @@
+pub mod World
 pub mod Turns
+pub mod Lines
 pub mod Sound

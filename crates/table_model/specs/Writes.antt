@@ -1,16 +1,27 @@
 -- The writes of clients, read off the lines of a transcript.
 use Rattle.std.specs.Prelude.{ℕ, ◌==◌, Bool, ◌&&◌, List, [], ◌∷◌, ◌++◌, filter, Option, Some, None, option_to_list}
-use Rattle.std.specs.Ordering.{nat_cmp, is_eq}
-use Rattle.std.specs.Cmp.Lexicographic.{slice_cmp}
 use Rattle.table_model.specs.declared.line.Write.{Write}
-use Rattle.table_model.specs.declared.line.Fact.TheVariants.{Wrote}
+use Rattle.table_model.specs.declared.line.Fact.{Fact}
+use Rattle.table_model.specs.declared.line.Fact.TheVariants as facts
 use Rattle.table_model.specs.declared.line.TextLine.{TextLine}
 use Rattle.table_model.specs.declared.line.TextLine.TheVariants as lines
+use Rattle.table_model.specs.Last.{last_where}
+use Rattle.table_model.specs.History.{same_row}
+
+-- the write that a fact tells
+abbrev pub write_in : Fact → Option Write
+write_in (facts.Wrote write) = Some write
+write_in (facts.Sent packet from to name) = None
+write_in (facts.Acked client number table row version) = None
+write_in (facts.New client table row version) = None
+write_in (facts.Position client table position) = None
+write_in (facts.Accepted table entry) = None
 
 -- the write that a line tells
 abbrev pub told : TextLine → Option Write
 told (lines.Answer answer) = None
-told (lines.Fact (Wrote write)) = Some write
+told (lines.Entry table entry) = None
+told (lines.Fact fact) = write_in fact
 
 -- all writes that lines tell, in order
 abbrev pub all_writes : List TextLine → List Write
@@ -22,18 +33,12 @@ is_by client write = write.client == client
 
 -- whether a write is of this client on this row of this table
 abbrev pub is_on : ℕ → ℕ → List ℕ → Write → Bool
-is_on client table row write = (write.client == client) && (write.table == table) && is_eq (slice_cmp nat_cmp write.row row)
+is_on client table row write = (write.client == client) && (write.table == table) && same_row write.row row
 
 -- the writes of one client, in the order of its lines
 abbrev pub writes_of : ℕ → List TextLine → List Write
 writes_of client told_lines = filter (is_by client) (all_writes told_lines)
 
--- the last of some writes
-abbrev pub newest : List Write → Option Write
-newest [] = None
-newest (write ∷ []) = Some write
-newest (write ∷ next ∷ more) = newest (next ∷ more)
-
 -- the client's last write on a row
 abbrev pub last_write : ℕ → ℕ → List ℕ → List TextLine → Option Write
-last_write client table row told_lines = newest (filter (is_on client table row) (all_writes told_lines))
+last_write client table row told_lines = last_where (is_on client table row) (all_writes told_lines)

@@ -34,4 +34,27 @@ pub enum Event {
         table: TableNo,
         row: RowId,
     },
+    /// The client sends the writes of a table that wait to be sent.
+    Sync {
+        client: ClientNo,
+        table: TableNo,
+    },
+    /// The client asks for the next change of a table.
+    Pull {
+        client: ClientNo,
+        table: TableNo,
+    },
+    /// The network delivers a packet, counted from 0 over all that were ever sent.
+    Deliver {
+        packet: u64,
+    },
+    /// The Store shows a row.
+    StoreShow {
+        table: TableNo,
+        row: RowId,
+    },
+    /// The history of a table.
+    History {
+        table: TableNo,
+    },
 }

@@ -1,8 +1,15 @@
-//! What a script asks, what a transcript tells, and what both say of the writes of clients.
+//! What a script asks, what a transcript tells, and what both say of the writes of clients and of the histories of
+//! tables.
 #![tactic(auto)]
 
+mod entry;
 mod event;
 mod line;
+mod message_name;
+mod node;
 
+pub use entry::{Entry, History, current};
 pub use event::{Event, Tables};
-pub use line::{Answer, Fact, Refusal, Shown, TextLine, Write};
+pub use line::{Answer, Fact, Facts, Refusal, Shown, TextLine, Write};
+pub use message_name::MessageName;
+pub use node::Node;

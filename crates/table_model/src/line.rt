@@ -1,6 +1,9 @@
 ghost use Rattle.std.specs.Prelude.{◌≡◌, IfOk};
 
-use row_value::{ClientNo, Content, RowId, TableNo, Version, WriteNo};
+use crate::entry::Entry;
+use crate::message_name::MessageName;
+use crate::node::Node;
+use row_value::{ClientNo, Content, RowId, Sequence, TableNo, Version, WriteNo};
 use std::alloc::AllocError;
 
 /// A write of a client: its number among the client's writes, the version of the row that the client had read, and
@@ -18,7 +21,9 @@ pub struct Write {
 /// What a client shows of a row.
 #[derive(Debug, Drop, Clone)]
 pub enum Shown {
-    /// Its own write of this number, which no Store has answered yet.
+    /// The row as the Store had it at this version.
+    Clean { version: Version, content: Content },
+    /// The client's own write of this number, which the Store isn't known to have accepted.
     Mine { number: WriteNo, content: Content },
 }
 
@@ -38,19 +43,25 @@ pub enum Refusal {
     BadCell { column: usize },
     /// 11: the first object column that the values don't fit, and the object's length in bytes.
     BadObject { column: usize, len: usize },
-    /// 18: the table isn't there.
+    /// 18: the client hasn't opened the table.
     NoTable,
     /// 27: nothing is shown of the row.
     NoRow,
+    /// 29: no packet of this number was sent yet, but so many.
+    NoPacket { sent: u64 },
 }
 
 /// The answer to a line of the script.
 #[derive(Debug, Drop)]
 pub enum Answer {
-    /// Done; the number is that of the write that was begun.
-    Number(WriteNo),
-    /// What is shown.
+    /// Done.
+    Done,
+    /// Done; the number of the write that was begun, of the rows that were handled, or of the lines that follow.
+    Number(u64),
+    /// What a client shows.
     Shown(Shown),
+    /// What the Store has of a row.
+    Stored { version: Version, content: Content },
     /// Not done.
     Refused(Refusal),
 }
@@ -58,13 +69,51 @@ pub enum Answer {
 /// What a party did.
 #[derive(Debug, Drop)]
 pub enum Fact {
+    /// A packet was sent, of this number among all packets, from 0.
+    Sent {
+        packet: u64,
+        from: Node,
+        to: Node,
+        name: MessageName,
+    },
     /// A client's write is committed at the client.
     Wrote(Write),
+    /// The client has learnt that its write was accepted at this version.
+    Acked {
+        client: ClientNo,
+        number: WriteNo,
+        table: TableNo,
+        row: RowId,
+        version: Version,
+    },
+    /// The client has taken the row as the Store had it at this version.
+    New {
+        client: ClientNo,
+        table: TableNo,
+        row: RowId,
+        version: Version,
+    },
+    /// The client has seen every change of the table up to this version.
+    Position {
+        client: ClientNo,
+        table: TableNo,
+        position: Version,
+    },
+    /// The Store has accepted a write.
+    Accepted {
+        table: TableNo,
+        entry: Entry,
+    },
 }
+
+/// Facts in the order in which they came.
+pub type Facts = Sequence<Fact>;
 
 /// One line of a transcript.
 #[derive(Debug, Drop)]
 pub enum TextLine {
     Answer(Answer),
+    /// One line of a history, behind the answer that counts them.
+    Entry { table: TableNo, entry: Entry },
     Fact(Fact),
 }

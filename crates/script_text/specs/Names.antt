@@ -33,6 +33,11 @@ with_event n (events.Table table schema) =
 with_event n (events.Client client gate tables) = record n { clients = insert_key nat_cmp n.clients client }
 with_event n (events.Write client table row content) = record n { started = true }
 with_event n (events.Show client table row) = record n { started = true }
+with_event n (events.Sync client table) = record n { started = true }
+with_event n (events.Pull client table) = record n { started = true }
+with_event n (events.Deliver packet) = record n { started = true }
+with_event n (events.StoreShow table row) = record n { started = true }
+with_event n (events.History table) = record n { started = true }
 
 abbrev pub has_store : Names → ℕ → Bool
 has_store n store = list_any (is_at (nat_cmp store)) n.stores

@@ -19,7 +19,7 @@ use Rattle.script_text.specs.declared.fault.Code.{Code}
 use Rattle.script_text.specs.declared.fault.Code.TheVariants.{Twice, Unbuilt}
 use Rattle.script_text.specs.Names.{Names, has_table}
 use Rattle.script_text.specs.Words.{texts}
-use Rattle.script_text.specs.Verbs.{is_among}
+use Rattle.script_text.specs.Words.{is_among}
 use Rattle.script_text.specs.Places.{◌>>=◌, opened_at, joined, alone, tables_in, parts_at, tables_at, tables_passed}
 use Rattle.script_text.proofs.CellLemmas.{dropped, dropped_next}
 use Rattle.script_text.proofs.Steps.{bind-ok}

@@ -2,11 +2,13 @@
 //! none, and lines of a transcript as text.
 #![tactic(auto)]
 
+mod columns;
 mod declared;
 mod fault;
 mod forms;
 mod laws;
 mod lines;
+mod next;
 mod parse;
 mod places;
 mod print;

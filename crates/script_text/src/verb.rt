@@ -9,6 +9,11 @@ pub(crate) enum Verb {
     Client,
     Write,
     Show,
+    Sync,
+    Pull,
+    Deliver,
+    StoreShow,
+    History,
 }
 
 #[tactic(auto, unfolding(crate::specs::Verbs::verb_of))]
@@ -21,6 +26,11 @@ pub(crate) fn verb_of(word: &str) -> Option<Verb>
         "client" => Some(Verb::Client),
         "write" => Some(Verb::Write),
         "show" => Some(Verb::Show),
+        "sync" => Some(Verb::Sync),
+        "pull" => Some(Verb::Pull),
+        "deliver" => Some(Verb::Deliver),
+        "sshow" => Some(Verb::StoreShow),
+        "history" => Some(Verb::History),
         _ => None,
     }
 }
@@ -41,7 +51,7 @@ fn is_row_verb(word: &str) -> bool
 {
     matches!(
         word,
-        "update" | "patch" | "delete" | "sum" | "select" | "sync" | "pull"
+        "update" | "patch" | "delete" | "sum" | "select"
     )
 }
 
@@ -61,18 +71,7 @@ fn is_node_verb(word: &str) -> bool
 {
     matches!(
         word,
-        "deliver"
-            | "hold"
-            | "free"
-            | "work"
-            | "do"
-            | "crash"
-            | "start"
-            | "tick"
-            | "settle"
-            | "sshow"
-            | "chunks"
-            | "history"
+        "hold" | "free" | "work" | "do" | "crash" | "start" | "tick" | "settle" | "chunks"
     )
 }
 

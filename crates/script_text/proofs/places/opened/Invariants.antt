@@ -4,7 +4,7 @@ use Rattle.std.specs.Cmp.Lexicographic.{slice_cmp}
 use Rattle.std.specs.List.{list_any}
 use Rattle.std.specs.BTreeMap.{is_at}
 use Rattle.script_text.specs.Names.{texts_of}
-use Rattle.script_text.specs.Verbs.{is_among}
+use Rattle.script_text.specs.Words.{is_among}
 use Rattle.script_text.specs.Words.{texts}
 use Rattle.script_text.specs.Places.{tables_in}
 use Rattle.script_text.proofs.TableLemmas.{left}

@@ -1,23 +1,29 @@
 -- Columns read one behind the other.
-use Rattle.std.proofs.Common.{◌≡◌, ◌≢◌, ℕ, ◌+◌, ◌<◌, ◌≤◌, true, List, [], ◌∷◌, ◌++◌, map, length, drop, get_or, Result, Ok, Err, refl, sym, ap, ◌∙◌, subst, arith, append-nil, add_assoc}
+use Rattle.std.proofs.Common.{◌≡◌, ◌≢◌, ℕ, ◌+◌, ◌<◌, ◌≤◌, Bool, true, false, not, Some, List, [], ◌∷◌, ◌++◌, map, length, drop, get_or, Result, Ok, Err, refl, sym, ap, ◌∙◌, subst, arith, append-nil, add_assoc}
 use Rattle.std.specs.Borrow.{Bor}
-use Rattle.std.specs.List.{AllByRecursion}
+use Rattle.std.specs.Ordering.{nat_cmp}
+use Rattle.std.specs.Cmp.Lexicographic.{slice_cmp}
+use Rattle.std.specs.BTreeMap.{is_at}
+use Rattle.std.specs.BTreeSet.{insert_key}
+use Rattle.std.specs.List.{AllByRecursion, list_any}
 use Rattle.std.proofs.lemmas.List.{length-map}
 use Rattle.row_value.specs.declared.schema.Column.{Column}
+use Rattle.row_value.specs.declared.schema.ColumnKind.{ColumnKind}
 use Rattle.script_text.specs.declared.fault.Code.{Code}
+use Rattle.script_text.specs.declared.fault.Code.TheVariants.{Twice}
 use Rattle.script_text.specs.declared.fault.BadLine.{BadLine}
 use Rattle.script_text.specs.declared.fault.ScriptFault.{ScriptFault}
 use Rattle.script_text.specs.declared.fault.ScriptFault.TheVariants as faults
 use Rattle.script_text.specs.Faults.{bad}
 use Rattle.script_text.specs.Names.{IsSetOf}
-use Rattle.script_text.specs.Words.{texts, is_name}
-use Rattle.script_text.specs.Places.{◌>>=◌, int_column, new_column_at}
+use Rattle.script_text.specs.Words.{texts, is_name, is_among}
+use Rattle.script_text.specs.Places.{◌>>=◌, int_column, column_of, built_column, new_column, new_column_at}
 use Rattle.script_text.specs.Reading.{placed, next_in, column_in, columns_in, some_columns_in, with_front, Reads}
 use Rattle.script_text.specs.Grammar.{column_word}
 use Rattle.script_text.proofs.CellLemmas.{dropped, dropped_next, fronts, joined}
-use Rattle.script_text.proofs.Distinct.{NewTo, new-distinct}
+use Rattle.script_text.proofs.Distinct.{NewTo, met, unmet, set-put}
 use Rattle.script_text.proofs.Steps.{ok_err, bind-ok}
-use Rattle.script_text.proofs.PlaceLemmas.{new_column_at-ok}
+use Rattle.script_text.proofs.PlaceLemmas.{built-column, new_column_at-ok}
 
 abbrev pub names_of : List Column → List (List ℕ)
 names_of columns = map (λ (column : Column). column.name) columns
@@ -99,5 +105,24 @@ pub columns_in-end : (at i : ℕ) (words : List (Bor (List ℕ))) (front : List 
 unfolding columns_in
 columns_in-end at i words front h before = before ∙ ap (with_front front) (ap (columns_in (at + i) (names_of front)) (dropped words i h)) ∙ ap Ok (append-nil front)
 
-pub set-next : (keys more : List (List ℕ)) (columns all : List Column) (column : Column) → all ≡ columns ++ column ∷ [] → IsSetOf more (names_of columns ++ column.name ∷ []) → IsSetOf more (names_of all)
-set-next keys more columns all column is set = subst (IsSetOf more) (sym (ap names_of is ∙ named_next columns column)) set
+pub set-next : (more : List (List ℕ)) (columns all : List Column) (column : Column) → all ≡ columns ++ column ∷ [] → IsSetOf more (names_of columns ++ column.name ∷ []) → IsSetOf more (names_of all)
+set-next more columns all column is set = subst (IsSetOf more) (sym (ap names_of is ∙ named_next columns column)) set
+
+-- a column's name among those that were met
+
+module _ (before keys : List (List ℕ)) (word : List ℕ) (q : List ℕ × ColumnKind) (added : Bool) (is : Some q ≡ column_of word) (e : added ≡ not (list_any (is_at (slice_cmp nat_cmp q.0)) keys)) (set : IsSetOf keys before) where
+  pub column-twice : added ≡ false → new_column_at before word ≡ Err Twice
+  unfolding new_column_at
+  column-twice old =
+      let among : is_among q.0 before ≡ true = sym (set q.0) ∙ met added (list_any (is_at (slice_cmp nat_cmp q.0)) keys) e old in
+      ap (new_column before) (sym is) ∙ rw among refl
+
+  pub column-kind : added ≡ true → new_column_at before word ≡ built_column q.0 q.1
+  unfolding new_column_at
+  column-kind new =
+      let among : is_among q.0 before ≡ false = sym (set q.0) ∙ unmet added (list_any (is_at (slice_cmp nat_cmp q.0)) keys) e new in
+      ap (new_column before) (sym is) ∙ rw among refl
+
+pub set-named : (before keys more : List (List ℕ)) (name made : List ℕ) (kind : ColumnKind) → Ok made ≡ built_column name kind → more ≡ insert_key (slice_cmp nat_cmp) keys name → IsSetOf keys before → IsSetOf more (before ++ made ∷ [])
+set-named before keys more name made kind e put set =
+    subst (λ (n : List ℕ). IsSetOf more (before ++ n ∷ [])) (built-column name made kind (sym e)).1 (set-put keys more before name put set)

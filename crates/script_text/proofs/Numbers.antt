@@ -2,16 +2,18 @@
 use Rattle.std.proofs.Common.{◌≡◌, ℕ, zero, suc, ◌<◌, ◌≤◌, ◌^◌, Bool, true, false, ◌&&◌, ◌||◌, eqb, ltb, leb, cond, List, [], ◌∷◌, length, get_or, Option, Some, None, Result, Ok, Err, refl, sym, ap, ◌∙◌, subst, inl, inr, arith}
 use Rattle.std.specs.Fmt.{decimal}
 use Rattle.std.specs.Str.{all_ascii_digits, bytes_eq}
-use Rattle.std.specs.Str.Parse.{digits_value}
+use Rattle.std.specs.Str.Parse.{digits_value, ParsesUnsigned}
 use Rattle.std.proofs.Math.Bool.{or-true}
 use Rattle.std.proofs.lemmas.Bool.{ltb-true, lt-ltb, leb-true, le-leb, cases_Bool, eqb-true, eq-eqb}
 use Rattle.std.proofs.lemmas.Fmt.{decimal_digit, decimal-digits_value, digits_decimal, digits_value-decimal, first_decimal}
+use Rattle.std.proofs.lemmas.Result.{OkIff-at_ok, OkIff-at_err}
 use Rattle.std.proofs.lemmas.Slice.Eq.{bytes_eq-Decides}
+use Rattle.std.proofs.lemmas.Str.Parse.{parse_digits}
 use Rattle.script_text.specs.declared.fault.Code.{Code}
 use Rattle.script_text.specs.declared.fault.Code.TheVariants.{NoName, NoNumber}
 use Rattle.script_text.specs.Words.{is_number, is_length}
 use Rattle.script_text.specs.Places.{◌>>=◌, small, node_at, at_most, limited_at, packet_at}
-use Rattle.script_text.proofs.WordLemmas.{own, both, long, IsNumber-parts}
+use Rattle.script_text.proofs.WordLemmas.{own, both, long, IsNumber-parts, either}
 use Rattle.script_text.proofs.Steps.{ok_err, bind-ok}
 
 -- a test that gives one of two answers
@@ -79,6 +81,23 @@ packet_at-ok word n e =
     let less : digits_value 10 word < 2 ^ 64 = ltb-true _ _ q.1 in
     let same : digits_value 10 word ≡ n = ok_same _ _ p.1 in
     (sym (length-text word q.0 less) ∙ ap decimal same, subst (λ (m : ℕ). m < 2 ^ 64) same less)
+
+pub packet-read : {E : Type 0} (ds : List ℕ) (r : Result ℕ E) (n : ℕ) → is_length ds ≡ true → ParsesUnsigned 64 10 ds r → r ≡ Ok n → Ok n ≡ packet_at ds
+unfolding packet_at
+packet-read ds r n is h e =
+    let p = either ds is in
+    let q = OkIff-at_ok r _ (digits_value 10 ds) n (parse_digits own 64 ds r h p.1) e in
+    rw (is, lt-ltb (digits_value 10 ds) (2 ^ 64) q.0.1) (ap Ok q.1)
+
+pub packet-none : {E : Type 0} (ds : List ℕ) (r : Result ℕ E) (f : E) → is_length ds ≡ true → ParsesUnsigned 64 10 ds r → r ≡ Err f → Err NoNumber ≡ packet_at ds
+unfolding packet_at
+packet-none ds r f is h e =
+    let p = either ds is in
+    let q = OkIff-at_err r ((0 < length ds) × (digits_value 10 ds < 2 ^ 64)) (digits_value 10 ds) f (parse_digits own 64 ds r h p.1) e in
+    elim (cases_Bool (ltb (digits_value 10 ds) (2 ^ 64))) [
+      | inl less ↦ absurd (q (p.0, ltb-true _ _ less))
+      | inr more ↦ rw (is, more) refl
+    ]
 
 pub packet_at-right : (n : ℕ) → n < 2 ^ 64 → packet_at (decimal n) ≡ Ok n
 unfolding packet_at

@@ -259,7 +259,7 @@ column_of-some : (word : List ℕ) (q : List ℕ × ColumnKind) → column_of wo
 unfolding column_of
 column_of-some word q e = column-some word q (parts_of word) refl e
 
-built-column : (name made : List ℕ) (kind : ColumnKind) → built_column name kind ≡ Ok made → (kind ≡ kinds.Int) × (name ≡ made)
+pub built-column : (name made : List ℕ) (kind : ColumnKind) → built_column name kind ≡ Ok made → (kind ≡ kinds.Int) × (name ≡ made)
 built-column name made kinds.Int e = (refl, ok_same _ _ e)
 built-column name made kinds.Bool e = absurd (ok_err made Unbuilt (sym e))
 built-column name made kinds.Text e = absurd (ok_err made Unbuilt (sym e))

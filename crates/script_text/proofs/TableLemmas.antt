@@ -117,9 +117,11 @@ module _ (names : Names) (word : List ℕ) where
         subst (λ (ns : List ℕ). (word ≡ tables_word ns) × AllByRecursion (λ n. IsUpTo 64 n × (has_table names n ≡ true)) ns × IsDistinct (λ m n. eqb m n) ns) nil
         ((bytes_eq-Decides word (codes "-")).0 is, tt, tt)
     | inr other ↦
-        let p = tables_in-ok names [] (parts_at word) tables (rw other at e) in
-        (sym (join_with_byte-slice_split 44 word) ∙ named_word (parts_at word) tables (some_part word) p.0, p.1,
-        distinct-numbers tables (subst (IsDistinct bytes_eq) p.0 (new-distinct (parts_at word) p.2)))
+        let p = tables_in-ok names [] (parts_at word) tables (rw other at e) in (
+          sym (join_with_byte-slice_split 44 word) ∙ named_word (parts_at word) tables (some_part word) p.0,
+          p.1,
+          distinct-numbers tables (subst (IsDistinct bytes_eq) p.0 (new-distinct (parts_at word) p.2)),
+        )
   ]
 
   pub tables_at-within : (tables : List ℕ) → tables_at names word ≡ Ok (Some tables) → tables_passed (parts_at word) ≡ None

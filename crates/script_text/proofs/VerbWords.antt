@@ -28,17 +28,47 @@ skipped word text v rest e = elim (cases_Bool (bytes_eq word text)) [
 pub verb-some : (word : List ℕ) (verb : Verb) → verb_of word ≡ Some verb → word ≡ name_of verb
 unfolding verb_of
 verb-some word verb h0 =
-    elim (picked word (codes "store") verbs.Store verb _ h0) [ inl a ↦ a.0 ∙ ap name_of a.1 | inr h1 ↦
-    elim (picked word (codes "table") verbs.Table verb _ h1) [ inl a ↦ a.0 ∙ ap name_of a.1 | inr h2 ↦
-    elim (picked word (codes "client") verbs.Client verb _ h2) [ inl a ↦ a.0 ∙ ap name_of a.1 | inr h3 ↦
-    elim (picked word (codes "write") verbs.Write verb _ h3) [ inl a ↦ a.0 ∙ ap name_of a.1 | inr h4 ↦
-    elim (picked word (codes "show") verbs.Show verb _ h4) [ inl a ↦ a.0 ∙ ap name_of a.1 | inr h5 ↦
-    elim (picked word (codes "sync") verbs.Sync verb _ h5) [ inl a ↦ a.0 ∙ ap name_of a.1 | inr h6 ↦
-    elim (picked word (codes "pull") verbs.Pull verb _ h6) [ inl a ↦ a.0 ∙ ap name_of a.1 | inr h7 ↦
-    elim (picked word (codes "deliver") verbs.Deliver verb _ h7) [ inl a ↦ a.0 ∙ ap name_of a.1 | inr h8 ↦
-    elim (picked word (codes "sshow") verbs.StoreShow verb _ h8) [ inl a ↦ a.0 ∙ ap name_of a.1 | inr h9 ↦
-    elim (picked word (codes "history") verbs.History verb _ h9) [ inl a ↦ a.0 ∙ ap name_of a.1 | inr h10 ↦
-    absurd cc ] ] ] ] ] ] ] ] ] ]
+    elim (picked word (codes "store") verbs.Store verb _ h0) [
+      | inl a ↦ a.0 ∙ ap name_of a.1
+      | inr h1 ↦
+          elim (picked word (codes "table") verbs.Table verb _ h1) [
+            | inl a ↦ a.0 ∙ ap name_of a.1
+            | inr h2 ↦
+                elim (picked word (codes "client") verbs.Client verb _ h2) [
+                  | inl a ↦ a.0 ∙ ap name_of a.1
+                  | inr h3 ↦
+                      elim (picked word (codes "write") verbs.Write verb _ h3) [
+                        | inl a ↦ a.0 ∙ ap name_of a.1
+                        | inr h4 ↦
+                            elim (picked word (codes "show") verbs.Show verb _ h4) [
+                              | inl a ↦ a.0 ∙ ap name_of a.1
+                              | inr h5 ↦
+                                  elim (picked word (codes "sync") verbs.Sync verb _ h5) [
+                                    | inl a ↦ a.0 ∙ ap name_of a.1
+                                    | inr h6 ↦
+                                        elim (picked word (codes "pull") verbs.Pull verb _ h6) [
+                                          | inl a ↦ a.0 ∙ ap name_of a.1
+                                          | inr h7 ↦
+                                              elim (picked word (codes "deliver") verbs.Deliver verb _ h7) [
+                                                | inl a ↦ a.0 ∙ ap name_of a.1
+                                                | inr h8 ↦
+                                                    elim (picked word (codes "sshow") verbs.StoreShow verb _ h8) [
+                                                      | inl a ↦ a.0 ∙ ap name_of a.1
+                                                      | inr h9 ↦
+                                                          elim (picked word (codes "history") verbs.History verb _ h9) [
+                                                            | inl a ↦ a.0 ∙ ap name_of a.1
+                                                            | inr h10 ↦
+                                                                absurd cc
+                                                          ]
+                                                    ]
+                                              ]
+                                        ]
+                                  ]
+                            ]
+                      ]
+                ]
+          ]
+    ]
 
 pub verb-none : (word : List ℕ) → verb_of word ≡ None → (verb : Verb) → word ≢ name_of verb
 unfolding verb_of

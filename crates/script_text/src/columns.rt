@@ -73,11 +73,7 @@ fn columns_of(alloc: Global, words: &[&str], at: usize) -> Result<Columns, Scrip
 }
 
 #[tactic(auto, unfolding(crate::specs::Reading::some_columns_in))]
-pub(crate) fn some_columns(
-    alloc: Global,
-    words: &[&str],
-    at: usize,
-) -> Result<Columns, ScriptFault>
+pub(crate) fn some_columns(alloc: Global, words: &[&str], at: usize) -> Result<Columns, ScriptFault>
     requires { at < 2 ^ 32 }
     ensures { Reads result (some_columns_in at (texts words.now)) }
 {

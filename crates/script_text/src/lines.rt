@@ -8,11 +8,11 @@ use crate::declared::Declared;
 use crate::fault::{
     BadLine, CLIENTS, COLUMNS, Code, MOST_COLUMNS, STORES, ScriptFault, TABLES, ValueFault, bad,
 };
+use crate::next::{end, next_word, placed};
 use crate::places::{
     chunk_at, client_at, gate_at, new_client_at, new_name_at, new_store_at, new_table_at,
     packet_at, row_at, scheme_at, table_at, tables_at,
 };
-use crate::next::{end, next_word, placed};
 use crate::values::value_at;
 use crate::verb::{Verb, is_unbuilt, verb_of};
 use row_value::{Bytes, Cell, Cells, Content, Schema, Sequence};

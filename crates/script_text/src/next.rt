@@ -6,7 +6,10 @@ ghost use Rattle.script_text.specs.Reading.{seen_next, placed, next_in, end_in};
 use crate::fault::{BadLine, Code, bad};
 
 #[tactic(auto, unfolding(crate::specs::Reading::next_in))]
-pub(crate) fn next_word<'a>(words: &'a [&'a str], at: usize) -> Result<(&'a str, &'a [&'a str]), BadLine>
+pub(crate) fn next_word<'a>(
+    words: &'a [&'a str],
+    at: usize,
+) -> Result<(&'a str, &'a [&'a str]), BadLine>
     ensures { seen_next result ≡ next_in at (texts words.now) }
 {
     match words {

@@ -49,10 +49,7 @@ fn is_setting_verb(word: &str) -> bool
 fn is_row_verb(word: &str) -> bool
     ensures { result ≡ is_row_verb word.now }
 {
-    matches!(
-        word,
-        "update" | "patch" | "delete" | "sum" | "select"
-    )
+    matches!(word, "update" | "patch" | "delete" | "sum" | "select")
 }
 
 #[tactic(auto, unfolding(crate::specs::Verbs::is_conflict_verb))]

@@ -1,22 +1,30 @@
-use Rattle.std.proofs.Common.{rules, ◌≡◌, ◌<◌, ◌^◌, ◌++◌, ◌∷◌, [], List, ℕ, IfOk, ◌+◌, ◌-◌, ◌*◌, ◌≤◌, length, ◌/◌, ◌%◌, Bool, true, false, nat_eq, nat_lt, slice_index_or, slice_set, bit_and, bit_or, Fits, w8, w32, w64, Bor, MutBor}
-use Rattle.script_text.specs.Names.{texts_of, IsSetOf}
-use Rattle.script_text.specs.Words.{texts}
-use Rattle.script_text.specs.Places.{Judges, seen, built_column, new_column_at}
-use Rattle.script_text.specs.Reading.{Reads, column_in, columns_in, some_columns_in}
+use Rattle.std.proofs.Common.{refl}
+use Rattle.std.proofs.lemmas.Result.{err_from_is_err_and}
+use Rattle.script_text.specs.Names.{texts_of}
+use Rattle.script_text.proofs.ColumnLemmas.{names_of, columns_in-init, columns_in-turn, columns_in-fault, columns_in-end, set-next}
 use Rattle.script_text.proofs.columns.columns_of.Goals as goal
 
--- src/columns.rt:69:5
 pub loop-i-init : goal.loop-i-init
-loop-i-init c = ?
+loop-i-init c = record {
+  read = columns_in-init c.args.at c.args.words.now c.new-columns.result c.new-columns.ensures;
+  named = λ w. rw (c.new-named.ensures.empty, c.new-columns.ensures) refl;
+}
 
--- src/columns.rt:70:22
 pub returns-in_err-column_at : goal.returns-in_err-column_at
-returns-in_err-column_at c = ?
+returns-in_err-column_at c =
+    let p = err_from_is_err_and c.from_residual.result c.from_residual.ensures.1 in
+    rw (p.1, p.2)
+    (columns_in-fault c.args.at c.loop-i.i c.args.words.now _ c.loop-i.columns c.loop-i-test.true c.loop-i.invariant.read c.in_err-column_at.field-0.0
+    (c.in_err-column_at.ensures.read (names_of c.loop-i.columns) c.loop-i.invariant.named))
 
--- src/columns.rt:69:5
 pub loop-i-preserved : goal.loop-i-preserved
-loop-i-preserved c = ?
+loop-i-preserved c = record {
+  read = rw c.in_ok-push.ensures.ok
+      (columns_in-turn c.args.at c.loop-i.i c.args.words.now _ c.loop-i.columns c.loop-i-test.true c.loop-i.invariant.read c.in_ok-column_at.field-0
+      (c.in_ok-column_at.ensures.read (names_of c.loop-i.columns) c.loop-i.invariant.named));
+  named = set-next (texts_of c.column_at.new.named) c.loop-i.columns _ c.in_ok-column_at.field-0 c.in_ok-push.ensures.ok
+      (c.in_ok-column_at.ensures.named (names_of c.loop-i.columns) c.loop-i.invariant.named);
+}
 
--- src/columns.rt:63:1
 pub returns : goal.returns
-returns c = ?
+returns c = columns_in-end c.args.at c.loop-i.i c.args.words.now c.loop-i.columns c.loop-i-test.false c.loop-i.invariant.read

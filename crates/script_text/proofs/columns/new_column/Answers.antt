@@ -1,22 +1,30 @@
-use Rattle.std.proofs.Common.{rules, ◌≡◌, ◌<◌, ◌^◌, ◌++◌, ◌∷◌, [], List, ℕ, IfOk, ◌+◌, ◌-◌, ◌*◌, ◌≤◌, length, ◌/◌, ◌%◌, Bool, true, false, nat_eq, nat_lt, slice_index_or, slice_set, bit_and, bit_or, Fits, w8, w32, w64, Bor, MutBor}
-use Rattle.script_text.specs.Names.{texts_of, IsSetOf}
-use Rattle.script_text.specs.Words.{texts}
-use Rattle.script_text.specs.Places.{Judges, seen, built_column, new_column_at}
-use Rattle.script_text.specs.Reading.{Reads, column_in, columns_in, some_columns_in}
+use Rattle.std.proofs.Common.{◌∙◌, sym}
+use Rattle.std.proofs.lemmas.Result.{err_from_is_err_and}
+use Rattle.script_text.specs.Names.{texts_of}
+use Rattle.script_text.proofs.ColumnLemmas.{column-twice, column-kind, set-named}
 use Rattle.script_text.proofs.columns.new_column.Goals as goal
 
--- src/columns.rt:38:9
 pub returns-then-not-branch-clause-judged : goal.returns-then-not-branch-clause-judged
-returns-then-not-branch-clause-judged c = ?
+returns-then-not-branch-clause-judged c = λ before set.
+    rw c.into-then-not-branch.ensures
+    (column-twice before (texts_of c.args.named.now) c.args.word.now (c.in-Some.name.now, c.in-Some.kind) c.in_ok-put_name.field-0 c.in-Some.ensures
+    (rw c.as_bytes.ensures.value at c.in_ok-put_name.ensures.added) set c.if-not-branch.true)
 
--- src/columns.rt:40:8
 pub returns-in_err-built_column-clause-judged : goal.returns-in_err-built_column-clause-judged
-returns-in_err-built_column-clause-judged c = ?
+returns-in_err-built_column-clause-judged c = λ before set.
+    let p = err_from_is_err_and c.from_residual-in_err-built_column.result c.from_residual-in_err-built_column.ensures.1 in
+    rw (p.1, p.2)
+    (column-kind before (texts_of c.args.named.now) c.args.word.now (c.in-Some.name.now, c.in-Some.kind) c.in_ok-put_name.field-0 c.in-Some.ensures
+    (rw c.as_bytes.ensures.value at c.in_ok-put_name.ensures.added) set c.if-not-branch.false
+    ∙ sym c.in_err-built_column.ensures)
 
--- src/columns.rt:25:1
 pub returns-clause-judged : goal.returns-clause-judged
-returns-clause-judged c = ?
+returns-clause-judged c = λ before set.
+    column-kind before (texts_of c.args.named.now) c.args.word.now (c.in-Some.name.now, c.in-Some.kind) c.in_ok-put_name.field-0 c.in-Some.ensures
+    (rw c.as_bytes.ensures.value at c.in_ok-put_name.ensures.added) set c.if-not-branch.false
+    ∙ sym c.in_ok-built_column.ensures
 
--- src/columns.rt:25:1
 pub returns-clause-named : goal.returns-clause-named
-returns-clause-named c = ?
+returns-clause-named c = λ before set.
+    set-named before (texts_of c.args.named.now) (texts_of c.put_name.new.names) c.in-Some.name.now c.in_ok-built_column.field-0.now c.in-Some.kind c.in_ok-built_column.ensures
+    (rw c.as_bytes.ensures.value at c.in_ok-put_name.ensures.put) set

@@ -1,4 +1,3 @@
-pub mod Above
 pub mod CellLemmas
 pub mod ColumnLemmas
 pub mod Distinct
@@ -6,7 +5,6 @@ pub mod FaultLaws
 pub mod Goods
 pub mod IntLemmas
 pub mod LineLemmas
-mod LineWords
 pub mod Numbers
 pub mod PlaceLemmas
 pub mod Readings

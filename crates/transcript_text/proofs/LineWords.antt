@@ -10,7 +10,7 @@ use Rattle.percent_encoding.specs.Percent.{percent_encode}
 use Rattle.hex.specs.Hex.{encode_lower}
 use Rattle.uuid.specs.Text.{hyphenated_text, lower, parsed}
 use Rattle.uuid.proofs.RoundTrips.{parses_hyphenated}
-use Rattle.script_text.specs.declared.print.TheConstants.{ESCAPED}
+use Rattle.transcript_text.specs.declared.print.TheConstants.{ESCAPED}
 use Rattle.row_value.specs.declared.content.Cell.{Cell}
 use Rattle.row_value.specs.declared.content.Cell.TheVariants as cells
 use Rattle.row_value.specs.declared.content.Content.{Content}
@@ -31,9 +31,9 @@ use Rattle.table_model.specs.declared.line.Fact.{Fact}
 use Rattle.table_model.specs.declared.line.Fact.TheVariants as facts
 use Rattle.table_model.specs.declared.line.TextLine.{TextLine}
 use Rattle.table_model.specs.declared.line.TextLine.TheVariants as lines
-use Rattle.script_text.specs.Text.{cell_text, content_text, refusal_text, shown_text, answer_text, write_text, node_text, message_text, entry_text, fact_text, text_of}
-use Rattle.script_text.specs.OneForm.{IsNumberCell, HasContentText, HasRefusalText, HasValue, HasShownText, HasAnswerText, HasRowText, HasWriteText, HasEntryText, HasNodeText, HasFactText, HasText}
-use Rattle.script_text.proofs.Above.{IsAbove, led, led_same, led_above, decimal_above, signed_above, row_above, decimal_first, signed_first}
+use Rattle.transcript_text.specs.Text.{cell_text, content_text, refusal_text, shown_text, answer_text, write_text, node_text, message_text, entry_text, fact_text, text_of}
+use Rattle.transcript_text.specs.OneForm.{IsNumberCell, HasContentText, HasRefusalText, HasValue, HasShownText, HasAnswerText, HasRowText, HasWriteText, HasEntryText, HasNodeText, HasFactText, HasText}
+use Rattle.transcript_text.proofs.Above.{IsAbove, led, led_same, led_above, decimal_above, signed_above, row_above, decimal_first, signed_first}
 
 abbrev pub cell_word : Cell → List ℕ
 cell_word (cells.Int n) = signed_decimal n

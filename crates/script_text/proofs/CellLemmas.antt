@@ -17,11 +17,11 @@ behind (w ∷ ws) (suc i) d h = behind ws i d (omega (arith, h))
 pub dropped_next : (words : List (Bor (List ℕ))) (i : ℕ) (d : Bor (List ℕ)) → i < length words → drop i (texts words) ≡ (get_or words i d).now ∷ drop (i + 1) (texts words)
 dropped_next words i d h = rw add-one (behind words i d h)
 
-fronts : (front more : List Cell) (r : Result (List Cell) BadLine) → with_front front (with_front more r) ≡ with_front (front ++ more) r
+pub fronts : {X : Type 0} (front more : List X) (r : Result (List X) BadLine) → with_front front (with_front more r) ≡ with_front (front ++ more) r
 fronts front more (Ok cells) = ap Ok (sym (append_assoc front more cells))
 fronts front more (Err fault) = refl
 
-joined : (cell : Cell) (r : Result (List Cell) BadLine) → (r >>= λ more. Ok (cell ∷ more)) ≡ with_front (cell ∷ []) r
+pub joined : {X : Type 0} (cell : X) (r : Result (List X) BadLine) → (r >>= λ more. Ok (cell ∷ more)) ≡ with_front (cell ∷ []) r
 joined cell (Ok more) = refl
 joined cell (Err fault) = refl
 

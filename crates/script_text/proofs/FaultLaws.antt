@@ -1,17 +1,16 @@
 -- A line has one first word at fault, and none where it spells an event or passes a limit.
-use Rattle.std.proofs.Common.{◌≡◌, ◌≢◌, ℕ, List, [], ◌∷◌, Some, None, Ok, Err, refl, sym, ap, ◌∙◌, subst, inl, inr, true≢false}
+use Rattle.std.proofs.Common.{◌≡◌, ◌≢◌, ℕ, List, [], ◌∷◌, Some, None, Ok, Err, sym, ap, ◌∙◌, subst, inl, inr, true≢false}
 use Rattle.table_model.specs.declared.event.Event.{Event}
-use Rattle.table_model.specs.declared.event.Event.TheVariants as events
 use Rattle.script_text.specs.declared.fault.BadLine.{BadLine}
 use Rattle.script_text.specs.declared.verb.Verb.{Verb}
-use Rattle.script_text.specs.declared.verb.Verb.TheVariants as verbs
 use Rattle.script_text.specs.Verbs.{verb_of, name_of}
 use Rattle.script_text.specs.Names.{Names}
 use Rattle.script_text.specs.Words.{words_of}
-use Rattle.script_text.specs.Grammar.{IsPassed, Spells, SpelledBy, IsFault, limits_of, first_limit, WordsLimit, PassesLimit}
-use Rattle.script_text.proofs.PlaceLemmas.{none_some, some_same}
-use Rattle.script_text.proofs.Readings.{verb-again, words-fault}
-use Rattle.script_text.proofs.Rights.{store-number, table-number, client-number}
+use Rattle.script_text.specs.Reading.{words_in}
+use Rattle.script_text.specs.Grammar.{IsPassed, Spells, SpelledBy, IsFault, limit_of, WordsLimit, PassesLimit}
+use Rattle.script_text.proofs.Numbers.{some_same}
+use Rattle.script_text.proofs.VerbWords.{verb-again}
+use Rattle.script_text.proofs.Readings.{words-fault, words-clear}
 use Rattle.script_text.proofs.Spelled.{spelled}
 
 module _ (names : Names) where
@@ -33,11 +32,7 @@ module _ (names : Names) where
 -- passed over
 
 spelled_word : (names : Names) (ws : List (List ℕ)) (e : Event) → SpelledBy names ws e → ws ≢ []
-spelled_word names ws (events.Store store) h none = let e = sym h.0 ∙ none in cc
-spelled_word names ws (events.Table table schema) h none = let e = sym h.1 ∙ none in cc
-spelled_word names ws (events.Client client gate tables) h none = let e = sym h.0 ∙ none in cc
-spelled_word names ws (events.Write client table row content) h none = let e = sym h.2 ∙ none in cc
-spelled_word names ws (events.Show client table row) h none = let e = sym h.1 ∙ none in cc
+spelled_word names ws e h none = let same : Ok (Ok None) ≡ Ok (Ok (Some e)) = sym (ap (words_in names) none) ∙ spelled names ws e h in cc
 
 pub passed_event : (names : Names) (line : List ℕ) (e : Event) → IsPassed line → Spells names line e → ⊥
 passed_event names line e p s = elim p [
@@ -50,8 +45,8 @@ passed_event names line e p s = elim p [
 same_verb : (v w : Verb) → name_of v ≡ name_of w → v ≡ w
 same_verb v w e = some_same _ _ (sym (verb-again v) ∙ ap verb_of e ∙ verb-again w)
 
-at_verb : (verb : Verb) (ws : List (List ℕ)) (limit : ℕ) → WordsLimit (name_of verb ∷ ws) limit → first_limit (limits_of verb) ws ≡ Some limit
-at_verb verb ws limit h = subst (λ (v : Verb). first_limit (limits_of v) ws ≡ Some limit) (sym (same_verb verb h.0 h.1)) h.2
+at_verb : (verb : Verb) (ws : List (List ℕ)) (limit : ℕ) → WordsLimit (name_of verb ∷ ws) limit → limit_of verb ws ≡ Some limit
+at_verb verb ws limit h = subst (λ (v : Verb). limit_of v ws ≡ Some limit) (sym (same_verb verb h.0 h.1)) h.2
 
 words_limit-one : (ws : List (List ℕ)) (l m : ℕ) → WordsLimit ws l → WordsLimit ws m → l ≡ m
 words_limit-one [] l m p q = absurd p
@@ -61,17 +56,5 @@ words_limit-one (first ∷ ws) l m p q =
 pub one_limit : (names : Names) (line : List ℕ) (l m : ℕ) → PassesLimit names line l → PassesLimit names line m → l ≡ m
 one_limit names line l m p q = words_limit-one (words_of line) l m p.3 q.3
 
-module _ (names : Names) (limit : ℕ) where
-  at_words : (verb : Verb) (ws words : List (List ℕ)) → words ≡ name_of verb ∷ ws → WordsLimit words limit → first_limit (limits_of verb) ws ≡ None → ⊥
-  at_words verb ws words is h none =
-      none_some limit (sym none ∙ at_verb verb ws limit (subst (λ (w : List (List ℕ)). WordsLimit w limit) is h))
-
-  words-clear : (ws : List (List ℕ)) (e : Event) → SpelledBy names ws e → WordsLimit ws limit → ⊥
-  words-clear ws (events.Store store) h p = at_words verbs.Store _ ws h.0 p (rw store-number refl)
-  words-clear ws (events.Table table schema) h p = at_words verbs.Table _ ws h.1 p (rw table-number refl)
-  words-clear ws (events.Client client gate tables) h p = at_words verbs.Client _ ws h.0 p (rw (client-number, table-number) refl)
-  words-clear ws (events.Write client table row content) h p = at_words verbs.Write _ ws h.2 p refl
-  words-clear ws (events.Show client table row) h p = at_words verbs.Show _ ws h.1 p refl
-
-  pub limit_event : (line : List ℕ) (e : Event) → Spells names line e → PassesLimit names line limit → ⊥
-  limit_event line e s p = words-clear (words_of line) e s.2 p.3
+pub limit_event : (names : Names) (limit : ℕ) (line : List ℕ) (e : Event) → Spells names line e → PassesLimit names line limit → ⊥
+limit_event names limit line e s p = words-clear names (words_of line) e limit (spelled names (words_of line) e s.2) p.3

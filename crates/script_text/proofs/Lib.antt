@@ -1,14 +1,18 @@
-pub mod Above
 pub mod CellLemmas
+pub mod ColumnLemmas
+pub mod Distinct
 pub mod FaultLaws
+pub mod Goods
 pub mod IntLemmas
 pub mod LineLemmas
-mod LineWords
+pub mod Numbers
 pub mod PlaceLemmas
 pub mod Readings
 pub mod Rights
 pub mod Sets
 pub mod Spelled
 pub mod Steps
+pub mod Stops
 pub mod TableLemmas
+pub mod VerbWords
 pub mod WordLemmas

@@ -7,7 +7,7 @@ use Rattle.std.specs.List.{before_first, after_first, position_or_len}
 use Rattle.std.specs.Str.{bytes_eq}
 use Rattle.std.specs.Str.Parse.{digits_value}
 use Rattle.std.proofs.lemmas.Bool.{ltb-true, cases_Bool, eqb-true}
-use Rattle.std.proofs.lemmas.Fmt.{decimal_digit, decimal-digits_value}
+use Rattle.std.proofs.lemmas.Fmt.{decimal_digit}
 use Rattle.std.proofs.lemmas.Slice.Eq.{bytes_eq-Decides}
 use Rattle.stab_base.specs.Row.{row_of}
 use Rattle.row_value.specs.declared.schema.ColumnKind.{ColumnKind}
@@ -17,192 +17,149 @@ use Rattle.row_value.specs.declared.schema.Scheme.TheVariants as schemes
 use Rattle.script_text.specs.declared.fault.Code.{Code}
 use Rattle.script_text.specs.declared.fault.Code.TheVariants.{NoNumber, NoName, NoRow, NoValue, NotDeclared, Twice, Unbuilt}
 use Rattle.script_text.specs.Names.{Names, has_store, has_table, has_name, has_client}
-use Rattle.script_text.specs.Words.{is_number, is_name}
-use Rattle.script_text.specs.Places.{◌>>=◌, small, node_at, built, known, at_most, limited_at, passed, fresh, opened, opened_at, client_at, table_at, store_number, table_number, client_number, new_store_at, new_table_at, new_client_at, gate_at, new_name_at, scheme_at, chunk_at, is_colon, parts_of, kind_of, named, column_of, number_column, column_at, row_at, found_row, found_value, int_of, is_long_value, value_at}
-use Rattle.script_text.specs.Grammar.{IsChunk}
-use Rattle.script_text.proofs.WordLemmas.{own, both, long, IsNumber-parts}
+use Rattle.script_text.specs.Words.{is_name, is_among}
+use Rattle.script_text.specs.Places.{◌>>=◌, node_at, built, known, limited_at, passed, fresh, opened, opened_at, client_at, table_at, store_number, table_number, client_number, new_store_at, new_table_at, new_client_at, gate_at, new_name_at, scheme_at, chunk_at, is_colon, parts_of, kind_of, named, column_of, built_column, new_column, new_column_at, row_at, found_row, found_value, int_of, is_long_value, value_at}
+use Rattle.script_text.specs.Grammar.{IsChunk, IsUpTo, client_word, table_word, column_word, IsClient, IsTable}
 use Rattle.script_text.proofs.IntLemmas.{int_of-parts}
 use Rattle.script_text.proofs.Steps.{ok_err, bind-ok}
-
--- a test that gives one of two answers
-pub if-ok : {X : Type 0} (b : Bool) (r : Result X Code) (code : Code) (x : X) → cond b r (Err code) ≡ Ok x → (b ≡ true) × (r ≡ Ok x)
-if-ok true r code x e = (refl, e)
-if-ok false r code x e = absurd (ok_err x code (sym e))
-
-pub unless-ok : {X : Type 0} (b : Bool) (r : Result X Code) (code : Code) (x : X) → cond b (Err code) r ≡ Ok x → (b ≡ false) × (r ≡ Ok x)
-unless-ok false r code x e = (refl, e)
-unless-ok true r code x e = absurd (ok_err x code (sym e))
+use Rattle.script_text.proofs.Numbers.{if-ok, unless-ok, some_same, ok_same, none_some, node-some, limited-some}
 
 positive : (b : Bool) → not b ≡ false → b ≡ true
 positive true e = refl
 positive false e = absurd (true≢false e)
 
-pub some_same : {X : Type 0} (x y : X) → Some x ≡ Some y → x ≡ y
-some_same x y e = cc
-
-pub ok_same : {X : Type 0} (x y : X) → ◌≡◌ {A = Result X Code} (Ok x) (Ok y) → x ≡ y
-ok_same x y e = cc
-
-pub none_some : {X : Type 0} (x : X) → None ≡ Some x → ⊥
-none_some x e = cc
-
-small-is : (digits : List ℕ) (n : ℕ) → small digits ≡ Some n → digits_value 10 digits ≡ n
-unfolding small
-small-is digits n e = elim (cases_Bool (ltb (digits_value 10 digits) (2 ^ 32))) [
-  | inl less ↦ some_same _ _ (rw less at e)
-  | inr more ↦ absurd (none_some n (rw more at e))
-]
-
--- the digit 1 is the one text of 1
-one_digit : (digits : List ℕ) → is_number digits ≡ true → digits_value 10 digits ≡ 1 → digits ≡ 49 ∷ []
-one_digit digits is e =
-    let p = IsNumber-parts digits is in
-    let text : decimal (digits_value 10 digits) ≡ digits = decimal-digits_value own digits p.1 (long digits p.0) (λ zero_first. absurd (omega (arith, p.0, zero_first))) (omega (arith, e)) in
-    sym text ∙ ap decimal e ∙ decimal_digit 1 (omega arith)
-
-pub node-one : (letter : ℕ) (word : List ℕ) → node_at letter word ≡ Ok (Some 1) → word ≡ letter ∷ 49 ∷ []
-unfolding node_at
-node-one letter [] e = absurd (ok_err (Some 1) NoName (sym e))
-node-one letter (c ∷ digits) e =
-    let p = if-ok (eqb c letter && is_number digits) (Ok (small digits)) NoName (Some 1) e in
-    let q = both (eqb c letter) (is_number digits) p.0 in
-    let value = small-is digits 1 (ok_same _ _ p.1) in
-    let first : c ≡ letter = eqb-true c letter q.0 in
-    let rest : digits ≡ 49 ∷ [] = one_digit digits q.1 value in cc
-
-built-ok : (m n : ℕ) → built m ≡ Ok n → (m ≡ 1) × (n ≡ 1)
-built-ok m n e =
-    let p = if-ok (eqb m 1) (Ok m) Unbuilt n e in
-    let is : m ≡ 1 = eqb-true m 1 p.0 in
-    let same : m ≡ n = ok_same _ _ p.1 in (is, cc)
-
-known-ok : (has : ℕ → Bool) (o : Option ℕ) (n : ℕ) → known has o ≡ Ok n → (o ≡ Some 1) × (n ≡ 1) × (has 1 ≡ true)
+known-ok : (has : ℕ → Bool) (o : Option ℕ) (n : ℕ) → known has o ≡ Ok n → (o ≡ Some n) × (has n ≡ true)
 known-ok has None n e = absurd (ok_err n NotDeclared (sym e))
 known-ok has (Some m) n e =
-    let p = if-ok (has m) (built m) NotDeclared n e in
-    let q = built-ok m n p.1 in
-    (ap Some q.0, q.1, subst (λ (k : ℕ). has k ≡ true) q.0 p.0)
+    let p = if-ok (has m) (Ok m) NotDeclared n e in
+    let same : m ≡ n = ok_same _ _ p.1 in (ap Some same, subst (λ (k : ℕ). has k ≡ true) same p.0)
 
-built_some-ok : (m n : ℕ) → (built m >>= λ k. Ok (Some k)) ≡ Ok (Some n) → (m ≡ 1) × (n ≡ 1)
-built_some-ok m n e =
-    let p = bind-ok (built m) (λ k. Ok (Some k)) (Some n) e in
-    let same : p.0 ≡ n = some_same _ _ (ok_same _ _ p.2) in
-    built-ok m n (p.1 ∙ ap Ok same)
-
-built_some-none : (m : ℕ) → (built m >>= λ k. Ok (Some k)) ≡ Ok None → ⊥
-built_some-none m e =
-    let p = bind-ok (built m) (λ k. Ok (Some k)) None e in
-    none_some p.0 (sym (ok_same _ _ p.2))
-
-fresh-ok : (has : ℕ → Bool) (o : Option ℕ) (n : ℕ) → fresh has o ≡ Ok (Some n) → (o ≡ Some 1) × (n ≡ 1) × (has 1 ≡ false)
+fresh-ok : (has : ℕ → Bool) (o : Option ℕ) (n : ℕ) → fresh has o ≡ Ok (Some n) → (o ≡ Some n) × (has n ≡ false)
 fresh-ok has None n e = absurd (none_some n (ok_same _ _ e))
 fresh-ok has (Some m) n e =
-    let p = unless-ok (has m) (built m >>= λ k. Ok (Some k)) Twice (Some n) e in
-    let q = built_some-ok m n p.1 in
-    (ap Some q.0, q.1, subst (λ (k : ℕ). has k ≡ false) q.0 p.0)
+    let p = unless-ok (has m) (Ok (Some m)) Twice (Some n) e in
+    let same : m ≡ n = some_same _ _ (ok_same _ _ p.1) in (ap Some same, subst (λ (k : ℕ). has k ≡ false) same p.0)
 
 fresh-none : (has : ℕ → Bool) (o : Option ℕ) → fresh has o ≡ Ok None → o ≡ None
 fresh-none has None e = refl
 fresh-none has (Some m) e =
-    let p = unless-ok (has m) (built m >>= λ k. Ok (Some k)) Twice None e in absurd (built_some-none m p.1)
+    let p = unless-ok (has m) (Ok (Some m)) Twice None e in absurd (none_some m (sym (ok_same _ _ p.1)))
 
-opened-ok : (has : ℕ → Bool) (o : Option ℕ) (n : ℕ) → opened has o ≡ Ok (Some n) → (o ≡ Some 1) × (n ≡ 1) × (has 1 ≡ true)
+opened-ok : (has : ℕ → Bool) (o : Option ℕ) (n : ℕ) → opened has o ≡ Ok (Some n) → (o ≡ Some n) × (has n ≡ true)
 opened-ok has None n e = absurd (none_some n (ok_same _ _ e))
 opened-ok has (Some m) n e =
-    let p = if-ok (has m) (built m >>= λ k. Ok (Some k)) NotDeclared (Some n) e in
-    let q = built_some-ok m n p.1 in
-    (ap Some q.0, q.1, subst (λ (k : ℕ). has k ≡ true) q.0 p.0)
+    let p = if-ok (has m) (Ok (Some m)) NotDeclared (Some n) e in
+    let same : m ≡ n = some_same _ _ (ok_same _ _ p.1) in (ap Some same, subst (λ (k : ℕ). has k ≡ true) same p.0)
 
 opened-none : (has : ℕ → Bool) (o : Option ℕ) → opened has o ≡ Ok None → o ≡ None
 opened-none has None e = refl
 opened-none has (Some m) e =
-    let p = if-ok (has m) (built m >>= λ k. Ok (Some k)) NotDeclared None e in absurd (built_some-none m p.1)
+    let p = if-ok (has m) (Ok (Some m)) NotDeclared None e in absurd (none_some m (sym (ok_same _ _ p.1)))
 
-module _ (P : Type 0) (judge : Option ℕ → Result ℕ Code) (right : (o : Option ℕ) (n : ℕ) → judge o ≡ Ok n → (o ≡ Some 1) × (n ≡ 1) × P) where
-  one : (letter : ℕ) (word : List ℕ) (n : ℕ) → (node_at letter word >>= judge) ≡ Ok n → (word ≡ letter ∷ 49 ∷ []) × (n ≡ 1) × P
-  one letter word n e =
-      let p = bind-ok (node_at letter word) judge n e in
-      let q = right p.0 n p.2 in
-      (node-one letter word (p.1 ∙ ap Ok q.0), q.1, q.2)
+built-ok : (o : Option ℕ) (n : ℕ) → built o ≡ Ok (Some n) → (o ≡ Some 1) × (n ≡ 1)
+built-ok None n e = absurd (none_some n (ok_same _ _ e))
+built-ok (Some m) n e =
+    let p = if-ok (eqb m 1) (Ok (Some m)) Unbuilt (Some n) e in
+    let is : m ≡ 1 = eqb-true m 1 p.0 in
+    let same : m ≡ n = some_same _ _ (ok_same _ _ p.1) in (ap Some is, sym same ∙ is)
 
-at_most-one : (most : ℕ) (o : Option ℕ) (n : ℕ) → at_most most o ≡ Some n → o ≡ Some n
-at_most-one most None n e = e
-at_most-one most (Some m) n e = elim (cases_Bool (leb m most)) [
-  | inl within ↦ rw within at e
-  | inr above ↦ absurd (none_some n (rw above at e))
-]
+built-none : (o : Option ℕ) → built o ≡ Ok None → o ≡ None
+built-none None e = refl
+built-none (Some m) e =
+    let p = if-ok (eqb m 1) (Ok (Some m)) Unbuilt None e in absurd (none_some m (sym (ok_same _ _ p.1)))
 
-limited-one : (letter most : ℕ) (word : List ℕ) → limited_at letter most word ≡ Ok (Some 1) → word ≡ letter ∷ 49 ∷ []
-unfolding limited_at
-limited-one letter most word e =
-    let p = bind-ok (node_at letter word) (λ number. Ok (at_most most number)) (Some 1) e in
-    node-one letter word (p.1 ∙ ap Ok (at_most-one most p.0 1 (ok_same _ _ p.2)))
-
-module _ (P : Type 0) (judge : Option ℕ → Result (Option ℕ) Code) (letter most : ℕ) (word : List ℕ) where
-  numbered : ((o : Option ℕ) (n : ℕ) → judge o ≡ Ok (Some n) → (o ≡ Some 1) × (n ≡ 1) × P) → (n : ℕ) → (limited_at letter most word >>= judge) ≡ Ok (Some n) → (word ≡ letter ∷ 49 ∷ []) × (n ≡ 1) × P
-  numbered right n e =
+module _ (judge : Option ℕ → Result (Option ℕ) Code) (P : ℕ → Type 0) (right : (o : Option ℕ) (n : ℕ) → judge o ≡ Ok (Some n) → (o ≡ Some n) × P n) (letter most : ℕ) (word : List ℕ) where
+  within : (n : ℕ) → (limited_at letter most word >>= judge) ≡ Ok (Some n) → (limited_at letter most word ≡ Ok (Some n)) × P n
+  within n e =
       let p = bind-ok (limited_at letter most word) judge (Some n) e in
       let q = right p.0 n p.2 in
-      (limited-one letter most word (p.1 ∙ ap Ok q.0), q.1, q.2)
+      (p.1 ∙ ap Ok q.0, q.1)
 
-  within : (limit : ℕ) → ((o : Option ℕ) (n : ℕ) → judge o ≡ Ok (Some n) → (o ≡ Some 1) × (n ≡ 1) × P) → (n : ℕ) → (limited_at letter most word >>= judge) ≡ Ok (Some n) → passed limit (limited_at letter most word) ≡ None
-  within limit right n e =
-      let p = bind-ok (limited_at letter most word) judge (Some n) e in
-      ap (passed limit) (p.1 ∙ ap Ok (right p.0 n p.2).0)
+  numbered : (n : ℕ) → (limited_at letter most word >>= judge) ≡ Ok (Some n) → (word ≡ letter ∷ decimal n) × IsUpTo most n × P n
+  numbered n e =
+      let p = within n e in
+      let q = limited-some letter most word n p.0 in
+      (q.0, (q.1, q.2), p.1)
 
-  above : (limit : ℕ) → ((o : Option ℕ) → judge o ≡ Ok None → o ≡ None) → (limited_at letter most word >>= judge) ≡ Ok None → passed limit (limited_at letter most word) ≡ Some limit
-  above limit none e =
-      let p = bind-ok (limited_at letter most word) judge None e in
-      ap (passed limit) (p.1 ∙ ap Ok (none p.0 p.2))
+above : (judge : Option ℕ → Result (Option ℕ) Code) (letter most : ℕ) (word : List ℕ) (limit : ℕ) → ((o : Option ℕ) → judge o ≡ Ok None → o ≡ None) → (limited_at letter most word >>= judge) ≡ Ok None → passed limit (limited_at letter most word) ≡ Some limit
+above judge letter most word limit none e =
+    let p = bind-ok (limited_at letter most word) judge None e in
+    ap (passed limit) (p.1 ∙ ap Ok (none p.0 p.2))
 
-pub client_at-ok : (names : Names) (word : List ℕ) (n : ℕ) → client_at names word ≡ Ok n → (word ≡ codes "C1") × (n ≡ 1) × (has_client names 1 ≡ true)
-unfolding client_at
-client_at-ok names word n e = one _ (known (has_client names)) (known-ok (has_client names)) 67 word n e
+module _ (names : Names) (word : List ℕ) (n : ℕ) where
+  pub client_at-ok : client_at names word ≡ Ok n → (word ≡ client_word n) × IsClient names n
+  unfolding client_at
+  client_at-ok e =
+      let p = bind-ok (node_at 67 word) (known (has_client names)) n e in
+      let q = known-ok (has_client names) p.0 n p.2 in
+      let r = node-some 67 word n (p.1 ∙ ap Ok q.0) in
+      (r.0, (r.1, r.2, q.1))
 
-pub table_at-ok : (names : Names) (word : List ℕ) (n : ℕ) → table_at names word ≡ Ok n → (word ≡ codes "T1") × (n ≡ 1) × (has_table names 1 ≡ true)
-unfolding table_at
-table_at-ok names word n e = one _ (known (has_table names)) (known-ok (has_table names)) 84 word n e
+  pub table_at-ok : table_at names word ≡ Ok n → (word ≡ table_word n) × IsTable names n
+  unfolding table_at
+  table_at-ok e =
+      let p = bind-ok (node_at 84 word) (known (has_table names)) n e in
+      let q = known-ok (has_table names) p.0 n p.2 in
+      let r = node-some 84 word n (p.1 ∙ ap Ok q.0) in
+      (r.0, (r.1, r.2, q.1))
 
 module _ (names : Names) (word : List ℕ) where
   pub new_store_at-ok : (n : ℕ) → new_store_at names word ≡ Ok (Some n) → (word ≡ codes "S1") × (n ≡ 1) × (has_store names 1 ≡ false)
   unfolding new_store_at
-  new_store_at-ok n e = numbered _ (fresh (has_store names)) 83 16 word (fresh-ok (has_store names)) n e
+  new_store_at-ok n e =
+      let p = bind-ok (store_number word >>= fresh (has_store names)) built (Some n) e in
+      let q = built-ok p.0 n p.2 in
+      let r = numbered (fresh (has_store names)) _ (fresh-ok (has_store names)) 83 16 word 1 (p.1 ∙ ap Ok q.0) in
+      (r.0 ∙ ap (λ (digits : List ℕ). 83 ∷ digits) (decimal_digit 1 (omega arith)), q.1, r.2)
+
+  pub new_store_at-within : (n : ℕ) → new_store_at names word ≡ Ok (Some n) → passed 7 (store_number word) ≡ None
+  unfolding new_store_at
+  new_store_at-within n e =
+      let p = bind-ok (store_number word >>= fresh (has_store names)) built (Some n) e in
+      let q = built-ok p.0 n p.2 in
+      ap (passed 7) (within (fresh (has_store names)) _ (fresh-ok (has_store names)) 83 16 word 1 (p.1 ∙ ap Ok q.0)).0
 
   pub new_store_at-limit : new_store_at names word ≡ Ok None → passed 7 (store_number word) ≡ Some 7
   unfolding new_store_at
-  new_store_at-limit e = above (Unit {0}) (fresh (has_store names)) 83 16 word 7 (fresh-none (has_store names)) e
+  new_store_at-limit e =
+      let p = bind-ok (store_number word >>= fresh (has_store names)) built None e in
+      above (fresh (has_store names)) 83 16 word 7 (fresh-none (has_store names)) (p.1 ∙ ap Ok (built-none p.0 p.2))
 
-  pub new_table_at-ok : (n : ℕ) → new_table_at names word ≡ Ok (Some n) → (word ≡ codes "T1") × (n ≡ 1) × (has_table names 1 ≡ false)
+  pub new_table_at-ok : (n : ℕ) → new_table_at names word ≡ Ok (Some n) → (word ≡ table_word n) × IsUpTo 64 n × (has_table names n ≡ false)
   unfolding new_table_at
-  new_table_at-ok n e = numbered _ (fresh (has_table names)) 84 64 word (fresh-ok (has_table names)) n e
+  new_table_at-ok n e = numbered (fresh (has_table names)) _ (fresh-ok (has_table names)) 84 64 word n e
+
+  pub new_table_at-within : (n : ℕ) → new_table_at names word ≡ Ok (Some n) → passed 4 (table_number word) ≡ None
+  unfolding new_table_at
+  new_table_at-within n e = ap (passed 4) (within (fresh (has_table names)) _ (fresh-ok (has_table names)) 84 64 word n e).0
 
   pub new_table_at-limit : new_table_at names word ≡ Ok None → passed 4 (table_number word) ≡ Some 4
   unfolding new_table_at
-  new_table_at-limit e = above (Unit {0}) (fresh (has_table names)) 84 64 word 4 (fresh-none (has_table names)) e
+  new_table_at-limit e = above (fresh (has_table names)) 84 64 word 4 (fresh-none (has_table names)) e
 
-  pub new_client_at-ok : (n : ℕ) → new_client_at names word ≡ Ok (Some n) → (word ≡ codes "C1") × (n ≡ 1) × (has_client names 1 ≡ false)
+  pub new_client_at-ok : (n : ℕ) → new_client_at names word ≡ Ok (Some n) → (word ≡ client_word n) × IsUpTo 64 n × (has_client names n ≡ false)
   unfolding new_client_at
-  new_client_at-ok n e = numbered _ (fresh (has_client names)) 67 64 word (fresh-ok (has_client names)) n e
+  new_client_at-ok n e = numbered (fresh (has_client names)) _ (fresh-ok (has_client names)) 67 64 word n e
 
   pub new_client_at-within : (n : ℕ) → new_client_at names word ≡ Ok (Some n) → passed 5 (client_number word) ≡ None
   unfolding new_client_at
-  new_client_at-within n e = within _ (fresh (has_client names)) 67 64 word 5 (fresh-ok (has_client names)) n e
+  new_client_at-within n e = ap (passed 5) (within (fresh (has_client names)) _ (fresh-ok (has_client names)) 67 64 word n e).0
 
   pub new_client_at-limit : new_client_at names word ≡ Ok None → passed 5 (client_number word) ≡ Some 5
   unfolding new_client_at
-  new_client_at-limit e = above (Unit {0}) (fresh (has_client names)) 67 64 word 5 (fresh-none (has_client names)) e
+  new_client_at-limit e = above (fresh (has_client names)) 67 64 word 5 (fresh-none (has_client names)) e
 
-  pub opened_at-ok : (n : ℕ) → opened_at names word ≡ Ok (Some n) → (word ≡ codes "T1") × (n ≡ 1) × (has_table names 1 ≡ true)
+  pub opened_at-ok : (n : ℕ) → opened_at names word ≡ Ok (Some n) → (word ≡ table_word n) × IsUpTo 64 n × (has_table names n ≡ true)
   unfolding opened_at
-  opened_at-ok n e = numbered _ (opened (has_table names)) 84 64 word (opened-ok (has_table names)) n e
+  opened_at-ok n e = numbered (opened (has_table names)) _ (opened-ok (has_table names)) 84 64 word n e
 
   pub opened_at-within : (n : ℕ) → opened_at names word ≡ Ok (Some n) → passed 4 (table_number word) ≡ None
   unfolding opened_at
-  opened_at-within n e = within _ (opened (has_table names)) 84 64 word 4 (opened-ok (has_table names)) n e
+  opened_at-within n e = ap (passed 4) (within (opened (has_table names)) _ (opened-ok (has_table names)) 84 64 word n e).0
 
   pub opened_at-limit : opened_at names word ≡ Ok None → passed 4 (table_number word) ≡ Some 4
   unfolding opened_at
-  opened_at-limit e = above (Unit {0}) (opened (has_table names)) 84 64 word 4 (opened-none (has_table names)) e
+  opened_at-limit e = above (opened (has_table names)) 84 64 word 4 (opened-none (has_table names)) e
 
 two_errors : {X : Type 0} (b : Bool) (x : X) (c d : Code) → cond b (Err c) (Err d) ≡ Ok x → ⊥
 two_errors true x c d e = ok_err x c (sym e)
@@ -302,19 +259,25 @@ column_of-some : (word : List ℕ) (q : List ℕ × ColumnKind) → column_of wo
 unfolding column_of
 column_of-some word q e = column-some word q (parts_of word) refl e
 
-number_column-ok : (word name : List ℕ) (o : Option (List ℕ × ColumnKind)) → column_of word ≡ o → number_column o ≡ Ok name → (word ≡ name ++ codes ":int") × (is_name name ≡ true)
-number_column-ok word name None is e = absurd (ok_err name NoName (sym e))
-number_column-ok word name (Some (q, kinds.Int)) is e =
-    let r = column_of-some word (q, kinds.Int) is in
-    let same : q ≡ name = ok_same _ _ e in
-    (subst (λ (n : List ℕ). word ≡ n ++ codes ":int") same (r.1 ∙ ap (λ (kind : List ℕ). q ++ 58 ∷ kind) (kind_of-int r.0 r.2)), subst (λ (n : List ℕ). is_name n ≡ true) same r.3)
-number_column-ok word name (Some (q, kinds.Bool)) is e = absurd (ok_err name Unbuilt (sym e))
-number_column-ok word name (Some (q, kinds.Text)) is e = absurd (ok_err name Unbuilt (sym e))
-number_column-ok word name (Some (q, kinds.Object)) is e = absurd (ok_err name Unbuilt (sym e))
+pub built-column : (name made : List ℕ) (kind : ColumnKind) → built_column name kind ≡ Ok made → (kind ≡ kinds.Int) × (name ≡ made)
+built-column name made kinds.Int e = (refl, ok_same _ _ e)
+built-column name made kinds.Bool e = absurd (ok_err made Unbuilt (sym e))
+built-column name made kinds.Text e = absurd (ok_err made Unbuilt (sym e))
+built-column name made kinds.Object e = absurd (ok_err made Unbuilt (sym e))
 
-pub column_at-ok : (word name : List ℕ) → column_at word ≡ Ok name → (word ≡ name ++ codes ":int") × (is_name name ≡ true)
-unfolding column_at
-column_at-ok word name e = number_column-ok word name (column_of word) refl e
+new_column-ok : (before : List (List ℕ)) (word name : List ℕ) (o : Option (List ℕ × ColumnKind)) → column_of word ≡ o → new_column before o ≡ Ok name → (word ≡ column_word name) × (is_name name ≡ true) × (is_among name before ≡ false)
+new_column-ok before word name None is e = absurd (ok_err name NoName (sym e))
+new_column-ok before word name (Some q) is e =
+    let p = unless-ok (is_among q.0 before) (built_column q.0 q.1) Twice name e in
+    let b = built-column q.0 name q.1 p.1 in
+    let r = column_of-some word q is in
+    let kind : r.0 ≡ codes "int" = kind_of-int r.0 (r.2 ∙ ap Some b.0) in
+    subst (λ (n : List ℕ). (word ≡ column_word n) × (is_name n ≡ true) × (is_among n before ≡ false)) b.1
+    (r.1 ∙ ap (λ (k : List ℕ). q.0 ++ 58 ∷ k) kind, r.3, p.0)
+
+pub new_column_at-ok : (before : List (List ℕ)) (word name : List ℕ) → new_column_at before word ≡ Ok name → (word ≡ column_word name) × (is_name name ≡ true) × (is_among name before ≡ false)
+unfolding new_column_at
+new_column_at-ok before word name e = new_column-ok before word name (column_of word) refl e
 
 row-ok : (o : Option (List ℕ)) (row : List ℕ) → found_row o ≡ Ok row → o ≡ Some row
 row-ok None row e = absurd (ok_err row NoRow (sym e))

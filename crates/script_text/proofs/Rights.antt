@@ -1,77 +1,102 @@
 -- Words that are right at their places.
-use Rattle.std.proofs.Common.{◌≡◌, ◌≢◌, ℕ, suc, ◌+◌, ◌<◌, ◌≤◌, ◌^◌, true, false, ◌&&◌, ◌||◌, eqb, ltb, leb, cond, List, [], ◌∷◌, ◌++◌, length, get_or, take, drop, codes, Option, Some, None, Ok, ℤ, pos, negsuc, neg_ℤ, length-append, refl, sym, ap, ◌∙◌, subst, inl, inr, arith, true≢false}
+use Rattle.std.proofs.Common.{◌≡◌, ◌≢◌, ℕ, suc, ◌+◌, ◌<◌, ◌≤◌, ◌^◌, true, false, ◌&&◌, ◌||◌, eqb, ltb, leb, cond, List, [], ◌∷◌, ◌++◌, length, get_or, take, drop, map, codes, Option, Some, None, Ok, ℤ, pos, negsuc, neg_ℤ, length-append, refl, sym, ap, ◌∙◌, subst, inl, inr, arith, true≢false, All}
 use Rattle.std.specs.Int.Signed.{mag}
 use Rattle.std.specs.Fmt.{decimal, signed_decimal}
-use Rattle.std.specs.List.{list_all, position_or_len}
+use Rattle.std.specs.List.{AllByRecursion, IsDistinct, list_all, position_or_len}
 use Rattle.std.specs.Str.{bytes_eq}
-use Rattle.std.specs.Str.Parse.{digits_value, signed_digits_value}
+use Rattle.std.specs.Str.Parse.{AllDigits, digits_value, signed_digits_value}
 use Rattle.std.proofs.lemmas.Bool.{lt-ltb, cases_Bool, eqb-true}
 use Rattle.std.proofs.Math.Seq.{take-append_seam, drop-append-add}
+use Rattle.std.proofs.lemmas.List.Elements.{All-from_recursion}
+use Rattle.std.proofs.lemmas.List.Splits.{slice_split_none, slice_split_at}
 use Rattle.std.proofs.lemmas.Fmt.{decimal_is_IsNumeral}
-use Rattle.std.proofs.lemmas.Str.Parse.{digit_at}
+use Rattle.std.proofs.lemmas.Str.Parse.{digit_at, digit_from_value}
 use Rattle.std.proofs.lemmas.Slice.Eq.{bytes_eq-Decides}
 use Rattle.stab_base.specs.Row.{row_of}
 use Rattle.row_value.specs.declared.schema.ColumnKind.{ColumnKind}
 use Rattle.row_value.specs.declared.schema.ColumnKind.TheVariants as kinds
 use Rattle.row_value.specs.declared.schema.Scheme.TheVariants as schemes
 use Rattle.script_text.specs.Names.{Names, has_store, has_table, has_name, has_client}
-use Rattle.script_text.specs.Words.{is_number, is_name, is_name_byte, is_lower}
-use Rattle.script_text.specs.Places.{small, node_at, limited_at, store_number, table_number, client_number, parts_at, opened_at, tables_in, client_at, table_at, new_store_at, new_table_at, new_client_at, gate_at, tables_at, new_name_at, scheme_at, chunk_at, is_colon, parts_of, kind_of, named, column_of, number_column, column_at, row_at, found_row, found_value, is_long_value, int_of, value_at}
-use Rattle.script_text.specs.Grammar.{IsChunk}
+use Rattle.script_text.specs.Words.{is_number, is_name, is_name_byte, is_lower, is_among}
+use Rattle.script_text.specs.Places.{small, node_at, limited_at, store_number, is_comma, parts_at, opened_at, tables_in, client_at, table_at, new_store_at, new_table_at, new_client_at, gate_at, tables_at, new_name_at, scheme_at, chunk_at, is_colon, parts_of, kind_of, named, column_of, new_column, new_column_at, row_at, found_row, found_value, is_long_value, int_of, value_at}
+use Rattle.script_text.specs.Grammar.{IsChunk, IsUpTo, client_word, table_word, tables_word, column_word, IsClient, IsTable}
 use Rattle.script_text.proofs.WordLemmas.{both}
+use Rattle.script_text.proofs.Numbers.{node-right, limited-right}
+use Rattle.script_text.proofs.Distinct.{NewTo, distinct-new, distinct-words}
 use Rattle.script_text.proofs.PlaceLemmas.{text-64, text-1024, text-65536}
 
-client-1 : node_at 67 (codes "C1") ≡ Ok (Some 1)
-unfolding node_at is_number small
-client-1 = refl
+module _ (names : Names) (n : ℕ) where
+  pub client_at-right : IsClient names n → client_at names (client_word n) ≡ Ok n
+  unfolding client_at
+  client_at-right h = rw (node-right 67 n h.0 h.1, h.2) refl
 
-table-1 : node_at 84 (codes "T1") ≡ Ok (Some 1)
-unfolding node_at is_number small
-table-1 = refl
+  pub table_at-right : IsTable names n → table_at names (table_word n) ≡ Ok n
+  unfolding table_at
+  table_at-right h = rw (node-right 84 n h.0 h.1, h.2) refl
 
-pub store-number : store_number (codes "S1") ≡ Ok (Some 1)
+  pub new_table_at-right : IsUpTo 64 n → has_table names n ≡ false → new_table_at names (table_word n) ≡ Ok (Some n)
+  unfolding new_table_at
+  new_table_at-right h new = rw (limited-right 84 64 n h.0 h.1 (omega arith), new) refl
+
+  pub new_client_at-right : IsUpTo 64 n → has_client names n ≡ false → new_client_at names (client_word n) ≡ Ok (Some n)
+  unfolding new_client_at
+  new_client_at-right h new = rw (limited-right 67 64 n h.0 h.1 (omega arith), new) refl
+
+  opened_at-right : IsUpTo 64 n → has_table names n ≡ true → opened_at names (table_word n) ≡ Ok (Some n)
+  unfolding opened_at
+  opened_at-right h has = rw (limited-right 84 64 n h.0 h.1 (omega arith), has) refl
+
+store-number : store_number (codes "S1") ≡ Ok (Some 1)
 unfolding limited_at node_at is_number small
 store-number = refl
 
-pub table-number : table_number (codes "T1") ≡ Ok (Some 1)
-unfolding limited_at node_at is_number small
-table-number = refl
+-- the words between commas
 
-pub client-number : client_number (codes "C1") ≡ Ok (Some 1)
-unfolding limited_at node_at is_number small
-client-number = refl
+not_comma : (b : ℕ) → 48 ≤ b → is_comma b ≡ false
+not_comma b h = elim (cases_Bool (is_comma b)) [
+  | inl is ↦ absurd (let same : b ≡ 44 = eqb-true b 44 is in omega (arith, same, h))
+  | inr other ↦ other
+]
 
-pub one_part : parts_at (codes "T1") ≡ codes "T1" ∷ []
-one_part = refl
+digits_plain : (ds : List ℕ) → AllDigits 10 ds → AllByRecursion (λ b. is_comma b ≡ false) ds
+digits_plain [] h = tt
+digits_plain (c ∷ ds) h = (not_comma c (digit_from_value c h.0).0, digits_plain ds h.1)
+
+table_plain : (n : ℕ) → n < 2 ^ 64 → All (λ b. is_comma b ≡ false) (table_word n)
+table_plain n h = All-from_recursion (λ b. is_comma b ≡ false) (table_word n) (refl, digits_plain (decimal n) (decimal_is_IsNumeral n h).0.1)
+
+parts-right : (tables : List ℕ) (n : ℕ) → AllByRecursion (λ m. m < 2 ^ 64) (n ∷ tables) → parts_at (tables_word (n ∷ tables)) ≡ map table_word (n ∷ tables)
+parts-right [] n h = slice_split_none is_comma (table_word n) (table_plain n h.0)
+parts-right (m ∷ tables) n h =
+    slice_split_at is_comma (table_word n) 44 (tables_word (m ∷ tables)) (table_plain n h.0) refl
+    ∙ ap (λ (words : List (List ℕ)). table_word n ∷ words) (parts-right tables m h.1)
+
+no_dash : (tables : List ℕ) (n : ℕ) → bytes_eq (tables_word (n ∷ tables)) (codes "-") ≡ false
+no_dash [] n = refl
+no_dash (m ∷ tables) n = refl
+
+all_below : (names : Names) (tables : List ℕ) → AllByRecursion (λ n. IsUpTo 64 n × (has_table names n ≡ true)) tables → AllByRecursion (λ n. n < 2 ^ 64) tables
+all_below names [] h = tt
+all_below names (n ∷ tables) h = (omega (arith, h.0.0.1), all_below names tables h.1)
 
 module _ (names : Names) where
-  pub client_at-right : has_client names 1 ≡ true → client_at names (codes "C1") ≡ Ok 1
-  unfolding client_at
-  client_at-right has = rw (client-1, has) refl
-
-  pub table_at-right : has_table names 1 ≡ true → table_at names (codes "T1") ≡ Ok 1
-  unfolding table_at
-  table_at-right has = rw (table-1, has) refl
-
   pub new_store_at-right : has_store names 1 ≡ false → new_store_at names (codes "S1") ≡ Ok (Some 1)
   unfolding new_store_at
   new_store_at-right has = rw (store-number, has) refl
 
-  pub new_table_at-right : has_table names 1 ≡ false → new_table_at names (codes "T1") ≡ Ok (Some 1)
-  unfolding new_table_at
-  new_table_at-right has = rw (table-number, has) refl
+  tables_in-right : (before : List (List ℕ)) (tables : List ℕ) → AllByRecursion (λ n. IsUpTo 64 n × (has_table names n ≡ true)) tables → NewTo before (map table_word tables) → tables_in names before (map table_word tables) ≡ Ok (Some tables)
+  unfolding tables_in
+  tables_in-right before [] h new = refl
+  tables_in-right before (n ∷ tables) h new =
+      rw (opened_at-right names n h.0.0 h.0.1, new.0, tables_in-right (before ++ table_word n ∷ []) tables h.1 new.1) refl
 
-  pub new_client_at-right : has_client names 1 ≡ false → new_client_at names (codes "C1") ≡ Ok (Some 1)
-  unfolding new_client_at
-  new_client_at-right has = rw (client-number, has) refl
-
-  opened_at-right : has_table names 1 ≡ true → opened_at names (codes "T1") ≡ Ok (Some 1)
-  unfolding opened_at
-  opened_at-right has = rw (table-number, has) refl
-
-  pub tables_at-right : has_table names 1 ≡ true → tables_at names (codes "T1") ≡ Ok (Some (1 ∷ []))
-  unfolding tables_at tables_in
-  tables_at-right has = rw (opened_at-right has) refl
+  pub tables_at-right : (tables : List ℕ) → AllByRecursion (λ n. IsUpTo 64 n × (has_table names n ≡ true)) tables → IsDistinct (λ m n. eqb m n) tables → tables_at names (tables_word tables) ≡ Ok (Some tables)
+  unfolding tables_at
+  tables_at-right [] h d = refl
+  tables_at-right (n ∷ tables) h d =
+      let below = all_below names (n ∷ tables) h in
+      rw (no_dash tables n, parts-right tables n below)
+      (tables_in-right [] (n ∷ tables) h (distinct-new (map table_word (n ∷ tables)) (distinct-words (n ∷ tables) below d)))
 
   pub new_name_at-right : (name : List ℕ) → is_name name ≡ true → has_name names name ≡ false → new_name_at names name ≡ Ok name
   unfolding new_name_at
@@ -127,9 +152,9 @@ column_of-right name is =
     ap (λ (o : Option (List ℕ × List ℕ)). elim o as (λ p. Option (List ℕ × ColumnKind)) [ None ↦ None | Some p ↦ named p.0 (kind_of p.1) ]) (parts_of-right name (codes "int") is)
     ∙ rw (int-kind, is) refl
 
-pub column_at-right : (name : List ℕ) → is_name name ≡ true → column_at (name ++ codes ":int") ≡ Ok name
-unfolding column_at
-column_at-right name is = ap number_column (column_of-right name is)
+pub new_column_at-right : (before : List (List ℕ)) (name : List ℕ) → is_name name ≡ true → is_among name before ≡ false → new_column_at before (column_word name) ≡ Ok name
+unfolding new_column_at
+new_column_at-right before name is new = ap (new_column before) (column_of-right name is) ∙ rw new refl
 
 pub row_at-right : (word row : List ℕ) → row_of word ≡ Some row → row_at word ≡ Ok row
 unfolding row_at

@@ -1,6 +1,9 @@
 -- Words that spell an event are read as it, and none of them is at fault.
-use Rattle.std.proofs.Common.{◌≡◌, ◌≢◌, ℕ, ◌+◌, Bool, false, List, [], ◌∷◌, ◌++◌, map, codes, cond, Option, Some, None, Result, Ok, Err, ℤ, refl, sym, ap, ◌∙◌}
+use Rattle.std.proofs.Common.{◌≡◌, ◌≢◌, ℕ, ◌+◌, Bool, true, false, ltb, List, [], ◌∷◌, ◌++◌, map, length, codes, cond, Option, Some, None, Result, Ok, Err, ℤ, refl, sym, ap, ◌∙◌}
+use Rattle.std.specs.List.{AllByRecursion}
 use Rattle.std.specs.Fmt.{decimal, signed_decimal}
+use Rattle.std.proofs.lemmas.Bool.{le-ltb}
+use Rattle.std.proofs.lemmas.List.{length-map}
 use Rattle.row_value.specs.declared.schema.Scheme.TheVariants as schemes
 use Rattle.row_value.specs.declared.content.Cell.TheVariants as cells
 use Rattle.row_value.specs.declared.content.Content.TheVariants.{Row}
@@ -16,10 +19,14 @@ use Rattle.script_text.specs.declared.verb.Verb.TheVariants as verbs
 use Rattle.script_text.specs.Faults.{bad}
 use Rattle.script_text.specs.Verbs.{name_of}
 use Rattle.script_text.specs.Names.{Names, has_no_store}
-use Rattle.script_text.specs.Reading.{next_in, word_in, end_in, columns_end_in, store_in, table_in, client_in, cell_in, cells_in, some_cells_in, write_in, show_in, made_table, unlimited, in_time, built_in, event_in, words_in}
-use Rattle.script_text.specs.Grammar.{SpelledBy, SpellsStore, SpellsTable, SpellsClient, SpellsWrite, SpellsShow, AreShort}
-use Rattle.script_text.proofs.Readings.{verb-again}
-use Rattle.script_text.proofs.Rights.{client_at-right, table_at-right, new_store_at-right, new_table_at-right, new_client_at-right, tables_at-right, new_name_at-right, gate_at-right, scheme_at-right, chunk_at-right, column_at-right, row_at-right, value_at-right}
+use Rattle.script_text.specs.Words.{is_name}
+use Rattle.script_text.specs.Places.{int_column}
+use Rattle.script_text.specs.Reading.{next_in, word_in, end_in, store_in, column_in, columns_in, some_columns_in, made_table, table_in, client_in, cell_in, cells_in, some_cells_in, write_in, show_in, client_table_in, sync_in, pull_in, deliver_in, store_show_in, history_in, unlimited, in_time, built_in, event_in, words_in}
+use Rattle.script_text.specs.Grammar.{SpelledBy, SpellsStore, SpellsTable, SpellsClient, SpellsWrite, SpellsShow, SpellsSync, SpellsPull, SpellsDeliver, SpellsStoreShow, SpellsHistory, AreShort, client_word, table_word, tables_word, column_word, IsClient, IsTable}
+use Rattle.script_text.proofs.Numbers.{packet_at-right}
+use Rattle.script_text.proofs.Distinct.{NewTo, distinct-new}
+use Rattle.script_text.proofs.VerbWords.{verb-again}
+use Rattle.script_text.proofs.Rights.{client_at-right, table_at-right, new_store_at-right, new_table_at-right, new_client_at-right, tables_at-right, new_name_at-right, gate_at-right, scheme_at-right, chunk_at-right, new_column_at-right, row_at-right, value_at-right}
 
 word_in-right : {X Y : Type 0} (at : ℕ) (place : List ℕ → Result X Code) (w : List ℕ) (ws : List (List ℕ)) (next : X → List (List ℕ) → Result Y BadLine) (x : X) → place w ≡ Ok x → word_in at place (w ∷ ws) next ≡ next x ws
 unfolding word_in next_in
@@ -29,9 +36,16 @@ end_in-right : (at : ℕ) → end_in at [] ≡ Ok tt
 unfolding end_in
 end_in-right at = refl
 
-columns_end_in-right : (at : ℕ) (first : List ℕ) → columns_end_in at first [] ≡ Ok tt
-unfolding columns_end_in
-columns_end_in-right at first = refl
+columns_in-right : (at : ℕ) (before columns : List (List ℕ)) → AllByRecursion (λ name. is_name name ≡ true) columns → NewTo before columns → columns_in at before (map column_word columns) ≡ Ok (map int_column columns)
+unfolding columns_in column_in
+columns_in-right at before [] h new = refl
+columns_in-right at before (name ∷ columns) h new =
+    rw (new_column_at-right before name h.0 new.0, columns_in-right (at + 1) (before ++ name ∷ []) columns h.1 new.1) refl
+
+some_columns_in-right : (at : ℕ) (columns : List (List ℕ)) → columns ≢ [] → AllByRecursion (λ name. is_name name ≡ true) columns → NewTo [] columns → some_columns_in at (map column_word columns) ≡ Ok (map int_column columns)
+unfolding some_columns_in next_in
+some_columns_in-right at [] some h new = absurd (some refl)
+some_columns_in-right at (name ∷ columns) some h new = columns_in-right at [] (name ∷ columns) h new
 
 cells_in-right : (at : ℕ) (numbers : List ℤ) → AreShort numbers → cells_in at (map signed_decimal numbers) ≡ Ok (map cells.Int numbers)
 unfolding cells_in cell_in
@@ -61,54 +75,100 @@ module _ (names : Names) where
       (event_in-right names verbs.Store (codes "S1" ∷ []) (events.Store 1)
       (in_time-right names _ h.2 ∙ word_in-right 1 _ (codes "S1") [] _ (Some 1) (new_store_at-right names h.3) ∙ rw (end_in-right 2) refl))
 
+  client_table-right : (client table : ℕ) → IsClient names client → IsTable names table → client_table_in names (client_word client ∷ table_word table ∷ []) ≡ Ok (client, table)
+  unfolding client_table_in
+  client_table-right client table p q =
+      word_in-right 1 _ (client_word client) _ _ client (client_at-right names client p)
+      ∙ word_in-right 2 _ (table_word table) _ _ table (table_at-right names table q)
+      ∙ rw (end_in-right 3) refl
+
+  sync-right : (ws : List (List ℕ)) (client table : ℕ) → SpellsSync names ws client table → words_in names ws ≡ Ok (Ok (Some (events.Sync client table)))
+  sync-right ws client table h =
+      let read : sync_in names (client_word client ∷ table_word table ∷ []) ≡ Ok (events.Sync client table) = rw (client_table-right client table h.1 h.2) refl in
+      rw h.0 (event_in-right names verbs.Sync (client_word client ∷ table_word table ∷ []) (events.Sync client table) (ap unlimited read))
+
+  pull-right : (ws : List (List ℕ)) (client table : ℕ) → SpellsPull names ws client table → words_in names ws ≡ Ok (Ok (Some (events.Pull client table)))
+  pull-right ws client table h =
+      let read : pull_in names (client_word client ∷ table_word table ∷ []) ≡ Ok (events.Pull client table) = rw (client_table-right client table h.1 h.2) refl in
+      rw h.0 (event_in-right names verbs.Pull (client_word client ∷ table_word table ∷ []) (events.Pull client table) (ap unlimited read))
+
+  deliver-right : (ws : List (List ℕ)) (packet : ℕ) → SpellsDeliver ws packet → words_in names ws ≡ Ok (Ok (Some (events.Deliver packet)))
+  unfolding deliver_in
+  deliver-right ws packet h =
+      let read : deliver_in (decimal packet ∷ []) ≡ Ok (events.Deliver packet) =
+      (word_in-right 1 _ (decimal packet) _ _ packet (packet_at-right packet h.1) ∙ rw (end_in-right 2) refl)
+      in
+      rw h.0 (event_in-right names verbs.Deliver (decimal packet ∷ []) (events.Deliver packet) (ap unlimited read))
+
+  store_show-right : (ws : List (List ℕ)) (table : ℕ) (row : List ℕ) → SpellsStoreShow names ws table row → words_in names ws ≡ Ok (Ok (Some (events.StoreShow table row)))
+  unfolding store_show_in
+  store_show-right ws table row h =
+      let read : store_show_in names (table_word table ∷ h.0 ∷ []) ≡ Ok (events.StoreShow table row) =
+      (word_in-right 1 _ (table_word table) _ _ table (table_at-right names table h.2)
+      ∙ word_in-right 2 _ h.0 _ _ row (row_at-right h.0 row h.3)
+      ∙ rw (end_in-right 3) refl)
+      in
+      rw h.1 (event_in-right names verbs.StoreShow (table_word table ∷ h.0 ∷ []) (events.StoreShow table row) (ap unlimited read))
+
+  history-right : (ws : List (List ℕ)) (table : ℕ) → SpellsHistory names ws table → words_in names ws ≡ Ok (Ok (Some (events.History table)))
+  unfolding history_in
+  history-right ws table h =
+      let read : history_in names (table_word table ∷ []) ≡ Ok (events.History table) =
+      (word_in-right 1 _ (table_word table) _ _ table (table_at-right names table h.1) ∙ rw (end_in-right 2) refl)
+      in
+      rw h.0 (event_in-right names verbs.History (table_word table ∷ []) (events.History table) (ap unlimited read))
+
   show-right : (ws : List (List ℕ)) (client table : ℕ) (row : List ℕ) → SpellsShow names ws client table row → words_in names ws ≡ Ok (Ok (Some (events.Show client table row)))
   unfolding show_in
   show-right ws client table row h =
-      let read : show_in names (codes "C1" ∷ codes "T1" ∷ h.0 ∷ []) ≡ Ok (events.Show 1 1 row) =
-      (word_in-right 1 _ (codes "C1") _ _ 1 (client_at-right names h.5)
-      ∙ word_in-right 2 _ (codes "T1") _ _ 1 (table_at-right names h.6)
+      let read : show_in names (client_word client ∷ table_word table ∷ h.0 ∷ []) ≡ Ok (events.Show client table row) =
+      (word_in-right 1 _ (client_word client) _ _ client (client_at-right names client h.2)
+      ∙ word_in-right 2 _ (table_word table) _ _ table (table_at-right names table h.3)
       ∙ word_in-right 3 _ h.0 _ _ row (row_at-right h.0 row h.4)
       ∙ rw (end_in-right 4) refl)
       in
-      rw (h.1, h.2, h.3) (event_in-right names verbs.Show (codes "C1" ∷ codes "T1" ∷ h.0 ∷ []) (events.Show 1 1 row) (ap unlimited read))
+      rw h.1 (event_in-right names verbs.Show (client_word client ∷ table_word table ∷ h.0 ∷ []) (events.Show client table row) (ap unlimited read))
 
   write-right : (ws : List (List ℕ)) (client table : ℕ) (row : List ℕ) (content : Content) → SpellsWrite names ws client table row content → words_in names ws ≡ Ok (Ok (Some (events.Write client table row content)))
   unfolding write_in
   write-right ws client table row content h =
-      let read : write_in names (codes "C1" ∷ codes "T1" ∷ h.0 ∷ map signed_decimal h.1) ≡ Ok (events.Write 1 1 row (Row (map cells.Int h.1) [])) =
-      (word_in-right 1 _ (codes "C1") _ _ 1 (client_at-right names h.9)
-      ∙ word_in-right 2 _ (codes "T1") _ _ 1 (table_at-right names h.10)
+      let read : write_in names (client_word client ∷ table_word table ∷ h.0 ∷ map signed_decimal h.1) ≡ Ok (events.Write client table row (Row (map cells.Int h.1) [])) =
+      (word_in-right 1 _ (client_word client) _ _ client (client_at-right names client h.3)
+      ∙ word_in-right 2 _ (table_word table) _ _ table (table_at-right names table h.4)
       ∙ word_in-right 3 _ h.0 _ _ row (row_at-right h.0 row h.5)
       ∙ rw (some_cells_in-right 4 h.1 h.7 h.8) refl)
       in
-      rw (h.2, h.3, h.4, h.6)
-      (event_in-right names verbs.Write (codes "C1" ∷ codes "T1" ∷ h.0 ∷ map signed_decimal h.1) (events.Write 1 1 row (Row (map cells.Int h.1) [])) (ap unlimited read))
+      rw (h.2, h.6)
+      (event_in-right names verbs.Write (client_word client ∷ table_word table ∷ h.0 ∷ map signed_decimal h.1) (events.Write client table row (Row (map cells.Int h.1) [])) (ap unlimited read))
 
   client-right : (ws : List (List ℕ)) (client : ℕ) (gate : Option ℕ) (tables : List ℕ) → SpellsClient names ws client gate tables → words_in names ws ≡ Ok (Ok (Some (events.Client client gate tables)))
   unfolding client_in
   client-right ws client gate tables h =
-      rw (h.0, h.1, h.2, h.3)
-      (event_in-right names verbs.Client (codes "C1" ∷ codes "-" ∷ codes "T1" ∷ []) (events.Client 1 None (1 ∷ []))
-      (in_time-right names _ h.4
-      ∙ word_in-right 1 _ (codes "C1") _ _ (Some 1) (new_client_at-right names h.5)
+      rw (h.0, h.2)
+      (event_in-right names verbs.Client (client_word client ∷ codes "-" ∷ tables_word tables ∷ []) (events.Client client None tables)
+      (in_time-right names _ h.5
+      ∙ word_in-right 1 _ (client_word client) _ _ (Some client) (new_client_at-right names client h.1 h.6)
       ∙ word_in-right 2 _ (codes "-") _ _ tt gate_at-right
-      ∙ word_in-right 3 _ (codes "T1") _ _ (Some (1 ∷ [])) (tables_at-right names h.6)
+      ∙ word_in-right 3 _ (tables_word tables) _ _ (Some tables) (tables_at-right names tables h.3 h.4)
       ∙ rw (end_in-right 4) refl))
 
   table-right : (ws : List (List ℕ)) (table : ℕ) (schema : Schema) → SpellsTable names ws table schema → words_in names ws ≡ Ok (Ok (Some (events.Table table schema)))
   unfolding table_in
   table-right ws table schema h =
-      let made : made_table (Some 1) schema.name schemes.Eventual schema.chunk h.0 ≡ Ok (events.Table 1 schema) = rw (← h.3, ← h.5) refl in
-      rw (h.1, h.2)
-      (event_in-right names verbs.Table (codes "T1" ∷ schema.name ∷ codes "eventual" ∷ decimal schema.chunk ∷ (h.0 ++ codes ":int") ∷ []) (events.Table 1 schema)
+      let few : ltb 32 (length (map int_column h.0)) ≡ false = le-ltb _ _ (rw (length-map h.0 int_column) h.6.few) in
+      let same : ◌≡◌ {A = Schema} (record { name = schema.name; scheme = schemes.Eventual; chunk = schema.chunk; columns = map int_column h.0 }) schema = rw (← h.3, ← h.5) refl in
+      let made : made_table (Some table) (record { name = schema.name; scheme = schemes.Eventual; chunk = schema.chunk; columns = map int_column h.0 }) ≡ Ok (events.Table table schema) =
+      (rw few (ap (λ (s : Schema). Ok (events.Table table s)) same))
+      in
+      rw h.1
+      (event_in-right names verbs.Table (table_word table ∷ schema.name ∷ codes "eventual" ∷ decimal schema.chunk ∷ map column_word h.0) (events.Table table schema)
       (stored-right names _ h.9
       ∙ in_time-right names _ h.8
-      ∙ word_in-right 1 _ (codes "T1") _ _ (Some 1) (new_table_at-right names h.10)
-      ∙ word_in-right 2 _ schema.name _ _ schema.name (new_name_at-right names schema.name h.6 h.11)
+      ∙ word_in-right 1 _ (table_word table) _ _ (Some table) (new_table_at-right names table h.2 h.10)
+      ∙ word_in-right 2 _ schema.name _ _ schema.name (new_name_at-right names schema.name h.7 h.11)
       ∙ word_in-right 3 _ (codes "eventual") _ _ schemes.Eventual scheme_at-right
       ∙ word_in-right 4 _ (decimal schema.chunk) _ _ schema.chunk (chunk_at-right schema.chunk h.4)
-      ∙ word_in-right 5 _ (h.0 ++ codes ":int") _ _ h.0 (column_at-right h.0 h.7)
-      ∙ rw (columns_end_in-right 6 h.0) (ap Ok made)))
+      ∙ rw (some_columns_in-right 5 h.0 h.6.some h.6.names (distinct-new h.0 h.6.distinct)) (ap Ok made)))
 
   pub spelled : (ws : List (List ℕ)) (e : Event) → SpelledBy names ws e → words_in names ws ≡ Ok (Ok (Some e))
   spelled ws (events.Store store) h = store-right ws store h
@@ -116,6 +176,11 @@ module _ (names : Names) where
   spelled ws (events.Client client gate tables) h = client-right ws client gate tables h
   spelled ws (events.Write client table row content) h = write-right ws client table row content h
   spelled ws (events.Show client table row) h = show-right ws client table row h
+  spelled ws (events.Sync client table) h = sync-right ws client table h
+  spelled ws (events.Pull client table) h = pull-right ws client table h
+  spelled ws (events.Deliver packet) h = deliver-right ws packet h
+  spelled ws (events.StoreShow table row) h = store_show-right ws table row h
+  spelled ws (events.History table) h = history-right ws table h
 
   pub one_event : (ws : List (List ℕ)) (d e : Event) → SpelledBy names ws d → SpelledBy names ws e → d ≡ e
   one_event ws d e p q = let same : Ok (Ok (Some d)) ≡ Ok (Ok (Some e)) = sym (spelled ws d p) ∙ spelled ws e q in cc

@@ -1,29 +1,25 @@
 -- Lists of tables that a client opens.
-use Rattle.std.proofs.Common.{◌≡◌, ◌≢◌, ℕ, ◌+◌, ◌<◌, ◌≤◌, Bool, true, false, not, ◌||◌, cond, List, [], ◌∷◌, ◌++◌, codes, length, take, drop, get_or, Option, Some, None, Result, Ok, Err, refl, sym, ap, ◌∙◌, subst, arith, append_assoc, append-nil, add-one, zero, suc, true≢false}
+use Rattle.std.proofs.Common.{◌≡◌, ◌≢◌, ℕ, ◌+◌, ◌<◌, ◌≤◌, true, false, cond, eqb, List, [], ◌∷◌, ◌++◌, codes, map, length, take, drop, get_or, Option, Some, None, Result, Ok, Err, refl, sym, ap, ◌∙◌, subst, inl, inr, arith, append_assoc, append-nil, add-one, zero, suc}
 use Rattle.std.specs.Borrow.{Bor}
-use Rattle.std.specs.List.{list_any, join_with_byte}
-use Rattle.std.specs.Ordering.{nat_cmp, match_ordering}
-use Rattle.std.specs.declared.cmp.Ordering.{Ordering}
-use Rattle.std.specs.declared.cmp.Ordering.TheVariants.{Less, Equal, Greater}
+use Rattle.std.specs.List.{AllByRecursion, IsDistinct, join_with_byte}
+use Rattle.std.specs.Ordering.{nat_cmp}
 use Rattle.std.specs.Cmp.Lexicographic.{slice_cmp}
-use Rattle.std.specs.BTreeMap.{is_at}
 use Rattle.std.specs.BTreeSet.{insert_key}
 use Rattle.std.specs.Str.{bytes_eq}
-use Rattle.std.specs.Cmp.{Equal-is}
-use Rattle.std.proofs.Math.Bool.{or_comm, or_assoc}
-use Rattle.std.proofs.lemmas.List.Folds.{list_any-append}
+use Rattle.std.proofs.lemmas.Bool.{cases_Bool}
 use Rattle.std.proofs.lemmas.List.Splits.{join_with_byte-slice_split}
-use Rattle.std.proofs.lemmas.Map.Text.{is_eq-slice_cmp}
 use Rattle.std.proofs.lemmas.Slice.Eq.{bytes_eq-Decides}
 use Rattle.script_text.specs.declared.fault.Code.{Code}
-use Rattle.script_text.specs.declared.fault.Code.TheVariants.{Twice, Unbuilt}
-use Rattle.script_text.specs.Names.{Names, has_table}
-use Rattle.script_text.specs.Words.{texts}
-use Rattle.script_text.specs.Verbs.{is_among}
-use Rattle.script_text.specs.Places.{◌>>=◌, opened_at, joined, alone, tables_in, parts_at, tables_at, tables_passed}
+use Rattle.script_text.specs.declared.fault.Code.TheVariants.{Twice}
+use Rattle.script_text.specs.Names.{Names, has_table, IsSetOf}
+use Rattle.script_text.specs.Words.{texts, is_among}
+use Rattle.script_text.specs.Places.{◌>>=◌, opened_at, joined, alone, tables_in, parts_at, tables_at, tables_passed, limited_at, node_at}
+use Rattle.script_text.specs.Grammar.{IsUpTo, table_word, tables_word}
 use Rattle.script_text.proofs.CellLemmas.{dropped, dropped_next}
+use Rattle.script_text.proofs.Distinct.{set-put, NewTo, new-distinct, distinct-numbers}
 use Rattle.script_text.proofs.Steps.{bind-ok}
-use Rattle.script_text.proofs.PlaceLemmas.{unless-ok, some_same, ok_same, none_some, opened_at-ok, opened_at-within, opened_at-limit}
+use Rattle.script_text.proofs.Numbers.{unless-ok, some_same, ok_same, none_some}
+use Rattle.script_text.proofs.PlaceLemmas.{opened_at-ok, opened_at-within, opened_at-limit}
 
 joined-some : (front more : Option (List ℕ)) (tables : List ℕ) → joined front more ≡ Some tables → (a : List ℕ) × (b : List ℕ) × (front ≡ Some a) × (more ≡ Some b) × (a ++ b ≡ tables)
 joined-some None more tables e = absurd (none_some tables e)
@@ -59,27 +55,33 @@ module _ (names : Names) where
   none before r e = ok_same _ _ e
 
   found : (word : List ℕ) (t : Option ℕ) (more : Option (List ℕ)) (tables : List ℕ) → opened_at names word ≡ Ok t → joined (alone t) more ≡ Some tables
-      → (word ≡ codes "T1") × (has_table names 1 ≡ true) × (b : List ℕ) × (more ≡ Some b) × (1 ∷ b ≡ tables)
+      → (n : ℕ) × (b : List ℕ) × (word ≡ table_word n) × (IsUpTo 64 n × (has_table names n ≡ true)) × (more ≡ Some b) × (n ∷ b ≡ tables)
   found word t more tables opened e =
       let p = joined-some (alone t) more tables e in
       let q = alone-some t p.0 p.2 in
       let o = opened_at-ok names word q.0 (opened ∙ ap Ok q.1) in
-      (o.0, o.2, p.1, p.3, (let one : 1 ∷ [] ≡ p.0 = ap (λ (n : ℕ). n ∷ []) (sym o.1) ∙ q.2 in ap (λ (a : List ℕ). a ++ p.1) one ∙ p.4))
+      (q.0, p.1, o.0, (o.1, o.2), p.3, ap (λ (a : List ℕ). a ++ p.1) q.2 ∙ p.4)
 
-  tables_in-ok : (words : List (List ℕ)) (tables : List ℕ) → words ≢ [] → tables_in names [] words ≡ Ok (Some tables) → (words ≡ codes "T1" ∷ []) × (tables ≡ 1 ∷ []) × (has_table names 1 ≡ true)
-  tables_in-ok [] tables some e = absurd (some refl)
-  tables_in-ok (w ∷ []) tables some e =
-      let s = next [] [] w (Some tables) e in
+  tables_in-ok : (before words : List (List ℕ)) (tables : List ℕ) → tables_in names before words ≡ Ok (Some tables)
+      → (words ≡ map table_word tables) × AllByRecursion (λ n. IsUpTo 64 n × (has_table names n ≡ true)) tables × NewTo before words
+  tables_in-ok before [] tables e =
+      let nil : [] ≡ tables = some_same _ _ (none before (Some tables) e) in
+      subst (λ (ns : List ℕ). ([] ≡ map table_word ns) × AllByRecursion (λ n. IsUpTo 64 n × (has_table names n ≡ true)) ns × NewTo before []) nil (refl, tt, tt)
+  tables_in-ok before (w ∷ ws) tables e =
+      let s = next before ws w (Some tables) e in
       let f = found w s.0 s.1 tables s.2 s.5 in
-      let nil : [] ≡ f.2 = some_same _ _ (none ([] ++ w ∷ []) s.1 s.4 ∙ f.3) in
-      (ap (λ (v : List ℕ). v ∷ []) f.0, sym f.4 ∙ ap (λ (b : List ℕ). 1 ∷ b) (sym nil), f.1)
-  tables_in-ok (w ∷ v ∷ ws) tables some e =
-      let s = next [] (v ∷ ws) w (Some tables) e in
-      let f = found w s.0 s.1 tables s.2 s.5 in
-      let t = next ([] ++ w ∷ []) ws v (Some f.2) (s.4 ∙ ap Ok f.3) in
-      let g = found v t.0 t.1 f.2 t.2 t.5 in
-      let same : bytes_eq v w ≡ true = (bytes_eq-Decides v w).1 (g.0 ∙ sym f.0) in
-      absurd (true≢false (rw same at t.3))
+      let more = tables_in-ok (before ++ w ∷ []) ws f.1 (s.4 ∙ ap Ok f.4) in
+      let words : w ∷ ws ≡ map table_word (f.0 ∷ f.1) = cc (f.2, more.0) in
+      subst (λ (ns : List ℕ). (w ∷ ws ≡ map table_word ns) × AllByRecursion (λ n. IsUpTo 64 n × (has_table names n ≡ true)) ns × NewTo before (w ∷ ws)) f.5
+      (words, (f.3, more.1), (s.3, more.2))
+
+  tables_in-within : (before words : List (List ℕ)) (tables : List ℕ) → tables_in names before words ≡ Ok (Some tables) → tables_passed words ≡ None
+  tables_in-within before [] tables e = refl
+  tables_in-within before (w ∷ ws) tables e =
+      let s = next before ws w (Some tables) e in
+      let p = joined-some (alone s.0) s.1 tables s.5 in
+      let q = alone-some s.0 p.0 p.2 in
+      rw (opened_at-within names w q.0 (s.2 ∙ ap Ok q.1)) (tables_in-within (before ++ w ∷ []) ws p.1 (s.4 ∙ ap Ok p.3))
 
   tables_in-above : (words : List (List ℕ)) (word : List ℕ) (t : Option ℕ) (more : Option (List ℕ)) → opened_at names word ≡ Ok t → joined (alone t) more ≡ None → (more ≡ None → tables_passed words ≡ Some 4) → tables_passed (word ∷ words) ≡ Some 4
   tables_in-above words word None more opened e go = rw (opened_at-limit names word opened) refl
@@ -97,58 +99,44 @@ some_part word e =
     let nil : [] ≡ word = ap (join_with_byte 44) (sym e) ∙ join_with_byte-slice_split 44 word in
     let again : parts_at [] ≡ [] = subst (λ (w : List ℕ). parts_at w ≡ []) (sym nil) e in cc
 
+dash_within : tables_passed (parts_at (codes "-")) ≡ None
+unfolding limited_at node_at
+dash_within = refl
+
+named_word : (words : List (List ℕ)) (tables : List ℕ) → words ≢ [] → words ≡ map table_word tables → join_with_byte 44 words ≡ tables_word tables
+named_word words [] some e = absurd (some e)
+named_word words (n ∷ tables) some e = ap (join_with_byte 44) e
+
 module _ (names : Names) (word : List ℕ) where
-  pub tables_at-ok : (tables : List ℕ) → tables_at names word ≡ Ok (Some tables) → (word ≡ codes "T1") × (tables ≡ 1 ∷ []) × (has_table names 1 ≡ true)
+  pub tables_at-ok : (tables : List ℕ) → tables_at names word ≡ Ok (Some tables)
+      → (word ≡ tables_word tables) × AllByRecursion (λ n. IsUpTo 64 n × (has_table names n ≡ true)) tables × IsDistinct (λ m n. eqb m n) tables
+  unfolding tables_at IsDistinct
+  tables_at-ok tables e = elim (cases_Bool (bytes_eq word (codes "-"))) [
+    | inl is ↦
+        let nil : [] ≡ tables = some_same _ _ (ok_same _ _ (rw is at e)) in
+        subst (λ (ns : List ℕ). (word ≡ tables_word ns) × AllByRecursion (λ n. IsUpTo 64 n × (has_table names n ≡ true)) ns × IsDistinct (λ m n. eqb m n) ns) nil
+        ((bytes_eq-Decides word (codes "-")).0 is, tt, tt)
+    | inr other ↦
+        let p = tables_in-ok names [] (parts_at word) tables (rw other at e) in (
+          sym (join_with_byte-slice_split 44 word) ∙ named_word (parts_at word) tables (some_part word) p.0,
+          p.1,
+          distinct-numbers tables (subst (IsDistinct bytes_eq) p.0 (new-distinct (parts_at word) p.2)),
+        )
+  ]
+
+  pub tables_at-within : (tables : List ℕ) → tables_at names word ≡ Ok (Some tables) → tables_passed (parts_at word) ≡ None
   unfolding tables_at
-  tables_at-ok tables e =
-      let p = unless-ok (bytes_eq word (codes "-")) (tables_in names [] (parts_at word)) Unbuilt (Some tables) e in
-      let q = tables_in-ok names (parts_at word) tables (some_part word) p.1 in
-      (sym (join_with_byte-slice_split 44 word) ∙ ap (join_with_byte 44) q.0, q.1, q.2)
+  tables_at-within tables e = elim (cases_Bool (bytes_eq word (codes "-"))) [
+    | inl is ↦ rw ((bytes_eq-Decides word (codes "-")).0 is) dash_within
+    | inr other ↦ tables_in-within names [] (parts_at word) tables (rw other at e)
+  ]
 
   pub tables_at-limit : tables_at names word ≡ Ok None → tables_passed (parts_at word) ≡ Some 4
   unfolding tables_at
-  tables_at-limit e =
-      let p = unless-ok (bytes_eq word (codes "-")) (tables_in names [] (parts_at word)) Unbuilt None e in
-      tables_in-limit names [] (parts_at word) p.1
-
--- names that were met, kept as a set
-
-by_bytes : (w v : List ℕ) → is_at (slice_cmp nat_cmp w) v ≡ bytes_eq w v
-by_bytes w v = is_eq-slice_cmp w v
-
-pub unmet : (added b : Bool) → added ≡ not b → added ≡ true → b ≡ false
-unmet added false e t = refl
-unmet added true e t = absurd (true≢false (sym t ∙ e))
-
-pub met : (added b : Bool) → added ≡ not b → added ≡ false → b ≡ true
-met added true e f = refl
-met added false e f = absurd (true≢false (sym e ∙ f))
-
-absorbed : (a b : Bool) → (a || b) ≡ ((a || b) || a)
-absorbed true b = refl
-absorbed false true = refl
-absorbed false false = refl
-
-equal_keys : (k x : List ℕ) → slice_cmp nat_cmp k x ≡ Equal → k ≡ x
-equal_keys k x is = (bytes_eq-Decides k x).0 (sym (by_bytes k x) ∙ (Equal-is (slice_cmp nat_cmp k x)).1 is)
-
-module _ (w k : List ℕ) where
-  inserted_at : (x : List ℕ) (xs : List (List ℕ)) (o : Ordering) → slice_cmp nat_cmp k x ≡ o
-      → list_any (is_at (slice_cmp nat_cmp w)) (insert_key (slice_cmp nat_cmp) xs k) ≡ (list_any (is_at (slice_cmp nat_cmp w)) xs || bytes_eq w k)
-      → list_any (is_at (slice_cmp nat_cmp w)) (match_ordering o (k ∷ x ∷ xs) (x ∷ xs) (x ∷ insert_key (slice_cmp nat_cmp) xs k)) ≡ (list_any (is_at (slice_cmp nat_cmp w)) (x ∷ xs) || bytes_eq w k)
-  inserted_at x xs Less is more =
-      ap (λ (b : Bool). b || (is_at (slice_cmp nat_cmp w) x || list_any (is_at (slice_cmp nat_cmp w)) xs)) (by_bytes w k)
-      ∙ or_comm (bytes_eq w k) (is_at (slice_cmp nat_cmp w) x || list_any (is_at (slice_cmp nat_cmp w)) xs)
-  inserted_at x xs Equal is more =
-      absorbed (is_at (slice_cmp nat_cmp w) x) (list_any (is_at (slice_cmp nat_cmp w)) xs)
-      ∙ ap (λ (b : Bool). (is_at (slice_cmp nat_cmp w) x || list_any (is_at (slice_cmp nat_cmp w)) xs) || b) (by_bytes w x ∙ ap (bytes_eq w) (sym (equal_keys k x is)))
-  inserted_at x xs Greater is more =
-      ap (λ (b : Bool). is_at (slice_cmp nat_cmp w) x || b) more
-      ∙ sym (or_assoc (is_at (slice_cmp nat_cmp w) x) (list_any (is_at (slice_cmp nat_cmp w)) xs) (bytes_eq w k))
-
-  inserted : (xs : List (List ℕ)) → list_any (is_at (slice_cmp nat_cmp w)) (insert_key (slice_cmp nat_cmp) xs k) ≡ (list_any (is_at (slice_cmp nat_cmp w)) xs || bytes_eq w k)
-  inserted [] = or_comm (is_at (slice_cmp nat_cmp w) k) false ∙ by_bytes w k
-  inserted (x ∷ xs) = inserted_at x xs (slice_cmp nat_cmp k x) refl (inserted xs)
+  tables_at-limit e = elim (cases_Bool (bytes_eq word (codes "-"))) [
+    | inl is ↦ absurd (none_some [] (sym (ok_same _ _ (rw is at e))))
+    | inr other ↦ tables_in-limit names [] (parts_at word) (rw other at e)
+  ]
 
 -- one turn
 
@@ -161,16 +149,9 @@ taken : (words : List (Bor (List ℕ))) (i : ℕ) (d : Bor (List ℕ)) → i < l
 taken words i d h = rw add-one (behind words i d h)
 
 pub named-turn : (words : List (Bor (List ℕ))) (i : ℕ) (d : Bor (List ℕ)) (keys more : List (List ℕ)) → i < length words → more ≡ insert_key (slice_cmp nat_cmp) keys (get_or words i d).now
-    → ((w : List ℕ) → list_any (is_at (slice_cmp nat_cmp w)) keys ≡ is_among w (take i (texts words)))
-    → (w : List ℕ) → list_any (is_at (slice_cmp nat_cmp w)) more ≡ is_among w (take (i + 1) (texts words))
-named-turn words i d keys more h e before w =
-    let k = (get_or words i d).now in
-    ap (list_any (is_at (slice_cmp nat_cmp w))) e
-    ∙ inserted w k keys
-    ∙ ap (λ (b : Bool). b || bytes_eq w k) (before w)
-    ∙ ap (λ (b : Bool). is_among w (take i (texts words)) || b) (or_comm false (bytes_eq w k))
-    ∙ sym (list_any-append (bytes_eq w) (take i (texts words)) (k ∷ []))
-    ∙ ap (is_among w) (sym (taken words i d h))
+    → IsSetOf keys (take i (texts words)) → IsSetOf more (take (i + 1) (texts words))
+named-turn words i d keys more h e set =
+    subst (IsSetOf more) (sym (taken words i d h)) (set-put keys more (take i (texts words)) (get_or words i d).now e set)
 
 -- the tables of words, as far as they were read
 abbrev pub left : Names → List (Bor (List ℕ)) → ℕ → Option (List ℕ) → Result (Option (List ℕ)) Code

@@ -50,7 +50,7 @@ node_none letter (c ∷ digits) h = elim (cases_Bool (eqb c letter)) [
   | inr other ↦ rw other refl
 ]
 
-either : (ds : List ℕ) → is_length ds ≡ true → (0 < length ds) × (all_ascii_digits ds ≡ true)
+pub either : (ds : List ℕ) → is_length ds ≡ true → (0 < length ds) × (all_ascii_digits ds ≡ true)
 unfolding is_length
 either ds e = elim (cases_Bool (bytes_eq ds (48 ∷ []))) [
   | inl is ↦ let same = (bytes_eq-Decides ds (48 ∷ [])).0 is in rw same (omega arith, refl)

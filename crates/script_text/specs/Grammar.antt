@@ -1,11 +1,10 @@
 -- The lines of a script: which are passed over, which spell an event, and what is the first word at fault.
-use Rattle.std.specs.Prelude.{◌≡◌, ◌≢◌, ◌⊎◌, ℕ, ◌+◌, ◌<◌, ◌^◌, true, false, List, [], ◌∷◌, ◌++◌, map, codes, Option, Some, None, MatchOption, Result, Ok, Err, if◌then◌else◌, ℤ}
-use Rattle.std.specs.List.{AllByRecursion}
+use Rattle.std.specs.Prelude.{◌≡◌, ◌≢◌, ◌⊎◌, ℕ, ◌==◌, ◌+◌, ◌<◌, ◌≤◌, ◌^◌, nat_lt, true, false, List, [], ◌∷◌, ◌++◌, length, drop, map, codes, Option, Some, None, MatchOption, Result, Ok, Err, MatchResult, if◌then◌else◌, ℤ}
+use Rattle.std.specs.List.{AllByRecursion, IsDistinct, join_with_byte}
 use Rattle.std.specs.Int.Signed.{mag}
 use Rattle.std.specs.Fmt.{decimal, signed_decimal}
-use Rattle.std.specs.Str.{IsUtf8}
+use Rattle.std.specs.Str.{IsUtf8, bytes_eq}
 use Rattle.stab_base.specs.Row.{row_of}
-use Rattle.row_value.specs.declared.schema.ColumnKind.TheVariants as kinds
 use Rattle.row_value.specs.declared.schema.Scheme.TheVariants as schemes
 use Rattle.row_value.specs.declared.schema.Schema.{Schema}
 use Rattle.row_value.specs.declared.content.Cell.TheVariants as cells
@@ -23,7 +22,7 @@ use Rattle.script_text.specs.declared.verb.Verb.TheVariants as verbs
 use Rattle.script_text.specs.Faults.{bad}
 use Rattle.script_text.specs.Words.{words_of, is_name, is_comment}
 use Rattle.script_text.specs.Verbs.{name_of, is_unbuilt}
-use Rattle.script_text.specs.Places.{client_at, table_at, new_store_at, new_table_at, new_client_at, gate_at, tables_at, new_name_at, scheme_at, chunk_at, column_at, second_column_at, row_at, value_at, passed, or_else, store_number, table_number, client_number, tables_passed, parts_at}
+use Rattle.script_text.specs.Places.{client_at, table_at, new_store_at, new_table_at, new_client_at, gate_at, tables_at, new_name_at, scheme_at, chunk_at, int_column, new_column_at, row_at, value_at, packet_at, passed, or_else, store_number, table_number, client_number, tables_passed, parts_at}
 pub use Rattle.script_text.specs.Names.{Names, no_names, with_event, has_store, has_table, has_name, has_client, has_no_store}
 
 -- a line that begins with `#`, and a line without a word
@@ -42,43 +41,99 @@ SpellsStore names words store =
 abbrev pub IsChunk : ℕ → Type 0
 IsChunk chunk = (chunk ≡ 64) ⊎ (chunk ≡ 1024) ⊎ (chunk ≡ 65536)
 
--- `table T1 NAME eventual CHUNK COLUMN:int`
+-- the letter of a kind of node, or of tables, and a number
+abbrev pub client_word : ℕ → List ℕ
+client_word client = codes "C" ++ decimal client
+
+abbrev pub table_word : ℕ → List ℕ
+table_word table = codes "T" ++ decimal table
+
+-- a number that a declaration may give
+abbrev pub IsUpTo : ℕ → ℕ → Type 0
+IsUpTo most n = (1 ≤ n) × (n ≤ most)
+
+-- a number that names a client or a table that is declared
+abbrev pub IsClient : Names → ℕ → Type 0
+IsClient names client = (1 ≤ client) × (client < 2 ^ 32) × (has_client names client ≡ true)
+
+abbrev pub IsTable : Names → ℕ → Type 0
+IsTable names table = (1 ≤ table) × (table < 2 ^ 32) × (has_table names table ≡ true)
+
+-- a column of numbers, NAME:int
+abbrev pub column_word : List ℕ → List ℕ
+column_word name = name ++ codes ":int"
+
+-- names of columns, one or more and up to 32, none of them twice
+pub record AreColumns (columns : List (List ℕ)) : Type 0 where
+  pub some : columns ≢ []
+  pub few : length columns ≤ 32
+  pub names : AllByRecursion (λ column. is_name column ≡ true) columns
+  pub distinct : IsDistinct bytes_eq columns
+
+-- `table T NAME eventual CHUNK COLUMN:int ..`
 abbrev pub SpellsTable : Names → List (List ℕ) → ℕ → Schema → Type 0
 SpellsTable names words table schema =
-    (column : List ℕ)
-    × (words ≡ codes "table" ∷ codes "T1" ∷ schema.name ∷ codes "eventual" ∷ decimal schema.chunk ∷ (column ++ codes ":int") ∷ [])
-    × (table ≡ 1) × (schema.scheme ≡ schemes.Eventual) × IsChunk schema.chunk
-    × (schema.columns ≡ record { name = column; kind = kinds.Int } ∷ [])
-    × (is_name schema.name ≡ true) × (is_name column ≡ true)
-    × IsEarly names × (has_no_store names ≡ false) × (has_table names 1 ≡ false) × (has_name names schema.name ≡ false)
+    (columns : List (List ℕ))
+    × (words ≡ codes "table" ∷ table_word table ∷ schema.name ∷ codes "eventual" ∷ decimal schema.chunk ∷ map column_word columns)
+    × IsUpTo 64 table × (schema.scheme ≡ schemes.Eventual) × IsChunk schema.chunk
+    × (schema.columns ≡ map int_column columns) × AreColumns columns × (is_name schema.name ≡ true)
+    × IsEarly names × (has_no_store names ≡ false) × (has_table names table ≡ false) × (has_name names schema.name ≡ false)
 
--- `client C1 - T1`
+-- TABLES: names joined by commas, or `-` for none
+abbrev pub tables_word : List ℕ → List ℕ
+tables_word [] = codes "-"
+tables_word (table ∷ tables) = join_with_byte 44 (map table_word (table ∷ tables))
+
+-- `client C - TABLES`
 abbrev pub SpellsClient : Names → List (List ℕ) → ℕ → Option ℕ → List ℕ → Type 0
 SpellsClient names words client gate tables =
-    (words ≡ codes "client" ∷ codes "C1" ∷ codes "-" ∷ codes "T1" ∷ [])
-    × (client ≡ 1) × (gate ≡ None) × (tables ≡ 1 ∷ [])
-    × IsEarly names × (has_client names 1 ≡ false) × (has_table names 1 ≡ true)
+    (words ≡ codes "client" ∷ client_word client ∷ codes "-" ∷ tables_word tables ∷ [])
+    × IsUpTo 64 client × (gate ≡ None)
+    × AllByRecursion (λ table. IsUpTo 64 table × (has_table names table ≡ true)) tables × IsDistinct (λ m n. m == n) tables
+    × IsEarly names × (has_client names client ≡ false)
 
 -- numbers of 64 bits with a sign, as cells
 abbrev pub AreShort : List ℤ → Type 0
 AreShort numbers = AllByRecursion (λ z. mag z < 2 ^ 63) numbers
 
--- `write C1 T1 ROW NUMBER ..`
+-- `write C T ROW NUMBER ..`
 abbrev pub SpellsWrite : Names → List (List ℕ) → ℕ → ℕ → List ℕ → Content → Type 0
 SpellsWrite names words client table row content =
     (place : List ℕ) × (numbers : List ℤ)
-    × (words ≡ codes "write" ∷ codes "C1" ∷ codes "T1" ∷ place ∷ map signed_decimal numbers)
-    × (client ≡ 1) × (table ≡ 1) × (row_of place ≡ Some row)
+    × (words ≡ codes "write" ∷ client_word client ∷ table_word table ∷ place ∷ map signed_decimal numbers)
+    × IsClient names client × IsTable names table × (row_of place ≡ Some row)
     × (content ≡ Row (map cells.Int numbers) []) × (numbers ≢ []) × AreShort numbers
-    × (has_client names 1 ≡ true) × (has_table names 1 ≡ true)
 
--- `show C1 T1 ROW`
+-- `show C T ROW`
 abbrev pub SpellsShow : Names → List (List ℕ) → ℕ → ℕ → List ℕ → Type 0
 SpellsShow names words client table row =
     (place : List ℕ)
-    × (words ≡ codes "show" ∷ codes "C1" ∷ codes "T1" ∷ place ∷ [])
-    × (client ≡ 1) × (table ≡ 1) × (row_of place ≡ Some row)
-    × (has_client names 1 ≡ true) × (has_table names 1 ≡ true)
+    × (words ≡ codes "show" ∷ client_word client ∷ table_word table ∷ place ∷ [])
+    × IsClient names client × IsTable names table × (row_of place ≡ Some row)
+
+-- `sync C T`
+abbrev pub SpellsSync : Names → List (List ℕ) → ℕ → ℕ → Type 0
+SpellsSync names words client table =
+    (words ≡ codes "sync" ∷ client_word client ∷ table_word table ∷ []) × IsClient names client × IsTable names table
+
+-- `pull C T`
+abbrev pub SpellsPull : Names → List (List ℕ) → ℕ → ℕ → Type 0
+SpellsPull names words client table =
+    (words ≡ codes "pull" ∷ client_word client ∷ table_word table ∷ []) × IsClient names client × IsTable names table
+
+-- `deliver I`
+abbrev pub SpellsDeliver : List (List ℕ) → ℕ → Type 0
+SpellsDeliver words packet = (words ≡ codes "deliver" ∷ decimal packet ∷ []) × (packet < 2 ^ 64)
+
+-- `sshow T ROW`
+abbrev pub SpellsStoreShow : Names → List (List ℕ) → ℕ → List ℕ → Type 0
+SpellsStoreShow names words table row =
+    (place : List ℕ)
+    × (words ≡ codes "sshow" ∷ table_word table ∷ place ∷ []) × IsTable names table × (row_of place ≡ Some row)
+
+-- `history T`
+abbrev pub SpellsHistory : Names → List (List ℕ) → ℕ → Type 0
+SpellsHistory names words table = (words ≡ codes "history" ∷ table_word table ∷ []) × IsTable names table
 
 abbrev pub SpelledBy : Names → List (List ℕ) → Event → Type 0
 SpelledBy names words (events.Store store) = SpellsStore names words store
@@ -86,6 +141,11 @@ SpelledBy names words (events.Table table schema) = SpellsTable names words tabl
 SpelledBy names words (events.Client client gate tables) = SpellsClient names words client gate tables
 SpelledBy names words (events.Write client table row content) = SpellsWrite names words client table row content
 SpelledBy names words (events.Show client table row) = SpellsShow names words client table row
+SpelledBy names words (events.Sync client table) = SpellsSync names words client table
+SpelledBy names words (events.Pull client table) = SpellsPull names words client table
+SpelledBy names words (events.Deliver packet) = SpellsDeliver words packet
+SpelledBy names words (events.StoreShow table row) = SpellsStoreShow names words table row
+SpelledBy names words (events.History table) = SpellsHistory names words table
 
 -- the line spells the event with these declarations
 abbrev pub Spells : Names → List ℕ → Event → Type 0
@@ -96,13 +156,34 @@ abbrev pub fault_of : {X : Type 0} → Result X Code → Option Code
 fault_of (Ok x) = None
 fault_of (Err code) = Some code
 
--- The first fault of words that are to stand at these places, the first of which has this index. Behind the last place
--- no word stands, or any number of words that `more` judges.
-abbrev pub FirstFault : ℕ → List (List ℕ → Option Code) → Option (List ℕ → Option Code) → List (List ℕ) → BadLine → Type 0
-FirstFault at [] more [] fault = ⊥
-FirstFault at [] None (word ∷ words) fault = fault ≡ bad Surplus at
-FirstFault at [] (Some more) (word ∷ words) fault =
-    MatchOption (more word) (FirstFault (at + 1) [] (Some more) words fault) (λ code. fault ≡ bad code at)
+-- the first fault of the words of this index and on, behind the last place of a line
+abbrev pub Rest : Type 1
+Rest = ℕ → List (List ℕ) → BadLine → Type 0
+
+-- no word stands there
+abbrev pub NoMore : Rest
+NoMore at [] fault = ⊥
+NoMore at (word ∷ words) fault = fault ≡ bad Surplus at
+
+-- values, each judged alone
+abbrev pub ValuesFault : Rest
+ValuesFault at [] fault = ⊥
+ValuesFault at (word ∷ words) fault = MatchResult (value_at word) (λ value. ValuesFault (at + 1) words fault) (λ code. fault ≡ bad code at)
+
+-- columns, each judged behind those of these names
+abbrev pub ColumnsFault : List (List ℕ) → Rest
+ColumnsFault before at [] fault = ⊥
+ColumnsFault before at (word ∷ words) fault =
+    MatchResult (new_column_at before word) (λ name. ColumnsFault (before ++ name ∷ []) (at + 1) words fault) (λ code. fault ≡ bad code at)
+
+-- one or more
+abbrev pub OneOrMore : Rest → Rest
+OneOrMore more at [] fault = fault ≡ bad Missing at
+OneOrMore more at (word ∷ words) fault = more at (word ∷ words) fault
+
+-- the first fault of words that are to stand at these places, the first of which has this index, and behind them
+abbrev pub FirstFault : ℕ → List (List ℕ → Option Code) → Rest → List (List ℕ) → BadLine → Type 0
+FirstFault at [] more words fault = more at words fault
 FirstFault at (place ∷ places) more [] fault = fault ≡ bad Missing at
 FirstFault at (place ∷ places) more (word ∷ words) fault =
     MatchOption (place word) (FirstFault (at + 1) places more words fault) (λ code. fault ≡ bad code at)
@@ -112,26 +193,31 @@ abbrev pub places_of : Names → Verb → List (List ℕ → Option Code)
 places_of names verbs.Store = (λ word. fault_of (new_store_at names word)) ∷ []
 places_of names verbs.Table =
     (λ word. fault_of (new_table_at names word)) ∷ (λ word. fault_of (new_name_at names word)) ∷ (λ word. fault_of (scheme_at word))
-    ∷ (λ word. fault_of (chunk_at word)) ∷ (λ word. fault_of (column_at word)) ∷ []
+    ∷ (λ word. fault_of (chunk_at word)) ∷ []
 places_of names verbs.Client =
     (λ word. fault_of (new_client_at names word)) ∷ (λ word. fault_of (gate_at word)) ∷ (λ word. fault_of (tables_at names word)) ∷ []
 places_of names verbs.Write =
-    (λ word. fault_of (client_at names word)) ∷ (λ word. fault_of (table_at names word)) ∷ (λ word. fault_of (row_at word))
-    ∷ (λ word. fault_of (value_at word)) ∷ []
+    (λ word. fault_of (client_at names word)) ∷ (λ word. fault_of (table_at names word)) ∷ (λ word. fault_of (row_at word)) ∷ []
 places_of names verbs.Show =
     (λ word. fault_of (client_at names word)) ∷ (λ word. fault_of (table_at names word)) ∷ (λ word. fault_of (row_at word)) ∷ []
+places_of names verbs.Sync = (λ word. fault_of (client_at names word)) ∷ (λ word. fault_of (table_at names word)) ∷ []
+places_of names verbs.Pull = (λ word. fault_of (client_at names word)) ∷ (λ word. fault_of (table_at names word)) ∷ []
+places_of names verbs.Deliver = (λ word. fault_of (packet_at word)) ∷ []
+places_of names verbs.StoreShow = (λ word. fault_of (table_at names word)) ∷ (λ word. fault_of (row_at word)) ∷ []
+places_of names verbs.History = (λ word. fault_of (table_at names word)) ∷ []
 
--- the name in a word of the form NAME:KIND
-abbrev pub column_name : Result (List ℕ) Code → List ℕ
-column_name (Ok name) = name
-column_name (Err code) = []
-
--- what may follow: columns, each of which is at fault at this stage, and values
-abbrev pub more_of : Verb → List (List ℕ) → Option (List ℕ → Option Code)
-more_of verbs.Table (table ∷ name ∷ scheme ∷ chunk ∷ column ∷ words) = Some (λ word. Some (second_column_at (column_name (column_at column)) word))
-more_of verbs.Table words = None
-more_of verbs.Write words = Some (λ word. fault_of (value_at word))
-more_of verb words = None
+-- what stands behind them
+abbrev pub more_of : Verb → Rest
+more_of verbs.Store = NoMore
+more_of verbs.Table = OneOrMore (ColumnsFault [])
+more_of verbs.Client = NoMore
+more_of verbs.Write = OneOrMore ValuesFault
+more_of verbs.Show = NoMore
+more_of verbs.Sync = NoMore
+more_of verbs.Pull = NoMore
+more_of verbs.Deliver = NoMore
+more_of verbs.StoreShow = NoMore
+more_of verbs.History = NoMore
 
 -- a fault of the verb at its place: a `table` without a Store, and a declaration behind an event
 abbrev pub verb_fault : Names → Verb → Option Code
@@ -140,10 +226,15 @@ verb_fault names verbs.Table = if has_no_store names then Some NotDeclared else 
 verb_fault names verbs.Client = if names.started then Some Late else None
 verb_fault names verbs.Write = None
 verb_fault names verbs.Show = None
+verb_fault names verbs.Sync = None
+verb_fault names verbs.Pull = None
+verb_fault names verbs.Deliver = None
+verb_fault names verbs.StoreShow = None
+verb_fault names verbs.History = None
 
 abbrev pub VerbFault : Names → Verb → List (List ℕ) → BadLine → Type 0
 VerbFault names verb words fault =
-    MatchOption (verb_fault names verb) (FirstFault 1 (places_of names verb) (more_of verb words) words fault) (λ code. fault ≡ bad code 0)
+    MatchOption (verb_fault names verb) (FirstFault 1 (places_of names verb) (more_of verb) words fault) (λ code. fault ≡ bad code 0)
 
 -- a verb that is built, one that isn't, and no verb
 abbrev pub WordsFault : Names → List (List ℕ) → BadLine → Type 0
@@ -158,23 +249,20 @@ IsFault names line fault =
     (IsPassed line → ⊥)
     × (((IsUtf8 line → ⊥) × (fault ≡ bad NotUtf8 0)) ⊎ (IsUtf8 line × WordsFault names (words_of line) fault))
 
--- the limits that the words of a line may pass at their places, behind its verb
-abbrev pub limits_of : Verb → List (List ℕ → Option ℕ)
-limits_of verbs.Store = (λ word. passed 7 (store_number word)) ∷ []
-limits_of verbs.Table = (λ word. passed 4 (table_number word)) ∷ []
-limits_of verbs.Client = (λ word. passed 5 (client_number word)) ∷ (λ word. None) ∷ (λ word. tables_passed (parts_at word)) ∷ []
-limits_of verbs.Write = []
-limits_of verbs.Show = []
+-- the limit that columns pass, of which there may be 32
+abbrev pub columns_passed : List (List ℕ) → Option ℕ
+columns_passed columns = if nat_lt 32 (length columns) then Some 8 else None
 
--- the limit that the leftmost word passes whose number is above its own
-abbrev pub first_limit : List (List ℕ → Option ℕ) → List (List ℕ) → Option ℕ
-first_limit [] words = None
-first_limit (limit ∷ limits) [] = None
-first_limit (limit ∷ limits) (word ∷ words) = or_else (limit word) (first_limit limits words)
+-- the limit that the leftmost word behind a verb passes whose number, or whose place among columns, is above its own
+abbrev pub limit_of : Verb → List (List ℕ) → Option ℕ
+limit_of verbs.Store (store ∷ words) = passed 7 (store_number store)
+limit_of verbs.Table (table ∷ words) = or_else (passed 4 (table_number table)) (columns_passed (drop 3 words))
+limit_of verbs.Client (client ∷ gate ∷ tables ∷ words) = or_else (passed 5 (client_number client)) (tables_passed (parts_at tables))
+limit_of verb words = None
 
 abbrev pub WordsLimit : List (List ℕ) → ℕ → Type 0
 WordsLimit [] limit = ⊥
-WordsLimit (first ∷ words) limit = (verb : Verb) × (first ≡ name_of verb) × (first_limit (limits_of verb) words ≡ Some limit)
+WordsLimit (first ∷ words) limit = (verb : Verb) × (first ≡ name_of verb) × (limit_of verb words ≡ Some limit)
 
 -- no word of the line is at fault, and the leftmost word whose number is above its limit passes this one
 abbrev pub PassesLimit : Names → List ℕ → ℕ → Type 0

@@ -6,4 +6,3 @@ pub mod Places
 pub mod Reading
 pub mod Grammar
 pub mod Text
-pub mod OneForm

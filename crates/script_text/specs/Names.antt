@@ -1,11 +1,12 @@
 -- What a script has declared so far, and whether an event was read.
-use Rattle.std.specs.Prelude.{ℕ, ◌==◌, length, Bool, true, false, List, [], is_some, map, Vec}
+use Rattle.std.specs.Prelude.{◌≡◌, ℕ, ◌==◌, length, Bool, true, false, List, [], is_some, map, Vec}
 use Rattle.std.specs.Ordering.{nat_cmp}
 use Rattle.std.specs.Cmp.Lexicographic.{slice_cmp}
 use Rattle.std.specs.List.{list_any}
 use Rattle.std.specs.Map.{lookup}
 use Rattle.std.specs.BTreeMap.{is_at, insert_entry}
 use Rattle.std.specs.BTreeSet.{BTreeSet, insert_key}
+use Rattle.script_text.specs.Words.{is_among}
 use Rattle.row_value.specs.declared.schema.Schema.{Schema}
 use Rattle.table_model.specs.declared.event.Event.{Event}
 use Rattle.table_model.specs.declared.event.Event.TheVariants as events
@@ -13,6 +14,10 @@ use Rattle.table_model.specs.declared.event.Event.TheVariants as events
 -- the keys of a set of texts
 abbrev pub texts_of : {A : Type 0} → BTreeSet (Vec ℕ A) → List (List ℕ)
 texts_of texts = map (λ v. v.items) texts.keys
+
+-- keys that have the same texts among them as a list
+abbrev pub IsSetOf : List (List ℕ) → List (List ℕ) → Type 0
+IsSetOf keys words = (w : List ℕ) → list_any (is_at (slice_cmp nat_cmp w)) keys ≡ is_among w words
 
 -- numbers in rising order, tables with their schema, table names in the order of their bytes
 pub record Names : Type 0 where
@@ -33,6 +38,11 @@ with_event n (events.Table table schema) =
 with_event n (events.Client client gate tables) = record n { clients = insert_key nat_cmp n.clients client }
 with_event n (events.Write client table row content) = record n { started = true }
 with_event n (events.Show client table row) = record n { started = true }
+with_event n (events.Sync client table) = record n { started = true }
+with_event n (events.Pull client table) = record n { started = true }
+with_event n (events.Deliver packet) = record n { started = true }
+with_event n (events.StoreShow table row) = record n { started = true }
+with_event n (events.History table) = record n { started = true }
 
 abbrev pub has_store : Names → ℕ → Bool
 has_store n store = list_any (is_at (nat_cmp store)) n.stores

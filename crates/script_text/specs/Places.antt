@@ -10,6 +10,7 @@ use Rattle.percent_encoding.specs.Percent.{percent_decode}
 use Rattle.stab_base.specs.Row.{row_of}
 use Rattle.row_value.specs.declared.schema.ColumnKind.{ColumnKind}
 use Rattle.row_value.specs.declared.schema.ColumnKind.TheVariants as kinds
+use Rattle.row_value.specs.declared.schema.Column.{Column}
 use Rattle.row_value.specs.declared.schema.Scheme.{Scheme}
 use Rattle.row_value.specs.declared.schema.Scheme.TheVariants as schemes
 use Rattle.script_text.specs.declared.fault.ValueFault.{ValueFault}
@@ -17,8 +18,7 @@ use Rattle.script_text.specs.declared.fault.ValueFault.TheVariants as faults
 use Rattle.script_text.specs.declared.fault.Code.{Code}
 use Rattle.script_text.specs.declared.fault.Code.TheVariants.{NoNumber, NoName, NoRow, NoValue, NotDeclared, Twice, Unbuilt}
 use Rattle.script_text.specs.Names.{Names, has_store, has_table, has_name, has_client}
-use Rattle.script_text.specs.Words.{is_number, is_length, is_name, is_hex}
-use Rattle.script_text.specs.Verbs.{is_among}
+use Rattle.script_text.specs.Words.{is_number, is_length, is_name, is_hex, is_among}
 
 infixl 10 ◌>>=◌
 abbrev pub ◌>>=◌ : {A B E : Type 0} → Result A E → (A → Result B E) → Result B E
@@ -26,7 +26,7 @@ abbrev pub ◌>>=◌ : {A B E : Type 0} → Result A E → (A → Result B E) �
 (Err e) >>= f = Err e
 
 -- what borrowed words are
-abbrev pub seen : Result (Bor (List ℕ)) Code → Result (List ℕ) Code
+abbrev pub seen : {E : Type 0} → Result (Bor (List ℕ)) E → Result (List ℕ) E
 seen (Ok word) = Ok word.now
 seen (Err code) = Err code
 
@@ -53,9 +53,10 @@ unfoldable pub node_at : ℕ → List ℕ → Result (Option ℕ) Code
 node_at letter [] = Err NoName
 node_at letter (c ∷ digits) = if (c == letter) && is_number digits then Ok (small digits) else Err NoName
 
--- only the number 1 is built
-abbrev pub built : ℕ → Result ℕ Code
-built n = if n == 1 then Ok n else Err Unbuilt
+-- of the Stores only the first is built
+abbrev pub built : Option ℕ → Result (Option ℕ) Code
+built None = Ok None
+built (Some n) = if n == 1 then Ok (Some n) else Err Unbuilt
 
 -- the first of two that is there
 abbrev pub or_else : Option ℕ → Option ℕ → Option ℕ
@@ -65,7 +66,7 @@ or_else (Some n) other = Some n
 -- the number of something that is declared
 abbrev pub known : (ℕ → Bool) → Option ℕ → Result ℕ Code
 known has None = Err NotDeclared
-known has (Some n) = if has n then built n else Err NotDeclared
+known has (Some n) = if has n then Ok n else Err NotDeclared
 
 -- a number up to this one; None where it is above
 abbrev pub at_most : ℕ → Option ℕ → Option ℕ
@@ -85,12 +86,12 @@ passed limit (Err code) = None
 -- the number of something that isn't declared, unless it is above its limit
 abbrev pub fresh : (ℕ → Bool) → Option ℕ → Result (Option ℕ) Code
 fresh has None = Ok None
-fresh has (Some n) = if has n then Err Twice else (built n >>= λ m. Ok (Some m))
+fresh has (Some n) = if has n then Err Twice else Ok (Some n)
 
 -- the number of a table that a client opens, unless it is above its limit
 abbrev pub opened : (ℕ → Bool) → Option ℕ → Result (Option ℕ) Code
 opened has None = Ok None
-opened has (Some n) = if has n then (built n >>= λ m. Ok (Some m)) else Err NotDeclared
+opened has (Some n) = if has n then Ok (Some n) else Err NotDeclared
 
 unfoldable pub client_at : Names → List ℕ → Result ℕ Code
 client_at names word = node_at 67 word >>= known (has_client names)
@@ -111,7 +112,7 @@ abbrev pub client_number : List ℕ → Result (Option ℕ) Code
 client_number word = limited_at 67 64 word
 
 unfoldable pub new_store_at : Names → List ℕ → Result (Option ℕ) Code
-new_store_at names word = store_number word >>= fresh (has_store names)
+new_store_at names word = (store_number word >>= fresh (has_store names)) >>= built
 
 unfoldable pub new_table_at : Names → List ℕ → Result (Option ℕ) Code
 new_table_at names word = table_number word >>= fresh (has_table names)
@@ -154,9 +155,9 @@ tables_in names before (word ∷ words) =
 abbrev pub parts_at : List ℕ → List (List ℕ)
 parts_at word = slice_split is_comma word
 
--- tables that a client opens, joined by commas; `-` is a form that isn't built
+-- tables that a client opens, joined by commas; `-` is none
 unfoldable pub tables_at : Names → List ℕ → Result (Option (List ℕ)) Code
-tables_at names word = if bytes_eq word (codes "-") then Err Unbuilt else tables_in names [] (parts_at word)
+tables_at names word = if bytes_eq word (codes "-") then Ok (Some []) else tables_in names [] (parts_at word)
 
 -- this limit, where the number of a table is above it
 abbrev pub tables_passed : List (List ℕ) → Option ℕ
@@ -204,21 +205,24 @@ named name (Some kind) = if is_name name then Some (name, kind) else None
 unfoldable pub column_of : List ℕ → Option (List ℕ × ColumnKind)
 column_of word = elim (parts_of word) [ None ↦ None | Some p ↦ named p.0 (kind_of p.1) ]
 
-abbrev pub number_column : Option (List ℕ × ColumnKind) → Result (List ℕ) Code
-number_column None = Err NoName
-number_column (Some p) = elim p.1 [ kinds.Int ↦ Ok p.0 | kinds.Bool ↦ Err Unbuilt | kinds.Text ↦ Err Unbuilt | kinds.Object ↦ Err Unbuilt ]
+-- a column of numbers
+abbrev pub int_column : List ℕ → Column
+int_column name = record { name = name; kind = kinds.Int }
 
--- the name of a column of numbers; the other kinds aren't built
-unfoldable pub column_at : List ℕ → Result (List ℕ) Code
-column_at word = number_column (column_of word)
+-- the kinds of cells but numbers, and objects, aren't built
+abbrev pub built_column : List ℕ → ColumnKind → Result (List ℕ) Code
+built_column name kinds.Int = Ok name
+built_column name kinds.Bool = Err Unbuilt
+built_column name kinds.Text = Err Unbuilt
+built_column name kinds.Object = Err Unbuilt
 
-abbrev pub second_column : List ℕ → Option (List ℕ × ColumnKind) → Code
-second_column first None = NoName
-second_column first (Some p) = if bytes_eq p.0 first then Twice else Unbuilt
+-- the name of a column of numbers, behind columns of these names
+abbrev pub new_column : List (List ℕ) → Option (List ℕ × ColumnKind) → Result (List ℕ) Code
+new_column before None = Err NoName
+new_column before (Some p) = if is_among p.0 before then Err Twice else built_column p.0 p.1
 
--- a second column isn't built
-unfoldable pub second_column_at : List ℕ → List ℕ → Code
-second_column_at first word = second_column first (column_of word)
+unfoldable pub new_column_at : List (List ℕ) → List ℕ → Result (List ℕ) Code
+new_column_at before word = new_column before (column_of word)
 
 abbrev pub found_row : Option (List ℕ) → Result (List ℕ) Code
 found_row None = Err NoRow
@@ -264,3 +268,8 @@ found_value other (Some z) = Ok z
 -- a number; the other values aren't built
 unfoldable pub value_at : List ℕ → Result ℤ Code
 value_at word = found_value (bytes_eq word (codes "true") || bytes_eq word (codes "false") || is_long_value word) (int_of word)
+
+-- the number of a packet, below 2 ^ 64
+unfoldable pub packet_at : List ℕ → Result ℕ Code
+packet_at word =
+    if is_length word && nat_lt (digits_value 10 word) (2 ^ 64) then Ok (digits_value 10 word) else Err NoNumber

@@ -1,7 +1,7 @@
 -- Words read from left to right: the event that they spell, or the first word at fault.
-use Rattle.std.specs.Prelude.{◌≡◌, ℕ, ◌+◌, List, [], ◌∷◌, ◌++◌, Option, Some, None, Result, Ok, Err, if◌then◌else◌}
+use Rattle.std.specs.Prelude.{◌≡◌, ℕ, ◌+◌, nat_lt, List, [], ◌∷◌, ◌++◌, length, Option, Some, None, Result, Ok, Err, if◌then◌else◌}
 use Rattle.std.specs.Str.{is_utf8}
-use Rattle.row_value.specs.declared.schema.ColumnKind.TheVariants as kinds
+use Rattle.row_value.specs.declared.schema.Column.{Column}
 use Rattle.row_value.specs.declared.content.Cell.{Cell}
 use Rattle.row_value.specs.declared.content.Cell.TheVariants as cells
 use Rattle.row_value.specs.declared.content.Content.TheVariants.{Row}
@@ -12,8 +12,7 @@ use Rattle.script_text.specs.declared.fault.Code.TheVariants.{NoVerb, Missing, S
 use Rattle.script_text.specs.declared.fault.BadLine.{BadLine}
 use Rattle.script_text.specs.declared.fault.ScriptFault.{ScriptFault}
 use Rattle.script_text.specs.declared.fault.ScriptFault.TheVariants as faults
-use Rattle.script_text.specs.declared.lines.TableWords.{TableWords}
-use Rattle.row_value.specs.declared.schema.Scheme.{Scheme}
+use Rattle.row_value.specs.declared.schema.Schema.{Schema}
 use Rattle.script_text.specs.declared.verb.Verb.{Verb}
 use Rattle.script_text.specs.declared.verb.Verb.TheVariants as verbs
 use Rattle.script_text.specs.Faults.{bad}
@@ -21,7 +20,7 @@ use Rattle.script_text.specs.Verbs.{verb_of, is_unbuilt}
 use Rattle.script_text.specs.Names.{Names, has_no_store}
 use Rattle.std.specs.Borrow.{Bor}
 use Rattle.script_text.specs.Words.{texts, words_of, is_comment}
-use Rattle.script_text.specs.Places.{◌>>=◌, client_at, table_at, new_store_at, new_table_at, new_client_at, gate_at, tables_at, new_name_at, scheme_at, chunk_at, column_at, second_column_at, row_at, value_at}
+use Rattle.script_text.specs.Places.{◌>>=◌, client_at, table_at, new_store_at, new_table_at, new_client_at, gate_at, tables_at, new_name_at, scheme_at, chunk_at, int_column, new_column_at, row_at, value_at, packet_at}
 
 -- the next word and the words behind it
 unfoldable pub next_in : ℕ → List (List ℕ) → Result (List ℕ × List (List ℕ)) BadLine
@@ -58,22 +57,29 @@ store_in names words =
     word_in 1 (new_store_at names) words (λ store a.
     end_in 2 a >>= λ done. Ok (made_store store))
 
-unfoldable pub columns_end_in : ℕ → List ℕ → List (List ℕ) → Result (Unit {0}) BadLine
-columns_end_in at first [] = Ok tt
-columns_end_in at first (word ∷ words) = Err (bad (second_column_at first word) at)
+unfoldable pub column_in : ℕ → List (List ℕ) → List ℕ → Result Column BadLine
+column_in at before word = do
+  name ← placed at (new_column_at before word)
+  Ok (int_column name)
 
--- a table of one column of numbers
-abbrev pub made_table : Option ℕ → List ℕ → Scheme → ℕ → List ℕ → Result Event ℕ
-made_table None name scheme chunk column = Err 4
-made_table (Some table) name scheme chunk column =
-    Ok (events.Table table (record { name = name; scheme = scheme; chunk = chunk; columns = record { name = column; kind = kinds.Int } ∷ [] }))
+-- columns of numbers behind columns of these names, none of which has another's name
+unfoldable pub columns_in : ℕ → List (List ℕ) → List (List ℕ) → Result (List Column) BadLine
+columns_in at before [] = Ok []
+columns_in at before (word ∷ words) = do
+  column ← column_in at before word
+  more ← columns_in (at + 1) (before ++ column.name ∷ []) words
+  Ok (column ∷ more)
 
-abbrev pub table_made : TableWords → Result Event ℕ
-table_made words = made_table words.table words.name.now words.scheme words.chunk words.column.now
+-- one column or more
+unfoldable pub some_columns_in : ℕ → List (List ℕ) → Result (List Column) BadLine
+some_columns_in at words = do
+  a ← next_in at words
+  columns_in at [] words
 
-abbrev pub seen_table : Result TableWords BadLine → Result (Result Event ℕ) BadLine
-seen_table (Ok words) = Ok (table_made words)
-seen_table (Err fault) = Err fault
+-- a table, of up to 32 columns
+abbrev pub made_table : Option ℕ → Schema → Result Event ℕ
+made_table None schema = Err 4
+made_table (Some table) schema = if nat_lt 32 (length schema.columns) then Err 8 else Ok (events.Table table schema)
 
 unfoldable pub table_in : Names → List (List ℕ) → Result (Result Event ℕ) BadLine
 table_in names words =
@@ -81,8 +87,8 @@ table_in names words =
     word_in 2 (new_name_at names) a (λ name b.
     word_in 3 scheme_at b (λ scheme c.
     word_in 4 chunk_at c (λ chunk d.
-    word_in 5 column_at d (λ column e.
-    columns_end_in 6 column e >>= λ done. Ok (made_table table name scheme chunk column))))))
+    some_columns_in 5 d >>= λ columns.
+    Ok (made_table table (record { name = name; scheme = scheme; chunk = chunk; columns = columns }))))))
 
 -- a client that opens tables
 abbrev pub made_client : Option ℕ → Option (List ℕ) → Result Event ℕ
@@ -109,7 +115,7 @@ cells_in at (word ∷ words) = do
   more ← cells_in (at + 1) words
   Ok (cell ∷ more)
 
-abbrev pub with_front : List Cell → Result (List Cell) BadLine → Result (List Cell) BadLine
+abbrev pub with_front : {X : Type 0} → List X → Result (List X) BadLine → Result (List X) BadLine
 with_front front (Ok more) = Ok (front ++ more)
 with_front front (Err fault) = Err fault
 
@@ -125,6 +131,35 @@ write_in names words =
     word_in 2 (table_at names) a (λ table b.
     word_in 3 row_at b (λ row c.
     some_cells_in 4 c >>= λ row_cells. Ok (events.Write client table row (Row row_cells [])))))
+
+-- a client and a table, and no more
+unfoldable pub client_table_in : Names → List (List ℕ) → Result (ℕ × ℕ) BadLine
+client_table_in names words =
+    word_in 1 (client_at names) words (λ client a.
+    word_in 2 (table_at names) a (λ table b.
+    end_in 3 b >>= λ done. Ok (client, table)))
+
+abbrev pub sync_in : Names → List (List ℕ) → Result Event BadLine
+sync_in names words = client_table_in names words >>= λ p. Ok (events.Sync p.0 p.1)
+
+abbrev pub pull_in : Names → List (List ℕ) → Result Event BadLine
+pull_in names words = client_table_in names words >>= λ p. Ok (events.Pull p.0 p.1)
+
+unfoldable pub deliver_in : List (List ℕ) → Result Event BadLine
+deliver_in words =
+    word_in 1 packet_at words (λ packet a.
+    end_in 2 a >>= λ done. Ok (events.Deliver packet))
+
+unfoldable pub store_show_in : Names → List (List ℕ) → Result Event BadLine
+store_show_in names words =
+    word_in 1 (table_at names) words (λ table a.
+    word_in 2 row_at a (λ row b.
+    end_in 3 b >>= λ done. Ok (events.StoreShow table row)))
+
+unfoldable pub history_in : Names → List (List ℕ) → Result Event BadLine
+history_in names words =
+    word_in 1 (table_at names) words (λ table a.
+    end_in 2 a >>= λ done. Ok (events.History table))
 
 unfoldable pub show_in : Names → List (List ℕ) → Result Event BadLine
 show_in names words =
@@ -169,6 +204,11 @@ built_in names verbs.Table words = if has_no_store names then Err (bad NotDeclar
 built_in names verbs.Client words = in_time names (client_in names words)
 built_in names verbs.Write words = unlimited (write_in names words)
 built_in names verbs.Show words = unlimited (show_in names words)
+built_in names verbs.Sync words = unlimited (sync_in names words)
+built_in names verbs.Pull words = unlimited (pull_in names words)
+built_in names verbs.Deliver words = unlimited (deliver_in words)
+built_in names verbs.StoreShow words = unlimited (store_show_in names words)
+built_in names verbs.History words = unlimited (history_in names words)
 
 abbrev pub with_verb : Names → List ℕ → List (List ℕ) → Option Verb → Result (Result Event ℕ) BadLine
 with_verb names first words None = if is_unbuilt first then Err (bad Unbuilt 0) else Err (bad NoVerb 0)

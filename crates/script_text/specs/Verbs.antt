@@ -1,9 +1,9 @@
 -- The verbs: the first words of a script's lines.
 use Rattle.std.specs.Prelude.{ℕ, Bool, ◌||◌, List, [], ◌∷◌, codes, Option, Some, None, if◌then◌else◌}
-use Rattle.std.specs.List.{list_any}
 use Rattle.std.specs.Str.{bytes_eq}
 use Rattle.script_text.specs.declared.verb.Verb.{Verb}
 use Rattle.script_text.specs.declared.verb.Verb.TheVariants as verbs
+use Rattle.script_text.specs.Words.{is_among}
 
 -- of the lines that are built
 abbrev pub name_of : Verb → List ℕ
@@ -12,6 +12,11 @@ name_of verbs.Table = codes "table"
 name_of verbs.Client = codes "client"
 name_of verbs.Write = codes "write"
 name_of verbs.Show = codes "show"
+name_of verbs.Sync = codes "sync"
+name_of verbs.Pull = codes "pull"
+name_of verbs.Deliver = codes "deliver"
+name_of verbs.StoreShow = codes "sshow"
+name_of verbs.History = codes "history"
 
 unfoldable pub verb_of : List ℕ → Option Verb
 verb_of word =
@@ -20,10 +25,12 @@ verb_of word =
     else if bytes_eq word (codes "client") then Some verbs.Client
     else if bytes_eq word (codes "write") then Some verbs.Write
     else if bytes_eq word (codes "show") then Some verbs.Show
+    else if bytes_eq word (codes "sync") then Some verbs.Sync
+    else if bytes_eq word (codes "pull") then Some verbs.Pull
+    else if bytes_eq word (codes "deliver") then Some verbs.Deliver
+    else if bytes_eq word (codes "sshow") then Some verbs.StoreShow
+    else if bytes_eq word (codes "history") then Some verbs.History
     else None
-
-abbrev pub is_among : List ℕ → List (List ℕ) → Bool
-is_among word words = list_any (bytes_eq word) words
 
 -- lines that set things up that aren't built
 unfoldable pub is_setting_verb : List ℕ → Bool
@@ -31,7 +38,7 @@ is_setting_verb word = is_among word (codes "gate" ∷ codes "draft" ∷ codes "
 
 -- lines of rows that aren't built
 unfoldable pub is_row_verb : List ℕ → Bool
-is_row_verb word = is_among word (codes "update" ∷ codes "patch" ∷ codes "delete" ∷ codes "sum" ∷ codes "select" ∷ codes "sync" ∷ codes "pull" ∷ [])
+is_row_verb word = is_among word (codes "update" ∷ codes "patch" ∷ codes "delete" ∷ codes "sum" ∷ codes "select" ∷ [])
 
 -- lines of conflicts that aren't built
 unfoldable pub is_conflict_verb : List ℕ → Bool
@@ -39,7 +46,7 @@ is_conflict_verb word = is_among word (codes "begin_cr" ∷ codes "conflicts" �
 
 -- lines of nodes that aren't built
 unfoldable pub is_node_verb : List ℕ → Bool
-is_node_verb word = is_among word (codes "deliver" ∷ codes "hold" ∷ codes "free" ∷ codes "work" ∷ codes "do" ∷ codes "crash" ∷ codes "start" ∷ codes "tick" ∷ codes "settle" ∷ codes "sshow" ∷ codes "chunks" ∷ codes "history" ∷ [])
+is_node_verb word = is_among word (codes "hold" ∷ codes "free" ∷ codes "work" ∷ codes "do" ∷ codes "crash" ∷ codes "start" ∷ codes "tick" ∷ codes "settle" ∷ codes "chunks" ∷ [])
 
 unfoldable pub is_unbuilt : List ℕ → Bool
 is_unbuilt word = is_setting_verb word || is_row_verb word || is_conflict_verb word || is_node_verb word

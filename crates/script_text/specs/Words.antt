@@ -1,7 +1,7 @@
 -- The words of a line, and the forms of single words.
 use Rattle.std.specs.Prelude.{ℕ, Bool, false, ◌==◌, ◌%◌, ◌&&◌, ◌||◌, nat_le, nat_lt, not, List, [], ◌∷◌, length, filter, map, slice_index}
 use Rattle.std.specs.Borrow.{Bor}
-use Rattle.std.specs.List.{slice_split, list_all}
+use Rattle.std.specs.List.{slice_split, list_all, list_any}
 use Rattle.std.specs.Str.{all_ascii_digits, bytes_eq}
 
 abbrev pub texts : List (Bor (List ℕ)) → List (List ℕ)
@@ -10,6 +10,9 @@ texts words = map (λ w. w.now) words
 -- the parts between spaces that aren't empty
 abbrev pub words_of : List ℕ → List (List ℕ)
 words_of line = filter (λ w. not (length w == 0)) (slice_split (λ b. b == 32) line)
+
+abbrev pub is_among : List ℕ → List (List ℕ) → Bool
+is_among word words = list_any (bytes_eq word) words
 
 -- `#` is the first byte
 abbrev pub is_comment : List ℕ → Bool

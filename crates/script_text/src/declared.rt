@@ -149,7 +149,13 @@ impl Declared {
                 let _added = self.clients.insert(*client)?;
                 Ok(())
             }
-            Event::Write { .. } | Event::Show { .. } => {
+            Event::Write { .. }
+            | Event::Show { .. }
+            | Event::Sync { .. }
+            | Event::Pull { .. }
+            | Event::Deliver { .. }
+            | Event::StoreShow { .. }
+            | Event::History { .. } => {
                 self.started = true;
                 Ok(())
             }

@@ -73,6 +73,11 @@ pub(crate) const STORES: u32 = 7;
 
 pub(crate) const MOST_STORES: u32 = 16;
 
+/// The number of the limit on the columns of a table, and how many there may be.
+pub(crate) const COLUMNS: u32 = 8;
+
+pub(crate) const MOST_COLUMNS: usize = 32;
+
 /// The first word at fault, counted from 0, and the code of its fault, from 1 to 12.
 #[derive(Debug, Clone, Copy, PartialEq, Eq)]
 pub struct BadLine {
@@ -95,8 +100,8 @@ pub enum ScriptFault {
     /// The line is in no grammar.
     #[error("code {} at word {}", .0.code, .0.word)]
     BadLine(BadLine),
-    /// The line is in its grammar, and the first word whose number is above its limit passes the limit of this number:
-    /// 4 for tables, 5 for clients, 7 for Stores.
+    /// The line is in its grammar, and the first word whose number is above its limit, or the first column past the last
+    /// that a table may have, passes the limit of this number: 4 for tables, 5 for clients, 7 for Stores, 8 for columns.
     #[error("limit {0} is passed")]
     Limit(u32),
     #[error("out of memory")]

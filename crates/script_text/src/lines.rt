@@ -1,48 +1,80 @@
 ghost use Rattle.std.specs.Prelude.{◌≡◌, ◌<◌, ◌+◌, ◌^◌, length, List, ℕ, Err, Ok, IfOk};
 ghost use Rattle.script_text.specs.Words.{texts};
-ghost use Rattle.script_text.specs.Places.{seen, tables_at};
-ghost use Rattle.script_text.specs.Reading.{Reads, Makes, Tells, seen_next, seen_table, table_made, made_client, placed, next_in, end_in, columns_end_in, store_in, table_in, client_in, cell_in, cells_in, some_cells_in, write_in, show_in, built_in, event_in};
+ghost use Rattle.script_text.specs.Places.{tables_at};
+ghost use Rattle.script_text.specs.Reading.{Reads, Makes, Tells, placed, made_table, made_client, store_in, table_in, client_in, cell_in, cells_in, some_cells_in, write_in, show_in, client_table_in, sync_in, pull_in, deliver_in, store_show_in, history_in, built_in, event_in};
 
+use crate::columns::some_columns;
 use crate::declared::Declared;
-use crate::fault::{BadLine, CLIENTS, Code, STORES, ScriptFault, TABLES, ValueFault, bad};
-use crate::places::{
-    chunk_at, client_at, gate_at, new_client_at, new_name_at, new_store_at, new_table_at, row_at,
-    scheme_at, table_at, tables_at,
+use crate::fault::{
+    BadLine, CLIENTS, COLUMNS, Code, MOST_COLUMNS, STORES, ScriptFault, TABLES, ValueFault, bad,
 };
-use crate::values::{column_at, second_column_at, value_at};
+use crate::next::{end, next_word, placed};
+use crate::places::{
+    chunk_at, client_at, gate_at, new_client_at, new_name_at, new_store_at, new_table_at,
+    packet_at, row_at, scheme_at, table_at, tables_at,
+};
+use crate::values::value_at;
 use crate::verb::{Verb, is_unbuilt, verb_of};
-use row_value::{Bytes, Cell, Cells, Column, ColumnKind, Content, Schema, Scheme, Sequence};
+use row_value::{Bytes, Cell, Cells, Content, Schema, Sequence};
 use std::alloc::Global;
 use table_model::{Event, Tables};
 
-#[tactic(auto, unfolding(crate::specs::Reading::next_in))]
-fn next_word<'a>(words: &'a [&'a str], at: usize) -> Result<(&'a str, &'a [&'a str]), BadLine>
-    ensures { seen_next result ≡ next_in at (texts words.now) }
+#[tactic(auto, unfolding(crate::specs::Reading::client_table_in, crate::specs::Reading::word_in))]
+fn client_table(names: &Declared, words: &[&str]) -> Result<(u32, u32), BadLine>
+    ensures { result ≡ client_table_in names.now (texts words.now) }
 {
-    match words {
-        [] => Err(bad(Code::Missing, at)),
-        [word, rest @ ..] => Ok((*word, rest)),
-    }
+    let (word, rest) = next_word(words, 1)?;
+    let client = placed(1, client_at(names, word))?;
+    let (word, rest) = next_word(rest, 2)?;
+    let table = placed(2, table_at(names, word))?;
+    end(rest, 3)?;
+    Ok((client, table))
 }
 
-#[tactic(auto, unfolding(crate::specs::Reading::end_in))]
-fn end(words: &[&str], at: usize) -> Result<(), BadLine>
-    ensures { result ≡ end_in at (texts words.now) }
+fn sync_line(names: &Declared, words: &[&str]) -> Result<Event, BadLine>
+    ensures { result ≡ sync_in names.now (texts words.now) }
 {
-    if words.is_empty() {
-        Ok(())
-    } else {
-        Err(bad(Code::Surplus, at))
-    }
+    let (client, table) = client_table(names, words)?;
+    Ok(Event::Sync { client, table })
 }
 
-fn placed<T: Drop>(at: usize, judged: Result<T, Code>) -> Result<T, BadLine>
-    ensures { result ≡ placed at judged }
+fn pull_line(names: &Declared, words: &[&str]) -> Result<Event, BadLine>
+    ensures { result ≡ pull_in names.now (texts words.now) }
 {
-    match judged {
-        Ok(value) => Ok(value),
-        Err(code) => Err(bad(code, at)),
-    }
+    let (client, table) = client_table(names, words)?;
+    Ok(Event::Pull { client, table })
+}
+
+#[tactic(auto, unfolding(crate::specs::Reading::deliver_in, crate::specs::Reading::word_in))]
+fn deliver_line(words: &[&str]) -> Result<Event, BadLine>
+    ensures { result ≡ deliver_in (texts words.now) }
+{
+    let (word, rest) = next_word(words, 1)?;
+    let packet = placed(1, packet_at(word))?;
+    end(rest, 2)?;
+    Ok(Event::Deliver { packet })
+}
+
+#[tactic(auto, unfolding(crate::specs::Reading::store_show_in, crate::specs::Reading::word_in))]
+fn store_show_line(names: &Declared, words: &[&str]) -> Result<Event, BadLine>
+    ensures { result ≡ store_show_in names.now (texts words.now) }
+{
+    let (word, rest) = next_word(words, 1)?;
+    let table = placed(1, table_at(names, word))?;
+    let (word, rest) = next_word(rest, 2)?;
+    let row = placed(2, row_at(word))?;
+    end(rest, 3)?;
+    Ok(Event::StoreShow { table, row })
+}
+
+#[tactic(auto, unfolding(crate::specs::Reading::history_in, crate::specs::Reading::word_in))]
+fn history_line(names: &Declared, words: &[&str]) -> Result<Event, BadLine>
+    ensures { result ≡ history_in names.now (texts words.now) }
+{
+    let (word, rest) = next_word(words, 1)?;
+    let table = placed(1, table_at(names, word))?;
+    end(rest, 2)?;
+    Ok(Event::History { table })
 }
 
 #[tactic(auto, unfolding(crate::specs::Reading::show_in, crate::specs::Reading::word_in))]
@@ -72,29 +104,21 @@ fn store_line(names: &Declared, words: &[&str]) -> Result<Event, ScriptFault>
     }
 }
 
-#[tactic(auto, unfolding(crate::specs::Reading::columns_end_in))]
-fn columns_end(first: &str, words: &[&str], at: usize) -> Result<(), BadLine>
-    ensures { result ≡ columns_end_in at first.now (texts words.now) }
+fn table_event(table: Option<u32>, schema: Schema) -> Result<Event, ScriptFault>
+    ensures { Makes result (made_table table schema) }
 {
-    match words {
-        [] => Ok(()),
-        [word, ..] => Err(bad(second_column_at(first, word), at)),
+    let Some(table) = table else {
+        return Err(ScriptFault::Limit(TABLES));
+    };
+    if schema.columns.len() > MOST_COLUMNS {
+        return Err(ScriptFault::Limit(COLUMNS));
     }
-}
-
-// What stands in a line that declares a table of one column of numbers.
-#[derive(Clone, Copy)]
-struct TableWords<'a> {
-    table: Option<u32>,
-    name: &'a str,
-    scheme: Scheme,
-    chunk: u32,
-    column: &'a str,
+    Ok(Event::Table { table, schema })
 }
 
 #[tactic(auto, unfolding(crate::specs::Reading::table_in, crate::specs::Reading::word_in))]
-fn table_words<'a>(names: &Declared, words: &'a [&'a str]) -> Result<TableWords<'a>, BadLine>
-    ensures { seen_table result ≡ table_in names.now (texts words.now) }
+fn table_line(alloc: Global, names: &Declared, words: &[&str]) -> Result<Event, ScriptFault>
+    ensures { Tells result (table_in names.now (texts words.now)) }
 {
     let (word, rest) = next_word(words, 1)?;
     let table = placed(1, new_table_at(names, word))?;
@@ -104,45 +128,17 @@ fn table_words<'a>(names: &Declared, words: &'a [&'a str]) -> Result<TableWords<
     let scheme = placed(3, scheme_at(word))?;
     let (word, rest) = next_word(rest, 4)?;
     let chunk = placed(4, chunk_at(word))?;
-    let (word, rest) = next_word(rest, 5)?;
-    let column = placed(5, column_at(word))?;
-    columns_end(column, rest, 6)?;
-    Ok(TableWords {
+    let columns = some_columns(alloc, rest, 5)?;
+    let name = Bytes::from_slice(alloc, name.as_bytes())?;
+    table_event(
         table,
-        name,
-        scheme,
-        chunk,
-        column,
-    })
-}
-
-fn table_event(alloc: Global, words: TableWords) -> Result<Event, ScriptFault>
-    ensures { Makes result (table_made words.entry) }
-{
-    let Some(table) = words.table else {
-        return Err(ScriptFault::Limit(TABLES));
-    };
-    let mut columns = Sequence::new(alloc);
-    columns.push(Column {
-        name: Bytes::from_slice(alloc, words.column.as_bytes())?,
-        kind: ColumnKind::Int,
-    })?;
-    Ok(Event::Table {
-        table,
-        schema: Schema {
-            name: Bytes::from_slice(alloc, words.name.as_bytes())?,
-            scheme: words.scheme,
-            chunk: words.chunk,
+        Schema {
+            name,
+            scheme,
+            chunk,
             columns,
         },
-    })
-}
-
-fn table_line(alloc: Global, names: &Declared, words: &[&str]) -> Result<Event, ScriptFault>
-    ensures { Tells result (table_in names.now (texts words.now)) }
-{
-    let words = table_words(names, words)?;
-    table_event(alloc, words)
+    )
 }
 
 fn tables_placed(
@@ -254,6 +250,11 @@ fn built_line(
     match verb {
         Verb::Write => write_line(alloc, names, words),
         Verb::Show => Ok(show_line(names, words)?),
+        Verb::Sync => Ok(sync_line(names, words)?),
+        Verb::Pull => Ok(pull_line(names, words)?),
+        Verb::Deliver => Ok(deliver_line(words)?),
+        Verb::StoreShow => Ok(store_show_line(names, words)?),
+        Verb::History => Ok(history_line(names, words)?),
         Verb::Table if names.has_no_store() => Err(bad(Code::NotDeclared, 0).into()),
         _ if names.has_started() => Err(bad(Code::Late, 0).into()),
         Verb::Store => store_line(names, words),

@@ -1,11 +1,11 @@
 ghost use Rattle.std.specs.Prelude.{◌≡◌, ◌<◌, IsTrue, IfOk, []};
 ghost use Rattle.std.specs.List.{slice_split};
 ghost use Rattle.script_text.specs.Words.{is_number, texts};
-ghost use Rattle.script_text.specs.Places.{Judges, small, node_at, limited_at, built, opened_at, joined, alone, client_at, table_at, new_store_at, new_table_at, new_client_at, gate_at, tables_in, tables_at, is_comma, seen, new_name_at, scheme_at, chunk_at, row_at};
+ghost use Rattle.script_text.specs.Places.{Judges, small, node_at, limited_at, built, opened_at, joined, alone, client_at, table_at, new_store_at, new_table_at, new_client_at, gate_at, tables_in, tables_at, is_comma, seen, new_name_at, scheme_at, chunk_at, row_at, packet_at};
 
 use crate::declared::{Declared, put_name};
 use crate::fault::{Code, MOST_CLIENTS, MOST_STORES, MOST_TABLES, ValueFault};
-use crate::words::{is_name, is_number};
+use crate::words::{is_length, is_name, is_number};
 use row_value::{RowId, Scheme, Sequence};
 use std::alloc::{AllocError, Global};
 use std::collections::BTreeSet;
@@ -31,13 +31,13 @@ fn node_at(letter: char, word: &str) -> Result<Option<u32>, Code>
     }
 }
 
-fn built(number: u32) -> Result<u32, Code>
+// Of the Stores only the first is built.
+fn built(number: Option<u32>) -> Result<Option<u32>, Code>
     ensures { result ≡ built number }
 {
-    if number == 1 {
-        Ok(number)
-    } else {
-        Err(Code::Unbuilt)
+    match number {
+        Some(number) if number != 1 => Err(Code::Unbuilt),
+        number => Ok(number),
     }
 }
 
@@ -46,7 +46,7 @@ pub(crate) fn client_at(names: &Declared, word: &str) -> Result<u32, Code>
     ensures { result ≡ client_at names.now word.now }
 {
     match node_at('C', word)? {
-        Some(number) if names.has_client(number) => built(number),
+        Some(number) if names.has_client(number) => Ok(number),
         _ => Err(Code::NotDeclared),
     }
 }
@@ -56,7 +56,7 @@ pub(crate) fn table_at(names: &Declared, word: &str) -> Result<u32, Code>
     ensures { result ≡ table_at names.now word.now }
 {
     match node_at('T', word)? {
-        Some(number) if names.has_table(number) => built(number),
+        Some(number) if names.has_table(number) => Ok(number),
         _ => Err(Code::NotDeclared),
     }
 }
@@ -78,9 +78,8 @@ pub(crate) fn new_store_at(names: &Declared, word: &str) -> Result<Option<u32>, 
     ensures { result ≡ new_store_at names.now word.now }
 {
     match limited_at('S', MOST_STORES, word)? {
-        None => Ok(None),
         Some(number) if names.has_store(number) => Err(Code::Twice),
-        Some(number) => Ok(Some(built(number)?)),
+        number => built(number),
     }
 }
 
@@ -89,9 +88,8 @@ pub(crate) fn new_table_at(names: &Declared, word: &str) -> Result<Option<u32>, 
     ensures { result ≡ new_table_at names.now word.now }
 {
     match limited_at('T', MOST_TABLES, word)? {
-        None => Ok(None),
         Some(number) if names.has_table(number) => Err(Code::Twice),
-        Some(number) => Ok(Some(built(number)?)),
+        number => Ok(number),
     }
 }
 
@@ -100,9 +98,8 @@ pub(crate) fn new_client_at(names: &Declared, word: &str) -> Result<Option<u32>,
     ensures { result ≡ new_client_at names.now word.now }
 {
     match limited_at('C', MOST_CLIENTS, word)? {
-        None => Ok(None),
         Some(number) if names.has_client(number) => Err(Code::Twice),
-        Some(number) => Ok(Some(built(number)?)),
+        number => Ok(number),
     }
 }
 
@@ -123,9 +120,8 @@ fn opened_at(names: &Declared, word: &str) -> Result<Option<u32>, Code>
     ensures { result ≡ opened_at names.now word.now }
 {
     match limited_at('T', MOST_TABLES, word)? {
-        None => Ok(None),
-        Some(number) if names.has_table(number) => Ok(Some(built(number)?)),
-        Some(_) => Err(Code::NotDeclared),
+        Some(number) if !names.has_table(number) => Err(Code::NotDeclared),
+        number => Ok(number),
     }
 }
 
@@ -172,7 +168,7 @@ pub(crate) fn tables_at(
     ensures { Judges result (tables_at names.now word.now) }
 {
     if word == "-" {
-        return Err(Code::Unbuilt.into());
+        return Ok(Some(Sequence::new(alloc)));
     }
     let parts = parts(alloc, word)?;
     opened(alloc, names, &parts)
@@ -219,4 +215,17 @@ pub(crate) fn row_at(word: &str) -> Result<RowId, Code>
     ensures { result ≡ row_at word.now }
 {
     RowId::parse(word).ok_or(Code::NoRow)
+}
+
+#[tactic(auto, unfolding(crate::specs::Places::packet_at))]
+pub(crate) fn packet_at(word: &str) -> Result<u64, Code>
+    ensures { result ≡ packet_at word.now }
+{
+    if !is_length(word) {
+        return Err(Code::NoNumber);
+    }
+    match word.parse::<u64>() {
+        Ok(packet) => Ok(packet),
+        Err(_) => Err(Code::NoNumber),
+    }
 }

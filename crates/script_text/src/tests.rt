@@ -9,9 +9,13 @@ const STORE: &str = "store S1";
 
 const TABLE: &str = "table T1 notes eventual 64 n:int";
 
+const SECOND: &str = "table T2 words eventual 64 n:int";
+
 const CLIENT: &str = "client C1 - T1";
 
 const WRITE: &str = "write C1 T1 00000000-0000-4000-8000-00000000000a 5 -7";
+
+const SSHOW: &str = "sshow T1 00000000-0000-4000-8000-00000000000a";
 
 const SHOW: &str = "show C1 T1 00000000-0000-4000-8000-00000000000A";
 
@@ -59,7 +63,7 @@ fn check(
     Ok(())
 }
 
-const AT_THE_START: [(&str, u32, usize); 43] = [
+const AT_THE_START: [(&str, u32, usize); 60] = [
     ("", 0, 0),
     ("   ", 0, 0),
     ("# a remark", 0, 0),
@@ -68,9 +72,10 @@ const AT_THE_START: [(&str, u32, usize); 43] = [
     ("unknown", 1, 0),
     ("Store S1", 1, 0),
     ("break C1 T1 0 0", 1, 0),
+    ("syncs C1 T1", 1, 0),
     ("gate G1", 12, 0),
-    ("history", 12, 0),
     ("resolve_all C1 T1 mine", 12, 0),
+    ("chunks", 12, 0),
     ("  store   S1  ", 0, 0),
     ("store", 2, 1),
     ("store S1 S1", 3, 2),
@@ -83,7 +88,10 @@ const AT_THE_START: [(&str, u32, usize); 43] = [
     ("table", 8, 0),
     (TABLE, 8, 0),
     (CLIENT, 8, 3),
-    ("client C1 - -", 12, 3),
+    ("client C1 - -", 0, 0),
+    ("client C64 - -", 0, 0),
+    ("client C1 - -,T1", 5, 3),
+    ("client C1 - --", 5, 3),
     ("client C1 - T1,T2", 8, 3),
     ("client C1 - T1,x", 8, 3),
     ("client C1 - x,T1", 5, 3),
@@ -99,10 +107,23 @@ const AT_THE_START: [(&str, u32, usize); 43] = [
     ("client C1 - S1", 5, 3),
     ("client C1 G1 T1", 12, 2),
     ("client C1 x T1", 5, 2),
-    ("client C2 - T1", 12, 1),
+    ("client C2 - T1", 8, 3),
     ("client C - T1", 5, 1),
     ("client C1 -", 2, 3),
     (SHOW, 8, 1),
+    ("sync", 2, 1),
+    ("pull T1 C1", 5, 1),
+    ("sshow", 2, 1),
+    ("history", 2, 1),
+    ("history T1", 8, 1),
+    ("deliver", 2, 1),
+    ("deliver 0", 0, 0),
+    ("deliver 00", 4, 1),
+    ("deliver 01", 4, 1),
+    ("deliver -1", 4, 1),
+    ("deliver +1", 4, 1),
+    ("deliver 18446744073709551615", 0, 0),
+    ("deliver 18446744073709551616 x", 4, 1),
 ];
 
 #[test]
@@ -111,9 +132,10 @@ fn refusals_at_the_start(rt: HostRuntime) -> Result<(), Fail> {
     check(&rt, rt.alloc(), &names, &AT_THE_START)
 }
 
-const BEHIND_A_STORE: [(&str, u32, usize); 22] = [
+const BEHIND_A_STORE: [(&str, u32, usize); 26] = [
     (STORE, 9, 1),
-    ("table T2 notes eventual 64 n:int", 12, 1),
+    ("table T2 notes eventual 64 n:int", 0, 0),
+    ("table T64 notes eventual 64 n:int", 0, 0),
     ("table t1 notes eventual 64 n:int", 5, 1),
     ("table T65 Notes eventual 64 n:int", 5, 2),
     ("table T65 notes strong 64 n:int", 12, 3),
@@ -130,9 +152,12 @@ const BEHIND_A_STORE: [(&str, u32, usize); 22] = [
     ("table T1 notes eventual 65536 N:int", 5, 5),
     ("table T1 notes eventual 65536 n:float", 5, 5),
     ("table T1 notes eventual 65536 n:bool", 12, 5),
-    ("table T1 notes eventual 65536 n:int m:int", 12, 6),
+    ("table T1 notes eventual 65536 n:int m:int", 0, 0),
+    ("table T1 notes eventual 65536 n:int m:text", 12, 6),
     ("table T1 notes eventual 65536 n:int n:text", 9, 6),
     ("table T1 notes eventual 65536 n:int m", 5, 6),
+    ("table T1 notes eventual 65536 n:int m:int n:int", 9, 7),
+    ("table T1 notes eventual 65536 n:int m:int k", 5, 7),
     ("table T1 notes eventual 1024 n:int", 0, 0),
 ];
 
@@ -142,13 +167,12 @@ fn refusals_behind_a_store(rt: HostRuntime) -> Result<(), Fail> {
     check(&rt, rt.alloc(), &names, &BEHIND_A_STORE)
 }
 
-const BEHIND_DECLARATIONS: [(&str, u32, usize); 26] = [
+const BEHIND_DECLARATIONS: [(&str, u32, usize); 44] = [
     (TABLE, 9, 1),
     (CLIENT, 9, 1),
     ("client C65 - T1,T1", 9, 3),
     ("write C65 T1 00000000-0000-4000-8000-00000000000a 5", 8, 1),
     ("write C2 T1 00000000-0000-4000-8000-00000000000a 5", 8, 1),
-    ("write C1 T2 00000000-0000-4000-8000-00000000000a 5", 8, 2),
     ("write C1 T1 00000000-0000-4000-8000-00000000000 5", 6, 3),
     ("write C1 T1 00000000-0000-4000-8000-00000000000a", 2, 4),
     ("write C1 T1 00000000-0000-4000-8000-00000000000a 05", 7, 4),
@@ -200,6 +224,25 @@ const BEHIND_DECLARATIONS: [(&str, u32, usize); 26] = [
         7,
         4,
     ),
+    ("write C1 T2 00000000-0000-4000-8000-00000000000a 5", 0, 0),
+    ("write C1 T3 00000000-0000-4000-8000-00000000000a 5", 8, 2),
+    ("client C2 - T1,T2", 0, 0),
+    ("client C2 - T2,T1", 0, 0),
+    ("client C2 - T2,T1,T2", 9, 3),
+    ("client C2 - -", 0, 0),
+    ("sync C1 T1", 0, 0),
+    ("sync C1 T2", 0, 0),
+    ("sync C2 T1", 8, 1),
+    ("sync C1 T3", 8, 2),
+    ("sync T1 C1", 5, 1),
+    ("pull C1 T1", 0, 0),
+    ("pull C1", 2, 2),
+    ("pull C1 T1 T1", 3, 3),
+    ("sshow T2 00000000-0000-4000-8000-00000000000A", 0, 0),
+    ("sshow C1 00000000-0000-4000-8000-00000000000a", 5, 1),
+    ("sshow T1 x", 6, 2),
+    ("history T2", 0, 0),
+    ("history T1 x", 3, 2),
     ("show C1 T1", 2, 3),
     ("show C1 T1 x y", 6, 3),
     ("show C1 T1 00000000-0000-4000-8000-00000000000a y", 3, 4),
@@ -213,7 +256,7 @@ const BEHIND_DECLARATIONS: [(&str, u32, usize); 26] = [
 
 #[test]
 fn refusals_behind_all_declarations(rt: HostRuntime) -> Result<(), Fail> {
-    let names = behind(rt.alloc(), &[STORE, TABLE, CLIENT])?;
+    let names = behind(rt.alloc(), &[STORE, TABLE, SECOND, CLIENT])?;
     check(&rt, rt.alloc(), &names, &BEHIND_DECLARATIONS)
 }
 
@@ -243,11 +286,48 @@ fn numbers_above_their_limits(rt: HostRuntime) -> Result<(), Fail> {
     Ok(())
 }
 
-const BEHIND_AN_EVENT: [(&str, u32, usize); 6] = [
+// A `table` line behind T1 with so many columns.
+fn wide(alloc: Global, table: &str, columns: u32) -> Result<Vec<u8>, Fail> {
+    let mut line = String::from_str(alloc, "table ")?;
+    line.push_str(table)?;
+    line.push_str(" wide eventual 64")?;
+    for column in 0..columns {
+        write!(&mut line, " c{column}:int")?;
+    }
+    Ok(line.into_bytes())
+}
+
+#[test]
+fn a_table_has_up_to_32_columns(rt: HostRuntime) -> Result<(), Fail> {
+    let alloc = rt.alloc();
+    let names = behind(alloc, &[STORE, TABLE])?;
+    for (table, columns, limit) in [
+        ("T2", 32, 0),
+        ("T2", 33, 8),
+        ("T2", 40, 8),
+        ("T65", 32, 4),
+        ("T65", 33, 4),
+    ] {
+        let line = wide(alloc, table, columns)?;
+        assert_eq!(rt; passed(alloc, &line, &names)?, limit, "{table} {columns}");
+    }
+    for (end, code) in [(" c0:int", 9), (" c31:int", 9), (" x", 5), (" x:bool", 12)] {
+        let mut line = wide(alloc, "T65", 32)?;
+        line.extend_from_slice(end.as_bytes())?;
+        assert_eq!(rt; judged(alloc, &line, &names)?, (code, 37), "{end}");
+    }
+    let mut line = wide(alloc, "T2", 40)?;
+    line.extend_from_slice(b" c35:int")?;
+    assert_eq!(rt; judged(alloc, &line, &names)?, (9, 45));
+    Ok(())
+}
+
+const BEHIND_AN_EVENT: [(&str, u32, usize); 7] = [
     ("store", 11, 0),
     ("table", 11, 0),
     ("client", 11, 0),
     ("draft", 12, 0),
+    ("deliver 0", 0, 0),
     ("# a remark", 0, 0),
     (WRITE, 0, 0),
 ];
@@ -256,6 +336,23 @@ const BEHIND_AN_EVENT: [(&str, u32, usize); 6] = [
 fn refusals_behind_an_event(rt: HostRuntime) -> Result<(), Fail> {
     let names = behind(rt.alloc(), &[STORE, TABLE, CLIENT, SHOW])?;
     check(&rt, rt.alloc(), &names, &BEHIND_AN_EVENT)
+}
+
+#[test]
+fn each_event_ends_the_declarations(rt: HostRuntime) -> Result<(), Fail> {
+    let alloc = rt.alloc();
+    for event in ["sync C1 T1", "pull C1 T1", "deliver 7", "history T1", SSHOW] {
+        let names = behind(alloc, &[STORE, TABLE, CLIENT, event])?;
+        assert_eq!(rt;
+            judged(alloc, b"client C2 - -", &names)?,
+            (11, 0),
+            "{event}"
+        );
+    }
+    let names = behind(alloc, &["deliver 7"])?;
+    assert_eq!(rt; judged(alloc, b"table", &names)?, (8, 0));
+    assert_eq!(rt; judged(alloc, b"store", &names)?, (11, 0));
+    Ok(())
 }
 
 #[test]
@@ -316,5 +413,101 @@ fn a_write_has_its_row_and_its_numbers(rt: HostRuntime) -> Result<(), Fail> {
     let row = [0, 0, 0, 0, 0, 0, 0x40, 0, 0x80, 0, 0, 0, 0, 0, 0, 10];
     let event = parse_line(alloc, WRITE.as_bytes(), &names)?.ok_or("passed over")?;
     assert_eq!(rt; written(&event), Some((row, 2, 5)));
+    Ok(())
+}
+
+const ROW: [u8; 16] = [0, 0, 0, 0, 0, 0, 0x40, 0, 0x80, 0, 0, 0, 0, 0, 0, 10];
+
+// Whether the event is the one that the line spells.
+fn is_due(index: usize, event: &Event) -> bool {
+    match (index, event) {
+        (
+            0,
+            Event::Client {
+                client: 64,
+                gate: None,
+                tables,
+            },
+        ) => matches!(tables.as_slice(), [2, 1]),
+        (
+            1,
+            Event::Client {
+                client: 2,
+                gate: None,
+                tables,
+            },
+        ) => tables.as_slice().is_empty(),
+        (
+            2,
+            Event::Sync {
+                client: 1,
+                table: 2,
+            },
+        ) => true,
+        (
+            3,
+            Event::Pull {
+                client: 1,
+                table: 2,
+            },
+        ) => true,
+        (4, Event::Deliver { packet: 0 }) => true,
+        (
+            5,
+            Event::Deliver {
+                packet: 18446744073709551615,
+            },
+        ) => true,
+        (6, Event::StoreShow { table: 2, row }) => row.to_bytes() == ROW,
+        (7, Event::History { table: 2 }) => true,
+        (
+            8,
+            Event::Show {
+                client: 1,
+                table: 2,
+                row,
+            },
+        ) => row.to_bytes() == ROW,
+        _ => false,
+    }
+}
+
+#[test]
+fn lines_say_what_their_words_name(rt: HostRuntime) -> Result<(), Fail> {
+    let alloc = rt.alloc();
+    let names = behind(alloc, &[STORE, TABLE, SECOND, CLIENT])?;
+    let lines = [
+        "client C64 - T2,T1",
+        "client C2 - -",
+        "sync C1 T2",
+        "pull C1 T2",
+        "deliver 0",
+        "deliver 18446744073709551615",
+        "sshow T2 00000000-0000-4000-8000-00000000000A",
+        "history T2",
+        "show C1 T2 00000000-0000-4000-8000-00000000000A",
+    ];
+    for (index, line) in lines.iter().enumerate() {
+        let event = parse_line(alloc, line.as_bytes(), &names)?.ok_or("passed over")?;
+        assert!(rt; is_due(index, &event), "{line}");
+    }
+    Ok(())
+}
+
+#[test]
+fn a_table_has_its_columns_in_order(rt: HostRuntime) -> Result<(), Fail> {
+    let alloc = rt.alloc();
+    let names = behind(alloc, &[STORE])?;
+    let line = b"table T9 notes eventual 1024 b:int a:int";
+    let Some(Event::Table { table, schema }) = parse_line(alloc, line, &names)? else {
+        return Err("no table".into());
+    };
+    assert_eq!(rt; table, 9);
+    assert_eq!(rt; schema.chunk, 1024);
+    assert!(rt; schema.name.as_slice() == b"notes".as_slice());
+    let columns = schema.columns.as_slice();
+    assert_eq!(rt; columns.len(), 2);
+    assert!(rt; columns[0].name.as_slice() == b"b".as_slice());
+    assert!(rt; columns[1].name.as_slice() == b"a".as_slice());
     Ok(())
 }

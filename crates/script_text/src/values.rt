@@ -1,6 +1,6 @@
 ghost use Rattle.std.specs.Prelude.{◌≡◌, IfOk, option_map};
 ghost use Rattle.std.specs.Str.{is_utf8};
-ghost use Rattle.script_text.specs.Places.{Judges, seen, seen_parts, seen_column, parts_of, kind_of, column_of, column_at, second_column_at, int_of, is_repeat, is_repeat_length, is_text_value, is_long_value, value_at};
+ghost use Rattle.script_text.specs.Places.{Judges, seen, seen_parts, seen_column, parts_of, kind_of, column_of, int_of, is_repeat, is_repeat_length, is_text_value, is_long_value, value_at};
 
 use crate::fault::{Code, ValueFault};
 use crate::words::{is_hex, is_length, is_name};
@@ -31,7 +31,7 @@ fn kind_of(word: &str) -> Option<ColumnKind>
 }
 
 #[tactic(auto, unfolding(crate::specs::Places::column_of))]
-fn column_of(word: &str) -> Option<(&str, ColumnKind)>
+pub(crate) fn column_of(word: &str) -> Option<(&str, ColumnKind)>
     ensures { seen_column result ≡ column_of word.now }
 {
     let (name, kind) = parts_of(word)?;
@@ -40,28 +40,6 @@ fn column_of(word: &str) -> Option<(&str, ColumnKind)>
         Some((name, kind))
     } else {
         None
-    }
-}
-
-#[tactic(auto, unfolding(crate::specs::Places::column_at))]
-pub(crate) fn column_at(word: &str) -> Result<&str, Code>
-    ensures { seen result ≡ column_at word.now }
-{
-    match column_of(word) {
-        None => Err(Code::NoName),
-        Some((name, ColumnKind::Int)) => Ok(name),
-        Some(_) => Err(Code::Unbuilt),
-    }
-}
-
-#[tactic(auto, unfolding(crate::specs::Places::second_column_at))]
-pub(crate) fn second_column_at(first: &str, word: &str) -> Code
-    ensures { result ≡ second_column_at first.now word.now }
-{
-    match column_of(word) {
-        None => Code::NoName,
-        Some((name, _)) if name == first => Code::Twice,
-        Some(_) => Code::Unbuilt,
     }
 }
 

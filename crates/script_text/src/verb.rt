@@ -9,6 +9,11 @@ pub(crate) enum Verb {
     Client,
     Write,
     Show,
+    Sync,
+    Pull,
+    Deliver,
+    StoreShow,
+    History,
 }
 
 #[tactic(auto, unfolding(crate::specs::Verbs::verb_of))]
@@ -21,6 +26,11 @@ pub(crate) fn verb_of(word: &str) -> Option<Verb>
         "client" => Some(Verb::Client),
         "write" => Some(Verb::Write),
         "show" => Some(Verb::Show),
+        "sync" => Some(Verb::Sync),
+        "pull" => Some(Verb::Pull),
+        "deliver" => Some(Verb::Deliver),
+        "sshow" => Some(Verb::StoreShow),
+        "history" => Some(Verb::History),
         _ => None,
     }
 }
@@ -39,10 +49,7 @@ fn is_setting_verb(word: &str) -> bool
 fn is_row_verb(word: &str) -> bool
     ensures { result ≡ is_row_verb word.now }
 {
-    matches!(
-        word,
-        "update" | "patch" | "delete" | "sum" | "select" | "sync" | "pull"
-    )
+    matches!(word, "update" | "patch" | "delete" | "sum" | "select")
 }
 
 #[tactic(auto, unfolding(crate::specs::Verbs::is_conflict_verb))]
@@ -61,18 +68,7 @@ fn is_node_verb(word: &str) -> bool
 {
     matches!(
         word,
-        "deliver"
-            | "hold"
-            | "free"
-            | "work"
-            | "do"
-            | "crash"
-            | "start"
-            | "tick"
-            | "settle"
-            | "sshow"
-            | "chunks"
-            | "history"
+        "hold" | "free" | "work" | "do" | "crash" | "start" | "tick" | "settle" | "chunks"
     )
 }
 

@@ -14,7 +14,7 @@ use Rattle.simba_top.specs.declared.turn.Run.{Run}
 use Rattle.simba_top.specs.Ends.{text_of_run, IsTextOf}
 use Rattle.script_text.specs.declared.fault.BadLine.{BadLine as ABadLine}
 use Rattle.script_text.specs.Names.{Names}
-use Rattle.script_text.specs.Text.{stop_text}
+use Rattle.transcript_text.specs.Text.{stop_text}
 use Rattle.simba_top.specs.Script.{IsFront}
 use Rattle.simba_top.specs.Stands.{Goes, GoesOn, IsCause, EndedBy, Stopped}
 use Rattle.simba_top.proofs.Puts.{added_then}

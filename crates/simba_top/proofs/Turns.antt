@@ -21,7 +21,7 @@ use Rattle.stab_io.specs.declared.limits.Limits.{Limits}
 use Rattle.stab_io.specs.declared.limits.TheConstants.{LINE_LIMIT, INPUT_LIMIT}
 use Rattle.script_text.specs.Names.{Names, no_names, with_event}
 use Rattle.script_text.specs.Grammar.{IsPassed, Spells}
-use Rattle.script_text.specs.Text.{text_of, transcript_text}
+use Rattle.transcript_text.specs.Text.{text_of, transcript_text}
 use Rattle.simba_top.specs.declared.turn.Run.{Run}
 use Rattle.simba_top.specs.declared.run.TheConstants.{MOST_LINES}
 use Rattle.world_steps.specs.Holds.{Holds}

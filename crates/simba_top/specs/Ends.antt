@@ -9,7 +9,7 @@ use Rattle.stab_io.specs.Lines.{Line, LineTooLong, InputTooLong, HasNoNewline}
 use Rattle.script_text.specs.declared.fault.BadLine.{BadLine}
 use Rattle.script_text.specs.Names.{Names}
 use Rattle.script_text.specs.Grammar.{Spells, IsFault, PassesLimit}
-use Rattle.script_text.specs.Text.{stop_text, transcript_text}
+use Rattle.transcript_text.specs.Text.{stop_text, transcript_text}
 use Rattle.simba_top.specs.declared.run.TheConstants.{MOST_LINES}
 use Rattle.world_steps.specs.Holds.{Spends}
 use Rattle.simba_top.specs.RowNames.{NamesTooMany}

@@ -4,7 +4,7 @@ ghost use Rattle.std.specs.Io.KnownBytes.{Appends, IsAtEnd};
 ghost use Rattle.table_model.specs.declared.event.Event.{Event as AnEvent};
 ghost use Rattle.table_model.specs.declared.line.TextLine.{TextLine as ALine};
 ghost use Rattle.script_text.specs.Grammar.{Spells};
-ghost use Rattle.script_text.specs.Text.{text_of, stop_text};
+ghost use Rattle.transcript_text.specs.Text.{text_of, stop_text};
 ghost use Rattle.stab_io.specs.Faults.{Rose, AppendsFront};
 ghost use Rattle.simba_top.specs.Script.{IsWhole};
 ghost use Rattle.simba_top.specs.Ends.{text_of_run};

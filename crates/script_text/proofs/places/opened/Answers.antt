@@ -1,7 +1,8 @@
 use Rattle.std.proofs.Common.{◌∙◌, refl, sym}
 use Rattle.std.proofs.lemmas.Result.{err_from_is_err_and}
 use Rattle.script_text.specs.Names.{texts_of}
-use Rattle.script_text.proofs.TableLemmas.{tables_in-init, tables_in-turn, tables_in-twice, tables_in-fault, tables_in-end, named-turn, met, unmet}
+use Rattle.script_text.proofs.TableLemmas.{tables_in-init, tables_in-turn, tables_in-twice, tables_in-fault, tables_in-end, named-turn}
+use Rattle.script_text.proofs.Distinct.{met, unmet}
 use Rattle.script_text.proofs.places.opened.Goals as goal
 
 pub loop-word-init : goal.loop-word-init

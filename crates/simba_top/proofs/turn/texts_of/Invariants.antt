@@ -1,6 +1,6 @@
 use Rattle.std.proofs.Common.{◌≡◌, ◌++◌, ◌∷◌, [], map, take}
 use Rattle.table_model.specs.declared.line.TextLine.{TextLine}
-use Rattle.script_text.specs.Text.{text_of}
+use Rattle.transcript_text.specs.Text.{text_of}
 use Rattle.simba_top.proofs.turn.texts_of.Given as goal
 
 abbrev pub invariant-loop-line : goal.invariant-loop-line

@@ -1,5 +1,5 @@
 use Rattle.std.proofs.Common.{◌+◌, ◌∷◌, [], ◌++◌}
-use Rattle.script_text.specs.Text.{stop_text}
+use Rattle.transcript_text.specs.Text.{stop_text}
 use Rattle.simba_top.proofs.Endings.{written, stopped_bad, stopped_limit}
 use Rattle.simba_top.proofs.turn.Run.end.Goals as goal
 

@@ -1,12 +1,13 @@
 ghost use Rattle.std.specs.Prelude.{◌≡◌, ◌++◌, IfOk, OnOk};
 ghost use Rattle.std.specs.List.{flat_map};
 ghost use Rattle.std.specs.String.{string_bytes};
-ghost use Rattle.script_text.specs.Text.{cell_text, object_text, content_text, refusal_text, answer_text, write_text, fact_text, text_of, stop_text};
+ghost use Rattle.table_model.specs.declared.line.Fact.TheVariants as facts;
+ghost use Rattle.transcript_text.specs.Text.{cell_text, object_text, content_text, refusal_text, shown_text, answer_text, write_text, node_text, message_text, entry_text, fact_text, text_of, stop_text};
 
 use percent_encoding::{AsciiSet, NON_ALPHANUMERIC, ascii_set, percent_encode};
-use row_value::{Bytes, Cell, Cells, Content, Objects};
+use row_value::{Bytes, Cell, Cells, Content, Objects, TableNo};
 use std::alloc::{AllocError, Global};
-use table_model::{Answer, Fact, Refusal, Shown, TextLine, Write};
+use table_model::{Answer, Entry, Fact, MessageName, Node, Refusal, Shown, TextLine, Write};
 
 /// The bytes of a text cell that are written as `%` and two hex digits: all but the unreserved characters of RFC 3986,
 /// section 2.3.
@@ -78,6 +79,22 @@ fn put_refusal(out: &mut String, refusal: Refusal) -> Result<(), AllocError>
         Refusal::BadObject { column, len } => write!(out, "no 11 {column} {len}"),
         Refusal::NoTable => out.push_str("no 18"),
         Refusal::NoRow => out.push_str("no 27"),
+        Refusal::NoPacket { sent } => write!(out, "no 29 {sent}"),
+    }
+}
+
+fn put_shown(alloc: Global, out: &mut String, shown: &Shown) -> Result<(), AllocError>
+    ensures { OnOk result (string_bytes out.new ≡ string_bytes out.old ++ shown_text shown.now) }
+{
+    match shown {
+        Shown::Clean { version, content } => {
+            write!(out, "ok clean {version}")?;
+            put_content(alloc, out, content)
+        }
+        Shown::Mine { number, content } => {
+            write!(out, "ok mine {number}")?;
+            put_content(alloc, out, content)
+        }
     }
 }
 
@@ -85,9 +102,11 @@ fn put_answer(alloc: Global, out: &mut String, answer: &Answer) -> Result<(), Al
     ensures { OnOk result (string_bytes out.new ≡ string_bytes out.old ++ answer_text answer.now) }
 {
     match answer {
+        Answer::Done => out.push_str("ok"),
         Answer::Number(number) => write!(out, "ok {number}"),
-        Answer::Shown(Shown::Mine { number, content }) => {
-            write!(out, "ok mine {number}")?;
+        Answer::Shown(shown) => put_shown(alloc, out, shown),
+        Answer::Stored { version, content } => {
+            write!(out, "ok {version}")?;
             put_content(alloc, out, content)
         }
         Answer::Refused(refusal) => put_refusal(out, *refusal),
@@ -109,16 +128,111 @@ fn put_write(alloc: Global, out: &mut String, write: &Write) -> Result<(), Alloc
     put_content(alloc, out, content)
 }
 
+fn put_node(out: &mut String, node: Node) -> Result<(), AllocError>
+    ensures { OnOk result (string_bytes out.new ≡ string_bytes out.old ++ node_text node) }
+{
+    match node {
+        Node::Client(client) => write!(out, " C{client}"),
+        Node::Gate(gate) => write!(out, " G{gate}"),
+        Node::Store(store) => write!(out, " S{store}"),
+    }
+}
+
+fn put_message(out: &mut String, name: MessageName) -> Result<(), AllocError>
+    ensures { OnOk result (string_bytes out.new ≡ string_bytes out.old ++ message_text name) }
+{
+    out.push_str(match name {
+        MessageName::PullRequest => " pullRequest",
+        MessageName::PullResponse => " pullResponse",
+        MessageName::SyncRequest => " syncRequest",
+        MessageName::SyncResponse => " syncResponse",
+    })
+}
+
+fn put_sent(
+    out: &mut String,
+    packet: u64,
+    from: Node,
+    to: Node,
+    name: MessageName,
+) -> Result<(), AllocError>
+    ensures { OnOk result (string_bytes out.new ≡ string_bytes out.old ++ fact_text (facts.Sent packet from to name)) }
+{
+    write!(out, "sent {packet}")?;
+    put_node(out, from)?;
+    put_node(out, to)?;
+    put_message(out, name)
+}
+
+fn put_entry(out: &mut String, table: TableNo, entry: &Entry) -> Result<(), AllocError>
+    ensures { OnOk result (string_bytes out.new ≡ string_bytes out.old ++ entry_text table entry.now) }
+{
+    let Entry {
+        row,
+        version,
+        client,
+        number,
+        base,
+    } = entry;
+    write!(out, " T{table} {version} {row} C{client} {number} {base}")
+}
+
+fn put_fact(alloc: Global, out: &mut String, fact: &Fact) -> Result<(), AllocError>
+    ensures { OnOk result (string_bytes out.new ≡ string_bytes out.old ++ fact_text fact.now) }
+{
+    match fact {
+        Fact::Sent {
+            packet,
+            from,
+            to,
+            name,
+        } => put_sent(out, *packet, *from, *to, *name),
+        Fact::Wrote(write) => put_write(alloc, out, write),
+        Fact::Acked {
+            client,
+            number,
+            table,
+            row,
+            version,
+        } => write!(out, "acked C{client} {number} T{table} {row} {version}"),
+        Fact::New {
+            client,
+            table,
+            row,
+            version,
+        } => write!(out, "new C{client} T{table} {row} {version}"),
+        Fact::Position {
+            client,
+            table,
+            position,
+        } => write!(out, "position C{client} T{table} {position}"),
+        Fact::Accepted { table, entry } => {
+            out.push_str("accepted")?;
+            put_entry(out, *table, entry)
+        }
+    }
+}
+
+fn put_line(alloc: Global, out: &mut String, line: &TextLine) -> Result<(), AllocError>
+    ensures { OnOk result (string_bytes out.new ≡ string_bytes out.old ++ text_of line.now) }
+{
+    match line {
+        TextLine::Answer(answer) => put_answer(alloc, out, answer),
+        TextLine::Entry { table, entry } => {
+            out.push_str("entry")?;
+            put_entry(out, *table, entry)
+        }
+        TextLine::Fact(fact) => put_fact(alloc, out, fact),
+    }
+}
+
 /// The text of a line of a transcript, without its newline: one space between words, numbers in decimal, row ids
 /// hyphenated in lower case.
 pub fn line_text(alloc: Global, line: &TextLine) -> Result<Bytes, AllocError>
     ensures { IfOk result (λ text. text ≡ text_of line.now) }
 {
     let mut out = String::new(alloc);
-    match line {
-        TextLine::Answer(answer) => put_answer(alloc, &mut out, answer)?,
-        TextLine::Fact(Fact::Wrote(write)) => put_write(alloc, &mut out, write)?,
-    }
+    put_line(alloc, &mut out, line)?;
     Ok(Bytes::from_vec(out.into_bytes()))
 }
 

@@ -1,11 +1,11 @@
 use Rattle.std.proofs.Common.{◌≡◌, ℕ, List, [], ◌∷◌, ◌++◌, refl, sym, ◌∙◌, append_assoc}
 use Rattle.std.specs.List.{AllByRecursion}
 use Rattle.table_model.specs.declared.line.TextLine.{TextLine}
-use Rattle.script_text.specs.Text.{text_of, transcript_text}
-use Rattle.script_text.specs.OneForm.{HasText}
-use Rattle.script_text.proofs.Above.{peel}
-use Rattle.script_text.proofs.LineWords.{line_same, text_above}
-use Rattle.script_text.proofs.forms.one_transcript.Goals as goal
+use Rattle.transcript_text.specs.Text.{text_of, transcript_text}
+use Rattle.transcript_text.specs.OneForm.{HasText}
+use Rattle.transcript_text.proofs.Above.{peel}
+use Rattle.transcript_text.proofs.LineWords.{line_same, text_above}
+use Rattle.transcript_text.proofs.forms.one_transcript.Goals as goal
 
 begun : (line : TextLine) (more : List TextLine) → transcript_text (line ∷ more) ≡ text_of line ++ 10 ∷ transcript_text more
 begun line more = append_assoc (text_of line) (10 ∷ []) (transcript_text more)

@@ -1,8 +1,8 @@
 ghost use Rattle.std.specs.Prelude.{◌≡◌, ◌≢◌, ◌<◌, ◌^◌, ℕ, List};
 ghost use Rattle.std.specs.List.{AllByRecursion};
 ghost use Rattle.table_model.specs.declared.line.TextLine.{TextLine};
-ghost use Rattle.script_text.specs.Text.{text_of, transcript_text, stop_text};
-ghost use Rattle.script_text.specs.OneForm.{HasText};
+ghost use Rattle.transcript_text.specs.Text.{text_of, transcript_text, stop_text};
+ghost use Rattle.transcript_text.specs.OneForm.{HasText};
 
 /// A text is the text of one line alone. The values are those of the program's types, as far as contents have cells of
 /// numbers only and no objects.

@@ -1,8 +1,8 @@
 use Rattle.std.proofs.Common.{◌≡◌, ◌++◌, take}
 use Rattle.std.specs.List.{flat_map}
 use Rattle.std.specs.String.{string_bytes}
-use Rattle.script_text.specs.Text.{cell_text}
-use Rattle.script_text.proofs.print.put_cells.Given as goal
+use Rattle.transcript_text.specs.Text.{cell_text}
+use Rattle.transcript_text.proofs.print.put_cells.Given as goal
 
 abbrev pub invariant-loop-cell : goal.invariant-loop-cell
 invariant-loop-cell l = string_bytes l.out ≡ string_bytes l.fn.out ++ flat_map cell_text (take l.cell-index l.cells)

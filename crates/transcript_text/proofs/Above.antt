@@ -76,7 +76,7 @@ pub row_above : (row : List ℕ) → IsAbove 32 (hyphenated_text lower row)
 row_above row = by_index_all (λ b. 32 < b) 36 _ (λ k. grind (arith, nat_tests))
 
 -- no number begins with a letter
-decimal_first : (n c : ℕ) (rest : List ℕ) → n < 2 ^ 64 → decimal n ≡ c ∷ rest → c < 58
+pub decimal_first : (n c : ℕ) (rest : List ℕ) → n < 2 ^ 64 → decimal n ≡ c ∷ rest → c < 58
 decimal_first n c rest h e = omega (arith, digit_from_value c (subst (AllDigits 10) e (decimal_is_IsNumeral n h).0.1).0)
 
 pub signed_first : (z : ℤ) (c : ℕ) (rest : List ℕ) → FitsSigned w64 z → signed_decimal z ≡ c ∷ rest → c < 58

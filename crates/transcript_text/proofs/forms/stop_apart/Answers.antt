@@ -2,9 +2,9 @@ use Rattle.std.proofs.Common.{◌≡◌, ℕ, ◌<◌, ◌^◌, List, [], ◌∷
 use Rattle.std.specs.Fmt.{decimal}
 use Rattle.std.proofs.lemmas.Fmt.{decimal_injective}
 use Rattle.std.specs.List.{AllByRecursion}
-use Rattle.script_text.specs.Text.{stop_text}
-use Rattle.script_text.proofs.Above.{IsAbove, led, led_same, decimal_above}
-use Rattle.script_text.proofs.forms.stop_apart.Goals as goal
+use Rattle.transcript_text.specs.Text.{stop_text}
+use Rattle.transcript_text.proofs.Above.{IsAbove, led, led_same, decimal_above}
+use Rattle.transcript_text.proofs.forms.stop_apart.Goals as goal
 
 words : ℕ → ℕ → ℕ → List (List ℕ)
 words status number code = codes "stop" ∷ decimal status ∷ decimal number ∷ decimal code ∷ []

@@ -1,0 +1,230 @@
+-- What the words of a line spell that reads well.
+use Rattle.std.proofs.Common.{◌≡◌, ◌≢◌, ℕ, ◌+◌, Bool, true, false, ltb, List, [], ◌∷◌, map, codes, cond, length, Option, Some, None, Result, Ok, Err, ℤ, refl, sym, ap, ◌∙◌, subst, inl, inr, arith}
+use Rattle.std.specs.Result.{MatchResult}
+use Rattle.std.specs.Fmt.{decimal, signed_decimal}
+use Rattle.std.proofs.lemmas.Bool.{cases_Bool, ltb-false}
+use Rattle.row_value.specs.declared.schema.Scheme.{Scheme}
+use Rattle.row_value.specs.declared.schema.Schema.{Schema}
+use Rattle.row_value.specs.declared.schema.Column.{Column}
+use Rattle.row_value.specs.declared.content.Cell.{Cell}
+use Rattle.row_value.specs.declared.content.Cell.TheVariants as cells
+use Rattle.row_value.specs.declared.content.Content.TheVariants.{Row}
+use Rattle.table_model.specs.declared.event.Event.{Event}
+use Rattle.table_model.specs.declared.event.Event.TheVariants as events
+use Rattle.script_text.specs.declared.fault.Code.{Code}
+use Rattle.script_text.specs.declared.fault.BadLine.{BadLine}
+use Rattle.script_text.specs.declared.verb.Verb.{Verb}
+use Rattle.script_text.specs.declared.verb.Verb.TheVariants as verbs
+use Rattle.script_text.specs.Faults.{bad}
+use Rattle.script_text.specs.Verbs.{name_of}
+use Rattle.script_text.specs.Names.{Names, has_no_store}
+use Rattle.script_text.specs.Places.{◌>>=◌, value_at, int_column, new_store_at, new_table_at, new_client_at, tables_at, new_name_at, scheme_at, chunk_at}
+use Rattle.script_text.specs.Reading.{placed, made_store, made_table, made_client, store_in, table_in, client_in, cell_in, cells_in, some_cells_in, some_columns_in, write_in, show_in, client_table_in, sync_in, pull_in, deliver_in, store_show_in, history_in, next_in}
+use Rattle.script_text.specs.Grammar.{SpelledBy, AreShort, AreColumns, client_word, table_word, column_word, tables_word, IsClient, IsTable, limit_of, columns_passed}
+use Rattle.script_text.proofs.Steps.{ok_err, bind-ok, word_in-ok, end-ok}
+use Rattle.script_text.proofs.Numbers.{packet_at-ok}
+use Rattle.script_text.proofs.Distinct.{new-distinct}
+use Rattle.script_text.proofs.ColumnLemmas.{some_columns-ok, same_count}
+use Rattle.script_text.proofs.PlaceLemmas.{client_at-ok, table_at-ok, new_store_at-ok, new_store_at-within, new_store_at-limit, new_table_at-ok, new_table_at-within, new_table_at-limit, new_client_at-ok, new_client_at-within, new_client_at-limit, gate_at-ok, new_name_at-ok, scheme_at-ok, chunk_at-ok, row_at-ok, value_at-ok}
+use Rattle.script_text.proofs.TableLemmas.{tables_at-ok, tables_at-within, tables_at-limit}
+
+ok_told : {x y : Result Event ℕ} → ◌≡◌ {A = Result (Result Event ℕ) BadLine} (Ok x) (Ok y) → x ≡ y
+ok_told e = cc
+
+event_told : {x y : Event} → ◌≡◌ {A = Result Event BadLine} (Ok x) (Ok y) → x ≡ y
+event_told e = cc
+
+-- What a line in its grammar says: the event that its words spell, where they pass no limit, or the limit that they
+-- pass.
+abbrev pub Told : Names → Verb → List (List ℕ) → Result Event ℕ → Type 0
+Told names verb ws told =
+    MatchResult told (λ event. SpelledBy names (name_of verb ∷ ws) event × (limit_of verb ws ≡ None)) (λ limit. limit_of verb ws ≡ Some limit)
+
+module _ (names : Names) where
+  store-told : (w : List ℕ) (o : Option ℕ) → names.started ≡ false → new_store_at names w ≡ Ok o → Told names verbs.Store (w ∷ []) (made_store o)
+  store-told w None early h = new_store_at-limit names w h
+  store-told w (Some n) early h =
+      let p = new_store_at-ok names w n h in
+      ((ap (λ (v : List ℕ). codes "store" ∷ v ∷ []) p.0, p.1, early, p.2), new_store_at-within names w n h)
+
+  client-told : (w u v : List ℕ) (o : Option ℕ) (t : Option (List ℕ)) → names.started ≡ false → new_client_at names w ≡ Ok o → u ≡ codes "-" → tables_at names v ≡ Ok t → Told names verbs.Client (w ∷ u ∷ v ∷ []) (made_client o t)
+  client-told w u v None t early h q k = rw (new_client_at-limit names w h) refl
+  client-told w u v (Some n) None early h q k = rw (new_client_at-within names w n h, tables_at-limit names v k) refl
+  client-told w u v (Some n) (Some tables) early h q k =
+      let p = new_client_at-ok names w n h in
+      let s = tables_at-ok names v tables k in
+      let words : codes "client" ∷ w ∷ u ∷ v ∷ [] ≡ codes "client" ∷ client_word n ∷ codes "-" ∷ tables_word tables ∷ [] = rw (p.0, q, s.0) refl in
+      ((words, p.1, refl, s.1, s.2, early, p.2), (rw (new_client_at-within names w n h, tables_at-within names v tables k) refl))
+
+  table-picked : (ws : List (List ℕ)) (e : Event) (many : Bool) → (many ≡ true → limit_of verbs.Table ws ≡ Some 8) → (many ≡ false → SpelledBy names (codes "table" ∷ ws) e × (limit_of verbs.Table ws ≡ None)) → Told names verbs.Table ws (cond many (Err 8) (Ok e))
+  table-picked ws e true h k = h refl
+  table-picked ws e false h k = k refl
+
+  table-told : (w name c d : List ℕ) (k : List (List ℕ)) (o : Option ℕ) (scheme : Scheme) (chunk : ℕ) (columns : List Column) → names.started ≡ false → has_no_store names ≡ false
+      → new_table_at names w ≡ Ok o → new_name_at names name ≡ Ok name → scheme_at c ≡ Ok scheme → chunk_at d ≡ Ok chunk → some_columns_in 5 k ≡ Ok columns
+      → Told names verbs.Table (w ∷ name ∷ c ∷ d ∷ k) (made_table o (record { name = name; scheme = scheme; chunk = chunk; columns = columns }))
+  table-told w name c d k None scheme chunk columns early store h hb hc hd hk = rw (new_table_at-limit names w h) refl
+  table-told w name c d k (Some n) scheme chunk columns early store h hb hc hd hk =
+      let pa = new_table_at-ok names w n h in
+      let pb = new_name_at-ok names name name hb in
+      let pc = scheme_at-ok c scheme hc in
+      let pd = chunk_at-ok d chunk hd in
+      let pk = some_columns-ok 5 k columns hk in
+      let count = same_count pk.0 k columns pk.1 pk.2 in
+      let long : ltb 32 (length k) ≡ ltb 32 (length columns) = ap (ltb 32) (count.1 ∙ sym count.0) in
+      let words : codes "table" ∷ w ∷ name ∷ c ∷ d ∷ k ≡ codes "table" ∷ table_word n ∷ name ∷ codes "eventual" ∷ decimal chunk ∷ map column_word pk.0 = cc (pa.0, pc.0, pd.0, pk.1) in
+      table-picked (w ∷ name ∷ c ∷ d ∷ k) (events.Table n (record { name = name; scheme = scheme; chunk = chunk; columns = columns })) (ltb 32 (length columns))
+      (λ many. rw (new_table_at-within names w n h, long ∙ many) refl)
+      (λ few.
+      let within = ltb-false 32 (length columns) few in
+      let all : AreColumns pk.0 = record { some = pk.5; few = omega (arith, within, count.0); names = pk.3; distinct = new-distinct pk.0 pk.4 } in
+      ((pk.0, words, pa.1, pc.1, pd.1, pk.2, all, pb.1, early, store, pa.2, pb.2), rw (new_table_at-within names w n h, long ∙ few) refl))
+
+columns-told : (o : Option ℕ) (name : List ℕ) (scheme : Scheme) (chunk : ℕ) (r : Result (List Column) BadLine) (e : Result Event ℕ)
+    → (r >>= λ columns. Ok (made_table o (record { name = name; scheme = scheme; chunk = chunk; columns = columns }))) ≡ Ok e
+    → (columns : List Column) × (r ≡ Ok columns) × (made_table o (record { name = name; scheme = scheme; chunk = chunk; columns = columns }) ≡ e)
+columns-told o name scheme chunk (Ok columns) e h = (columns, refl, ok_told h)
+columns-told o name scheme chunk (Err fault) e h = absurd (ok_err e fault (sym h))
+
+module _ (names : Names) (ws : List (List ℕ)) (e : Result Event ℕ) where
+  pub store-ok : names.started ≡ false → store_in names ws ≡ Ok e → Told names verbs.Store ws e
+  unfolding store_in
+  store-ok early h =
+      let a = word_in-ok _ _ _ ws e h in
+      let r = end-ok 2 (made_store a.2) a.1 e a.5 in
+      let is : ws ≡ a.0 ∷ [] = cc in
+      subst (λ (x : Result Event ℕ). Told names verbs.Store ws x) r.1
+      (subst (λ (t : List (List ℕ)). Told names verbs.Store t (made_store a.2)) (sym is) (store-told names a.0 a.2 early a.4))
+
+  pub client-ok : names.started ≡ false → client_in names ws ≡ Ok e → Told names verbs.Client ws e
+  unfolding client_in
+  client-ok early h =
+      let a = word_in-ok _ _ _ ws e h in
+      let b = word_in-ok _ _ _ a.1 e a.5 in
+      let c = word_in-ok _ _ _ b.1 e b.5 in
+      let r = end-ok 4 (made_client a.2 c.2) c.1 e c.5 in
+      let is : ws ≡ a.0 ∷ b.0 ∷ c.0 ∷ [] = cc in
+      subst (λ (x : Result Event ℕ). Told names verbs.Client ws x) r.1
+      (subst (λ (t : List (List ℕ)). Told names verbs.Client t (made_client a.2 c.2)) (sym is) (client-told names a.0 b.0 c.0 a.2 c.2 early a.4 (gate_at-ok b.0 b.2 b.4) c.4))
+
+  pub table-ok : names.started ≡ false → has_no_store names ≡ false → table_in names ws ≡ Ok e → Told names verbs.Table ws e
+  unfolding table_in
+  table-ok early store h =
+      let a = word_in-ok _ _ _ ws e h in
+      let b = word_in-ok _ _ _ a.1 e a.5 in
+      let c = word_in-ok _ _ _ b.1 e b.5 in
+      let d = word_in-ok _ _ _ c.1 e c.5 in
+      let k = columns-told a.2 b.2 c.2 d.2 (some_columns_in 5 d.1) e d.5 in
+      let name = new_name_at-ok names b.0 b.2 b.4 in
+      let is : ws ≡ a.0 ∷ b.2 ∷ c.0 ∷ d.0 ∷ d.1 = cc (a.3, b.3, c.3, d.3, name.0) in
+      let named : new_name_at names b.2 ≡ Ok b.2 = ap (new_name_at names) (sym name.0) ∙ b.4 in
+      subst (λ (x : Result Event ℕ). Told names verbs.Table ws x) k.2
+      (subst (λ (t : List (List ℕ)). Told names verbs.Table t (made_table a.2 (record { name = b.2; scheme = c.2; chunk = d.2; columns = k.0 }))) (sym is)
+      (table-told names a.0 b.2 c.0 d.0 d.1 a.2 c.2 d.2 k.0 early store a.4 named c.4 d.4 k.1))
+
+module _ (names : Names) (ws : List (List ℕ)) where
+  client_table-ok : (p : ℕ × ℕ) → client_table_in names ws ≡ Ok p → (ws ≡ client_word p.0 ∷ table_word p.1 ∷ []) × IsClient names p.0 × IsTable names p.1
+  unfolding client_table_in
+  client_table-ok p h =
+      let a = word_in-ok _ _ _ ws p h in
+      let b = word_in-ok _ _ _ a.1 p a.5 in
+      let r = end-ok 3 (a.2, b.2) b.1 p b.5 in
+      let u = client_at-ok names a.0 a.2 a.4 in
+      let v = table_at-ok names b.0 b.2 b.4 in
+      let is : ws ≡ client_word a.2 ∷ table_word b.2 ∷ [] = cc (a.3, b.3, r.0, u.0, v.0) in
+      subst (λ (q : ℕ × ℕ). (ws ≡ client_word q.0 ∷ table_word q.1 ∷ []) × IsClient names q.0 × IsTable names q.1) r.1 (is, u.1, v.1)
+
+  module _ (e : Event) where
+    pub sync-ok : sync_in names ws ≡ Ok e → SpelledBy names (codes "sync" ∷ ws) e
+    sync-ok h =
+        let p = bind-ok (client_table_in names ws) (λ q. Ok (events.Sync q.0 q.1)) e h in
+        let q = client_table-ok p.0 p.1 in
+        subst (λ (x : Event). SpelledBy names (codes "sync" ∷ ws) x) (event_told p.2) (ap (λ (t : List (List ℕ)). codes "sync" ∷ t) q.0, q.1, q.2)
+
+    pub pull-ok : pull_in names ws ≡ Ok e → SpelledBy names (codes "pull" ∷ ws) e
+    pull-ok h =
+        let p = bind-ok (client_table_in names ws) (λ q. Ok (events.Pull q.0 q.1)) e h in
+        let q = client_table-ok p.0 p.1 in
+        subst (λ (x : Event). SpelledBy names (codes "pull" ∷ ws) x) (event_told p.2) (ap (λ (t : List (List ℕ)). codes "pull" ∷ t) q.0, q.1, q.2)
+
+    pub deliver-ok : deliver_in ws ≡ Ok e → SpelledBy names (codes "deliver" ∷ ws) e
+    unfolding deliver_in
+    deliver-ok h =
+        let a = word_in-ok _ _ _ ws e h in
+        let r = end-ok 2 (events.Deliver a.2) a.1 e a.5 in
+        let u = packet_at-ok a.0 a.2 a.4 in
+        let is : ws ≡ decimal a.2 ∷ [] = cc (a.3, r.0, u.0) in
+        subst (λ (x : Event). SpelledBy names (codes "deliver" ∷ ws) x) r.1 (ap (λ (t : List (List ℕ)). codes "deliver" ∷ t) is, u.1)
+
+    pub store_show-ok : store_show_in names ws ≡ Ok e → SpelledBy names (codes "sshow" ∷ ws) e
+    unfolding store_show_in
+    store_show-ok h =
+        let a = word_in-ok _ _ _ ws e h in
+        let b = word_in-ok _ _ _ a.1 e a.5 in
+        let r = end-ok 3 (events.StoreShow a.2 b.2) b.1 e b.5 in
+        let u = table_at-ok names a.0 a.2 a.4 in
+        let is : ws ≡ table_word a.2 ∷ b.0 ∷ [] = cc (a.3, b.3, r.0, u.0) in
+        subst (λ (x : Event). SpelledBy names (codes "sshow" ∷ ws) x) r.1 (b.0, ap (λ (t : List (List ℕ)). codes "sshow" ∷ t) is, u.1, row_at-ok b.0 b.2 b.4)
+
+    pub history-ok : history_in names ws ≡ Ok e → SpelledBy names (codes "history" ∷ ws) e
+    unfolding history_in
+    history-ok h =
+        let a = word_in-ok _ _ _ ws e h in
+        let r = end-ok 2 (events.History a.2) a.1 e a.5 in
+        let u = table_at-ok names a.0 a.2 a.4 in
+        let is : ws ≡ table_word a.2 ∷ [] = cc (a.3, r.0, u.0) in
+        subst (λ (x : Event). SpelledBy names (codes "history" ∷ ws) x) r.1 (ap (λ (t : List (List ℕ)). codes "history" ∷ t) is, u.1)
+
+    pub show-ok : show_in names ws ≡ Ok e → SpelledBy names (codes "show" ∷ ws) e
+    unfolding show_in
+    show-ok h =
+        let a = word_in-ok _ _ _ ws e h in
+        let b = word_in-ok _ _ _ a.1 e a.5 in
+        let c = word_in-ok _ _ _ b.1 e b.5 in
+        let p = client_at-ok names a.0 a.2 a.4 in
+        let q = table_at-ok names b.0 b.2 b.4 in
+        let r = end-ok 4 (events.Show a.2 b.2 c.2) c.1 e c.5 in
+        let is : ws ≡ client_word a.2 ∷ table_word b.2 ∷ c.0 ∷ [] = cc (a.3, b.3, c.3, r.0, p.0, q.0) in
+        subst (λ (x : Event). SpelledBy names (codes "show" ∷ ws) x) r.1 (c.0, ap (λ (t : List (List ℕ)). codes "show" ∷ t) is, p.1, q.1, row_at-ok c.0 c.2 c.4)
+
+cell-ok : (at : ℕ) (w : List ℕ) (cell : Cell) → cell_in at w ≡ Ok cell → (z : ℤ) × (value_at w ≡ Ok z) × (cell ≡ cells.Int z)
+unfolding cell_in
+cell-ok at w cell e = cell_from (value_at w) refl e where
+  cell_from : (r : Result ℤ Code) → value_at w ≡ r → (placed at r >>= λ number. Ok (cells.Int number)) ≡ Ok cell → (z : ℤ) × (value_at w ≡ Ok z) × (cell ≡ cells.Int z)
+  cell_from (Ok z) is e = (z, is, cc)
+  cell_from (Err code) is e = absurd (ok_err cell (bad code at) (sym e))
+
+pub cells-ok : (at : ℕ) (ws : List (List ℕ)) (row : List Cell) → cells_in at ws ≡ Ok row → (numbers : List ℤ) × (ws ≡ map signed_decimal numbers) × (row ≡ map cells.Int numbers) × AreShort numbers
+unfolding cells_in
+cells-ok at [] row e = ([], refl, cc, tt)
+cells-ok at (w ∷ ws) row e =
+    let p = bind-ok (cell_in at w) (λ cell. cells_in (at + 1) ws >>= λ more. Ok (cell ∷ more)) row e in
+    let q = bind-ok (cells_in (at + 1) ws) (λ more. Ok (p.0 ∷ more)) row p.2 in
+    let c = cell-ok at w p.0 p.1 in
+    let v = value_at-ok w c.0 c.1 in
+    let more = cells-ok (at + 1) ws q.0 q.1 in
+    let texts : w ∷ ws ≡ map signed_decimal (c.0 ∷ more.0) = cc in
+    let made : row ≡ map cells.Int (c.0 ∷ more.0) = cc in
+    (c.0 ∷ more.0, texts, made, (v.0, more.3))
+
+pub some_cells-ok : (at : ℕ) (ws : List (List ℕ)) (row : List Cell) → some_cells_in at ws ≡ Ok row → (numbers : List ℤ) × (ws ≡ map signed_decimal numbers) × (row ≡ map cells.Int numbers) × AreShort numbers × (numbers ≢ [])
+unfolding some_cells_in next_in
+some_cells-ok at [] row e = absurd (ok_err row _ (sym e))
+some_cells-ok at (w ∷ ws) row e =
+    let p = cells-ok at (w ∷ ws) row e in
+    (p.0, p.1, p.2, p.3, λ none. let is : w ∷ ws ≡ map signed_decimal [] = p.1 ∙ ap (map signed_decimal) none in cc)
+
+module _ (names : Names) (ws : List (List ℕ)) (e : Event) where
+  pub write-ok : write_in names ws ≡ Ok e → SpelledBy names (codes "write" ∷ ws) e
+  unfolding write_in
+  write-ok h =
+      let a = word_in-ok _ _ _ ws e h in
+      let b = word_in-ok _ _ _ a.1 e a.5 in
+      let c = word_in-ok _ _ _ b.1 e b.5 in
+      let p = client_at-ok names a.0 a.2 a.4 in
+      let q = table_at-ok names b.0 b.2 b.4 in
+      let r = bind-ok (some_cells_in 4 c.1) (λ row. Ok (events.Write a.2 b.2 c.2 (Row row []))) e c.5 in
+      let v = some_cells-ok 4 c.1 r.0 r.1 in
+      let is : ws ≡ client_word a.2 ∷ table_word b.2 ∷ c.0 ∷ map signed_decimal v.0 = cc (a.3, b.3, c.3, p.0, q.0, v.1) in
+      subst (λ (x : Event). SpelledBy names (codes "write" ∷ ws) x) (event_told r.2)
+      (c.0, v.0, ap (λ (t : List (List ℕ)). codes "write" ∷ t) is, p.1, q.1, row_at-ok c.0 c.2 c.4, ap (λ (row : List Cell). Row row []) v.2, v.4, v.3)

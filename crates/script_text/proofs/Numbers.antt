@@ -1,0 +1,158 @@
+-- Decimal numbers without leading zeros, and the words of nodes and tables.
+use Rattle.std.proofs.Common.{◌≡◌, ℕ, zero, suc, ◌<◌, ◌≤◌, ◌^◌, Bool, true, false, ◌&&◌, ◌||◌, eqb, ltb, leb, cond, List, [], ◌∷◌, length, get_or, Option, Some, None, Result, Ok, Err, refl, sym, ap, ◌∙◌, subst, inl, inr, arith}
+use Rattle.std.specs.Fmt.{decimal}
+use Rattle.std.specs.Str.{all_ascii_digits, bytes_eq}
+use Rattle.std.specs.Str.Parse.{digits_value, ParsesUnsigned}
+use Rattle.std.proofs.Math.Bool.{or-true}
+use Rattle.std.proofs.lemmas.Bool.{ltb-true, lt-ltb, leb-true, le-leb, cases_Bool, eqb-true, eq-eqb}
+use Rattle.std.proofs.lemmas.Fmt.{decimal_digit, decimal-digits_value, digits_decimal, digits_value-decimal, first_decimal}
+use Rattle.std.proofs.lemmas.Result.{OkIff-at_ok, OkIff-at_err}
+use Rattle.std.proofs.lemmas.Slice.Eq.{bytes_eq-Decides}
+use Rattle.std.proofs.lemmas.Str.Parse.{parse_digits}
+use Rattle.script_text.specs.declared.fault.Code.{Code}
+use Rattle.script_text.specs.declared.fault.Code.TheVariants.{NoName, NoNumber}
+use Rattle.script_text.specs.Words.{is_number, is_length}
+use Rattle.script_text.specs.Places.{◌>>=◌, small, node_at, at_most, limited_at, packet_at}
+use Rattle.script_text.proofs.WordLemmas.{own, both, long, IsNumber-parts, either}
+use Rattle.script_text.proofs.Steps.{ok_err, bind-ok}
+
+-- a test that gives one of two answers
+pub if-ok : {X : Type 0} (b : Bool) (r : Result X Code) (code : Code) (x : X) → cond b r (Err code) ≡ Ok x → (b ≡ true) × (r ≡ Ok x)
+if-ok true r code x e = (refl, e)
+if-ok false r code x e = absurd (ok_err x code (sym e))
+
+pub unless-ok : {X : Type 0} (b : Bool) (r : Result X Code) (code : Code) (x : X) → cond b (Err code) r ≡ Ok x → (b ≡ false) × (r ≡ Ok x)
+unless-ok false r code x e = (refl, e)
+unless-ok true r code x e = absurd (ok_err x code (sym e))
+
+pub some_same : {X : Type 0} (x y : X) → Some x ≡ Some y → x ≡ y
+some_same x y e = cc
+
+pub ok_same : {X : Type 0} (x y : X) → ◌≡◌ {A = Result X Code} (Ok x) (Ok y) → x ≡ y
+ok_same x y e = cc
+
+pub none_some : {X : Type 0} (x : X) → None ≡ Some x → ⊥
+none_some x e = cc
+
+module _ (digits : List ℕ) (is : is_number digits ≡ true) where
+  pub number-text : digits_value 10 digits < 2 ^ 64 → decimal (digits_value 10 digits) ≡ digits
+  number-text less =
+      let p = IsNumber-parts digits is in
+      decimal-digits_value own digits p.1 (long digits p.0) (λ zero_first. absurd (omega (arith, p.0, zero_first))) less
+
+  above_zero : (n : ℕ) → decimal n ≡ digits → 1 ≤ n
+  above_zero zero text =
+      let p = IsNumber-parts digits is in
+      let head : 48 ≡ get_or digits 0 0 = ap (λ (w : List ℕ). get_or w 0 0) (sym (decimal_digit 0 (omega arith)) ∙ text) in
+      absurd (omega (arith, head, p.0))
+  above_zero (suc n) text = omega arith
+
+  pub number-some : digits_value 10 digits < 2 ^ 64 → 1 ≤ digits_value 10 digits
+  number-some less = above_zero (digits_value 10 digits) (number-text less)
+
+pub number-right : (n : ℕ) → 1 ≤ n → n < 2 ^ 64 → is_number (decimal n) ≡ true
+unfolding is_number
+number-right n some less =
+    rw (lt-ltb 48 (get_or (decimal n) 0 0) (first_decimal n (omega arith) less), digits_decimal own n less) refl
+
+pub value-right : (n : ℕ) → n < 2 ^ 64 → digits_value 10 (decimal n) ≡ n
+value-right n less = digits_value-decimal own n less
+
+-- a number from 0
+length-text : (digits : List ℕ) → is_length digits ≡ true → digits_value 10 digits < 2 ^ 64 → decimal (digits_value 10 digits) ≡ digits
+unfolding is_length
+length-text digits is less = elim (cases_Bool (bytes_eq digits (48 ∷ []))) [
+  | inl zero_alone ↦
+      let same : digits ≡ 48 ∷ [] = (bytes_eq-Decides digits (48 ∷ [])).0 zero_alone in
+      ap (λ (w : List ℕ). decimal (digits_value 10 w)) same ∙ decimal_digit 0 (omega arith) ∙ sym same
+  | inr other ↦ number-text digits (rw other at is) less
+]
+
+length-right : (n : ℕ) → n < 2 ^ 64 → is_length (decimal n) ≡ true
+unfolding is_length
+length-right zero less = rw (decimal_digit 0 (omega arith)) refl
+length-right (suc n) less = rw (number-right (suc n) (omega arith) less) (or-true (bytes_eq (decimal (suc n)) (48 ∷ [])))
+
+pub packet_at-ok : (word : List ℕ) (n : ℕ) → packet_at word ≡ Ok n → (word ≡ decimal n) × (n < 2 ^ 64)
+unfolding packet_at
+packet_at-ok word n e =
+    let p = if-ok (is_length word && ltb (digits_value 10 word) (2 ^ 64)) (Ok (digits_value 10 word)) NoNumber n e in
+    let q = both (is_length word) (ltb (digits_value 10 word) (2 ^ 64)) p.0 in
+    let less : digits_value 10 word < 2 ^ 64 = ltb-true _ _ q.1 in
+    let same : digits_value 10 word ≡ n = ok_same _ _ p.1 in
+    (sym (length-text word q.0 less) ∙ ap decimal same, subst (λ (m : ℕ). m < 2 ^ 64) same less)
+
+pub packet-read : {E : Type 0} (ds : List ℕ) (r : Result ℕ E) (n : ℕ) → is_length ds ≡ true → ParsesUnsigned 64 10 ds r → r ≡ Ok n → Ok n ≡ packet_at ds
+unfolding packet_at
+packet-read ds r n is h e =
+    let p = either ds is in
+    let q = OkIff-at_ok r _ (digits_value 10 ds) n (parse_digits own 64 ds r h p.1) e in
+    rw (is, lt-ltb (digits_value 10 ds) (2 ^ 64) q.0.1) (ap Ok q.1)
+
+pub packet-none : {E : Type 0} (ds : List ℕ) (r : Result ℕ E) (f : E) → is_length ds ≡ true → ParsesUnsigned 64 10 ds r → r ≡ Err f → Err NoNumber ≡ packet_at ds
+unfolding packet_at
+packet-none ds r f is h e =
+    let p = either ds is in
+    let q = OkIff-at_err r ((0 < length ds) × (digits_value 10 ds < 2 ^ 64)) (digits_value 10 ds) f (parse_digits own 64 ds r h p.1) e in
+    elim (cases_Bool (ltb (digits_value 10 ds) (2 ^ 64))) [
+      | inl less ↦ absurd (q (p.0, ltb-true _ _ less))
+      | inr more ↦ rw (is, more) refl
+    ]
+
+pub packet_at-right : (n : ℕ) → n < 2 ^ 64 → packet_at (decimal n) ≡ Ok n
+unfolding packet_at
+packet_at-right n less = rw (length-right n less, value-right n less, lt-ltb n (2 ^ 64) less) refl
+
+-- the words of nodes and tables
+
+small-some : (digits : List ℕ) (n : ℕ) → small digits ≡ Some n → (digits_value 10 digits ≡ n) × (n < 2 ^ 32)
+unfolding small
+small-some digits n e = elim (cases_Bool (ltb (digits_value 10 digits) (2 ^ 32))) [
+  | inl less ↦
+      let same : digits_value 10 digits ≡ n = some_same _ _ (rw less at e) in
+      (same, subst (λ (m : ℕ). m < 2 ^ 32) same (ltb-true _ _ less))
+  | inr more ↦ absurd (none_some n (rw more at e))
+]
+
+pub node-some : (letter : ℕ) (word : List ℕ) (n : ℕ) → node_at letter word ≡ Ok (Some n) → (word ≡ letter ∷ decimal n) × (1 ≤ n) × (n < 2 ^ 32)
+unfolding node_at
+node-some letter [] n e = absurd (ok_err (Some n) NoName (sym e))
+node-some letter (c ∷ digits) n e =
+    let p = if-ok (eqb c letter && is_number digits) (Ok (small digits)) NoName (Some n) e in
+    let q = both (eqb c letter) (is_number digits) p.0 in
+    let value = small-some digits n (ok_same _ _ p.1) in
+    let below : digits_value 10 digits < 2 ^ 64 = omega (arith, value.0, value.1) in
+    let first : c ≡ letter = eqb-true c letter q.0 in
+    let rest : digits ≡ decimal n = sym (number-text digits q.1 below) ∙ ap decimal value.0 in
+    let some = number-some digits q.1 below in
+    (cc, omega (arith, some, value.0), value.1)
+
+small-right : (v n : ℕ) → v ≡ n → n < 2 ^ 32 → cond (ltb v (2 ^ 32)) (Some v) None ≡ Some n
+small-right v n same less = rw (same, lt-ltb n (2 ^ 32) less) refl
+
+pub node-right : (letter n : ℕ) → 1 ≤ n → n < 2 ^ 32 → node_at letter (letter ∷ decimal n) ≡ Ok (Some n)
+unfolding node_at small
+node-right letter n some less =
+    rw (eq-eqb letter letter refl, number-right n some (omega arith))
+    (ap Ok (small-right (digits_value 10 (decimal n)) n (value-right n (omega arith)) less))
+
+at_most-some : (most : ℕ) (o : Option ℕ) (n : ℕ) → at_most most o ≡ Some n → (o ≡ Some n) × (n ≤ most)
+at_most-some most None n e = absurd (none_some n e)
+at_most-some most (Some m) n e = elim (cases_Bool (leb m most)) [
+  | inl within ↦
+      let same : m ≡ n = some_same _ _ (rw within at e) in
+      (ap Some same, subst (λ (k : ℕ). k ≤ most) same (leb-true _ _ within))
+  | inr above ↦ absurd (none_some n (rw above at e))
+]
+
+pub limited-some : (letter most : ℕ) (word : List ℕ) (n : ℕ) → limited_at letter most word ≡ Ok (Some n) → (word ≡ letter ∷ decimal n) × (1 ≤ n) × (n ≤ most)
+unfolding limited_at
+limited-some letter most word n e =
+    let p = bind-ok (node_at letter word) (λ number. Ok (at_most most number)) (Some n) e in
+    let q = at_most-some most p.0 n (ok_same _ _ p.2) in
+    let r = node-some letter word n (p.1 ∙ ap Ok q.0) in
+    (r.0, r.1, q.1)
+
+pub limited-right : (letter most n : ℕ) → 1 ≤ n → n ≤ most → most < 2 ^ 32 → limited_at letter most (letter ∷ decimal n) ≡ Ok (Some n)
+unfolding limited_at
+limited-right letter most n some within few = rw (node-right letter n some (omega arith), le-leb n most within) refl

@@ -1,0 +1,153 @@
+-- Where the first fault of a line is that doesn't read well.
+use Rattle.std.proofs.Common.{◌≡◌, ℕ, List, [], drop, Option, Result, Ok, Err, refl}
+use Rattle.script_text.specs.declared.fault.BadLine.{BadLine}
+use Rattle.script_text.specs.declared.verb.Verb.TheVariants as verbs
+use Rattle.script_text.specs.Names.{Names}
+use Rattle.script_text.specs.Places.{◌>>=◌}
+use Rattle.script_text.specs.Reading.{store_in, table_in, client_in, some_cells_in, some_columns_in, write_in, show_in, client_table_in, sync_in, pull_in, deliver_in, store_show_in, history_in}
+use Rattle.script_text.specs.Grammar.{FirstFault, places_of, more_of}
+use Rattle.script_text.proofs.Steps.{bind-err, word_in-err, word_in-fault, end-err, end-fault, some_cells-err, some_cells-fault, some_columns-err, some_columns-fault}
+
+module _ (names : Names) (ws : List (List ℕ)) (f : BadLine) where
+  pub store-err : store_in names ws ≡ Err f → FirstFault 1 (places_of names verbs.Store) (more_of verbs.Store) ws f
+  unfolding store_in
+  store-err h =
+      word_in-err _ _ _ (drop 1 (places_of names verbs.Store)) (more_of verbs.Store) f ws h (λ va a xa ia oa ha.
+      end-err 2 _ a f ha)
+
+  pub client-err : client_in names ws ≡ Err f → FirstFault 1 (places_of names verbs.Client) (more_of verbs.Client) ws f
+  unfolding client_in
+  client-err h =
+      word_in-err _ _ _ (drop 1 (places_of names verbs.Client)) (more_of verbs.Client) f ws h (λ va a xa ia oa ha.
+      word_in-err _ _ _ (drop 2 (places_of names verbs.Client)) (more_of verbs.Client) f a ha (λ vb b xb ib ob hb.
+      word_in-err _ _ _ (drop 3 (places_of names verbs.Client)) (more_of verbs.Client) f b hb (λ vc c xc ic oc hc.
+      end-err 4 _ c f hc)))
+
+  pub table-err : table_in names ws ≡ Err f → FirstFault 1 (places_of names verbs.Table) (more_of verbs.Table) ws f
+  unfolding table_in
+  table-err h =
+      word_in-err _ _ _ (drop 1 (places_of names verbs.Table)) (more_of verbs.Table) f ws h (λ va a xa ia oa ha.
+      word_in-err _ _ _ (drop 2 (places_of names verbs.Table)) (more_of verbs.Table) f a ha (λ vb b xb ib ob hb.
+      word_in-err _ _ _ (drop 3 (places_of names verbs.Table)) (more_of verbs.Table) f b hb (λ vc c xc ic oc hc.
+      word_in-err _ _ _ (drop 4 (places_of names verbs.Table)) (more_of verbs.Table) f c hc (λ vd d xd id od hd.
+      some_columns-err f 5 d (bind-err (some_columns_in 5 d) _ f hd)))))
+
+  pub write-err : write_in names ws ≡ Err f → FirstFault 1 (places_of names verbs.Write) (more_of verbs.Write) ws f
+  unfolding write_in
+  write-err h =
+      word_in-err _ _ _ (drop 1 (places_of names verbs.Write)) (more_of verbs.Write) f ws h (λ va a xa ia oa ha.
+      word_in-err _ _ _ (drop 2 (places_of names verbs.Write)) (more_of verbs.Write) f a ha (λ vb b xb ib ob hb.
+      word_in-err _ _ _ (drop 3 (places_of names verbs.Write)) (more_of verbs.Write) f b hb (λ vc c xc ic oc hc.
+      some_cells-err f 4 c (bind-err (some_cells_in 4 c) _ f hc))))
+
+  pub show-err : show_in names ws ≡ Err f → FirstFault 1 (places_of names verbs.Show) (more_of verbs.Show) ws f
+  unfolding show_in
+  show-err h =
+      word_in-err _ _ _ (drop 1 (places_of names verbs.Show)) (more_of verbs.Show) f ws h (λ va a xa ia oa ha.
+      word_in-err _ _ _ (drop 2 (places_of names verbs.Show)) (more_of verbs.Show) f a ha (λ vb b xb ib ob hb.
+      word_in-err _ _ _ (drop 3 (places_of names verbs.Show)) (more_of verbs.Show) f b hb (λ vc c xc ic oc hc.
+      end-err 4 _ c f hc)))
+
+  client_table-err : client_table_in names ws ≡ Err f → FirstFault 1 (places_of names verbs.Sync) (more_of verbs.Sync) ws f
+  unfolding client_table_in
+  client_table-err h =
+      word_in-err _ _ _ (drop 1 (places_of names verbs.Sync)) (more_of verbs.Sync) f ws h (λ va a xa ia oa ha.
+      word_in-err _ _ _ (drop 2 (places_of names verbs.Sync)) (more_of verbs.Sync) f a ha (λ vb b xb ib ob hb.
+      end-err 3 _ b f hb))
+
+  pub deliver-err : deliver_in ws ≡ Err f → FirstFault 1 (places_of names verbs.Deliver) (more_of verbs.Deliver) ws f
+  unfolding deliver_in
+  deliver-err h =
+      word_in-err _ _ _ (drop 1 (places_of names verbs.Deliver)) (more_of verbs.Deliver) f ws h (λ va a xa ia oa ha.
+      end-err 2 _ a f ha)
+
+  pub store_show-err : store_show_in names ws ≡ Err f → FirstFault 1 (places_of names verbs.StoreShow) (more_of verbs.StoreShow) ws f
+  unfolding store_show_in
+  store_show-err h =
+      word_in-err _ _ _ (drop 1 (places_of names verbs.StoreShow)) (more_of verbs.StoreShow) f ws h (λ va a xa ia oa ha.
+      word_in-err _ _ _ (drop 2 (places_of names verbs.StoreShow)) (more_of verbs.StoreShow) f a ha (λ vb b xb ib ob hb.
+      end-err 3 _ b f hb))
+
+  pub history-err : history_in names ws ≡ Err f → FirstFault 1 (places_of names verbs.History) (more_of verbs.History) ws f
+  unfolding history_in
+  history-err h =
+      word_in-err _ _ _ (drop 1 (places_of names verbs.History)) (more_of verbs.History) f ws h (λ va a xa ia oa ha.
+      end-err 2 _ a f ha)
+
+  pub sync-err : sync_in names ws ≡ Err f → FirstFault 1 (places_of names verbs.Sync) (more_of verbs.Sync) ws f
+  sync-err h = client_table-err (bind-err (client_table_in names ws) _ f h)
+
+  pub pull-err : pull_in names ws ≡ Err f → FirstFault 1 (places_of names verbs.Pull) (more_of verbs.Pull) ws f
+  pull-err h = client_table-err (bind-err (client_table_in names ws) _ f h)
+
+module _ (names : Names) (ws : List (List ℕ)) (f : BadLine) where
+  pub store-fault : FirstFault 1 (places_of names verbs.Store) (more_of verbs.Store) ws f → store_in names ws ≡ Err f
+  unfolding store_in
+  store-fault h =
+      word_in-fault _ _ _ (drop 1 (places_of names verbs.Store)) (more_of verbs.Store) f ws h (λ va a xa ia oa ha.
+      end-fault 2 _ a f ha)
+
+  pub client-fault : FirstFault 1 (places_of names verbs.Client) (more_of verbs.Client) ws f → client_in names ws ≡ Err f
+  unfolding client_in
+  client-fault h =
+      word_in-fault _ _ _ (drop 1 (places_of names verbs.Client)) (more_of verbs.Client) f ws h (λ va a xa ia oa ha.
+      word_in-fault _ _ _ (drop 2 (places_of names verbs.Client)) (more_of verbs.Client) f a ha (λ vb b xb ib ob hb.
+      word_in-fault _ _ _ (drop 3 (places_of names verbs.Client)) (more_of verbs.Client) f b hb (λ vc c xc ic oc hc.
+      end-fault 4 _ c f hc)))
+
+  pub table-fault : FirstFault 1 (places_of names verbs.Table) (more_of verbs.Table) ws f → table_in names ws ≡ Err f
+  unfolding table_in
+  table-fault h =
+      word_in-fault _ _ _ (drop 1 (places_of names verbs.Table)) (more_of verbs.Table) f ws h (λ va a xa ia oa ha.
+      word_in-fault _ _ _ (drop 2 (places_of names verbs.Table)) (more_of verbs.Table) f a ha (λ vb b xb ib ob hb.
+      word_in-fault _ _ _ (drop 3 (places_of names verbs.Table)) (more_of verbs.Table) f b hb (λ vc c xc ic oc hc.
+      word_in-fault _ _ _ (drop 4 (places_of names verbs.Table)) (more_of verbs.Table) f c hc (λ vd d xd id od hd.
+      rw (some_columns-fault f 5 d hd) refl))))
+
+  pub write-fault : FirstFault 1 (places_of names verbs.Write) (more_of verbs.Write) ws f → write_in names ws ≡ Err f
+  unfolding write_in
+  write-fault h =
+      word_in-fault _ _ _ (drop 1 (places_of names verbs.Write)) (more_of verbs.Write) f ws h (λ va a xa ia oa ha.
+      word_in-fault _ _ _ (drop 2 (places_of names verbs.Write)) (more_of verbs.Write) f a ha (λ vb b xb ib ob hb.
+      word_in-fault _ _ _ (drop 3 (places_of names verbs.Write)) (more_of verbs.Write) f b hb (λ vc c xc ic oc hc.
+      rw (some_cells-fault f 4 c hc) refl)))
+
+  pub show-fault : FirstFault 1 (places_of names verbs.Show) (more_of verbs.Show) ws f → show_in names ws ≡ Err f
+  unfolding show_in
+  show-fault h =
+      word_in-fault _ _ _ (drop 1 (places_of names verbs.Show)) (more_of verbs.Show) f ws h (λ va a xa ia oa ha.
+      word_in-fault _ _ _ (drop 2 (places_of names verbs.Show)) (more_of verbs.Show) f a ha (λ vb b xb ib ob hb.
+      word_in-fault _ _ _ (drop 3 (places_of names verbs.Show)) (more_of verbs.Show) f b hb (λ vc c xc ic oc hc.
+      end-fault 4 _ c f hc)))
+
+  client_table-fault : FirstFault 1 (places_of names verbs.Sync) (more_of verbs.Sync) ws f → client_table_in names ws ≡ Err f
+  unfolding client_table_in
+  client_table-fault h =
+      word_in-fault _ _ _ (drop 1 (places_of names verbs.Sync)) (more_of verbs.Sync) f ws h (λ va a xa ia oa ha.
+      word_in-fault _ _ _ (drop 2 (places_of names verbs.Sync)) (more_of verbs.Sync) f a ha (λ vb b xb ib ob hb.
+      end-fault 3 _ b f hb))
+
+  pub deliver-fault : FirstFault 1 (places_of names verbs.Deliver) (more_of verbs.Deliver) ws f → deliver_in ws ≡ Err f
+  unfolding deliver_in
+  deliver-fault h =
+      word_in-fault _ _ _ (drop 1 (places_of names verbs.Deliver)) (more_of verbs.Deliver) f ws h (λ va a xa ia oa ha.
+      end-fault 2 _ a f ha)
+
+  pub store_show-fault : FirstFault 1 (places_of names verbs.StoreShow) (more_of verbs.StoreShow) ws f → store_show_in names ws ≡ Err f
+  unfolding store_show_in
+  store_show-fault h =
+      word_in-fault _ _ _ (drop 1 (places_of names verbs.StoreShow)) (more_of verbs.StoreShow) f ws h (λ va a xa ia oa ha.
+      word_in-fault _ _ _ (drop 2 (places_of names verbs.StoreShow)) (more_of verbs.StoreShow) f a ha (λ vb b xb ib ob hb.
+      end-fault 3 _ b f hb))
+
+  pub history-fault : FirstFault 1 (places_of names verbs.History) (more_of verbs.History) ws f → history_in names ws ≡ Err f
+  unfolding history_in
+  history-fault h =
+      word_in-fault _ _ _ (drop 1 (places_of names verbs.History)) (more_of verbs.History) f ws h (λ va a xa ia oa ha.
+      end-fault 2 _ a f ha)
+
+  pub sync-fault : FirstFault 1 (places_of names verbs.Sync) (more_of verbs.Sync) ws f → sync_in names ws ≡ Err f
+  sync-fault h = rw (client_table-fault h) refl
+
+  pub pull-fault : FirstFault 1 (places_of names verbs.Pull) (more_of verbs.Pull) ws f → pull_in names ws ≡ Err f
+  pull-fault h = rw (client_table-fault h) refl

@@ -1,0 +1,488 @@
+-- The words of a line: its text tells them, and they tell the line.
+use Rattle.std.proofs.Common.{◌≡◌, ℕ, ◌≤◌, ◌<◌, ◌^◌, Bool, ◌||◌, cond, List, [], ◌∷◌, ◌++◌, map, codes, true, false, refl, sym, subst, ap, ◌∙◌, arith, rules, length, get_or, true≢false, All, Some, append-nil, inl}
+use Rattle.std.specs.List.{AllByRecursion, flat_map}
+use Rattle.std.specs.Fmt.{decimal, signed_decimal}
+use Rattle.std.specs.Str.{bytes_eq}
+use Rattle.std.proofs.lemmas.Fmt.{decimal_injective, signed_decimal_injective}
+use Rattle.std.proofs.lemmas.Grind.{flat_map-append}
+use Rattle.std.proofs.lemmas.List.Folds.{flat_map-map}
+use Rattle.percent_encoding.specs.Percent.{percent_encode}
+use Rattle.hex.specs.Hex.{encode_lower}
+use Rattle.uuid.specs.Text.{hyphenated_text, lower, parsed}
+use Rattle.uuid.proofs.RoundTrips.{parses_hyphenated}
+use Rattle.transcript_text.specs.declared.print.TheConstants.{ESCAPED}
+use Rattle.row_value.specs.declared.content.Cell.{Cell}
+use Rattle.row_value.specs.declared.content.Cell.TheVariants as cells
+use Rattle.row_value.specs.declared.content.Content.{Content}
+use Rattle.row_value.specs.declared.content.Content.TheVariants.{Gone, Row}
+use Rattle.table_model.specs.declared.entry.Entry.{Entry}
+use Rattle.table_model.specs.declared.message_name.MessageName.{MessageName}
+use Rattle.table_model.specs.declared.message_name.MessageName.TheVariants as kinds
+use Rattle.table_model.specs.declared.node.Node.{Node}
+use Rattle.table_model.specs.declared.node.Node.TheVariants as nodes
+use Rattle.table_model.specs.declared.line.Write.{Write}
+use Rattle.table_model.specs.declared.line.Shown.{Shown}
+use Rattle.table_model.specs.declared.line.Shown.TheVariants.{Clean, Mine}
+use Rattle.table_model.specs.declared.line.Refusal.{Refusal}
+use Rattle.table_model.specs.declared.line.Refusal.TheVariants as refusals
+use Rattle.table_model.specs.declared.line.Answer.{Answer}
+use Rattle.table_model.specs.declared.line.Answer.TheVariants as answers
+use Rattle.table_model.specs.declared.line.Fact.{Fact}
+use Rattle.table_model.specs.declared.line.Fact.TheVariants as facts
+use Rattle.table_model.specs.declared.line.TextLine.{TextLine}
+use Rattle.table_model.specs.declared.line.TextLine.TheVariants as lines
+use Rattle.transcript_text.specs.Text.{cell_text, content_text, refusal_text, shown_text, answer_text, write_text, node_text, message_text, entry_text, fact_text, text_of}
+use Rattle.transcript_text.specs.OneForm.{IsNumberCell, HasContentText, HasRefusalText, HasValue, HasShownText, HasAnswerText, HasRowText, HasWriteText, HasEntryText, HasNodeText, HasFactText, HasText}
+use Rattle.transcript_text.proofs.Above.{IsAbove, led, led_same, led_above, decimal_above, signed_above, row_above, decimal_first, signed_first}
+
+abbrev pub cell_word : Cell → List ℕ
+cell_word (cells.Int n) = signed_decimal n
+cell_word (cells.Bool true) = codes "true"
+cell_word (cells.Bool false) = codes "false"
+cell_word (cells.Text text) = codes "t:" ++ percent_encode ESCAPED text
+
+abbrev pub object_word : List ℕ → List ℕ
+object_word object = codes "h:" ++ encode_lower object
+
+abbrev pub content_words : Content → List (List ℕ)
+content_words Gone = codes "gone" ∷ []
+content_words (Row some objects) = map cell_word some ++ map object_word objects
+
+abbrev pub refusal_words : Refusal → List (List ℕ)
+refusal_words (refusals.BadCell column) = codes "no" ∷ codes "10" ∷ decimal column ∷ []
+refusal_words (refusals.BadObject column len) = codes "no" ∷ codes "11" ∷ decimal column ∷ decimal len ∷ []
+refusal_words refusals.NoTable = codes "no" ∷ codes "18" ∷ []
+refusal_words refusals.NoRow = codes "no" ∷ codes "27" ∷ []
+refusal_words (refusals.NoPacket sent) = codes "no" ∷ codes "29" ∷ decimal sent ∷ []
+
+abbrev pub shown_words : Shown → List (List ℕ)
+shown_words (Clean version content) = codes "ok" ∷ codes "clean" ∷ decimal version ∷ content_words content
+shown_words (Mine number content) = codes "ok" ∷ codes "mine" ∷ decimal number ∷ content_words content
+
+abbrev pub answer_words : Answer → List (List ℕ)
+answer_words answers.Done = codes "ok" ∷ []
+answer_words (answers.Number number) = codes "ok" ∷ decimal number ∷ []
+answer_words (answers.Shown shown) = shown_words shown
+answer_words (answers.Stored version content) = codes "ok" ∷ decimal version ∷ content_words content
+answer_words (answers.Refused refusal) = refusal_words refusal
+
+abbrev pub write_words : Write → List (List ℕ)
+write_words write =
+    codes "wrote"
+    ∷ (codes "C" ++ decimal write.client)
+    ∷ decimal write.number
+    ∷ (codes "T" ++ decimal write.table)
+    ∷ hyphenated_text lower write.row
+    ∷ decimal write.read
+    ∷ content_words write.content
+
+abbrev pub node_word : Node → List ℕ
+node_word (nodes.Client client) = codes "C" ++ decimal client
+node_word (nodes.Gate gate) = codes "G" ++ decimal gate
+node_word (nodes.Store store) = codes "S" ++ decimal store
+
+abbrev pub message_word : MessageName → List ℕ
+message_word kinds.PullRequest = codes "pullRequest"
+message_word kinds.PullResponse = codes "pullResponse"
+message_word kinds.SyncRequest = codes "syncRequest"
+message_word kinds.SyncResponse = codes "syncResponse"
+
+abbrev pub entry_words : ℕ → Entry → List (List ℕ)
+entry_words table entry =
+    (codes "T" ++ decimal table)
+    ∷ decimal entry.version
+    ∷ hyphenated_text lower entry.row
+    ∷ (codes "C" ++ decimal entry.client)
+    ∷ decimal entry.number
+    ∷ decimal entry.base
+    ∷ []
+
+abbrev pub fact_words : Fact → List (List ℕ)
+fact_words (facts.Sent packet from to name) = codes "sent" ∷ decimal packet ∷ node_word from ∷ node_word to ∷ message_word name ∷ []
+fact_words (facts.Wrote write) = write_words write
+fact_words (facts.Acked client number table row version) =
+    codes "acked" ∷ (codes "C" ++ decimal client) ∷ decimal number ∷ (codes "T" ++ decimal table) ∷ hyphenated_text lower row ∷ decimal version ∷ []
+fact_words (facts.New client table row version) =
+    codes "new" ∷ (codes "C" ++ decimal client) ∷ (codes "T" ++ decimal table) ∷ hyphenated_text lower row ∷ decimal version ∷ []
+fact_words (facts.Position client table position) =
+    codes "position" ∷ (codes "C" ++ decimal client) ∷ (codes "T" ++ decimal table) ∷ decimal position ∷ []
+fact_words (facts.Accepted table entry) = codes "accepted" ∷ entry_words table entry
+
+abbrev pub words_of : TextLine → List (List ℕ)
+words_of (lines.Answer answer) = answer_words answer
+words_of (lines.Entry table entry) = codes "entry" ∷ entry_words table entry
+words_of (lines.Fact fact) = fact_words fact
+
+cells_led : (some : List Cell) → flat_map cell_text some ≡ led 32 (map cell_word some)
+cells_led [] = refl
+cells_led (cells.Int n ∷ some) = ap (λ text. cell_text (cells.Int n) ++ text) (cells_led some)
+cells_led (cells.Bool true ∷ some) = ap (λ text. cell_text (cells.Bool true) ++ text) (cells_led some)
+cells_led (cells.Bool false ∷ some) = ap (λ text. cell_text (cells.Bool false) ++ text) (cells_led some)
+cells_led (cells.Text t ∷ some) = ap (λ text. cell_text (cells.Text t) ++ text) (cells_led some)
+
+content_led : (content : Content) → content_text content ≡ led 32 (content_words content)
+content_led Gone = refl
+content_led (Row some objects) =
+    rw (flat_map-append, cells_led some, flat_map-map (λ (word : List ℕ). 32 ∷ word) object_word objects) refl
+
+refusal_led : (refusal : Refusal) → 32 ∷ refusal_text refusal ≡ led 32 (refusal_words refusal)
+refusal_led (refusals.BadCell column) = simp append-nil
+refusal_led (refusals.BadObject column len) = simp append-nil
+refusal_led refusals.NoTable = refl
+refusal_led refusals.NoRow = refl
+refusal_led (refusals.NoPacket sent) = simp append-nil
+
+shown_led : (shown : Shown) → 32 ∷ shown_text shown ≡ led 32 (shown_words shown)
+shown_led (Clean version content) = rw content_led refl
+shown_led (Mine number content) = rw content_led refl
+
+answer_led : (answer : Answer) → 32 ∷ answer_text answer ≡ led 32 (answer_words answer)
+answer_led answers.Done = refl
+answer_led (answers.Number number) = simp append-nil
+answer_led (answers.Shown shown) = shown_led shown
+answer_led (answers.Stored version content) = rw content_led refl
+answer_led (answers.Refused refusal) = refusal_led refusal
+
+node_led : (node : Node) → node_text node ≡ 32 ∷ node_word node
+node_led (nodes.Client client) = refl
+node_led (nodes.Gate gate) = refl
+node_led (nodes.Store store) = refl
+
+message_led : (name : MessageName) → message_text name ≡ 32 ∷ message_word name
+message_led kinds.PullRequest = refl
+message_led kinds.PullResponse = refl
+message_led kinds.SyncRequest = refl
+message_led kinds.SyncResponse = refl
+
+entry_led : (table : ℕ) (entry : Entry) → entry_text table entry ≡ led 32 (entry_words table entry)
+entry_led table entry = simp append-nil
+
+fact_led : (fact : Fact) → 32 ∷ fact_text fact ≡ led 32 (fact_words fact)
+fact_led (facts.Sent packet from to name) = simp (node_led, message_led, append-nil)
+fact_led (facts.Wrote write) = rw content_led refl
+fact_led (facts.Acked client number table row version) = simp append-nil
+fact_led (facts.New client table row version) = simp append-nil
+fact_led (facts.Position client table position) = simp append-nil
+fact_led (facts.Accepted table entry) = rw entry_led refl
+
+-- a line's text, with a space before it
+text_led : (line : TextLine) → 32 ∷ text_of line ≡ led 32 (words_of line)
+text_led (lines.Answer answer) = answer_led answer
+text_led (lines.Entry table entry) = rw entry_led refl
+text_led (lines.Fact fact) = fact_led fact
+
+cells_above : (some : List Cell) → AllByRecursion IsNumberCell some → AllByRecursion (IsAbove 32) (map cell_word some)
+cells_above [] h = tt
+cells_above (cells.Int n ∷ some) h = (signed_above n h.0, cells_above some h.1)
+cells_above (cells.Bool b ∷ some) h = absurd h.0
+cells_above (cells.Text t ∷ some) h = absurd h.0
+
+content_above : (content : Content) → HasContentText content → AllByRecursion (IsAbove 32) (content_words content)
+content_above Gone h = search rules
+content_above (Row some objects) h = rw (h.1, append-nil) (cells_above some h.0)
+
+refusal_above : (refusal : Refusal) → HasRefusalText refusal → AllByRecursion (IsAbove 32) (refusal_words refusal)
+refusal_above (refusals.BadCell column) h = search (rules, decimal_above)
+refusal_above (refusals.BadObject column len) h = search (rules, decimal_above)
+refusal_above refusals.NoTable h = search rules
+refusal_above refusals.NoRow h = search rules
+refusal_above (refusals.NoPacket sent) h = search (rules, decimal_above)
+
+shown_above : (shown : Shown) → HasShownText shown → AllByRecursion (IsAbove 32) (shown_words shown)
+shown_above (Clean version content) h = search (rules, decimal_above, content_above)
+shown_above (Mine number content) h = search (rules, decimal_above, content_above)
+
+answer_above : (answer : Answer) → HasAnswerText answer → AllByRecursion (IsAbove 32) (answer_words answer)
+answer_above answers.Done h = search rules
+answer_above (answers.Number number) h = search (rules, decimal_above)
+answer_above (answers.Shown shown) h = shown_above shown h
+answer_above (answers.Stored version content) h = search (rules, decimal_above, content_above)
+answer_above (answers.Refused refusal) h = refusal_above refusal h
+
+node_above : (node : Node) → HasNodeText node → IsAbove 32 (node_word node)
+node_above (nodes.Client client) h = search (rules, decimal_above)
+node_above (nodes.Gate gate) h = search (rules, decimal_above)
+node_above (nodes.Store store) h = search (rules, decimal_above)
+
+message_above : (name : MessageName) → IsAbove 32 (message_word name)
+message_above kinds.PullRequest = search rules
+message_above kinds.PullResponse = search rules
+message_above kinds.SyncRequest = search rules
+message_above kinds.SyncResponse = search rules
+
+entry_above : (table : ℕ) (entry : Entry) → HasEntryText table entry → AllByRecursion (IsAbove 32) (entry_words table entry)
+entry_above table entry h = search (rules, decimal_above, row_above)
+
+fact_above : (fact : Fact) → HasFactText fact → AllByRecursion (IsAbove 32) (fact_words fact)
+fact_above (facts.Sent packet from to name) h = search (rules, decimal_above, node_above, message_above)
+fact_above (facts.Wrote write) h = search (rules, decimal_above, row_above, content_above)
+fact_above (facts.Acked client number table row version) h = search (rules, decimal_above, row_above)
+fact_above (facts.New client table row version) h = search (rules, decimal_above, row_above)
+fact_above (facts.Position client table position) h = search (rules, decimal_above)
+fact_above (facts.Accepted table entry) h = search (rules, entry_above)
+
+words_above : (line : TextLine) → HasText line → AllByRecursion (IsAbove 32) (words_of line)
+words_above (lines.Answer answer) h = answer_above answer h
+words_above (lines.Entry table entry) h = search (rules, entry_above)
+words_above (lines.Fact fact) h = fact_above fact h
+
+cells_same : (xs ys : List Cell) → AllByRecursion IsNumberCell xs → AllByRecursion IsNumberCell ys → map cell_word xs ≡ map cell_word ys → xs ≡ ys
+cells_same [] [] p q e = refl
+cells_same [] (y ∷ ys) p q e = absurd cc
+cells_same (x ∷ xs) [] p q e = absurd cc
+cells_same (cells.Int m ∷ xs) (cells.Int n ∷ ys) p q e = cc (signed_decimal_injective m n (omega (arith, p.0)) (omega (arith, q.0)) (cc), cells_same xs ys p.1 q.1 (cc))
+cells_same (cells.Bool b ∷ xs) ys p q e = absurd p.0
+cells_same (cells.Text t ∷ xs) ys p q e = absurd p.0
+cells_same xs (cells.Bool b ∷ ys) p q e = absurd q.0
+cells_same xs (cells.Text t ∷ ys) p q e = absurd q.0
+
+not_gone : (some : List Cell) → AllByRecursion IsNumberCell some → map cell_word some ≡ codes "gone" ∷ [] → ⊥
+not_gone [] h e = cc
+not_gone (cells.Int n ∷ some) h e = omega (arith, signed_first n 103 (codes "one") h.0 (cc))
+not_gone (cells.Bool b ∷ some) h e = absurd h.0
+not_gone (cells.Text t ∷ some) h e = absurd h.0
+
+content_same : (a b : Content) → HasContentText a → HasContentText b → content_words a ≡ content_words b → a ≡ b
+content_same Gone Gone p q e = refl
+content_same Gone (Row some objects) p q e = absurd (not_gone some q.0 (sym (rw (q.1, append-nil) at e)))
+content_same (Row some objects) Gone p q e = absurd (not_gone some p.0 (rw (p.1, append-nil) at e))
+content_same (Row some objects) (Row more others) p q e = cc (cells_same some more p.0 q.0 (simp (p.1, q.1, append-nil) at e))
+
+bytes_same : (xs ys : List ℕ) → length xs ≡ 16 → length ys ≡ 16 → All (λ b. b < 256) xs → All (λ b. b < 256) ys
+    → hyphenated_text lower xs ≡ hyphenated_text lower ys → xs ≡ ys
+bytes_same xs ys k l p q e =
+    let same : Some xs ≡ Some ys = parses_hyphenated lower xs (inl refl) k p ∙ ap parsed e ∙ sym (parses_hyphenated lower ys (inl refl) l q) in
+    cc
+
+row_same : (xs ys : List ℕ) → HasRowText xs → HasRowText ys → hyphenated_text lower xs ≡ hyphenated_text lower ys → xs ≡ ys
+row_same xs ys p q e = bytes_same xs ys p.size q.size p.bytes q.bytes e
+
+write_same : (a b : Write) → HasWriteText a → HasWriteText b → write_words a ≡ write_words b → a ≡ b
+write_same a b p q e =
+    let rows = row_same a.row b.row p.row q.row (cc) in
+    grind (arith, rows, decimal_injective, content_same)
+
+entry_same : (s t : ℕ) (a b : Entry) → HasEntryText s a → HasEntryText t b → entry_words s a ≡ entry_words t b → (s ≡ t) × (a ≡ b)
+entry_same s t a b p q e =
+    let rows = row_same a.row b.row p.row q.row (cc) in
+    grind (arith, rows, decimal_injective)
+
+letter_of : Node → ℕ
+letter_of (nodes.Client client) = 67
+letter_of (nodes.Gate gate) = 71
+letter_of (nodes.Store store) = 83
+
+letter_is : (node : Node) → get_or (node_word node) 0 0 ≡ letter_of node
+unfolding letter_of
+letter_is (nodes.Client client) = refl
+letter_is (nodes.Gate gate) = refl
+letter_is (nodes.Store store) = refl
+
+node_same : (a b : Node) → HasNodeText a → HasNodeText b → node_word a ≡ node_word b → a ≡ b
+unfolding letter_of
+node_same (nodes.Client m) (nodes.Client n) p q e = ap nodes.Client (decimal_injective m n (omega (arith, p)) (omega (arith, q)) (cc))
+node_same (nodes.Gate m) (nodes.Gate n) p q e = ap nodes.Gate (decimal_injective m n (omega (arith, p)) (omega (arith, q)) (cc))
+node_same (nodes.Store m) (nodes.Store n) p q e = ap nodes.Store (decimal_injective m n (omega (arith, p)) (omega (arith, q)) (cc))
+node_same a b p q e =
+    let same : letter_of a ≡ letter_of b = sym (letter_is a) ∙ ap (λ word. get_or word 0 0) e ∙ letter_is b in
+    absurd (omega (arith, same))
+
+message_in : List ℕ → MessageName
+message_in word =
+    cond (bytes_eq word (codes "pullRequest")) kinds.PullRequest
+    (cond (bytes_eq word (codes "pullResponse")) kinds.PullResponse
+    (cond (bytes_eq word (codes "syncRequest")) kinds.SyncRequest kinds.SyncResponse))
+
+message_read : (name : MessageName) → message_in (message_word name) ≡ name
+unfolding message_in
+message_read kinds.PullRequest = refl
+message_read kinds.PullResponse = refl
+message_read kinds.SyncRequest = refl
+message_read kinds.SyncResponse = refl
+
+message_same : (a b : MessageName) → message_word a ≡ message_word b → a ≡ b
+message_same a b e = sym (message_read a) ∙ ap message_in e ∙ message_read b
+
+abbrev first_word : List (List ℕ) → List ℕ
+first_word [] = []
+first_word (word ∷ words) = word
+
+fact_number : Fact → ℕ
+fact_number (facts.Sent packet from to name) = 0
+fact_number (facts.Wrote write) = 1
+fact_number (facts.Acked client number table row version) = 2
+fact_number (facts.New client table row version) = 3
+fact_number (facts.Position client table position) = 4
+fact_number (facts.Accepted table entry) = 5
+
+fact_in : List ℕ → ℕ
+fact_in word =
+    cond (bytes_eq word (codes "sent")) 0 (cond (bytes_eq word (codes "wrote")) 1 (cond (bytes_eq word (codes "acked")) 2
+    (cond (bytes_eq word (codes "new")) 3 (cond (bytes_eq word (codes "position")) 4 5))))
+
+fact_read : (fact : Fact) → fact_in (first_word (fact_words fact)) ≡ fact_number fact
+unfolding fact_in fact_number
+fact_read (facts.Sent packet from to name) = refl
+fact_read (facts.Wrote write) = refl
+fact_read (facts.Acked client number table row version) = refl
+fact_read (facts.New client table row version) = refl
+fact_read (facts.Position client table position) = refl
+fact_read (facts.Accepted table entry) = refl
+
+fact_same : (a b : Fact) → HasFactText a → HasFactText b → fact_words a ≡ fact_words b → a ≡ b
+unfolding fact_number
+fact_same (facts.Sent i from to name) (facts.Sent j from_2 to_2 name_2) p q e =
+    cc (decimal_injective i j p.0 q.0 (cc), node_same from from_2 p.1 q.1 (cc), node_same to to_2 p.2 q.2 (cc), message_same name name_2 (cc))
+fact_same (facts.Wrote a) (facts.Wrote b) p q e = ap facts.Wrote (write_same a b p q e)
+fact_same (facts.Acked c n t r v) (facts.Acked c_2 n_2 t_2 r_2 v_2) p q e =
+    cc (
+      decimal_injective c c_2 (omega (arith, p)) (omega (arith, q)) (cc),
+      decimal_injective n n_2 p.1 q.1 (cc),
+      decimal_injective t t_2 (omega (arith, p)) (omega (arith, q)) (cc),
+      row_same r r_2 p.3 q.3 (cc),
+      decimal_injective v v_2 p.4 q.4 (cc),
+    )
+fact_same (facts.New c t r v) (facts.New c_2 t_2 r_2 v_2) p q e =
+    cc (
+      decimal_injective c c_2 (omega (arith, p)) (omega (arith, q)) (cc),
+      decimal_injective t t_2 (omega (arith, p)) (omega (arith, q)) (cc),
+      row_same r r_2 p.2 q.2 (cc),
+      decimal_injective v v_2 p.3 q.3 (cc),
+    )
+fact_same (facts.Position c t v) (facts.Position c_2 t_2 v_2) p q e =
+    cc (decimal_injective c c_2 (omega (arith, p)) (omega (arith, q)) (cc), decimal_injective t t_2 (omega (arith, p)) (omega (arith, q)) (cc), decimal_injective v v_2 p.2 q.2 (cc))
+fact_same (facts.Accepted s a) (facts.Accepted t b) p q e = let same = entry_same s t a b p q (cc) in cc (same.0, same.1)
+fact_same a b p q e =
+    let same : fact_number a ≡ fact_number b = sym (fact_read a) ∙ ap (λ words. fact_in (first_word words)) e ∙ fact_read b in
+    absurd (omega (arith, same))
+
+refusal_same : (a b : Refusal) → HasRefusalText a → HasRefusalText b → refusal_words a ≡ refusal_words b → a ≡ b
+refusal_same a b p q e = grind (arith, decimal_injective)
+
+-- no number begins with a letter
+no_letter : (n c : ℕ) (rest : List ℕ) → n < 2 ^ 64 → decimal n ≡ c ∷ rest → 58 ≤ c → ⊥
+no_letter n c rest h e letter = omega (arith, letter, decimal_first n c rest h e)
+
+abbrev second_word : List (List ℕ) → List ℕ
+second_word [] = []
+second_word (word ∷ words) = first_word words
+
+abbrev is_mine : Shown → Bool
+is_mine (Clean version content) = false
+is_mine (Mine number content) = true
+
+mine_word : (shown : Shown) → bytes_eq (second_word (shown_words shown)) (codes "mine") ≡ is_mine shown
+mine_word (Clean version content) = refl
+mine_word (Mine number content) = refl
+
+shown_same : (a b : Shown) → HasShownText a → HasShownText b → shown_words a ≡ shown_words b → a ≡ b
+shown_same (Clean m a) (Clean n b) p q e = cc (decimal_injective m n p.0 q.0 (cc), content_same a b p.1 q.1 (cc))
+shown_same (Mine m a) (Mine n b) p q e = cc (decimal_injective m n p.0 q.0 (cc), content_same a b p.1 q.1 (cc))
+shown_same a b p q e =
+    let same : is_mine a ≡ is_mine b = sym (mine_word a) ∙ ap (λ words. bytes_eq (second_word words) (codes "mine")) e ∙ mine_word b in
+    absurd cc
+
+number_shown : (n : ℕ) (shown : Shown) (rest : List (List ℕ)) → n < 2 ^ 64 → codes "ok" ∷ decimal n ∷ rest ≡ shown_words shown → ⊥
+number_shown n (Clean version content) rest h e = no_letter n 99 (codes "lean") h (cc) (omega arith)
+number_shown n (Mine number content) rest h e = no_letter n 109 (codes "ine") h (cc) (omega arith)
+
+some_word : (content : Content) → HasValue content → content_words content ≡ [] → ⊥
+some_word Gone h e = cc
+some_word (Row [] objects) h e = h
+some_word (Row (cell ∷ some) objects) h e = cc
+
+abbrev is_refused : Answer → Bool
+is_refused answers.Done = false
+is_refused (answers.Number number) = false
+is_refused (answers.Shown shown) = false
+is_refused (answers.Stored version content) = false
+is_refused (answers.Refused refusal) = true
+
+refused_word : (answer : Answer) → bytes_eq (first_word (answer_words answer)) (codes "no") ≡ is_refused answer
+refused_word answers.Done = refl
+refused_word (answers.Number number) = refl
+refused_word (answers.Shown (Clean version content)) = refl
+refused_word (answers.Shown (Mine number content)) = refl
+refused_word (answers.Stored version content) = refl
+refused_word (answers.Refused (refusals.BadCell column)) = refl
+refused_word (answers.Refused (refusals.BadObject column len)) = refl
+refused_word (answers.Refused refusals.NoTable) = refl
+refused_word (answers.Refused refusals.NoRow) = refl
+refused_word (answers.Refused (refusals.NoPacket sent)) = refl
+
+answer_same : (a b : Answer) → HasAnswerText a → HasAnswerText b → answer_words a ≡ answer_words b → a ≡ b
+answer_same answers.Done answers.Done p q e = refl
+answer_same (answers.Number m) (answers.Number n) p q e = ap answers.Number (decimal_injective m n p q (cc))
+answer_same (answers.Shown a) (answers.Shown b) p q e = ap answers.Shown (shown_same a b p q e)
+answer_same (answers.Stored m a) (answers.Stored n b) p q e = cc (decimal_injective m n p.0 q.0 (cc), content_same a b p.1 q.1 (cc))
+answer_same (answers.Refused a) (answers.Refused b) p q e = ap answers.Refused (refusal_same a b p q e)
+answer_same (answers.Number m) (answers.Shown shown) p q e = absurd (number_shown m shown [] p e)
+answer_same (answers.Shown shown) (answers.Number n) p q e = absurd (number_shown n shown [] q (sym e))
+answer_same (answers.Stored m content) (answers.Shown shown) p q e = absurd (number_shown m shown (content_words content) p.0 e)
+answer_same (answers.Shown shown) (answers.Stored n content) p q e = absurd (number_shown n shown (content_words content) q.0 (sym e))
+answer_same (answers.Number m) (answers.Stored n content) p q e = absurd (some_word content q.2 (cc))
+answer_same (answers.Stored m content) (answers.Number n) p q e = absurd (some_word content p.2 (cc))
+answer_same answers.Done (answers.Shown (Clean v c)) p q e = absurd cc
+answer_same answers.Done (answers.Shown (Mine v c)) p q e = absurd cc
+answer_same (answers.Shown (Clean v c)) answers.Done p q e = absurd cc
+answer_same (answers.Shown (Mine v c)) answers.Done p q e = absurd cc
+answer_same answers.Done (answers.Number n) p q e = absurd cc
+answer_same (answers.Number n) answers.Done p q e = absurd cc
+answer_same answers.Done (answers.Stored v c) p q e = absurd cc
+answer_same (answers.Stored v c) answers.Done p q e = absurd cc
+answer_same a b p q e =
+    let same : is_refused a ≡ is_refused b = sym (refused_word a) ∙ ap (λ words. bytes_eq (first_word words) (codes "no")) e ∙ refused_word b in
+    absurd cc
+
+kind_of : TextLine → ℕ
+kind_of (lines.Answer answer) = 0
+kind_of (lines.Entry table entry) = 1
+kind_of (lines.Fact fact) = 2
+
+kind_in : List ℕ → ℕ
+kind_in word = cond (bytes_eq word (codes "ok") || bytes_eq word (codes "no")) 0 (cond (bytes_eq word (codes "entry")) 1 2)
+
+answer_kind : (answer : Answer) → kind_in (first_word (answer_words answer)) ≡ 0
+unfolding kind_in
+answer_kind answers.Done = refl
+answer_kind (answers.Number number) = refl
+answer_kind (answers.Shown (Clean version content)) = refl
+answer_kind (answers.Shown (Mine number content)) = refl
+answer_kind (answers.Stored version content) = refl
+answer_kind (answers.Refused (refusals.BadCell column)) = refl
+answer_kind (answers.Refused (refusals.BadObject column len)) = refl
+answer_kind (answers.Refused refusals.NoTable) = refl
+answer_kind (answers.Refused refusals.NoRow) = refl
+answer_kind (answers.Refused (refusals.NoPacket sent)) = refl
+
+fact_kind : (fact : Fact) → kind_in (first_word (fact_words fact)) ≡ 2
+unfolding kind_in
+fact_kind (facts.Sent packet from to name) = refl
+fact_kind (facts.Wrote write) = refl
+fact_kind (facts.Acked client number table row version) = refl
+fact_kind (facts.New client table row version) = refl
+fact_kind (facts.Position client table position) = refl
+fact_kind (facts.Accepted table entry) = refl
+
+line_kind : (line : TextLine) → kind_in (first_word (words_of line)) ≡ kind_of line
+unfolding kind_in kind_of
+line_kind (lines.Answer answer) = answer_kind answer
+line_kind (lines.Entry table entry) = refl
+line_kind (lines.Fact fact) = fact_kind fact
+
+words_same : (a b : TextLine) → HasText a → HasText b → words_of a ≡ words_of b → a ≡ b
+unfolding kind_of
+words_same (lines.Answer a) (lines.Answer b) p q e = ap lines.Answer (answer_same a b p q e)
+words_same (lines.Entry s a) (lines.Entry t b) p q e = let same = entry_same s t a b p q (cc) in cc (same.0, same.1)
+words_same (lines.Fact a) (lines.Fact b) p q e = ap lines.Fact (fact_same a b p q e)
+words_same a b p q e =
+    let same : kind_of a ≡ kind_of b = sym (line_kind a) ∙ ap (λ words. kind_in (first_word words)) e ∙ line_kind b in
+    absurd (omega (arith, same))
+
+pub line_same : (a b : TextLine) → HasText a → HasText b → text_of a ≡ text_of b → a ≡ b
+line_same a b p q e =
+    words_same a b p q
+    (led_same 32 (words_of a) (words_of b) (words_above a p) (words_above b q) (sym (text_led a) ∙ ap (λ text. 32 ∷ text) e ∙ text_led b))
+
+pub text_above : (line : TextLine) → HasText line → IsAbove 10 (text_of line)
+text_above line h = (subst (IsAbove 10) (sym (text_led line)) (led_above 32 10 (words_of line) (omega arith) (words_above line h))).1

@@ -1,0 +1,97 @@
+-- What the values of the program's types meet, as far as contents have cells of numbers only and no objects: of such
+-- lines each text is that of one line alone. Other kinds of cells, and objects, are left out here.
+use Rattle.std.specs.Prelude.{◌≡◌, ℕ, ◌<◌, ◌^◌, List, [], ◌∷◌, length, All, FitsSigned}
+use Rattle.std.specs.Int.{w64}
+use Rattle.std.specs.List.{AllByRecursion}
+use Rattle.row_value.specs.declared.content.Cell.{Cell}
+use Rattle.row_value.specs.declared.content.Cell.TheVariants as cells
+use Rattle.row_value.specs.declared.content.Content.{Content}
+use Rattle.row_value.specs.declared.content.Content.TheVariants.{Gone, Row}
+use Rattle.table_model.specs.declared.entry.Entry.{Entry}
+use Rattle.table_model.specs.declared.node.Node.{Node}
+use Rattle.table_model.specs.declared.node.Node.TheVariants as nodes
+use Rattle.table_model.specs.declared.line.Write.{Write}
+use Rattle.table_model.specs.declared.line.Shown.{Shown}
+use Rattle.table_model.specs.declared.line.Shown.TheVariants.{Clean, Mine}
+use Rattle.table_model.specs.declared.line.Refusal.{Refusal}
+use Rattle.table_model.specs.declared.line.Refusal.TheVariants as refusals
+use Rattle.table_model.specs.declared.line.Answer.{Answer}
+use Rattle.table_model.specs.declared.line.Answer.TheVariants as answers
+use Rattle.table_model.specs.declared.line.Fact.{Fact}
+use Rattle.table_model.specs.declared.line.Fact.TheVariants as facts
+use Rattle.table_model.specs.declared.line.TextLine.{TextLine}
+use Rattle.table_model.specs.declared.line.TextLine.TheVariants as lines
+
+-- a number, of 64 bits and either sign
+abbrev pub IsNumberCell : Cell → Type 0
+IsNumberCell (cells.Int n) = FitsSigned w64 n
+IsNumberCell (cells.Bool b) = ⊥
+IsNumberCell (cells.Text text) = ⊥
+
+abbrev pub HasContentText : Content → Type 0
+HasContentText Gone = Unit {0}
+HasContentText (Row some objects) = AllByRecursion IsNumberCell some × (objects ≡ [])
+
+abbrev pub HasRefusalText : Refusal → Type 0
+HasRefusalText (refusals.BadCell column) = column < 2 ^ 64
+HasRefusalText (refusals.BadObject column len) = (column < 2 ^ 64) × (len < 2 ^ 64)
+HasRefusalText refusals.NoTable = Unit {0}
+HasRefusalText refusals.NoRow = Unit {0}
+HasRefusalText (refusals.NoPacket sent) = sent < 2 ^ 64
+
+-- gone, or with a value; a row without one has the text of a number
+abbrev pub HasValue : Content → Type 0
+HasValue Gone = Unit {0}
+HasValue (Row [] objects) = ⊥
+HasValue (Row (cell ∷ some) objects) = Unit {0}
+
+abbrev pub HasShownText : Shown → Type 0
+HasShownText (Clean version content) = (version < 2 ^ 64) × HasContentText content
+HasShownText (Mine number content) = (number < 2 ^ 64) × HasContentText content
+
+abbrev pub HasAnswerText : Answer → Type 0
+HasAnswerText answers.Done = Unit {0}
+HasAnswerText (answers.Number number) = number < 2 ^ 64
+HasAnswerText (answers.Shown shown) = HasShownText shown
+HasAnswerText (answers.Stored version content) = (version < 2 ^ 64) × HasContentText content × HasValue content
+HasAnswerText (answers.Refused refusal) = HasRefusalText refusal
+
+-- 16 bytes
+pub record HasRowText (row : List ℕ) : Type 0 where
+  pub size : length row ≡ 16
+  pub bytes : All (λ b. b < 256) row
+
+pub record HasWriteText (write : Write) : Type 0 where
+  pub client : write.client < 2 ^ 32
+  pub number : write.number < 2 ^ 64
+  pub table : write.table < 2 ^ 32
+  pub row : HasRowText write.row
+  pub read : write.read < 2 ^ 64
+  pub content : HasContentText write.content
+
+pub record HasEntryText (place : ℕ) (entry : Entry) : Type 0 where
+  pub table : place < 2 ^ 32
+  pub row : HasRowText entry.row
+  pub version : entry.version < 2 ^ 64
+  pub client : entry.client < 2 ^ 32
+  pub number : entry.number < 2 ^ 64
+  pub base : entry.base < 2 ^ 64
+
+abbrev pub HasNodeText : Node → Type 0
+HasNodeText (nodes.Client client) = client < 2 ^ 32
+HasNodeText (nodes.Gate gate) = gate < 2 ^ 32
+HasNodeText (nodes.Store store) = store < 2 ^ 32
+
+abbrev pub HasFactText : Fact → Type 0
+HasFactText (facts.Sent packet from to name) = (packet < 2 ^ 64) × HasNodeText from × HasNodeText to
+HasFactText (facts.Wrote write) = HasWriteText write
+HasFactText (facts.Acked client number table row version) =
+    (client < 2 ^ 32) × (number < 2 ^ 64) × (table < 2 ^ 32) × HasRowText row × (version < 2 ^ 64)
+HasFactText (facts.New client table row version) = (client < 2 ^ 32) × (table < 2 ^ 32) × HasRowText row × (version < 2 ^ 64)
+HasFactText (facts.Position client table position) = (client < 2 ^ 32) × (table < 2 ^ 32) × (position < 2 ^ 64)
+HasFactText (facts.Accepted table entry) = HasEntryText table entry
+
+abbrev pub HasText : TextLine → Type 0
+HasText (lines.Answer answer) = HasAnswerText answer
+HasText (lines.Entry table entry) = HasEntryText table entry
+HasText (lines.Fact fact) = HasFactText fact

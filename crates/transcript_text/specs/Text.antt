@@ -1,0 +1,108 @@
+-- The text of each line of a transcript, without its newline.
+use Rattle.std.specs.Prelude.{ℕ, true, false, List, [], ◌∷◌, ◌++◌, codes}
+use Rattle.std.specs.List.{flat_map}
+use Rattle.std.specs.Fmt.{decimal, signed_decimal}
+use Rattle.uuid.specs.Text.{hyphenated_text, lower}
+use Rattle.percent_encoding.specs.Percent.{percent_encode}
+use Rattle.transcript_text.specs.declared.print.TheConstants.{ESCAPED}
+use Rattle.hex.specs.Hex.{encode_lower}
+use Rattle.row_value.specs.declared.content.Cell.{Cell}
+use Rattle.row_value.specs.declared.content.Cell.TheVariants as cells
+use Rattle.row_value.specs.declared.content.Content.{Content}
+use Rattle.row_value.specs.declared.content.Content.TheVariants.{Gone, Row}
+use Rattle.table_model.specs.declared.entry.Entry.{Entry}
+use Rattle.table_model.specs.declared.message_name.MessageName.{MessageName}
+use Rattle.table_model.specs.declared.message_name.MessageName.TheVariants as kinds
+use Rattle.table_model.specs.declared.node.Node.{Node}
+use Rattle.table_model.specs.declared.node.Node.TheVariants as nodes
+use Rattle.table_model.specs.declared.line.Write.{Write}
+use Rattle.table_model.specs.declared.line.Shown.{Shown}
+use Rattle.table_model.specs.declared.line.Shown.TheVariants.{Clean, Mine}
+use Rattle.table_model.specs.declared.line.Refusal.{Refusal}
+use Rattle.table_model.specs.declared.line.Refusal.TheVariants as refusals
+use Rattle.table_model.specs.declared.line.Answer.{Answer}
+use Rattle.table_model.specs.declared.line.Answer.TheVariants as answers
+use Rattle.table_model.specs.declared.line.Fact.{Fact}
+use Rattle.table_model.specs.declared.line.Fact.TheVariants as facts
+use Rattle.table_model.specs.declared.line.TextLine.{TextLine}
+use Rattle.table_model.specs.declared.line.TextLine.TheVariants as lines
+
+-- each value has a space before it
+abbrev pub cell_text : Cell → List ℕ
+cell_text (cells.Int n) = 32 ∷ signed_decimal n
+cell_text (cells.Bool true) = codes " true"
+cell_text (cells.Bool false) = codes " false"
+cell_text (cells.Text text) = codes " t:" ++ percent_encode ESCAPED text
+
+abbrev pub object_text : List ℕ → List ℕ
+object_text object = codes " h:" ++ encode_lower object
+
+abbrev pub content_text : Content → List ℕ
+content_text Gone = codes " gone"
+content_text (Row some objects) = flat_map cell_text some ++ flat_map object_text objects
+
+abbrev pub refusal_text : Refusal → List ℕ
+refusal_text (refusals.BadCell column) = codes "no 10 " ++ decimal column
+refusal_text (refusals.BadObject column len) = codes "no 11 " ++ (decimal column ++ (codes " " ++ decimal len))
+refusal_text refusals.NoTable = codes "no 18"
+refusal_text refusals.NoRow = codes "no 27"
+refusal_text (refusals.NoPacket sent) = codes "no 29 " ++ decimal sent
+
+abbrev pub shown_text : Shown → List ℕ
+shown_text (Clean version content) = codes "ok clean " ++ (decimal version ++ content_text content)
+shown_text (Mine number content) = codes "ok mine " ++ (decimal number ++ content_text content)
+
+abbrev pub answer_text : Answer → List ℕ
+answer_text answers.Done = codes "ok"
+answer_text (answers.Number number) = codes "ok " ++ decimal number
+answer_text (answers.Shown shown) = shown_text shown
+answer_text (answers.Stored version content) = codes "ok " ++ (decimal version ++ content_text content)
+answer_text (answers.Refused refusal) = refusal_text refusal
+
+abbrev pub write_text : Write → List ℕ
+write_text write =
+    codes "wrote C" ++ (decimal write.client ++ (codes " " ++ (decimal write.number ++ (codes " T" ++ (decimal write.table
+    ++ (codes " " ++ (hyphenated_text lower write.row ++ (codes " " ++ (decimal write.read ++ content_text write.content)))))))))
+
+-- each party and each name of a message has a space before it
+abbrev pub node_text : Node → List ℕ
+node_text (nodes.Client client) = codes " C" ++ decimal client
+node_text (nodes.Gate gate) = codes " G" ++ decimal gate
+node_text (nodes.Store store) = codes " S" ++ decimal store
+
+abbrev pub message_text : MessageName → List ℕ
+message_text kinds.PullRequest = codes " pullRequest"
+message_text kinds.PullResponse = codes " pullResponse"
+message_text kinds.SyncRequest = codes " syncRequest"
+message_text kinds.SyncResponse = codes " syncResponse"
+
+-- an entry of a table, behind the word that a line begins with
+abbrev pub entry_text : ℕ → Entry → List ℕ
+entry_text table entry =
+    codes " T" ++ (decimal table ++ (codes " " ++ (decimal entry.version ++ (codes " " ++ (hyphenated_text lower entry.row
+    ++ (codes " C" ++ (decimal entry.client ++ (codes " " ++ (decimal entry.number ++ (codes " " ++ decimal entry.base))))))))))
+
+abbrev pub fact_text : Fact → List ℕ
+fact_text (facts.Sent packet from to name) = codes "sent " ++ (decimal packet ++ (node_text from ++ (node_text to ++ message_text name)))
+fact_text (facts.Wrote write) = write_text write
+fact_text (facts.Acked client number table row version) =
+    codes "acked C" ++ (decimal client ++ (codes " " ++ (decimal number ++ (codes " T" ++ (decimal table
+    ++ (codes " " ++ (hyphenated_text lower row ++ (codes " " ++ decimal version))))))))
+fact_text (facts.New client table row version) =
+    codes "new C" ++ (decimal client ++ (codes " T" ++ (decimal table ++ (codes " " ++ (hyphenated_text lower row ++ (codes " " ++ decimal version))))))
+fact_text (facts.Position client table position) =
+    codes "position C" ++ (decimal client ++ (codes " T" ++ (decimal table ++ (codes " " ++ decimal position))))
+fact_text (facts.Accepted table entry) = codes "accepted" ++ entry_text table entry
+
+abbrev pub text_of : TextLine → List ℕ
+text_of (lines.Answer answer) = answer_text answer
+text_of (lines.Entry table entry) = codes "entry" ++ entry_text table entry
+text_of (lines.Fact fact) = fact_text fact
+
+-- the text of a line that says why a run stopped: the status that the program ends with, the line of the script, a code
+abbrev pub stop_text : ℕ → ℕ → ℕ → List ℕ
+stop_text status line code = codes "stop " ++ (decimal status ++ (codes " " ++ (decimal line ++ (codes " " ++ decimal code))))
+
+-- the text of a whole transcript: each line ends with a newline
+abbrev pub transcript_text : List TextLine → List ℕ
+transcript_text told = flat_map (λ (line : TextLine). text_of line ++ 10 ∷ []) told

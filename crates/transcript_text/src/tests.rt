@@ -1,0 +1,251 @@
+use crate::{line_text, stop_text};
+use row_value::{Bytes, Cell, Content, RowId, Sequence};
+use std::alloc::Global;
+use std::process::Abort;
+use std::test::Fail;
+use table_model::{Answer, Entry, Fact, MessageName, Node, Refusal, Shown, TextLine, Write};
+
+fn row(last: u8) -> RowId {
+    RowId::from_bytes([0, 0, 0, 0, 0, 0, 0x40, 0, 0x80, 0, 0, 0, 0, 0, 0, last])
+}
+
+fn numbers(alloc: Global, values: &[i64]) -> Result<Content, Fail> {
+    let mut cells = Sequence::new(alloc);
+    for value in values {
+        cells.push(Cell::Int(*value))?;
+    }
+    Ok(Content::Row {
+        cells,
+        objects: Sequence::new(alloc),
+    })
+}
+
+fn check(rt: &impl Abort, alloc: Global, line: &TextLine, text: &str) -> Result<(), Fail> {
+    assert!(rt;
+        line_text(alloc, line)?.as_slice() == text.as_bytes(),
+        "{text}"
+    );
+    Ok(())
+}
+
+fn sent(packet: u64, from: Node, to: Node, name: MessageName) -> TextLine {
+    TextLine::Fact(Fact::Sent {
+        packet,
+        from,
+        to,
+        name,
+    })
+}
+
+#[test]
+fn messages_are_sent(rt: HostRuntime) -> Result<(), Fail> {
+    let cases = [
+        (
+            sent(0, Node::Client(1), Node::Store(1), MessageName::SyncRequest),
+            "sent 0 C1 S1 syncRequest",
+        ),
+        (
+            sent(
+                3,
+                Node::Store(1),
+                Node::Client(2),
+                MessageName::SyncResponse,
+            ),
+            "sent 3 S1 C2 syncResponse",
+        ),
+        (
+            sent(4, Node::Client(2), Node::Gate(16), MessageName::PullRequest),
+            "sent 4 C2 G16 pullRequest",
+        ),
+        (
+            sent(
+                18446744073709551615,
+                Node::Store(1),
+                Node::Client(64),
+                MessageName::PullResponse,
+            ),
+            "sent 18446744073709551615 S1 C64 pullResponse",
+        ),
+    ];
+    for (line, text) in cases.iter() {
+        check(&rt, rt.alloc(), line, text)?;
+    }
+    Ok(())
+}
+
+#[test]
+fn facts_have_their_fields_in_order(rt: HostRuntime) -> Result<(), Fail> {
+    let entry = Entry {
+        row: row(2),
+        version: 3,
+        client: 4,
+        number: 5,
+        base: 6,
+    };
+    let cases = [
+        (
+            TextLine::Fact(Fact::Acked {
+                client: 1,
+                number: 2,
+                table: 3,
+                row: row(1),
+                version: 4,
+            }),
+            "acked C1 2 T3 00000000-0000-4000-8000-000000000001 4",
+        ),
+        (
+            TextLine::Fact(Fact::New {
+                client: 2,
+                table: 1,
+                row: row(171),
+                version: 7,
+            }),
+            "new C2 T1 00000000-0000-4000-8000-0000000000ab 7",
+        ),
+        (
+            TextLine::Fact(Fact::Position {
+                client: 2,
+                table: 1,
+                position: 9,
+            }),
+            "position C2 T1 9",
+        ),
+        (
+            TextLine::Fact(Fact::Accepted { table: 1, entry }),
+            "accepted T1 3 00000000-0000-4000-8000-000000000002 C4 5 6",
+        ),
+        (
+            TextLine::Entry { table: 2, entry },
+            "entry T2 3 00000000-0000-4000-8000-000000000002 C4 5 6",
+        ),
+    ];
+    for (line, text) in cases.iter() {
+        check(&rt, rt.alloc(), line, text)?;
+    }
+    Ok(())
+}
+
+#[test]
+fn a_write_has_its_content(rt: HostRuntime) -> Result<(), Fail> {
+    let write = Write {
+        client: 1,
+        number: 2,
+        table: 3,
+        row: row(1),
+        read: 4,
+        content: numbers(rt.alloc(), &[5, -7])?,
+    };
+    check(
+        &rt,
+        rt.alloc(),
+        &TextLine::Fact(Fact::Wrote(write)),
+        "wrote C1 2 T3 00000000-0000-4000-8000-000000000001 4 5 -7",
+    )
+}
+
+#[test]
+fn answers_show_rows(rt: HostRuntime) -> Result<(), Fail> {
+    let alloc = rt.alloc();
+    let cases = [
+        (
+            Answer::Shown(Shown::Clean {
+                version: 1,
+                content: numbers(alloc, &[5, 7])?,
+            }),
+            "ok clean 1 5 7",
+        ),
+        (
+            Answer::Shown(Shown::Clean {
+                version: 2,
+                content: Content::Gone,
+            }),
+            "ok clean 2 gone",
+        ),
+        (
+            Answer::Shown(Shown::Mine {
+                number: 2,
+                content: numbers(alloc, &[9])?,
+            }),
+            "ok mine 2 9",
+        ),
+        (
+            Answer::Stored {
+                version: 1,
+                content: numbers(alloc, &[5, 7])?,
+            },
+            "ok 1 5 7",
+        ),
+        (
+            Answer::Stored {
+                version: 2,
+                content: Content::Gone,
+            },
+            "ok 2 gone",
+        ),
+        (Answer::Done, "ok"),
+        (
+            Answer::Number(18446744073709551615),
+            "ok 18446744073709551615",
+        ),
+    ];
+    for (answer, text) in cases {
+        check(&rt, alloc, &TextLine::Answer(answer), text)?;
+    }
+    Ok(())
+}
+
+const REFUSED: [(Refusal, &str); 5] = [
+    (Refusal::BadCell { column: 1 }, "no 10 1"),
+    (
+        Refusal::BadObject {
+            column: 0,
+            len: 4194305,
+        },
+        "no 11 0 4194305",
+    ),
+    (Refusal::NoTable, "no 18"),
+    (Refusal::NoRow, "no 27"),
+    (Refusal::NoPacket { sent: 3 }, "no 29 3"),
+];
+
+#[test]
+fn refusals_have_their_numbers(rt: HostRuntime) -> Result<(), Fail> {
+    for (refusal, text) in REFUSED {
+        check(
+            &rt,
+            rt.alloc(),
+            &TextLine::Answer(Answer::Refused(refusal)),
+            text,
+        )?;
+    }
+    Ok(())
+}
+
+#[test]
+fn other_values_have_their_texts(rt: HostRuntime) -> Result<(), Fail> {
+    let alloc = rt.alloc();
+    let mut cells = Sequence::new(alloc);
+    cells.push(Cell::Bool(true))?;
+    cells.push(Cell::Bool(false))?;
+    cells.push(Cell::Text(Bytes::from_slice(alloc, b"a b%~")?))?;
+    let mut objects = Sequence::new(alloc);
+    objects.push(Bytes::from_slice(alloc, &[0, 0xab])?)?;
+    objects.push(Bytes::new(alloc))?;
+    let content = Content::Row { cells, objects };
+    check(
+        &rt,
+        alloc,
+        &TextLine::Answer(Answer::Stored {
+            version: 1,
+            content,
+        }),
+        "ok 1 true false t:a%20b%25~ h:00ab h:",
+    )
+}
+
+#[test]
+fn a_stop_has_three_numbers(rt: HostRuntime) -> Result<(), Fail> {
+    let text = stop_text(rt.alloc(), 7, 12, 4)?;
+    assert!(rt; text.as_slice() == b"stop 7 12 4".as_slice());
+    Ok(())
+}

@@ -22,14 +22,19 @@ use Rattle.stab_io.specs.declared.limits.TheConstants.{LINE_LIMIT, INPUT_LIMIT}
 use Rattle.script_text.specs.Names.{Names, no_names, with_event}
 use Rattle.script_text.specs.Grammar.{IsPassed, Spells}
 use Rattle.transcript_text.specs.Text.{text_of, transcript_text}
+use Rattle.simba_top.specs.declared.stop.Stop.{Stop}
+use Rattle.simba_top.specs.declared.stop.Stop.TheVariants as stops
 use Rattle.simba_top.specs.declared.turn.Run.{Run}
 use Rattle.simba_top.specs.declared.run.TheConstants.{MOST_LINES}
 use Rattle.world_steps.specs.Holds.{Holds}
+use Rattle.world_steps.specs.Holds.{IsCause as IsWorldCause}
+use Rattle.world_steps.specs.declared.fault.WorldFault.{WorldFault}
+use Rattle.world_steps.specs.declared.fault.WorldFault.TheVariants as world_faults
 use Rattle.run_laws.specs.World as laws
-use Rattle.simba_top.specs.RowNames.{HasRows, FewRows}
+use Rattle.simba_top.specs.RowNames.{HasRows, FewRows, IsRowCause}
 use Rattle.simba_top.specs.declared.row_names.RowNames.{RowNames}
 use Rattle.simba_top.specs.Script.{next_in, IsFront, IsWhole}
-use Rattle.simba_top.specs.Stops.{of_line}
+use Rattle.simba_top.specs.Stops.{of_line, of_world}
 use Rattle.simba_top.specs.Ends.{text_of_run, IsFull, IsLimitAt, IsCutOff}
 use Rattle.simba_top.specs.Stands.{IsReady, Stands, HasLine, GoesOn, IsCause}
 use Rattle.world_steps.specs.declared.world.World.{World}
@@ -213,3 +218,27 @@ module _ (input : List ℕ) (script : List Event) (line : List ℕ) (run : Run) 
         },
         goes.1,
       )
+
+  -- why the line isn't carried out
+
+  pub row_stops : (event : Event) (stop : Stop) → Spells run.names line event → IsRowCause script event stop → IsCause stop input script run.count left
+  row_stops event stops.Memory spells cause = (run.names, has.before, has.front)
+  row_stops event (stops.Limit limit) spells cause = record {
+    names = run.names;
+    rest = has.before;
+    front = has.front;
+    passes = inr (inr (inr (inr (inl (cause.0, few, (line, has.rest, event, has.next, spells, cause.1))))));
+  }
+  row_stops event stops.Read spells cause = absurd cause
+  row_stops event stops.Put spells cause = absurd cause
+  row_stops event (stops.BadLine fault) spells cause = absurd cause
+
+  pub world_stops : (event : Event) (fault : WorldFault) → Spells run.names line event → IsWorldCause (world_after script) event fault
+      → IsCause (of_world fault) input script run.count left
+  world_stops event world_faults.Memory spells cause = (run.names, has.before, has.front)
+  world_stops event (world_faults.Limit code count) spells cause = record {
+    names = run.names;
+    rest = has.before;
+    front = has.front;
+    passes = inr (inr (inr (inl (cause.0, few, (line, has.rest, event, has.next, spells, cause.2)))));
+  }

@@ -1,5 +1,5 @@
 //! The rows that a script names, table by table.
-ghost use Rattle.std.specs.Prelude.{◌≡◌, ◌⊎◌, ◌++◌, ◌∷◌, [], ◌<◌, ◌≤◌, ℕ, List, length, Some, IfOk, IfErr, OnOk};
+ghost use Rattle.std.specs.Prelude.{◌≡◌, ◌≢◌, ◌⊎◌, ◌++◌, ◌∷◌, [], ◌<◌, ◌≤◌, ℕ, List, length, Some, IfOk, IfErr, OnOk};
 ghost use Rattle.std.specs.Ordering.{nat_cmp};
 ghost use Rattle.std.specs.Cmp.Lexicographic.{slice_cmp};
 ghost use Rattle.std.specs.BTreeSet.{insert_key};
@@ -70,6 +70,7 @@ impl RowNames {
     fn add_row(&mut self, table: TableNo, row: &RowId) -> Result<(), Stop>
         ensures rows { OnOk result ((q : ℕ) → rows_in self.new q ≡ with_row (Some (table, row.now)) q (rows_in self.old q)) }
         ensures few { OnOk result (length (rows_in self.new table) ≤ MOST_ROWS) }
+        ensures fault { IfErr result (λ stop. (stop ≢ Stop.Read) × (stop ≢ Stop.Put)) }
         ensures cause { IfErr result (λ stop. (stop ≡ Stop.Memory)
             ⊎ ((stop ≡ Stop.Limit 9) × (MOST_ROWS < length (with_row (Some (table, row.now)) table (rows_in self.old table))))) }
     {
@@ -84,6 +85,7 @@ impl RowNames {
         ensures rows { (script : List AnEvent) → HasRows script self.old → OnOk result (HasRows (script ++ event.now ∷ []) self.new) }
         ensures few { (script : List AnEvent) → HasRows script self.old → FewRows script → OnOk result (FewRows (script ++ event.now ∷ [])) }
         ensures cause { (script : List AnEvent) → HasRows script self.old → IfErr result (IsRowCause script event.now) }
+        ensures fault { IfErr result (λ stop. (stop ≢ Stop.Read) × (stop ≢ Stop.Put)) }
     {
         match row_in(event) {
             Some((table, row)) => self.add_row(table, row),

@@ -2,4 +2,10 @@
 #![tactic(auto)]
 
 #[cfg(test)]
+mod limits;
+#[cfg(test)]
+mod nodes;
+#[cfg(test)]
+mod runs;
+#[cfg(test)]
 mod tests;

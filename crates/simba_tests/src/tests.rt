@@ -1,7 +1,4 @@
-use run_laws::plain_transcript;
-use script_text::{Declared, line_text, parse_line};
-use simba_top::run_simba;
-use stab_io::{MemSink, MemSource};
+use crate::runs::{check, ends, limited, texts};
 use std::alloc::Global;
 use std::process::Abort;
 use std::test::Fail;
@@ -18,42 +15,6 @@ const FIRST_LINES: [&str; 5] = [
 ];
 
 const DECLARED: &str = "store S1\ntable T1 notes eventual 64 n:int\nclient C1 - T1\n";
-
-fn texts(alloc: Global, parts: &[&str]) -> Result<Vec<u8>, Fail> {
-    let mut text = Vec::new(alloc);
-    for part in parts {
-        text.extend_from_slice(part.as_bytes())?;
-    }
-    Ok(text)
-}
-
-// The status, and what the sink holds.
-fn ends(
-    alloc: Global,
-    word: &str,
-    script: Vec<u8>,
-    takes: &[u64],
-    puts: &[u64],
-) -> Result<(u8, Vec<u8>), Fail> {
-    let words = vec![in alloc; String::from_str(alloc, word)?]?;
-    let mut source = MemSource::new(script, Vec::from_slice(alloc, takes)?);
-    let mut sink = MemSink::new(alloc, Vec::from_slice(alloc, puts)?);
-    let status = run_simba(alloc, &words, &mut source, &mut sink);
-    Ok((status, sink.into_bytes()))
-}
-
-fn check(
-    rt: &impl Abort,
-    alloc: Global,
-    script: &[&str],
-    status: u8,
-    output: &[&str],
-) -> Result<(), Fail> {
-    let (ended, written) = ends(alloc, "run", texts(alloc, script)?, &[], &[])?;
-    assert_eq!(rt; ended, status);
-    assert!(rt; written.as_slice() == texts(alloc, output)?.as_slice());
-    Ok(())
-}
 
 #[test]
 fn nothing_gives_nothing(rt: HostRuntime) -> Result<(), Fail> {
@@ -83,7 +44,7 @@ const BAD_LINES: [(&str, &str); 6] = [
         "show C1 T1 00000000-0000-4000-8000-000000000001 x\n",
         "stop 3 4 3\n",
     ),
-    ("client C2 - T1\n", "stop 3 4 12\n"),
+    ("client C2 G1 T1\n", "stop 3 4 12\n"),
     ("store S1\n", "stop 3 4 9\n"),
 ];
 
@@ -185,19 +146,6 @@ fn numbers_of_declarations_above_their_limits(rt: HostRuntime) -> Result<(), Fai
     Ok(())
 }
 
-fn limited(
-    rt: &impl Abort,
-    alloc: Global,
-    script: Vec<u8>,
-    status: u8,
-    output: &str,
-) -> Result<(), Fail> {
-    let (ended, written) = ends(alloc, "run", script, &[], &[])?;
-    assert_eq!(rt; ended, status, "{output}");
-    assert!(rt; written.as_slice() == output.as_bytes(), "{output}");
-    Ok(())
-}
-
 #[test]
 fn most_lines(rt: HostRuntime) -> Result<(), Fail> {
     limited(
@@ -293,46 +241,4 @@ fn longest_input(rt: HostRuntime) -> Result<(), Fail> {
         7,
         "stop 7 3 1\n",
     )
-}
-
-// The transcript of a script by the plain program, as text.
-fn plainly(alloc: Global, script: &[&str]) -> Result<Vec<u8>, Fail> {
-    let mut names = Declared::new(alloc);
-    let mut events = Vec::new(alloc);
-    for line in script {
-        if let Some(event) = parse_line(alloc, line.as_bytes(), &names)? {
-            names.add(&event)?;
-            events.push(event)?;
-        }
-    }
-    let mut text = Vec::new(alloc);
-    for line in plain_transcript(alloc, &events)?.iter() {
-        text.extend_from_slice(line_text(alloc, line)?.as_slice())?;
-        text.push(b'\n')?;
-    }
-    Ok(text)
-}
-
-const MANY: [&str; 9] = [
-    "store S1\n",
-    "table T1 notes eventual 64 n:int\n",
-    "client C1 - T1\n",
-    "write C1 T1 00000000-0000-4000-8000-000000000002 1\n",
-    "write C1 T1 00000000-0000-4000-8000-000000000001 2 3\n",
-    "write C1 T1 00000000-0000-4000-8000-000000000001 -4\n",
-    "write C1 T1 00000000-0000-4000-8000-000000000002 5\n",
-    "show C1 T1 00000000-0000-4000-8000-000000000002\n",
-    "show C1 T1 00000000-0000-4000-8000-000000000003\n",
-];
-
-#[test]
-fn the_plain_program_writes_the_same(rt: HostRuntime) -> Result<(), Fail> {
-    let mut lines = Vec::new(rt.alloc());
-    for line in MANY {
-        lines.push(line.trim_end_matches('\n'))?;
-    }
-    let (status, written) = ends(rt.alloc(), "run", texts(rt.alloc(), &MANY)?, &[], &[])?;
-    assert_eq!(rt; status, 0);
-    assert!(rt; written.as_slice() == plainly(rt.alloc(), &lines)?.as_slice());
-    Ok(())
 }

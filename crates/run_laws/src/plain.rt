@@ -79,10 +79,9 @@ fn last_write<'a>(
 {
     match lines {
         [] => None,
-        [line, more @ ..] => match last_write(more, client, table, row) {
-            Some(write) => Some(write),
-            None => told_on(line, client, table, row),
-        },
+        [line, more @ ..] => {
+            last_write(more, client, table, row).or(told_on(line, client, table, row))
+        }
     }
 }
 

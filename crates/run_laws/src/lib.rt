@@ -1,10 +1,14 @@
 //! What every transcript keeps, whatever the script.
 #![tactic(auto)]
 
+mod plain;
+
 ghost use Rattle.std.specs.Prelude.{List};
 ghost use Rattle.table_model.specs.declared.event.Event.{Event};
 ghost use Rattle.run_laws.specs.Turns.{turns};
 ghost use Rattle.run_laws.specs.Sound.{IsSound};
+
+pub use plain::{plain_content, plain_history, plain_shown};
 
 /// Every script's transcript is sound, whatever is delivered, lost, repeated or overtaken: each event has one answer in
 /// a form of its command; the versions of each table's history are 1, 2, 3; the writes of each client are numbered

@@ -1,10 +1,9 @@
 -- What the words of a line spell that reads well.
-use Rattle.std.proofs.Common.{◌≡◌, ◌≢◌, ℕ, ◌+◌, Bool, true, false, ltb, List, [], ◌∷◌, map, codes, cond, length, Option, Some, None, Result, Ok, Err, ℤ, refl, sym, ap, ◌∙◌, subst, inl, inr, arith}
+use Rattle.std.proofs.Common.{◌≡◌, ◌≢◌, ℕ, ◌+◌, Bool, true, false, ltb, List, [], ◌∷◌, map, codes, cond, length, Option, Some, None, Result, Ok, Err, ℤ, refl, sym, ap, ◌∙◌, subst, arith}
 use Rattle.std.specs.Result.{MatchResult}
 use Rattle.std.specs.Fmt.{decimal, signed_decimal}
-use Rattle.std.proofs.lemmas.Bool.{cases_Bool, ltb-false}
+use Rattle.std.proofs.lemmas.Bool.{ltb-false}
 use Rattle.row_value.specs.declared.schema.Scheme.{Scheme}
-use Rattle.row_value.specs.declared.schema.Schema.{Schema}
 use Rattle.row_value.specs.declared.schema.Column.{Column}
 use Rattle.row_value.specs.declared.content.Cell.{Cell}
 use Rattle.row_value.specs.declared.content.Cell.TheVariants as cells
@@ -18,9 +17,9 @@ use Rattle.script_text.specs.declared.verb.Verb.TheVariants as verbs
 use Rattle.script_text.specs.Faults.{bad}
 use Rattle.script_text.specs.Verbs.{name_of}
 use Rattle.script_text.specs.Names.{Names, has_no_store}
-use Rattle.script_text.specs.Places.{◌>>=◌, value_at, int_column, new_store_at, new_table_at, new_client_at, tables_at, new_name_at, scheme_at, chunk_at}
+use Rattle.script_text.specs.Places.{◌>>=◌, value_at, new_store_at, new_table_at, new_client_at, tables_at, new_name_at, scheme_at, chunk_at}
 use Rattle.script_text.specs.Reading.{placed, made_store, made_table, made_client, store_in, table_in, client_in, cell_in, cells_in, some_cells_in, some_columns_in, write_in, show_in, client_table_in, sync_in, pull_in, deliver_in, store_show_in, history_in, next_in}
-use Rattle.script_text.specs.Grammar.{SpelledBy, AreShort, AreColumns, client_word, table_word, column_word, tables_word, IsClient, IsTable, limit_of, columns_passed}
+use Rattle.script_text.specs.Grammar.{SpelledBy, AreShort, AreColumns, client_word, table_word, column_word, tables_word, IsClient, IsTable, limit_of}
 use Rattle.script_text.proofs.Steps.{ok_err, bind-ok, word_in-ok, end-ok}
 use Rattle.script_text.proofs.Numbers.{packet_at-ok}
 use Rattle.script_text.proofs.Distinct.{new-distinct}
@@ -86,6 +85,10 @@ columns-told : (o : Option ℕ) (name : List ℕ) (scheme : Scheme) (chunk : ℕ
 columns-told o name scheme chunk (Ok columns) e h = (columns, refl, ok_told h)
 columns-told o name scheme chunk (Err fault) e h = absurd (ok_err e fault (sym h))
 
+told-at : (names : Names) (verb : Verb) (ws vs : List (List ℕ)) (told e : Result Event ℕ) → ws ≡ vs → told ≡ e → Told names verb vs told → Told names verb ws e
+told-at names verb ws vs told e words same h =
+    subst (λ (x : Result Event ℕ). Told names verb ws x) {x = told} same (subst (λ (t : List (List ℕ)). Told names verb t told) {x = vs} (sym words) h)
+
 module _ (names : Names) (ws : List (List ℕ)) (e : Result Event ℕ) where
   pub store-ok : names.started ≡ false → store_in names ws ≡ Ok e → Told names verbs.Store ws e
   unfolding store_in
@@ -93,8 +96,7 @@ module _ (names : Names) (ws : List (List ℕ)) (e : Result Event ℕ) where
       let a = word_in-ok _ _ _ ws e h in
       let r = end-ok 2 (made_store a.2) a.1 e a.5 in
       let is : ws ≡ a.0 ∷ [] = cc in
-      subst (λ (x : Result Event ℕ). Told names verbs.Store ws x) r.1
-      (subst (λ (t : List (List ℕ)). Told names verbs.Store t (made_store a.2)) (sym is) (store-told names a.0 a.2 early a.4))
+      told-at names verbs.Store ws (a.0 ∷ []) (made_store a.2) e is r.1 (store-told names a.0 a.2 early a.4)
 
   pub client-ok : names.started ≡ false → client_in names ws ≡ Ok e → Told names verbs.Client ws e
   unfolding client_in
@@ -104,8 +106,8 @@ module _ (names : Names) (ws : List (List ℕ)) (e : Result Event ℕ) where
       let c = word_in-ok _ _ _ b.1 e b.5 in
       let r = end-ok 4 (made_client a.2 c.2) c.1 e c.5 in
       let is : ws ≡ a.0 ∷ b.0 ∷ c.0 ∷ [] = cc in
-      subst (λ (x : Result Event ℕ). Told names verbs.Client ws x) r.1
-      (subst (λ (t : List (List ℕ)). Told names verbs.Client t (made_client a.2 c.2)) (sym is) (client-told names a.0 b.0 c.0 a.2 c.2 early a.4 (gate_at-ok b.0 b.2 b.4) c.4))
+      told-at names verbs.Client ws (a.0 ∷ b.0 ∷ c.0 ∷ []) (made_client a.2 c.2) e is r.1
+      (client-told names a.0 b.0 c.0 a.2 c.2 early a.4 (gate_at-ok b.0 b.2 b.4) c.4)
 
   pub table-ok : names.started ≡ false → has_no_store names ≡ false → table_in names ws ≡ Ok e → Told names verbs.Table ws e
   unfolding table_in
@@ -118,9 +120,8 @@ module _ (names : Names) (ws : List (List ℕ)) (e : Result Event ℕ) where
       let name = new_name_at-ok names b.0 b.2 b.4 in
       let is : ws ≡ a.0 ∷ b.2 ∷ c.0 ∷ d.0 ∷ d.1 = cc (a.3, b.3, c.3, d.3, name.0) in
       let named : new_name_at names b.2 ≡ Ok b.2 = ap (new_name_at names) (sym name.0) ∙ b.4 in
-      subst (λ (x : Result Event ℕ). Told names verbs.Table ws x) k.2
-      (subst (λ (t : List (List ℕ)). Told names verbs.Table t (made_table a.2 (record { name = b.2; scheme = c.2; chunk = d.2; columns = k.0 }))) (sym is)
-      (table-told names a.0 b.2 c.0 d.0 d.1 a.2 c.2 d.2 k.0 early store a.4 named c.4 d.4 k.1))
+      told-at names verbs.Table ws (a.0 ∷ b.2 ∷ c.0 ∷ d.0 ∷ d.1) (made_table a.2 (record { name = b.2; scheme = c.2; chunk = d.2; columns = k.0 })) e is k.2
+      (table-told names a.0 b.2 c.0 d.0 d.1 a.2 c.2 d.2 k.0 early store a.4 named c.4 d.4 k.1)
 
 module _ (names : Names) (ws : List (List ℕ)) where
   client_table-ok : (p : ℕ × ℕ) → client_table_in names ws ≡ Ok p → (ws ≡ client_word p.0 ∷ table_word p.1 ∷ []) × IsClient names p.0 × IsTable names p.1

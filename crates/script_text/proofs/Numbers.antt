@@ -1,7 +1,7 @@
 -- Decimal numbers without leading zeros, and the words of nodes and tables.
-use Rattle.std.proofs.Common.{◌≡◌, ℕ, zero, suc, ◌<◌, ◌≤◌, ◌^◌, Bool, true, false, ◌&&◌, ◌||◌, eqb, ltb, leb, cond, List, [], ◌∷◌, length, get_or, Option, Some, None, Result, Ok, Err, refl, sym, ap, ◌∙◌, subst, inl, inr, arith}
+use Rattle.std.proofs.Common.{◌≡◌, ℕ, zero, suc, ◌<◌, ◌≤◌, ◌^◌, Bool, true, false, ◌&&◌, eqb, ltb, leb, cond, List, [], ◌∷◌, length, get_or, Option, Some, None, Result, Ok, Err, refl, sym, ap, ◌∙◌, subst, inl, inr, arith}
 use Rattle.std.specs.Fmt.{decimal}
-use Rattle.std.specs.Str.{all_ascii_digits, bytes_eq}
+use Rattle.std.specs.Str.{bytes_eq}
 use Rattle.std.specs.Str.Parse.{digits_value, ParsesUnsigned}
 use Rattle.std.proofs.Math.Bool.{or-true}
 use Rattle.std.proofs.lemmas.Bool.{ltb-true, lt-ltb, leb-true, le-leb, cases_Bool, eqb-true, eq-eqb}
@@ -12,7 +12,7 @@ use Rattle.std.proofs.lemmas.Str.Parse.{parse_digits}
 use Rattle.script_text.specs.declared.fault.Code.{Code}
 use Rattle.script_text.specs.declared.fault.Code.TheVariants.{NoName, NoNumber}
 use Rattle.script_text.specs.Words.{is_number, is_length}
-use Rattle.script_text.specs.Places.{◌>>=◌, small, node_at, at_most, limited_at, packet_at}
+use Rattle.script_text.specs.Places.{small, node_at, at_most, limited_at, packet_at}
 use Rattle.script_text.proofs.WordLemmas.{own, both, long, IsNumber-parts, either}
 use Rattle.script_text.proofs.Steps.{ok_err, bind-ok}
 

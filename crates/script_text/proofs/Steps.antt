@@ -1,5 +1,5 @@
 -- A line read word by word: what a reading that succeeds has met, and where one that fails stops.
-use Rattle.std.proofs.Common.{◌≡◌, ℕ, ◌+◌, List, [], ◌∷◌, ◌++◌, Option, Some, None, Result, Ok, Err, ℤ, refl, sym}
+use Rattle.std.proofs.Common.{◌≡◌, ℕ, ◌+◌, List, [], ◌∷◌, ◌++◌, Option, Result, Ok, Err, ℤ, refl, sym}
 use Rattle.std.specs.Option.{MatchOption}
 use Rattle.std.specs.Result.{MatchResult}
 use Rattle.row_value.specs.declared.content.Cell.TheVariants as cells

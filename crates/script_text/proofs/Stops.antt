@@ -1,9 +1,8 @@
 -- Where the first fault of a line is that doesn't read well.
-use Rattle.std.proofs.Common.{◌≡◌, ℕ, List, [], drop, Option, Result, Ok, Err, refl}
+use Rattle.std.proofs.Common.{◌≡◌, ℕ, List, drop, Err, refl}
 use Rattle.script_text.specs.declared.fault.BadLine.{BadLine}
 use Rattle.script_text.specs.declared.verb.Verb.TheVariants as verbs
 use Rattle.script_text.specs.Names.{Names}
-use Rattle.script_text.specs.Places.{◌>>=◌}
 use Rattle.script_text.specs.Reading.{store_in, table_in, client_in, some_cells_in, some_columns_in, write_in, show_in, client_table_in, sync_in, pull_in, deliver_in, store_show_in, history_in}
 use Rattle.script_text.specs.Grammar.{FirstFault, places_of, more_of}
 use Rattle.script_text.proofs.Steps.{bind-err, word_in-err, word_in-fault, end-err, end-fault, some_cells-err, some_cells-fault, some_columns-err, some_columns-fault}

@@ -1,5 +1,5 @@
 -- The words of a line: its text tells them, and they tell the line.
-use Rattle.std.proofs.Common.{◌≡◌, ℕ, ◌≤◌, ◌<◌, ◌^◌, Bool, ◌||◌, cond, List, [], ◌∷◌, ◌++◌, map, codes, true, false, refl, sym, subst, ap, ◌∙◌, arith, rules, length, get_or, true≢false, All, Some, append-nil, inl}
+use Rattle.std.proofs.Common.{◌≡◌, ℕ, ◌≤◌, ◌<◌, ◌^◌, Bool, ◌||◌, cond, List, [], ◌∷◌, ◌++◌, map, codes, true, false, refl, sym, subst, ap, ◌∙◌, arith, rules, length, get_or, All, Some, append-nil, inl}
 use Rattle.std.specs.List.{AllByRecursion, flat_map}
 use Rattle.std.specs.Fmt.{decimal, signed_decimal}
 use Rattle.std.specs.Str.{bytes_eq}
@@ -31,7 +31,7 @@ use Rattle.table_model.specs.declared.line.Fact.{Fact}
 use Rattle.table_model.specs.declared.line.Fact.TheVariants as facts
 use Rattle.table_model.specs.declared.line.TextLine.{TextLine}
 use Rattle.table_model.specs.declared.line.TextLine.TheVariants as lines
-use Rattle.transcript_text.specs.Text.{cell_text, content_text, refusal_text, shown_text, answer_text, write_text, node_text, message_text, entry_text, fact_text, text_of}
+use Rattle.transcript_text.specs.Text.{cell_text, content_text, refusal_text, shown_text, answer_text, node_text, message_text, entry_text, fact_text, text_of}
 use Rattle.transcript_text.specs.OneForm.{IsNumberCell, HasContentText, HasRefusalText, HasValue, HasShownText, HasAnswerText, HasRowText, HasWriteText, HasEntryText, HasNodeText, HasFactText, HasText}
 use Rattle.transcript_text.proofs.Above.{IsAbove, led, led_same, led_above, decimal_above, signed_above, row_above, decimal_first, signed_first}
 

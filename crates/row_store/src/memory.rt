@@ -64,10 +64,9 @@ impl RowMemory {
     ghost use Rattle.row_store.specs.Data.{id_cmp, version_cmp};
     ghost use Rattle.row_store.specs.Memory.{AreByVersion};
 
-    // A row stands in the payload of this index.
-    fn put_row(&mut self, row: RowVersion, index: u64) -> Result<(), AllocError>
-        ensures places { OnOk result (entries_of id_cmp self.new.places
-            ≡ insert_entry id_cmp (entries_of id_cmp self.old.places) row.row (record { version = row.version; index = index })) }
+    // A row stands at this place.
+    fn put_row(&mut self, row: RowId, place: Place) -> Result<(), AllocError>
+        ensures places { OnOk result (entries_of id_cmp self.new.places ≡ insert_entry id_cmp (entries_of id_cmp self.old.places) row place) }
         ensures versions { OnOk result (AreByVersion (entries_of id_cmp self.old.places) (entries_of version_cmp self.old.versions)
             → AreByVersion (entries_of id_cmp self.new.places) (entries_of version_cmp self.new.versions)) }
         ensures no_memory { 1 ≤ spare_of self.old.places → 2 ≤ spare_of self.old.versions → IsOk result }
@@ -76,20 +75,20 @@ impl RowMemory {
         ensures table { self.new.table ≡ self.old.table }
         ensures subs { self.new.subs ≡ self.old.subs }
     {
-        if let Some(place) = self.places.get(row.row) {
+        if let Some(old) = self.places.get(row) {
             self.versions.remove(RowVersion {
-                version: place.version,
-                row: row.row,
+                version: old.version,
+                row,
             })?;
         }
-        self.versions.insert(row, ())?;
-        self.places.insert(
-            row.row,
-            Place {
-                version: row.version,
-                index,
+        self.versions.insert(
+            RowVersion {
+                version: place.version,
+                row,
             },
-        )
+            (),
+        )?;
+        self.places.insert(row, place)
     }
 
     // The table stands in this payload.
@@ -191,7 +190,13 @@ impl Fold for RowMemory {
 
     fn note(&mut self, change: Change, payload: &[u8], index: u64) -> Result<(), AllocError> {
         match change {
-            Change::Row(row) => self.put_row(row, index),
+            Change::Row(row) => self.put_row(
+                row.row,
+                Place {
+                    version: row.version,
+                    index,
+                },
+            ),
             Change::Table => self.put_table(payload),
             Change::Sub(change) => self.put_sub(change),
             Change::Nothing => Ok(()),

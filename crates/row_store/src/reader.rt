@@ -119,12 +119,18 @@ fn keeps(object: &PieceObject) -> bool
     object.pieces.iter().all(is_keep)
 }
 
+fn each_keeps(objects: &[PieceObject]) -> bool
+    ensures { result ≡ list_all (λ object. list_all is_keep object.pieces) objects.now }
+{
+    objects.iter().all(keeps)
+}
+
 fn all_keep(content: &PieceContent) -> bool
     ensures { result ≡ all_keep content.now }
 {
     match content {
         PieceContent::Gone => true,
-        PieceContent::Row { objects, .. } => objects.iter().all(keeps),
+        PieceContent::Row { objects, .. } => each_keeps(objects.as_slice()),
     }
 }
 

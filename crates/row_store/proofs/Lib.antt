@@ -1,6 +1,8 @@
 pub mod Again
 pub mod Versions
+mod Lengths
 mod Above
+mod Shapes
 mod Notes
 mod Maps
 mod Finds

@@ -43,6 +43,7 @@ pub(crate) fn change_in(alloc: Global, payload: &[u8]) -> Result<Change, AllocEr
     }
     match sub_in(payload) {
         Ok(change) => Ok(Change::Sub(change)),
-        Err(_) => Ok(Change::Nothing),
+        Err(SpellFault::Memory) => Err(AllocError),
+        Err(SpellFault::Bad { .. }) => Ok(Change::Nothing),
     }
 }

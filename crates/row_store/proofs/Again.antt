@@ -95,8 +95,8 @@ last_takes before bytes last rest fits e =
           let number : List ℕ = to_be_bytes w64 b.0.0 in
           let version : List ℕ = to_be_bytes w64 c.0.0 in
           let parts : bytes ≡ last_spelling (lasted a.0.0 b.0.0 c.0.0) ++ c.0.1 =
-              t.1 ∙ (ap (λ (l : List ℕ). to_be_bytes w32 a.0.0 ++ l) (u.1 ∙ (ap (λ (l : List ℕ). number ++ l) v.1 ∙ sym (append_assoc number version c.0.1)))
-              ∙ sym (append_assoc (to_be_bytes w32 a.0.0) (number ++ version) c.0.1)) in
+          t.1 ∙ (ap (λ (l : List ℕ). to_be_bytes w32 a.0.0 ++ l) (u.1 ∙ (ap (λ (l : List ℕ). number ++ l) v.1 ∙ sym (append_assoc number version c.0.1)))
+          ∙ sym (append_assoc (to_be_bytes w32 a.0.0) (number ++ version) c.0.1)) in
           subst (λ (p : LastWrite × List ℕ). IsNextLast before p.0 × (bytes ≡ last_spelling p.0 ++ p.1)) (ok_is (lasted a.0.0 b.0.0 c.0.0, c.0.1) (last, rest) y.1)
           (record { above = above; most = most; number = u.0; version = v.0 }, parts)
       | inr n ↦ absurd (no_fault (length bytes) (last, rest) n.1)

@@ -78,11 +78,11 @@ module _ (ps : List (List ℕ)) (p : List ℕ) where
           let held = grown ps p (SaysRow stored) says in
           let some : Option Place = Some place in
           let rows : (data_of more).rows ≡ with_values (row_at more) (insert_entry id_cmp es stored.row place) =
-              ap (λ (d : TableData). d.rows) held
-              ∙ (ap (λ (m : List (List ℕ × StoredRow)). insert_entry id_cmp m stored.row stored) (fit.rows ∙ alike es fit.places)
-              ∙ (ap (insert_entry id_cmp (with_values (row_at more) es) stored.row) (sym stands) ∙ sym (map_changed id_cmp (row_at more) es stored.row some))) in
+          ap (λ (d : TableData). d.rows) held
+          ∙ (ap (λ (m : List (List ℕ × StoredRow)). insert_entry id_cmp m stored.row stored) (fit.rows ∙ alike es fit.places)
+          ∙ (ap (insert_entry id_cmp (with_values (row_at more) es) stored.row) (sym stands) ∙ sym (map_changed id_cmp (row_at more) es stored.row some))) in
           let all : AllValues (IsPlace more) (insert_entry id_cmp es stored.row place) =
-              values_changed id_cmp (IsPlace more) es stored.row some (places_still es fit.places) (λ v is. let same : place ≡ v = cc in subst (IsPlace more) same here) in
+          values_changed id_cmp (IsPlace more) es stored.row some (places_still es fit.places) (λ v is. let same : place ≡ v = cc in subst (IsPlace more) same here) in
           record {
             rows = rows ∙ ap (with_values (row_at more)) (sym places);
             places = subst (AllValues (IsPlace more)) (sym places) all;

@@ -18,7 +18,7 @@ ghost use Rattle.row_store.specs.Standing.{vault_of, held, row_reads, reads_afte
 use crate::change::Change;
 use crate::fault::RowFault;
 use crate::memory::{Place, RowMemory};
-use crate::reader::{row_in, table_in};
+use crate::reader::{row_in, table_in, terms_if};
 use crate::stored::{RowVersion, Rows, StoredRow, Sub, SubChange, Subs, Terms};
 use crate::writer::{write_row, write_sub, write_table};
 use disk_trait::Disk;
@@ -311,8 +311,11 @@ impl<D: Disk + Drop> RowDev<D> {
             tolerance,
         };
         write_sub(&mut self.inner.payload, client, on, terms);
-        let terms = if on { Some(terms) } else { None };
-        self.inner.append(Change::Sub(SubChange { client, terms }))?;
+        let change = SubChange {
+            client,
+            terms: terms_if(on, terms),
+        };
+        self.inner.append(Change::Sub(change))?;
         Ok(())
     }
 

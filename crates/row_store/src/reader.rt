@@ -5,7 +5,7 @@ ghost use Rattle.row_value.specs.Reading.{Gives, content_at, items_at, list_at, 
 ghost use Rattle.row_value.specs.SchemaReading.{schema_at};
 ghost use Rattle.row_value.specs.FirstBad.{TellsPlace};
 ghost use Rattle.row_store.specs.Spelling.{is_keep, all_keep};
-ghost use Rattle.row_store.specs.Reading.{id_at, last_in, after_last, is_allowed, stored_at, table_at, sub_at, tag_at, row_in, table_in, sub_in};
+ghost use Rattle.row_store.specs.Reading.{id_at, last_in, after_last, is_allowed, stored_at, table_at, terms_if, sub_at, tag_at, row_in, table_in, sub_in};
 
 use crate::stored::{LastWrite, LastWrites, StoredRow, SubChange, Terms};
 use row_value::{
@@ -188,6 +188,13 @@ fn take_table(alloc: Global, bytes: &[u8], at: usize) -> Result<((Schema, u8), u
     }
 }
 
+/// The terms of a client that subscribes.
+pub(crate) fn terms_if(on: bool, terms: Terms) -> Option<Terms>
+    ensures { result ≡ terms_if on terms }
+{
+    if on { Some(terms) } else { None }
+}
+
 #[tactic(auto, unfolding(crate::specs::Reading::sub_at))]
 fn take_sub(bytes: &[u8], at: usize) -> Result<(SubChange, usize), SpellFault>
     requires { at ≤ length bytes.now }
@@ -205,8 +212,11 @@ fn take_sub(bytes: &[u8], at: usize) -> Result<(SubChange, usize), SpellFault>
             period,
             tolerance,
         };
-        let terms = if on { Some(terms) } else { None };
-        Ok((SubChange { client, terms }, behind))
+        let change = SubChange {
+            client,
+            terms: terms_if(on, terms),
+        };
+        Ok((change, behind))
     } else {
         Err(SpellFault::Bad { at })
     }

@@ -1,8 +1,9 @@
-use Rattle.std.proofs.Common.{◌≡◌, ◌+◌, ◌++◌, ◌∷◌, [], List, ℕ, length, refl, sym, ◌∙◌, ap, subst, arith}
+use Rattle.std.proofs.Common.{◌≡◌, ◌+◌, ◌++◌, ◌∷◌, [], List, Option, ℕ, length, refl, sym, ◌∙◌, ap, subst, arith}
 use Rattle.vault.specs.Standing.{payloads}
 use Rattle.folded_vault.proofs.Rooms.{room_written}
 use Rattle.row_store.specs.Spelling.{row_payload, table_payload, sub_payload}
 use Rattle.row_store.specs.declared.stored.Terms.{Terms}
+use Rattle.row_store.specs.declared.change.Change.TheVariants as changes
 use Rattle.row_store.specs.Reading.{said_by, terms_if, SaysRow, SaysTable, SaysSub}
 use Rattle.row_store.specs.Data.{TableData, with_row, with_table, with_sub, data_of}
 use Rattle.row_store.specs.Memory.{HasSpare, shape_of}
@@ -16,7 +17,7 @@ pub append-requires-clause-change : goal.append-requires-clause-change
 append-requires-clause-change g c =
     let terms : Terms = record { gate = c.args.gate; period = c.args.period; tolerance = c.args.tolerance } in
     let says : said_by c.write_sub.new.payload.items ≡ SaysSub (record { client = c.args.client; terms = terms_if c.args.on terms }) = ap said_by c.write_sub.ensures.items ∙ says_sub c.args.client c.args.on terms c.requires.client c.ranges.gate.fits c.ranges.period.fits c.ranges.tolerance.fits in
-    sym (ap shape_of says)
+    ap (λ (t : Option Terms). changes.Sub (record { client = c.args.client; terms = t })) c.terms_if.ensures ∙ sym (ap shape_of says)
 
 pub returns-in_err-append-clause-any_moment : goal.returns-in_err-append-clause-any_moment
 returns-in_err-append-clause-any_moment g c up =

@@ -30,15 +30,15 @@ returns-clause-versions c =
           let removed : Versions = entries_of version_cmp w.remove.new.self in
           let mid : Versions = without version_cmp versions (at old.version row) in
           let versions_are : entries_of version_cmp c.insert.new.self ≡ insert_entry version_cmp mid (at place.version row) tt =
-              c.in_ok-insert.ensures.ok ∙ (ap (λ (m : RowMemory). insert_entry version_cmp (entries_of version_cmp m.versions) (at place.version row) tt) w.self-is
-              ∙ ap (λ (es : Versions). insert_entry version_cmp es (at place.version row) tt) w.in_ok-remove.ensures.ok) in
+          c.in_ok-insert.ensures.ok ∙ (ap (λ (m : RowMemory). insert_entry version_cmp (entries_of version_cmp m.versions) (at place.version row) tt) w.self-is
+          ∙ ap (λ (es : Versions). insert_entry version_cmp es (at place.version row) tt) w.in_ok-remove.ensures.ok) in
           on_ok_weaker c.insert-2.result (λ ok by.
           both places (entries_of id_cmp c.insert-2.new.self) versions mid (entries_of version_cmp c.insert.new.self) row place (ok ∙ ap (λ (m : RowMemory). insert_entry id_cmp (entries_of id_cmp m.places) row place) w.self-is) versions_are
           (λ b. by_moved places versions b row place old some) by) c.insert-2.ensures.ok
       | in_default w ↦
           let none : lookup (is_at (id_cmp row)) places ≡ None = sym w.in_default.ensures in
           let versions_are : entries_of version_cmp c.insert.new.self ≡ insert_entry version_cmp versions (at place.version row) tt =
-              c.in_ok-insert.ensures.ok ∙ ap (λ (m : RowMemory). insert_entry version_cmp (entries_of version_cmp m.versions) (at place.version row) tt) w.self-is in
+          c.in_ok-insert.ensures.ok ∙ ap (λ (m : RowMemory). insert_entry version_cmp (entries_of version_cmp m.versions) (at place.version row) tt) w.self-is in
           on_ok_weaker c.insert-2.result (λ ok by.
           both places (entries_of id_cmp c.insert-2.new.self) versions versions (entries_of version_cmp c.insert.new.self) row place (ok ∙ ap (λ (m : RowMemory). insert_entry id_cmp (entries_of id_cmp m.places) row place) w.self-is) versions_are
           (λ b. by_new places versions b row place none) by) c.insert-2.ensures.ok

@@ -7,6 +7,7 @@ mod fault;
 mod fused;
 mod memory;
 mod reader;
+mod size;
 mod stored;
 mod writer;
 
@@ -14,4 +15,5 @@ pub use device::RowDev;
 pub use fault::RowFault;
 pub use row_value::{Piece, PieceContent, PieceObject, Schema};
 pub use stab_base::{ClientNo, GateNo, NUMBER_MAX, RowId, Sequence, Version, WriteNo};
+pub use size::row_size;
 pub use stored::{LastWrite, LastWrites, RowVersion, Rows, StoredRow, Sub, Subs};

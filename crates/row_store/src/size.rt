@@ -88,6 +88,5 @@ pub fn row_size(stored: &StoredRow) -> Option<usize>
     requires { HasStoredSpelling stored.now }
     ensures { IsSum (length (row_payload stored.now)) result }
 {
-    let sum = add_content(29 + 20 * stored.pairs.len(), &stored.content)?;
-    Some(sum)
+    add_content(29 + 20 * stored.pairs.len(), &stored.content)
 }

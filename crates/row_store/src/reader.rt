@@ -125,7 +125,8 @@ fn each_keeps(objects: &[PieceObject]) -> bool
     objects.iter().all(keeps)
 }
 
-fn all_keep(content: &PieceContent) -> bool
+/// Whether each piece of a content names a chunk.
+pub fn all_keep(content: &PieceContent) -> bool
     ensures { result ≡ all_keep content.now }
 {
     match content {

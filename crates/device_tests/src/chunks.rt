@@ -11,6 +11,7 @@ use disk_kit::MemDisk;
 use disk_trait::{Disk, FuseDisk};
 use std::alloc::{AllocError, Global};
 use std::collections::BTreeMap;
+use std::process::Abort;
 use std::test::Fail;
 
 /// What is done in turn: a name's version and ordinal, and its new bytes, or that it is dropped.
@@ -113,29 +114,92 @@ fn holds<D: Disk + Drop>(
     Ok(same)
 }
 
+// Does all steps, where a fuse stops one of them after so many calls of the disk.
+fn run_steps<D: Disk + Drop>(
+    rt: &impl Abort,
+    alloc: Global,
+    dev: &mut ChunkDev<FuseDisk<D>>,
+    stopped: usize,
+    calls: u32,
+    pick: u64,
+) -> Result<(), Fail>
+    requires { IsLookedAt (behind D.state) dev.old }
+{
+    let mut map = BTreeMap::new(alloc);
+    for (index, (version, ordinal, bytes)) in STEPS.iter().enumerate() {
+        let name = ChunkName {
+            version: *version,
+            ordinal: *ordinal,
+        };
+        let all = index != stopped;
+        stop_step(dev, name, *bytes, if all { 100 } else { calls }, pick)?;
+        // The third call opens the new payload's gate, where it lands its one byte.
+        if all || calls > 2 || (calls == 2 && pick > 0) {
+            step_map(&mut map, name, *bytes)?;
+        }
+        assert!(rt; holds(dev, &map)?, "{stopped} {calls} {pick} {index}");
+    }
+    Ok(())
+}
+
+fn run<D: Disk + Drop>(
+    rt: &impl Abort,
+    alloc: Global,
+    dev: &mut ChunkDev<FuseDisk<D>>,
+    stopped: usize,
+    calls: u32,
+    pick: u64,
+) -> Result<(), Fail>
+    requires { IsUp (vault_of dev.old) }
+{
+    dev.format()?;
+    run_steps(rt, alloc, dev, stopped, calls, pick)
+}
+
 #[test]
 fn chunks_are_put_dropped_and_found_after_a_crash(rt: HostRuntime) -> Result<(), Fail> {
     for stopped in 0..STEPS.len() {
         for calls in 0..5 {
             for pick in [0, 1, 1000] {
                 let mut dev = ChunkDev::new(rt.alloc(), FuseDisk::new(MemDisk::new(rt.alloc())));
-                let mut map = BTreeMap::new(rt.alloc());
-                dev.format()?;
-                for (index, (version, ordinal, bytes)) in STEPS.iter().enumerate() {
-                    let name = ChunkName {
-                        version: *version,
-                        ordinal: *ordinal,
-                    };
-                    let all = index != stopped;
-                    stop_step(&mut dev, name, *bytes, if all { 100 } else { calls }, pick)?;
-                    // The third call opens the new payload's gate, where it lands its one byte.
-                    if all || calls > 2 || (calls == 2 && pick > 0) {
-                        step_map(&mut map, name, *bytes)?;
-                    }
-                    assert!(rt; holds(&mut dev, &map)?, "{stopped} {calls} {pick} {index}");
-                }
+                run(&rt, rt.alloc(), &mut dev, stopped, calls, pick)?;
             }
         }
+    }
+    Ok(())
+}
+
+/// A put of the chunk "abc" of version 7, ordinal 9, and a drop of it.
+const PUT: [u8; 16] = [1, 0, 0, 0, 0, 0, 0, 0, 7, 0, 0, 0, 9, 97, 98, 99];
+
+const DROP: [u8; 13] = [2, 0, 0, 0, 0, 0, 0, 0, 7, 0, 0, 0, 9];
+
+const NAME: ChunkName = ChunkName {
+    version: 7,
+    ordinal: 9,
+};
+
+#[test]
+fn cut_payloads_of_chunks_are_passed_over(rt: HostRuntime) -> Result<(), Fail> {
+    let alloc = rt.alloc();
+    for len in 0..17 {
+        let mut dev = ChunkDev::new(alloc, disk_of_two(alloc, &PUT, len, &[3])?);
+        dev.look()?;
+        let found = dev.get(NAME);
+        // A put that ends behind its name puts no bytes.
+        if len < 13 {
+            assert_eq!(rt; found.err(), Some(ChunkFault::Absent), "{len}");
+        } else {
+            assert_eq!(rt; found?.as_slice(), &PUT[13..len], "{len}");
+        }
+    }
+    for len in 0..14 {
+        let mut dev = ChunkDev::new(alloc, disk_of_two(alloc, &DROP, len, &PUT)?);
+        dev.look()?;
+        assert_eq!(rt; dev.get(NAME)?.as_slice(), b"abc".as_slice(), "{len}");
+        let mut dev = ChunkDev::new(alloc, disk_of_two(alloc, &PUT, 16, &DROP[..len])?);
+        dev.look()?;
+        assert_eq!(rt; dev.has(NAME), len < 13, "{len}");
     }
     Ok(())
 }

@@ -105,17 +105,17 @@ last_takes before bytes last rest fits e =
 last_reads : (before : ℕ) → Reads (IsNextLast before) last_spelling (last_in before)
 last_reads before = record { takes = last_takes before; again = last_again before }
 
-abbrev AreLastsRead : List LastWrite → Type 0
+abbrev pub AreLastsRead : List LastWrite → Type 0
 AreLastsRead lasts = (length lasts < 2 ^ 32) × EachFrom after_last IsNextLast 0 lasts
 
-lasts_read : Reads AreLastsRead (list_spelling last_spelling) (list_at after_last last_in 0)
+pub lasts_read : Reads AreLastsRead (list_spelling last_spelling) (list_at after_last last_in 0)
 lasts_read = list_reads after_last IsNextLast last_spelling last_in last_reads 0
 
 lasts_are : (before : ℕ) (lasts : List LastWrite) → AreLasts before lasts → EachFrom after_last IsNextLast before lasts
 lasts_are before [] h = tt
 lasts_are before (last ∷ lasts) h = (h.0, lasts_are last.client lasts h.1)
 
-are_lasts : (before : ℕ) (lasts : List LastWrite) → EachFrom after_last IsNextLast before lasts → AreLasts before lasts
+pub are_lasts : (before : ℕ) (lasts : List LastWrite) → EachFrom after_last IsNextLast before lasts → AreLasts before lasts
 are_lasts before [] h = tt
 are_lasts before (last ∷ lasts) h = (h.0, are_lasts last.client lasts h.1)
 
@@ -129,7 +129,7 @@ few lasts h = omega (arith, few_from 0 lasts (omega arith) h)
 
 -- ---- rows
 
-spelling_parts : (stored : StoredRow) (rest : List ℕ) → stored_spelling stored ++ rest ≡ stored.row ++ (to_be_bytes w64 stored.version ++ (content_spelling stored.content ++ (list_spelling last_spelling stored.pairs ++ rest)))
+pub spelling_parts : (stored : StoredRow) (rest : List ℕ) → stored_spelling stored ++ rest ≡ stored.row ++ (to_be_bytes w64 stored.version ++ (content_spelling stored.content ++ (list_spelling last_spelling stored.pairs ++ rest)))
 spelling_parts stored rest =
     let v = to_be_bytes w64 stored.version in
     let c = content_spelling stored.content in
@@ -137,7 +137,7 @@ spelling_parts stored rest =
     append_assoc stored.row (v ++ (c ++ l)) rest
     ∙ ap (λ (x : List ℕ). stored.row ++ x) (append_assoc v (c ++ l) rest ∙ ap (λ (x : List ℕ). v ++ x) (append_assoc c l rest))
 
-stored_again : (stored : StoredRow) (rest : List ℕ) → HasStoredSpelling stored → stored_at (stored_spelling stored ++ rest) ≡ Ok (stored, rest)
+pub stored_again : (stored : StoredRow) (rest : List ℕ) → HasStoredSpelling stored → stored_at (stored_spelling stored ++ rest) ≡ Ok (stored, rest)
 unfolding stored_at
 stored_again stored rest h =
     let v = to_be_bytes w64 stored.version in

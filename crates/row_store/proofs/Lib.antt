@@ -2,6 +2,7 @@ pub mod Again
 pub mod Versions
 mod Lengths
 mod Above
+mod Found
 mod Shapes
 mod Notes
 mod Maps

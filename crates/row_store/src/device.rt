@@ -51,7 +51,8 @@ pub struct RowDev<D: Disk> {
 // The row that stands in a payload.
 fn stored_in(alloc: Global, payload: &[u8]) -> Result<StoredRow, AllocError>
     requires { (stored : StoredRow) × (row_in payload.now ≡ Ok stored) }
-    ensures { IfOk result (λ stored. row_in payload.now ≡ Ok stored) }
+    ensures row { IfOk result (λ stored. row_in payload.now ≡ Ok stored) }
+    ensures spelled { IfOk result HasStoredSpelling }
 {
     match row_in(alloc, payload) {
         Ok(stored) => Ok(stored),
@@ -334,6 +335,7 @@ impl<D: Disk + Drop> RowDev<D> {
     pub fn get_row(&mut self, row: &RowId) -> Result<StoredRow, RowFault>
         requires ready { IsUp (vault_of self.old) → IsLookedAt D.state self.old }
         ensures row { IfOk result (λ stored. row_of (held D.state self.old) row.now ≡ Some stored) }
+        ensures spelled { IfOk result HasStoredSpelling }
         ensures no_row { IsErrOf result RowFault.NoRow ↔ (IsUp (vault_of self.old) × (row_of (held D.state self.old) row.now ≡ None)) }
         ensures no_row_unchanged { IsErrOf result RowFault.NoRow → self.new ≡ self.old }
         ensures stays { OnOk result (Stays D.state self.old self.new) }

@@ -15,6 +15,6 @@ pub use device::RowDev;
 pub use fault::RowFault;
 pub use reader::all_keep;
 pub use row_value::{Piece, PieceContent, PieceObject, Schema};
-pub use stab_base::{ClientNo, GateNo, NUMBER_MAX, RowId, Sequence, Version, WriteNo};
 pub use size::row_size;
+pub use stab_base::{ClientNo, GateNo, NUMBER_MAX, RowId, Sequence, Version, WriteNo};
 pub use stored::{LastWrite, LastWrites, RowVersion, Rows, StoredRow, Sub, Subs};

@@ -30,6 +30,6 @@ returns-clause-row g c =
     let place = c.in-Some.place in
     let is = c.in-Some.ensures.place c.if-is_down.ensures in
     let found : get_or ps place.index [] ≡ c.deref.result.now = get_or_from_slice_get ps place.index c.read.new.self.found.items [] c.in_ok-read.ensures.payload ∙ sym c.deref.ensures.value in
-    let read : row_in (get_or ps place.index []) ≡ Ok c.in_ok-stored.stored = ap row_in found ∙ c.in_ok-stored.ensures in
+    let read : row_in (get_or ps place.index []) ≡ Ok c.in_ok-stored.stored = ap row_in found ∙ c.in_ok-stored.ensures.row in
     let same : row_at ps place ≡ c.in_ok-stored.stored = ap stored_or read in
     c.in-Some.ensures.some c.if-is_down.ensures ∙ ap (λ (s : StoredRow). Some s) same

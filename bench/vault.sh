@@ -1,10 +1,10 @@
 #!/usr/bin/env bash
-# Times a vault in memory at a tenth of its records and at all of them. Build it first: `rt run -- 100 64` in
+# Times a vault in memory at a tenth of its records and at all of them. Build it first: `rt run -- vault 100 64` in
 # crates/vault_bench.
 set -eu
 cd "$(dirname "$0")/../crates/vault_bench"
 TIMEFORMAT='%R s'
-for words in '100000 64' '1000000 64' '200 1048576' '2000 1048576'; do
+for words in 'vault 100000 64' 'vault 1000000 64' 'vault 200 1048576' 'vault 2000 1048576'; do
     # shellcheck disable=SC2086
     time out/vault_bench $words
 done

@@ -2,5 +2,4 @@ pub mod Heads
 pub mod Notes
 mod Finds
 mod Maps
-mod Rooms
 mod Within

@@ -1,2 +1,3 @@
 pub mod Stayings
 mod Lists
+pub mod Rooms

@@ -1,9 +1,9 @@
-ghost use Rattle.std.specs.Prelude.{◌≡◌, ◌+◌, ◌≤◌, [], ◌++◌, ◌∷◌, false, fold, filter, option_copied, option_map, IfOk, OnOk, OnErr, slice_get};
+ghost use Rattle.std.specs.Prelude.{◌≡◌, ◌+◌, ◌≤◌, [], ◌++◌, ◌∷◌, false, fold, filter, option_copied, option_map, map, List, IfOk, OnOk, OnErr, slice_get};
 ghost use Rattle.std.specs.BTreeMap.{insert_entry, is_at};
 ghost use Rattle.std.specs.Map.{lookup, keys_of};
 ghost use Rattle.std.specs.List.Sorted.{IsStrictlySortedBy};
 ghost use Rattle.std.specs.Ordering.{is_le};
-ghost use Rattle.spare_map.specs.Late.{changed, latest, without, entries_of, spare_of};
+ghost use Rattle.spare_map.specs.Late.{changed, latest, without, entries_of, spare_of, IsLast, IsLastOf};
 
 use std::alloc::{AllocError, Global};
 use std::collections::{BTreeMap, VecDeque};
@@ -155,6 +155,74 @@ impl<K: Ord + Copy, V: Copy> SpareMap<K, V> {
             keys.push(*key)?;
         }
         Ok(keys)
+    }
+
+    /// The entries in rising order of their keys. Memory that was refused before is asked for again by `reserve` alone.
+    pub fn entries(&self) -> Result<Vec<(K, V)>, AllocError>
+        ensures entries { IfOk result (λ found. found.items ≡ entries_of K.cmp self.now) }
+        ensures rising { IfOk result (λ found. IsStrictlySortedBy K.cmp (keys_of found.items)) }
+    {
+        if !self.late.is_empty() {
+            return Err(AllocError);
+        }
+        let mut found = Vec::new(self.alloc);
+        for (key, value) in self.tree.iter() {
+            found.push((*key, *value))?;
+        }
+        Ok(found)
+    }
+
+    // The greater of a key and the greatest so far, where the key has a value.
+    fn greater(&self, last: Option<K>, key: K) -> Option<K>
+        ensures { (keys : List K) → IsLastOf K.cmp (entries_of K.cmp self.now) keys last
+            → IsLastOf K.cmp (entries_of K.cmp self.now) (keys ++ key ∷ []) result }
+    {
+        if self.get(key).is_none() {
+            return last;
+        }
+        let Some(last) = last else {
+            return Some(key);
+        };
+        if key.cmp(&last).is_lt() {
+            Some(last)
+        } else {
+            Some(key)
+        }
+    }
+
+    // The greatest key of the tree that has a value.
+    fn last_in_tree(&self) -> Option<K>
+        ensures { IsLastOf K.cmp (entries_of K.cmp self.now) (keys_of self.now.tree.entries) result }
+    {
+        let mut last = None;
+        for (key, _) in self.tree.iter() {
+            last = self.greater(last, *key);
+        }
+        last
+    }
+
+    // The greatest key of the tree and of the queue that has a value.
+    fn last_in_all(&self) -> Option<K>
+        ensures { IsLastOf K.cmp (entries_of K.cmp self.now) (keys_of self.now.tree.entries ++ map (λ change. change.key) self.now.late.items) result }
+    {
+        let mut last = self.last_in_tree();
+        for change in self.late.iter() {
+            last = self.greater(last, change.key);
+        }
+        last
+    }
+
+    /// The greatest key. It takes no memory, and is logarithmic where no memory was refused.
+    pub fn last(&self) -> Option<K>
+        ensures { IsLast K.cmp (entries_of K.cmp self.now) result }
+    {
+        if !self.late.is_empty() {
+            return self.last_in_all();
+        }
+        match self.tree.last_key_value() {
+            Some((key, _)) => Some(*key),
+            None => None,
+        }
     }
 
     /// The keys from this one on with their values, in rising order.

@@ -3,5 +3,4 @@ mod Fields
 mod Again
 mod Steps
 mod Maps
-mod Rooms
 mod Held

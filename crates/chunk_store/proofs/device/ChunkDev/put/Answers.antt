@@ -6,7 +6,7 @@ use Rattle.chunk_store.specs.Standing.{vault_of}
 use Rattle.chunk_store.specs.Index.{HasSpare}
 use Rattle.chunk_store.proofs.Notes.{chunks_of-push}
 use Rattle.chunk_store.proofs.Maps.{same_map, either_map}
-use Rattle.chunk_store.proofs.Rooms.{room_written}
+use Rattle.folded_vault.proofs.Rooms.{room_written}
 use Rattle.chunk_store.proofs.device.ChunkDev.put.Goals as goal
 
 pub returns-in_err-append-clause-any_moment : goal.returns-in_err-append-clause-any_moment

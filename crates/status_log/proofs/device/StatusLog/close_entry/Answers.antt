@@ -5,7 +5,7 @@ use Rattle.status_log.specs.Memory.{HasSpare}
 use Rattle.status_log.specs.Standing.{vault_of}
 use Rattle.status_log.proofs.Again.{closes_again, opens_not}
 use Rattle.status_log.proofs.Maps.{same_map, either_map}
-use Rattle.status_log.proofs.Rooms.{room_written}
+use Rattle.folded_vault.proofs.Rooms.{room_written}
 use Rattle.status_log.proofs.Held.{held_within, held_closed}
 use Rattle.status_log.proofs.device.StatusLog.close_entry.Goals as goal
 

@@ -7,7 +7,7 @@ use Rattle.status_log.specs.Standing.{vault_of}
 use Rattle.status_log.proofs.Again.{opens_again, is_opening}
 use Rattle.status_log.proofs.Steps.{step_open}
 use Rattle.status_log.proofs.Maps.{same_map, either_map}
-use Rattle.status_log.proofs.Rooms.{room_written}
+use Rattle.folded_vault.proofs.Rooms.{room_written}
 use Rattle.vault.proofs.Uppers.{opened_leaves, runs_weaker}
 use Rattle.std.proofs.Common.{inl}
 use Rattle.status_log.specs.Standing.{IsEither}

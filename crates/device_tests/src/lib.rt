@@ -1,0 +1,11 @@
+//! Tests of the devices over disks in memory.
+#![tactic(auto)]
+
+#[cfg(test)]
+mod chunks;
+#[cfg(test)]
+mod disks;
+#[cfg(test)]
+mod logs;
+#[cfg(test)]
+mod rows;

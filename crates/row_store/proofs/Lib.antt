@@ -1,0 +1,9 @@
+pub mod Again
+pub mod Versions
+mod Lengths
+mod Above
+mod Found
+mod Shapes
+mod Notes
+mod Maps
+mod Finds

@@ -1,0 +1,9 @@
+use Rattle.std.proofs.Common.{arith}
+use Rattle.stab_base.specs.Codec.{IsBytes}
+use Rattle.row_store.proofs.Found.{row_takes}
+use Rattle.row_store.proofs.device.stored_in.Goals as goal
+
+pub returns-in-Ok-clause-spelled : goal.returns-in-Ok-clause-spelled
+returns-in-Ok-clause-spelled c =
+    let fits : IsBytes c.args.payload.now = λ i. omega (arith, c.type_inv.payload i) in
+    (row_takes c.args.payload.now c.in-Ok.stored fits c.in-Ok.ensures).0

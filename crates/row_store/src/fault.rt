@@ -1,0 +1,43 @@
+//! Why a device of rows didn't do what it was asked for.
+ghost use Rattle.std.specs.Prelude.{◌≡◌};
+ghost use Rattle.row_store.specs.declared.fault.RowFault.TheVariants.{Memory};
+ghost use Rattle.row_store.specs.Fault.{fault_of};
+
+use std::alloc::AllocError;
+use thiserror::Error;
+use vault::VaultFault;
+
+#[derive(Debug, Drop, Clone, Copy, PartialEq, Eq, Error)]
+pub enum RowFault {
+    /// The row has no version.
+    #[error("no such row")]
+    NoRow,
+    /// The disk failed in this call. From now on the device is down.
+    #[error("the disk failed")]
+    Disk,
+    /// The disk failed in an earlier call. A device is down until its disk was restarted and looked at again.
+    #[error("the device is down")]
+    Down,
+    #[error("out of memory")]
+    Memory,
+}
+
+impl From<AllocError> for RowFault {
+    ghost from_gives = { λ _ e. e ≡ Memory };
+
+    fn from(_: AllocError) -> Self {
+        RowFault::Memory
+    }
+}
+
+impl From<VaultFault> for RowFault {
+    ghost from_gives = { λ f e. e ≡ fault_of f };
+
+    fn from(fault: VaultFault) -> Self {
+        match fault {
+            VaultFault::Disk => RowFault::Disk,
+            VaultFault::Down => RowFault::Down,
+            VaultFault::Memory => RowFault::Memory,
+        }
+    }
+}

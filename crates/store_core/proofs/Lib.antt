@@ -1,0 +1,4 @@
+pub mod Histories
+pub mod Versions
+pub mod Indexes
+pub mod Decisions

@@ -2,6 +2,7 @@
 use Rattle.std.specs.Prelude.{◌≡◌, ℕ, ◌+◌, ◌≤◌, List, [], ◌∷◌, ◌++◌, length, map, Option, Some, None, option_map, if◌then◌else◌}
 use Rattle.std.specs.List.{list_any}
 use Rattle.std.specs.BTreeMap as tree
+use Rattle.std.specs.Map.{remove_entry}
 use Rattle.std.specs.Ordering.{nat_cmp, ordering_then}
 use Rattle.std.specs.Cmp.Lexicographic.{slice_cmp}
 use Rattle.std.specs.declared.cmp.Ordering.{Ordering}
@@ -38,6 +39,11 @@ abbrev pub yours_or_none : Option Yours → Yours
 yours_or_none None = record { number = 0; version = 0 }
 yours_or_none (Some yours) = yours
 
+-- without the entry of a version
+abbrev pub without_version : Option ℕ → List (ℕ × List ℕ) → List (ℕ × List ℕ)
+without_version None changes = changes
+without_version (Some version) changes = remove_entry (tree.is_at (nat_cmp version)) changes
+
 -- the indexes are those of a history
 pub record IsIndexed (stored : List Stored) (rows : Rows) : Type 0 where
   pub numbered : IsNumberedFrom 1 stored
@@ -46,13 +52,6 @@ pub record IsIndexed (stored : List Stored) (rows : Rows) : Type 0 where
   pub current : (row : List ℕ) → tree.get (slice_cmp nat_cmp) rows.current row ≡ option_map row_of (current_of stored row)
   pub by_version : rows.by_version.entries ≡ changes_of stored
   pub yours : (client : ℕ) (row : List ℕ) → yours_or_none (tree.get write_cmp rows.yours (client, row)) ≡ yours_of stored client row
-
--- two indexes have the same entries
-pub record IsSame (old new : Rows) : Type 0 where
-  pub last : new.last ≡ old.last
-  pub current : new.current.entries ≡ old.current.entries
-  pub by_version : new.by_version.entries ≡ old.by_version.entries
-  pub yours : new.yours.entries ≡ old.yours.entries
 
 -- what the node holds is what this history makes of its rows
 pub record Holds (stored : List Stored) (node : TableNode) : Type 0 where

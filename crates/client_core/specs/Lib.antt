@@ -1,0 +1,9 @@
+pub mod Causes
+pub mod Changes
+pub mod Drawn
+pub mod Faults
+pub mod Index
+pub mod Marks
+pub mod Plans
+pub mod Receipts
+pub mod State

@@ -58,9 +58,9 @@ impl Hosted {
     // Takes out what the node has gathered, and keeps the entries that it tells.
     fn taken(&mut self) -> Result<Out, WorldFault>
         ensures out { IfOk result (λ out. out ≡ gathered self.old.node) }
-        ensures node { (stored : List Stored) → Holds stored self.old.node → Holds stored self.new.node }
-        ensures table { table_of self.new.node ≡ table_of self.old.node }
-        ensures empty { gathered self.new.node ≡ nothing }
+        ensures node { (stored : List Stored) → Holds stored self.old.node → OnOk result (Holds stored self.new.node) }
+        ensures table { OnOk result (table_of self.new.node ≡ table_of self.old.node) }
+        ensures empty { OnOk result (gathered self.new.node ≡ nothing) }
         ensures history { OnOk result (self.new.history ≡ self.old.history ++ entries_told (gathered self.old.node).facts) }
         ensures memory { IfErr result (λ fault. fault ≡ WorldFault.Memory) }
     {

@@ -19,6 +19,19 @@ pub(crate) struct Hosted {
     history: History,
 }
 
+// Adds the entries that facts tell.
+fn keep(history: &mut History, facts: &[Fact]) -> Result<(), WorldFault>
+    ensures added { OnOk result (history.new ≡ history.old ++ entries_told facts.now) }
+    ensures memory { IfErr result (λ fault. fault ≡ WorldFault.Memory) }
+{
+    for fact in facts {
+        if let Fact::Accepted { entry, .. } = fact {
+            history.push(*entry)?;
+        }
+    }
+    Ok(())
+}
+
 impl Hosted {
     pub(crate) fn new(alloc: Global, table: TableNo) -> Hosted
         ensures { Hosts table [] result }
@@ -65,11 +78,7 @@ impl Hosted {
         ensures memory { IfErr result (λ fault. fault ≡ WorldFault.Memory) }
     {
         let out = self.node.take_out();
-        for fact in out.facts.as_slice() {
-            if let Fact::Accepted { entry, .. } = fact {
-                self.history.push(*entry)?;
-            }
-        }
+        keep(&mut self.history, out.facts.as_slice())?;
         Ok(out)
     }
 

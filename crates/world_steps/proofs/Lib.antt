@@ -1,1 +1,3 @@
 pub mod Hosting
+pub mod Sends
+pub mod Refusals

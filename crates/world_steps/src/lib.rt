@@ -1,6 +1,7 @@
 //! The world: the Store's tables, the clients, and the network between them.
 #![tactic(auto)]
 
+mod calls;
 mod deliver;
 mod fault;
 mod hosted;

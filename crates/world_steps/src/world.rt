@@ -1,23 +1,22 @@
-ghost use Rattle.std.specs.Prelude.{◌≡◌, [], ◌∷◌, ◌++◌, length, slice_get, IfOk, IfErr, OnOk};
+ghost use Rattle.std.specs.Prelude.{◌≡◌, [], ◌∷◌, ◌++◌, length, slice_get, IfOk, IfErr, OnOk, None};
 ghost use Rattle.table_model.specs.declared.event.Event.{Event as AnEvent};
 ghost use Rattle.table_model.specs.declared.node.Node.TheVariants as nodes;
 ghost use Rattle.step_tables.specs.Client.{Client, write_step, show_step, sync_step, pull_step};
-ghost use Rattle.run_laws.specs.World.{World as AWorld, Packet, start, step, declared, joined, open_all, call, delivered, store_shows, history_lines, answer_lines, entry_lines, told, sent_from, schema_at, stored_at, client_at};
+ghost use Rattle.run_laws.specs.World.{World as AWorld, Packet, start, step, declared, joined, open_all, with_opened, call, delivered, store_shows, history_lines, answer_lines, entry_lines, told, sent_from, schema_at, stored_at, client_at};
 ghost use Rattle.world_steps.specs.Network.{packets_in, packets_from};
 ghost use Rattle.world_steps.specs.Holds.{Holds, idle, IsCause, Spends};
-ghost use Rattle.world_steps.specs.Calls.{refusal_in};
 
-use crate::deliver::{to_client, to_store};
+use crate::calls;
+use crate::deliver::carried;
 use crate::fault::WorldFault;
 use crate::hosted::Hosted;
-use crate::network::{Network, STORE};
-use client_core::{CallFault, ClientNode};
+use crate::network::Network;
+use client_core::ClientNode;
 use row_value::{ClientNo, Content, RowId, Schema, Sequence, TableNo};
-use stab_base::NUMBER_MAX;
 use std::alloc::Global;
 use std::collections::BTreeMap;
 use sync_msgs::Out;
-use table_model::{Answer, Event, History, Node, Refusal, TextLine};
+use table_model::{Answer, Event, Facts, History, Node, Refusal, TextLine};
 
 /// The lines that one event writes.
 pub type Lines = Sequence<TextLine>;
@@ -30,23 +29,6 @@ pub struct World {
     clients: BTreeMap<ClientNo, ClientNode>,
     network: Network,
     alloc: Global,
-}
-
-// The refusal of a call that isn't done, or the limit that ends the run.
-fn refusal_of(fault: CallFault) -> Result<Refusal, WorldFault>
-    ensures { result ≡ refusal_in fault }
-{
-    match fault {
-        CallFault::NoTable => Ok(Refusal::NoTable),
-        CallFault::BadCell { column } => Ok(Refusal::BadCell { column }),
-        CallFault::BadObject { column, len } => Ok(Refusal::BadObject { column, len }),
-        CallFault::NoRow => Ok(Refusal::NoRow),
-        CallFault::Spent { .. } => Err(WorldFault::Limit {
-            code: 11,
-            count: NUMBER_MAX + 1,
-        }),
-        CallFault::Memory => Err(WorldFault::Memory),
-    }
 }
 
 impl World {
@@ -96,10 +78,18 @@ impl World {
         ensures memory { IfErr result (λ fault. fault ≡ WorldFault.Memory) }
     {
         if !self.tables.contains_key(&table) {
-            self.schemas.insert(table, schema.copy()?)?;
-            self.tables.insert(table, Hosted::new(self.alloc, table))?;
+            self.add_table(table, schema)?;
         }
         Ok(Sequence::new(self.alloc))
+    }
+
+    fn add_table(&mut self, table: TableNo, schema: &Schema) -> Result<(), WorldFault>
+        ensures world { (w : AWorld) → Holds w self.old → OnOk result (Holds (declared w table schema.now None) self.new) }
+        ensures memory { IfErr result (λ fault. fault ≡ WorldFault.Memory) }
+    {
+        self.schemas.insert(table, schema.copy()?)?;
+        self.tables.insert(table, Hosted::new(self.alloc, table))?;
+        Ok(())
     }
 
     // A client that opens these tables, as far as they are declared.
@@ -109,11 +99,21 @@ impl World {
     {
         let mut node = ClientNode::new(self.alloc, client);
         for table in tables {
-            if let Some(schema) = self.schemas.get(table) {
-                node.open(*table, schema)?;
-            }
+            self.open(&mut node, *table)?;
         }
         Ok(node)
+    }
+
+    // Opens a table at a client, if it is declared.
+    fn open(&self, node: &mut ClientNode, table: TableNo) -> Result<(), WorldFault>
+        ensures node { (w : AWorld) → Holds w self.now
+            → OnOk result (node.new ≡ record node.old { client = with_opened node.old.client table (schema_at w table) }) }
+        ensures memory { IfErr result (λ fault. fault ≡ WorldFault.Memory) }
+    {
+        if let Some(schema) = self.schemas.get(&table) {
+            node.open(table, schema)?;
+        }
+        Ok(())
     }
 
     fn join(&mut self, client: ClientNo, tables: &[TableNo]) -> Result<Lines, WorldFault>
@@ -122,13 +122,22 @@ impl World {
         ensures memory { IfErr result (λ fault. fault ≡ WorldFault.Memory) }
     {
         if !self.clients.contains_key(&client) {
-            let node = self.opened(client, tables)?;
-            self.clients.insert(client, node)?;
+            self.add_client(client, tables)?;
         }
         Ok(Sequence::new(self.alloc))
     }
 
+    fn add_client(&mut self, client: ClientNo, tables: &[TableNo]) -> Result<(), WorldFault>
+        ensures world { (w : AWorld) → Holds w self.old → OnOk result (Holds (joined w client tables.now None) self.new) }
+        ensures memory { IfErr result (λ fault. fault ≡ WorldFault.Memory) }
+    {
+        let node = self.opened(client, tables)?;
+        self.clients.insert(client, node)?;
+        Ok(())
+    }
+
     // The lines of an event that a party answers so: its answer, its facts, and the packets that it sends.
+    #[tactic(auto, using(crate::proofs::Sends::told_append))]
     fn tell(&mut self, from: Node, answer: Answer, out: Out) -> Result<Lines, WorldFault>
         ensures lines { IfOk result (λ lines. lines ≡ answer_lines answer
             (out.facts ++ sent_from (length (packets_in self.old.network)) (packets_from from out.messages))) }
@@ -136,11 +145,19 @@ impl World {
         ensures same { self.new ≡ record self.old { network = self.new.network } }
         ensures memory { IfErr result (λ fault. fault ≡ WorldFault.Memory) }
     {
+        let mut lines = self.answered(answer, out.facts)?;
+        self.network.send_all(from, out.messages, &mut lines)?;
+        Ok(lines)
+    }
+
+    fn answered(&self, answer: Answer, facts: Facts) -> Result<Lines, WorldFault>
+        ensures lines { IfOk result (λ lines. lines ≡ answer_lines answer facts) }
+        ensures memory { IfErr result (λ fault. fault ≡ WorldFault.Memory) }
+    {
         let mut lines = self.only(answer)?;
-        for fact in out.facts.into_vec() {
+        for fact in facts.into_vec() {
             lines.push(TextLine::Fact(fact))?;
         }
-        self.network.send_all(from, out.messages, &mut lines)?;
         Ok(lines)
     }
 
@@ -170,10 +187,7 @@ impl World {
         let Some(node) = self.clients.get_mut(&client) else {
             return self.only(Answer::Refused(Refusal::NoTable));
         };
-        let answer = match node.write(table, row, content) {
-            Ok(number) => Answer::Number(number),
-            Err(fault) => Answer::Refused(refusal_of(fault)?),
-        };
+        let answer = calls::write(node, table, row, content)?;
         let out = node.take_out();
         self.tell(Node::Client(client), answer, out)
     }
@@ -188,11 +202,7 @@ impl World {
         let Some(node) = self.clients.get(&client) else {
             return self.only(Answer::Refused(Refusal::NoTable));
         };
-        let answer = match node.read(table, row) {
-            Ok(shown) => Answer::Shown(shown),
-            Err(fault) => Answer::Refused(refusal_of(fault)?),
-        };
-        self.only(answer)
+        self.only(calls::show(node, table, row)?)
     }
 
     fn sync(&mut self, client: ClientNo, table: TableNo) -> Result<Lines, WorldFault>
@@ -205,10 +215,7 @@ impl World {
         let Some(node) = self.clients.get_mut(&client) else {
             return self.only(Answer::Refused(Refusal::NoTable));
         };
-        let answer = match node.sync_now(table) {
-            Ok(rows) => Answer::Number(rows),
-            Err(fault) => Answer::Refused(refusal_of(fault)?),
-        };
+        let answer = calls::sync(node, table)?;
         let out = node.take_out();
         self.tell(Node::Client(client), answer, out)
     }
@@ -223,10 +230,7 @@ impl World {
         let Some(node) = self.clients.get_mut(&client) else {
             return self.only(Answer::Refused(Refusal::NoTable));
         };
-        let answer = match node.pull_now(table) {
-            Ok(()) => Answer::Done,
-            Err(fault) => Answer::Refused(refusal_of(fault)?),
-        };
+        let answer = calls::pull(node, table)?;
         let out = node.take_out();
         self.tell(Node::Client(client), answer, out)
     }
@@ -241,14 +245,7 @@ impl World {
             let sent = self.network.sent();
             return self.only(Answer::Refused(Refusal::NoPacket { sent }));
         };
-        let (from, out) = match packet.to {
-            Node::Store(_) => (STORE, to_store(self.alloc, &mut self.tables, packet)?),
-            Node::Client(client) => (
-                packet.to,
-                to_client(self.alloc, &mut self.clients, client, packet)?,
-            ),
-            Node::Gate(_) => (packet.to, Out::new(self.alloc)),
-        };
+        let (from, out) = carried(self.alloc, &mut self.tables, &mut self.clients, packet)?;
         self.tell(from, Answer::Done, out)
     }
 

@@ -1,3 +1,5 @@
 pub mod Hosting
 pub mod Sends
 pub mod Refusals
+pub mod Maps
+pub mod CallSteps

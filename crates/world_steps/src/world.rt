@@ -77,19 +77,21 @@ impl World {
         ensures world { (w : AWorld) → Holds w self.old → OnOk result (Holds (declared w table schema.now (stored_at w table)) self.new) }
         ensures memory { IfErr result (λ fault. fault ≡ WorldFault.Memory) }
     {
-        if !self.tables.contains_key(&table) {
-            self.add_table(table, schema)?;
+        if self.tables.contains_key(&table) {
+            Ok(Sequence::new(self.alloc))
+        } else {
+            self.add_table(table, schema)
         }
-        Ok(Sequence::new(self.alloc))
     }
 
-    fn add_table(&mut self, table: TableNo, schema: &Schema) -> Result<(), WorldFault>
+    fn add_table(&mut self, table: TableNo, schema: &Schema) -> Result<Lines, WorldFault>
+        ensures lines { IfOk result (λ lines. lines ≡ []) }
         ensures world { (w : AWorld) → Holds w self.old → OnOk result (Holds (declared w table schema.now None) self.new) }
         ensures memory { IfErr result (λ fault. fault ≡ WorldFault.Memory) }
     {
         self.schemas.insert(table, schema.copy()?)?;
         self.tables.insert(table, Hosted::new(self.alloc, table))?;
-        Ok(())
+        Ok(Sequence::new(self.alloc))
     }
 
     // A client that opens these tables, as far as they are declared.
@@ -108,6 +110,7 @@ impl World {
     fn open(&self, node: &mut ClientNode, table: TableNo) -> Result<(), WorldFault>
         ensures node { (w : AWorld) → Holds w self.now
             → OnOk result (node.new ≡ record node.old { client = with_opened node.old.client table (schema_at w table) }) }
+        ensures out { OnOk result (node.new.out ≡ node.old.out) }
         ensures memory { IfErr result (λ fault. fault ≡ WorldFault.Memory) }
     {
         if let Some(schema) = self.schemas.get(&table) {
@@ -121,19 +124,21 @@ impl World {
         ensures world { (w : AWorld) → Holds w self.old → OnOk result (Holds (joined w client tables.now (client_at w client)) self.new) }
         ensures memory { IfErr result (λ fault. fault ≡ WorldFault.Memory) }
     {
-        if !self.clients.contains_key(&client) {
-            self.add_client(client, tables)?;
+        if self.clients.contains_key(&client) {
+            Ok(Sequence::new(self.alloc))
+        } else {
+            self.add_client(client, tables)
         }
-        Ok(Sequence::new(self.alloc))
     }
 
-    fn add_client(&mut self, client: ClientNo, tables: &[TableNo]) -> Result<(), WorldFault>
+    fn add_client(&mut self, client: ClientNo, tables: &[TableNo]) -> Result<Lines, WorldFault>
+        ensures lines { IfOk result (λ lines. lines ≡ []) }
         ensures world { (w : AWorld) → Holds w self.old → OnOk result (Holds (joined w client tables.now None) self.new) }
         ensures memory { IfErr result (λ fault. fault ≡ WorldFault.Memory) }
     {
         let node = self.opened(client, tables)?;
         self.clients.insert(client, node)?;
-        Ok(())
+        Ok(Sequence::new(self.alloc))
     }
 
     // The lines of an event that a party answers so: its answer, its facts, and the packets that it sends.

@@ -3,3 +3,4 @@ pub mod Sends
 pub mod Refusals
 pub mod Maps
 pub mod CallSteps
+pub mod Arrivals

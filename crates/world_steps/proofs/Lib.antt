@@ -4,3 +4,4 @@ pub mod Refusals
 pub mod Maps
 pub mod CallSteps
 pub mod Arrivals
+pub mod Shows

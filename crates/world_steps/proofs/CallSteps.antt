@@ -1,22 +1,21 @@
 -- The world behind a call of a client.
-use Rattle.std.proofs.Common.{◌≡◌, ℕ, cond, List, [], ◌++◌, length, Option, Some, None, refl, sym, ap, ◌∙◌, subst, rules}
-use Rattle.std.specs.Prelude.{Result, Ok, Err, IfOk, OnOk, map, option_map}
+use Rattle.std.proofs.Common.{◌≡◌, ℕ, cond, List, ◌++◌, length, Option, Some, sym, ap, ◌∙◌, subst, rules}
+use Rattle.std.specs.Prelude.{Result, Ok, Err, IfOk, OnOk}
 use Rattle.std.specs.Ordering.{nat_cmp}
 use Rattle.std.specs.BTreeMap as tree
 use Rattle.std.specs.BTreeMap.{is_at}
 use Rattle.table_model.specs.declared.line.Answer.{Answer}
 use Rattle.table_model.specs.declared.line.TextLine.{TextLine}
-use Rattle.table_model.specs.declared.node.Node.{Node}
 use Rattle.table_model.specs.declared.node.Node.TheVariants as nodes
 use Rattle.sync_msgs.specs.declared.out.Out.{Out}
 use Rattle.step_tables.specs.Client.{Client, ClientStep}
-use Rattle.client_core.specs.State.{NodeState, gathered, nothing_gathered, to_owner}
+use Rattle.client_core.specs.State.{NodeState, gathered}
 use Rattle.run_laws.specs.World.{WorldStep, Packet, the_store, packets_of, answer_lines, sent_from, after_client, at_client, call, client_at}
 use Rattle.run_laws.specs.World as laws
 use Rattle.world_steps.specs.declared.fault.WorldFault.{WorldFault}
 use Rattle.world_steps.specs.declared.world.World.{World}
 use Rattle.world_steps.specs.Network.{packets_in, packets_from}
-use Rattle.world_steps.specs.Holds.{Holds, HostsThere, idle}
+use Rattle.world_steps.specs.Holds.{Holds, idle}
 use Rattle.world_steps.proofs.Maps.{clients_inserted, client_there}
 use Rattle.world_steps.proofs.Sends.{sent_by_client}
 

@@ -1,6 +1,6 @@
 -- Calls that a client refuses.
-use Rattle.std.proofs.Common.{◌≡◌, List, [], ◌++◌, refl, sym, ap, append-nil}
-use Rattle.std.specs.Prelude.{Result, Ok, Err}
+use Rattle.std.proofs.Common.{◌≡◌, append-nil}
+use Rattle.std.specs.Prelude.{Ok}
 use Rattle.table_model.specs.declared.line.Refusal.{Refusal}
 use Rattle.step_tables.specs.Client.{Client, ClientStep, refused}
 use Rattle.client_core.specs.State.{NodeState, stepped}

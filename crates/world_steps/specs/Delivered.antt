@@ -1,5 +1,5 @@
 -- What the party of a packet sends and tells.
-use Rattle.std.specs.Prelude.{◌≡◌, ℕ, ◌+◌, ◌++◌, List, length, Option, Some, None}
+use Rattle.std.specs.Prelude.{◌≡◌, ◌+◌, ◌++◌, List, length, Option, Some, None}
 use Rattle.stab_base.specs.declared.limits.TheConstants.{NUMBER_MAX}
 use Rattle.table_model.specs.declared.node.Node.{Node}
 use Rattle.table_model.specs.declared.line.Answer.TheVariants as answers

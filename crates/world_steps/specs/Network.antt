@@ -1,5 +1,5 @@
 -- The packets of a network as the world has them.
-use Rattle.std.specs.Prelude.{ℕ, List, map, Option, unwrap_or}
+use Rattle.std.specs.Prelude.{List, map, Option, unwrap_or}
 use Rattle.table_model.specs.declared.node.Node.{Node}
 use Rattle.sync_msgs.specs.declared.message.Message.{Message}
 use Rattle.run_laws.specs.World.{the_store} 

@@ -1,4 +1,4 @@
-use Rattle.std.proofs.Common.{◌≡◌, [], Option, sym, ap, ◌∙◌, subst}
+use Rattle.std.proofs.Common.{[], Option, sym, ap, ◌∙◌, subst}
 use Rattle.step_tables.specs.Client.{Client, deliver_step}
 use Rattle.client_core.specs.State.{NodeState}
 use Rattle.run_laws.specs.World.{client_at, to_client}

@@ -1,4 +1,4 @@
-use Rattle.std.proofs.Common.{rules, ◌≡◌, refl, ap}
+use Rattle.std.proofs.Common.{rules, refl}
 use Rattle.world_steps.proofs.Hosting.{hosts_step}
 use Rattle.world_steps.proofs.hosted.Hosted.deliver.Goals as goal
 

@@ -1,4 +1,3 @@
-use Rattle.std.proofs.Common.{◌≡◌}
 use Rattle.world_steps.proofs.Maps.{clients_inserted}
 use Rattle.world_steps.proofs.world.World.add_client.Goals as goal
 

@@ -1,4 +1,4 @@
-use Rattle.std.proofs.Common.{◌≡◌, [], ap, ◌∙◌}
+use Rattle.std.proofs.Common.{[], ap, ◌∙◌}
 use Rattle.step_tables.specs.Client.{Client, write_step}
 use Rattle.client_core.specs.State.{NodeState}
 use Rattle.world_steps.proofs.Maps.{some_there}

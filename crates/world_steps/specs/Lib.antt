@@ -1,0 +1,5 @@
+pub mod Network
+pub mod Hosted
+pub mod Holds
+pub mod Delivered
+pub mod Calls

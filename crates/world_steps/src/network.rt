@@ -1,0 +1,102 @@
+//! Every packet that was ever sent. A packet stays: it may be delivered again, later than others, or never.
+ghost use Rattle.std.specs.Prelude.{◌≡◌, [], ◌∷◌, ◌++◌, length, slice_get, option_copied, option_map, IfErr, OnOk};
+ghost use Rattle.table_model.specs.declared.line.TextLine.TheVariants as text;
+ghost use Rattle.run_laws.specs.World.{told, sent_fact, sent_from, table_in};
+ghost use Rattle.world_steps.specs.Network.{packets_in, packet_of, packets_from};
+
+use crate::fault::WorldFault;
+use row_value::{Sequence, TableNo};
+use std::alloc::Global;
+use sync_msgs::{Addressed, Message};
+use table_model::{Fact, Node, TextLine};
+
+/// The one Store, which owns every table.
+pub(crate) const STORE: Node = Node::Store(1);
+
+/// A message that was sent.
+#[derive(Drop)]
+pub(crate) struct Packet {
+    pub(crate) from: Node,
+    pub(crate) to: Node,
+    pub(crate) message: Message,
+}
+
+/// The packets, by their numbers from 0.
+#[derive(Drop)]
+pub(crate) struct Network {
+    packets: Vec<Packet>,
+}
+
+/// The table that a message is about.
+pub(crate) fn table_in(message: &Message) -> TableNo
+    ensures { result ≡ table_in message.now }
+{
+    match message {
+        Message::PullRequest(request) => request.table,
+        Message::PullResponse(response) => response.table,
+        Message::SyncRequest(request) => request.table,
+        Message::SyncResponse(response) => response.table,
+    }
+}
+
+impl Network {
+    pub(crate) fn new(alloc: Global) -> Network
+        ensures { packets_in result ≡ [] }
+    {
+        Network {
+            packets: Vec::new(alloc),
+        }
+    }
+
+    /// How many packets were sent.
+    pub(crate) fn sent(&self) -> u64
+        ensures { result ≡ length (packets_in self.now) }
+    {
+        self.packets.len() as u64
+    }
+
+    pub(crate) fn get(&self, number: u64) -> Option<&Packet>
+        ensures { option_map packet_of (option_copied result) ≡ slice_get (packets_in self.now) number }
+    {
+        self.packets.get(usize::try_from(number).ok()?)
+    }
+
+    /// Sends messages from a party, in order, and adds the line of each.
+    pub(crate) fn send_all(
+        &mut self,
+        from: Node,
+        messages: Sequence<Addressed>,
+        lines: &mut Sequence<TextLine>,
+    ) -> Result<(), WorldFault>
+        ensures packets { OnOk result (packets_in self.new ≡ packets_in self.old ++ packets_from from messages) }
+        ensures lines { OnOk result (lines.new ≡ lines.old ++ told (sent_from (length (packets_in self.old)) (packets_from from messages))) }
+        ensures memory { IfErr result (λ fault. fault ≡ WorldFault.Memory) }
+    {
+        for (to, message) in messages.into_vec() {
+            self.send(from, to.unwrap_or(STORE), message, lines)?;
+        }
+        Ok(())
+    }
+
+    fn send(
+        &mut self,
+        from: Node,
+        to: Node,
+        message: Message,
+        lines: &mut Sequence<TextLine>,
+    ) -> Result<(), WorldFault>
+        ensures packets { OnOk result (packets_in self.new ≡ packets_in self.old ++ record { from = from; to = to; message = message } ∷ []) }
+        ensures lines { OnOk result (lines.new ≡ lines.old ++ text.Fact (sent_fact (length (packets_in self.old)) (record { from = from; to = to; message = message })) ∷ []) }
+        ensures memory { IfErr result (λ fault. fault ≡ WorldFault.Memory) }
+    {
+        let fact = Fact::Sent {
+            packet: self.sent(),
+            from,
+            to,
+            name: message.name(),
+        };
+        lines.push(TextLine::Fact(fact))?;
+        self.packets.push(Packet { from, to, message })?;
+        Ok(())
+    }
+}

@@ -100,8 +100,8 @@ pub enum ScriptFault {
     /// The line is in no grammar.
     #[error("code {} at word {}", .0.code, .0.word)]
     BadLine(BadLine),
-    /// The line is in its grammar, and the first word whose number is above its limit, or the first column past the last
-    /// that a table may have, passes the limit of this number: 4 for tables, 5 for clients, 7 for Stores, 8 for columns.
+    /// The line is in its grammar, and the first word whose number is above its limit, or the first column too many,
+    /// passes the limit of this number: 4 for tables, 5 for clients, 7 for Stores, 8 for columns.
     #[error("limit {0} is passed")]
     Limit(u32),
     #[error("out of memory")]

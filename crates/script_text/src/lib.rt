@@ -1,5 +1,5 @@
-//! The text of scripts: lines as events, with the first word at fault of a line that is none. The text of transcripts is
-//! passed on.
+//! The text of scripts: lines as events, with the first word at fault of a line that is none. The text of transcripts
+//! is passed on.
 #![tactic(auto)]
 
 mod columns;

@@ -73,15 +73,18 @@ fn messages_are_sent(rt: HostRuntime) -> Result<(), Fail> {
     Ok(())
 }
 
-#[test]
-fn facts_have_their_fields_in_order(rt: HostRuntime) -> Result<(), Fail> {
-    let entry = Entry {
+fn entry() -> Entry {
+    Entry {
         row: row(2),
         version: 3,
         client: 4,
         number: 5,
         base: 6,
-    };
+    }
+}
+
+#[test]
+fn facts_have_their_fields_in_order(rt: HostRuntime) -> Result<(), Fail> {
     let cases = [
         (
             TextLine::Fact(Fact::Acked {
@@ -111,11 +114,17 @@ fn facts_have_their_fields_in_order(rt: HostRuntime) -> Result<(), Fail> {
             "position C2 T1 9",
         ),
         (
-            TextLine::Fact(Fact::Accepted { table: 1, entry }),
+            TextLine::Fact(Fact::Accepted {
+                table: 1,
+                entry: entry(),
+            }),
             "accepted T1 3 00000000-0000-4000-8000-000000000002 C4 5 6",
         ),
         (
-            TextLine::Entry { table: 2, entry },
+            TextLine::Entry {
+                table: 2,
+                entry: entry(),
+            },
             "entry T2 3 00000000-0000-4000-8000-000000000002 C4 5 6",
         ),
     ];

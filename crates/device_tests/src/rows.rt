@@ -125,6 +125,7 @@ fn stop_row<D: Disk + Drop>(
 fn stop_table<D: Disk + Drop>(
     alloc: Global,
     dev: &mut RowDev<FuseDisk<D>>,
+    schema: &[u8],
     state: u8,
     calls: u32,
     pick: u64,
@@ -132,11 +133,14 @@ fn stop_table<D: Disk + Drop>(
     requires looked { IsLookedAt (behind D.state) dev.old }
     requires state { IsState state }
 {
-    let schema = schema_of(alloc, &SCHEMA)?;
-    dev.reserve(1, 22)?;
+    let table = schema_of(alloc, schema)?;
+    if schema.len() > 100 {
+        return Ok(());
+    }
+    dev.reserve(1, 2 + schema.len() as u64)?;
     dev.open_write()?;
     dev.stop_after(calls, pick);
-    let _ = dev.put_table(&schema, state);
+    let _ = dev.put_table(&table, state);
     Ok(())
 }
 
@@ -175,7 +179,7 @@ fn stop_step<D: Disk + Drop>(
             stop_row(dev, stored, calls, pick)?;
         }
         Step::Table(state) if 1 <= state && state <= 3 => {
-            stop_table(alloc, dev, state, calls, pick)?;
+            stop_table(alloc, dev, &SCHEMA, state, calls, pick)?;
         }
         Step::Sub(client, on, period) if 1 <= client && client <= 64 => {
             stop_sub(dev, client, on, period, calls, pick)?;

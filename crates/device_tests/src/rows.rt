@@ -162,6 +162,22 @@ fn stop_sub<D: Disk + Drop>(
     Ok(())
 }
 
+// Opens for writes, where a fuse stops it after so many calls of the disk; then crashes and looks.
+fn stop_opening<D: Disk + Drop>(
+    dev: &mut RowDev<FuseDisk<D>>,
+    calls: u32,
+    pick: u64,
+) -> Result<(), RowFault>
+    requires { IsLookedAt (behind D.state) dev.old }
+    ensures { OnOk result (IsLookedAt (behind D.state) dev.new) }
+{
+    dev.reserve(0, 0)?;
+    dev.stop_after(calls, pick);
+    let _ = dev.open_write();
+    dev.restart(0);
+    dev.look()
+}
+
 // Does one write, where a fuse stops it after so many calls of the disk; then crashes and looks.
 fn stop_step<D: Disk + Drop>(
     alloc: Global,
@@ -173,6 +189,7 @@ fn stop_step<D: Disk + Drop>(
     requires { IsLookedAt (behind D.state) dev.old }
     ensures { OnOk result (IsLookedAt (behind D.state) dev.new) }
 {
+    stop_opening(dev, calls, pick)?;
     match step {
         Step::Row(id, version, cell) if version <= NUMBER_MAX => {
             let stored = row_with(alloc, id, version, &content_with(alloc, cell)?)?;

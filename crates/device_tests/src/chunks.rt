@@ -26,6 +26,22 @@ const STEPS: [(u64, u32, Option<&[u8]>); 8] = [
     (NUMBER_MAX, u32::MAX, None),
 ];
 
+// Opens for writes, where a fuse stops it after so many calls of the disk; then crashes and looks.
+fn stop_opening<D: Disk + Drop>(
+    dev: &mut ChunkDev<FuseDisk<D>>,
+    calls: u32,
+    pick: u64,
+) -> Result<(), ChunkFault>
+    requires { IsLookedAt (behind D.state) dev.old }
+    ensures { OnOk result (IsLookedAt (behind D.state) dev.new) }
+{
+    dev.reserve(0, 0)?;
+    dev.stop_after(calls, pick);
+    let _ = dev.open_write();
+    dev.restart(0);
+    dev.look()
+}
+
 // Does one step, where a fuse stops it after so many calls of the disk; then crashes and looks.
 fn stop_step<D: Disk + Drop>(
     dev: &mut ChunkDev<FuseDisk<D>>,
@@ -37,6 +53,7 @@ fn stop_step<D: Disk + Drop>(
     requires { IsLookedAt (behind D.state) dev.old }
     ensures { OnOk result (IsLookedAt (behind D.state) dev.new) }
 {
+    stop_opening(dev, calls, pick)?;
     match bytes {
         Some(bytes) => stop_put(dev, name, bytes, calls, pick)?,
         None => stop_drop(dev, name, calls, pick)?,

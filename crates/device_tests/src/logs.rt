@@ -87,6 +87,22 @@ fn stop_close<D: Disk + Drop>(
     Ok(())
 }
 
+// Opens for writes, where a fuse stops it after so many calls of the disk; then crashes and looks.
+fn stop_opening<D: Disk + Drop>(
+    log: &mut StatusLog<FuseDisk<D>>,
+    calls: u32,
+    pick: u64,
+) -> Result<(), LogFault>
+    requires { IsLookedAt (behind D.state) log.old }
+    ensures { OnOk result (IsLookedAt (behind D.state) log.new) }
+{
+    log.reserve(0, 0)?;
+    log.stop_after(calls, pick);
+    let _ = log.open_write();
+    log.restart(0);
+    log.look()
+}
+
 // Does one step, where a fuse stops it after so many calls of the disk; then crashes and looks.
 fn stop_step<D: Disk + Drop>(
     alloc: Global,
@@ -98,6 +114,7 @@ fn stop_step<D: Disk + Drop>(
     requires { IsLookedAt (behind D.state) log.old }
     ensures { OnOk result (IsLookedAt (behind D.state) log.new) }
 {
+    stop_opening(log, calls, pick)?;
     match step {
         Some(version) if version <= NUMBER_MAX => {
             let entry = entry_with(alloc, version)?;

@@ -125,6 +125,7 @@ fn stop_row<D: Disk + Drop>(
 fn stop_table<D: Disk + Drop>(
     alloc: Global,
     dev: &mut RowDev<FuseDisk<D>>,
+    schema: &[u8],
     state: u8,
     calls: u32,
     pick: u64,
@@ -132,11 +133,14 @@ fn stop_table<D: Disk + Drop>(
     requires looked { IsLookedAt (behind D.state) dev.old }
     requires state { IsState state }
 {
-    let schema = schema_of(alloc, &SCHEMA)?;
-    dev.reserve(1, 22)?;
+    let table = schema_of(alloc, schema)?;
+    if schema.len() > 100 {
+        return Ok(());
+    }
+    dev.reserve(1, 2 + schema.len() as u64)?;
     dev.open_write()?;
     dev.stop_after(calls, pick);
-    let _ = dev.put_table(&schema, state);
+    let _ = dev.put_table(&table, state);
     Ok(())
 }
 
@@ -158,6 +162,22 @@ fn stop_sub<D: Disk + Drop>(
     Ok(())
 }
 
+// Opens for writes, where a fuse stops it after so many calls of the disk; then crashes and looks.
+fn stop_opening<D: Disk + Drop>(
+    dev: &mut RowDev<FuseDisk<D>>,
+    calls: u32,
+    pick: u64,
+) -> Result<(), RowFault>
+    requires { IsLookedAt (behind D.state) dev.old }
+    ensures { OnOk result (IsLookedAt (behind D.state) dev.new) }
+{
+    dev.reserve(0, 0)?;
+    dev.stop_after(calls, pick);
+    let _ = dev.open_write();
+    dev.restart(0);
+    dev.look()
+}
+
 // Does one write, where a fuse stops it after so many calls of the disk; then crashes and looks.
 fn stop_step<D: Disk + Drop>(
     alloc: Global,
@@ -169,13 +189,14 @@ fn stop_step<D: Disk + Drop>(
     requires { IsLookedAt (behind D.state) dev.old }
     ensures { OnOk result (IsLookedAt (behind D.state) dev.new) }
 {
+    stop_opening(dev, calls, pick)?;
     match step {
         Step::Row(id, version, cell) if version <= NUMBER_MAX => {
             let stored = row_with(alloc, id, version, &content_with(alloc, cell)?)?;
             stop_row(dev, stored, calls, pick)?;
         }
         Step::Table(state) if 1 <= state && state <= 3 => {
-            stop_table(alloc, dev, state, calls, pick)?;
+            stop_table(alloc, dev, &SCHEMA, state, calls, pick)?;
         }
         Step::Sub(client, on, period) if 1 <= client && client <= 64 => {
             stop_sub(dev, client, on, period, calls, pick)?;

@@ -1,18 +1,17 @@
 -- Rows, tables and subscriptions that are read as they were written.
-use Rattle.std.proofs.Common.{◌≡◌, ℕ, ◌+◌, ◌-◌, ◌^◌, ◌<◌, ◌≤◌, Bool, true, false, cond, ltb, List, [], ◌∷◌, ◌++◌, length, take, drop, Option, Some, None, Result, Ok, Err, refl, sym, ◌∙◌, ap, subst, append_assoc, arith, length-append, length-drop, inl, inr}
+use Rattle.std.proofs.Common.{◌≡◌, ℕ, ◌+◌, ◌-◌, ◌^◌, ◌<◌, ◌≤◌, Bool, true, cond, List, [], ◌∷◌, ◌++◌, length, take, drop, Option, Result, Ok, Err, refl, sym, ◌∙◌, ap, subst, append_assoc, arith, length-append, length-drop, inl, inr}
 use Rattle.std.specs.Prelude.{◌&&◌, nat_lt, nat_le}
 use Rattle.std.specs.Int.{w32, w64, to_be_bytes}
-use Rattle.std.proofs.lemmas.Bool.{le-ltb, ltb-false}
+use Rattle.std.proofs.lemmas.Bool.{le-ltb}
 use Rattle.std.proofs.lemmas.Bool.Decides.{nat_tests}
 use Rattle.std.proofs.lemmas.List.{take_all, take_at, drop_at, drop-drop, append-nil}
 use Rattle.stab_base.specs.declared.limits.TheConstants.{NUMBER_MAX}
 use Rattle.stab_base.specs.Codec.{IsBytes}
 use Rattle.row_value.specs.declared.schema.Schema.{Schema}
-use Rattle.row_value.specs.Spelling.{flag_spelling, list_spelling, HasContentSpelling, content_spelling}
+use Rattle.row_value.specs.Spelling.{flag_spelling, list_spelling, content_spelling}
 use Rattle.row_value.specs.SchemaSpelling.{HasSchemaSpelling, schema_spelling}
-use Rattle.row_value.specs.Reading.{◌>>=◌, byte_at, number_at, flag_at, list_at, content_at, whole}
-use Rattle.row_value.specs.SchemaReading.{schema_at}
-use Rattle.row_value.proofs.FieldReads.{Reads, bind_ok, ok_is, branch, no_fault, gives, rest_fits, four_reads, eight_reads, flag_reads, byte_reads}
+use Rattle.row_value.specs.Reading.{◌>>=◌, byte_at, number_at, flag_at, list_at, whole}
+use Rattle.row_value.proofs.FieldReads.{Reads, bind_ok, ok_is, branch, no_fault, gives, rest_fits, four_reads, eight_reads, flag_reads}
 use Rattle.row_value.proofs.ListReads.{EachFrom, list_reads}
 use Rattle.row_value.proofs.ContentReads.{content_reads}
 use Rattle.row_value.proofs.SchemaReads.{schema_reads}
@@ -21,7 +20,7 @@ use Rattle.row_store.specs.declared.stored.StoredRow.{StoredRow}
 use Rattle.row_store.specs.declared.stored.SubChange.{SubChange}
 use Rattle.row_store.specs.declared.stored.Terms.{Terms}
 use Rattle.row_store.specs.Spelling.{last_spelling, IsNextLast, AreLasts, all_keep, stored_spelling, HasStoredSpelling, row_payload, IsState, table_payload, IsClient, sub_payload}
-use Rattle.row_store.specs.Reading.{id_at, last_in, after_last, is_allowed, stored_at, table_at, terms_if, sub_at, tag_at, row_in, table_in, sub_in, Said, SaysRow, SaysTable, SaysSub, SaysNothing, said_sub, said_table, said_row, said_by}
+use Rattle.row_store.specs.Reading.{id_at, last_in, after_last, stored_at, table_at, terms_if, sub_at, tag_at, row_in, table_in, sub_in, SaysRow, SaysTable, SaysSub, said_sub, said_table, said_row, said_by}
 
 -- ---- ids
 

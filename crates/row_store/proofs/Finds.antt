@@ -1,21 +1,19 @@
 -- Finding rows in memory.
-use Rattle.std.proofs.Common.{◌≡◌, ◌≤◌, ◌<◌, ◌⊎◌, inl, inr, ℕ, Bool, true, false, cond, List, Option, Some, None, refl, sym, ◌∙◌, ap, subst, arith}
-use Rattle.std.specs.Prelude.{option_map, unwrap_or, is_some, IsSome, IfNone, IfSome, ◌==◌}
+use Rattle.std.proofs.Common.{◌≡◌, ◌≤◌, inl, inr, ℕ, true, false, List, Option, Some, None, refl, sym, ◌∙◌, ap, arith}
+use Rattle.std.specs.Prelude.{option_map, unwrap_or, is_some, IfNone, IfSome}
 use Rattle.std.specs.declared.cmp.Ordering.{Ordering}
-use Rattle.std.specs.declared.cmp.Ordering.TheVariants.{Less, Equal, Greater}
 use Rattle.std.specs.Ordering.{is_lt, nat_cmp, ordering_then}
 use Rattle.std.specs.BTreeMap.{is_at}
 use Rattle.std.specs.Map.{lookup}
 use Rattle.std.proofs.lemmas.Bool.Decides.{nat_tests}
 use Rattle.spare_map.specs.Late.{entries_of, IsLast}
-use Rattle.spare_map.specs.Values.{AllValues, with_values}
 use Rattle.spare_map.proofs.Values.{lookup_with, value_found}
 use Rattle.row_store.specs.declared.stored.StoredRow.{StoredRow}
 use Rattle.row_store.specs.declared.stored.RowVersion.{RowVersion}
 use Rattle.row_store.specs.declared.memory.RowMemory.{RowMemory}
 use Rattle.row_store.specs.declared.memory.Place.{Place}
-use Rattle.row_store.specs.Data.{TableData, id_cmp, version_cmp, data_of, row_of, version_if, version_of, IsTableVersion, AreChangedSince}
-use Rattle.row_store.specs.Memory.{row_at, IsPlace, has_version, AreByVersion, AreAbove, Fits}
+use Rattle.row_store.specs.Data.{id_cmp, version_cmp, data_of, row_of, version_if, version_of, IsTableVersion, AreChangedSince}
+use Rattle.row_store.specs.Memory.{row_at, IsPlace, has_version, AreAbove, Fits}
 use Rattle.row_store.proofs.Versions.{at}
 
 abbrev place_in : RowMemory → List ℕ → Option Place

@@ -1,5 +1,5 @@
 -- A row that is read stood there as it is spelled.
-use Rattle.std.proofs.Common.{◌≡◌, ℕ, ◌≤◌, Bool, true, false, cond, eqb, ltb, List, [], ◌∷◌, ◌++◌, length, take, drop, Result, Ok, Err, refl, sym, ◌∙◌, ap, subst, arith, take-append-drop, inl, inr}
+use Rattle.std.proofs.Common.{◌≡◌, ℕ, ◌≤◌, Bool, true, false, eqb, ltb, List, [], ◌∷◌, ◌++◌, length, take, drop, Result, Ok, Err, refl, sym, ◌∙◌, ap, subst, arith, take-append-drop, inl, inr}
 use Rattle.std.specs.Prelude.{◌&&◌, nat_le}
 use Rattle.std.specs.Int.{w64, to_be_bytes}
 use Rattle.std.proofs.lemmas.Bool.{ltb-false, eqb-true}
@@ -8,14 +8,14 @@ use Rattle.std.proofs.lemmas.List.{length-take-le}
 use Rattle.stab_base.specs.declared.limits.TheConstants.{NUMBER_MAX}
 use Rattle.stab_base.specs.Codec.{IsBytes}
 use Rattle.row_value.specs.declared.pieces.PieceContent.{PieceContent}
-use Rattle.row_value.specs.Spelling.{list_spelling, content_spelling}
+use Rattle.row_value.specs.Spelling.{content_spelling}
 use Rattle.row_value.specs.Reading.{◌>>=◌, byte_at, number_at, list_at, content_at, whole}
 use Rattle.row_value.proofs.FieldReads.{Reads, bind_ok, ok_is, branch, no_fault, gives, rest_fits, eight_reads}
 use Rattle.row_value.proofs.ContentReads.{content_reads}
 use Rattle.row_value.proofs.Answering.{whole_found}
 use Rattle.row_store.specs.declared.stored.LastWrite.{LastWrite}
 use Rattle.row_store.specs.declared.stored.StoredRow.{StoredRow}
-use Rattle.row_store.specs.Spelling.{last_spelling, all_keep, stored_spelling, HasStoredSpelling, row_payload}
+use Rattle.row_store.specs.Spelling.{all_keep, stored_spelling, HasStoredSpelling, row_payload}
 use Rattle.row_store.specs.Reading.{id_at, last_in, after_last, is_allowed, allowed_at, stored_at, tag_at, row_in}
 use Rattle.row_store.proofs.Again.{lasts_read, are_lasts, spelling_parts, stored_again}
 

@@ -12,7 +12,7 @@ use Rattle.row_value.specs.declared.pieces.PieceObject.{PieceObject}
 use Rattle.row_value.specs.Spelling.{list_spelling, content_spelling, piece_spelling, object_spelling}
 use Rattle.row_store.specs.declared.stored.LastWrite.{LastWrite}
 use Rattle.row_store.specs.declared.stored.StoredRow.{StoredRow}
-use Rattle.row_store.specs.Spelling.{is_keep, last_spelling, stored_spelling, row_payload}
+use Rattle.row_store.specs.Spelling.{is_keep, last_spelling, row_payload}
 
 last_len : (last : LastWrite) → length (last_spelling last) ≡ 20
 last_len last = omega (arith, length-append (to_be_bytes w32 last.client) (to_be_bytes w64 last.number ++ to_be_bytes w64 last.version), length-append (to_be_bytes w64 last.number) (to_be_bytes w64 last.version))

@@ -1,10 +1,9 @@
 -- What a payload says, from what is to be noted of it.
-use Rattle.std.proofs.Common.{◌≡◌, ℕ, List, refl, ap}
+use Rattle.std.proofs.Common.{◌≡◌, ℕ, refl, ap}
 use Rattle.row_value.specs.declared.schema.Schema.{Schema}
 use Rattle.row_store.specs.declared.stored.StoredRow.{StoredRow}
 use Rattle.row_store.specs.declared.stored.RowVersion.{RowVersion}
 use Rattle.row_store.specs.declared.stored.SubChange.{SubChange}
-use Rattle.row_store.specs.declared.change.Change.{Change}
 use Rattle.row_store.specs.declared.change.Change.TheVariants as changes
 use Rattle.row_store.specs.Reading.{Said, SaysRow, SaysTable, SaysSub, SaysNothing}
 use Rattle.row_store.specs.Memory.{shape_of}

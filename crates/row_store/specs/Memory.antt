@@ -8,7 +8,6 @@ use Rattle.std.specs.List.Sorted.{IsStrictlySortedBy}
 use Rattle.std.specs.Ordering.{nat_cmp}
 use Rattle.std.specs.Vec.{vec_capacity}
 use Rattle.vault.specs.declared.record.TheConstants.{PAYLOAD_MAX}
-use Rattle.stab_base.specs.declared.limits.TheConstants.{NUMBER_MAX}
 use Rattle.spare_map.specs.Late.{entries_of, spare_of}
 use Rattle.spare_map.specs.Values.{AllValues, with_values}
 use Rattle.row_value.specs.declared.schema.Schema.{Schema}

@@ -206,7 +206,8 @@ impl<D: Disk + Drop> RowDev<D> {
         ensures opened { OnOk result (IsOpened D.state self.new) }
         ensures put { OnOk result (held D.state self.new ≡ with_row (held D.state self.old) stored) }
         ensures durable { OnOk result (Leaves D.state D.images self.new self.new (λ here. here ≡ with_row (held D.state self.old) stored)) }
-        ensures room { OnOk result ((openings puts bytes : ℕ) → HasRoom D.state self.old openings (puts + 1) (bytes + (length (row_payload stored)))
+        ensures room { OnOk result ((openings puts bytes : ℕ)
+            → HasRoom D.state self.old openings (puts + 1) (bytes + (length (row_payload stored)))
             → HasRoom D.state self.new openings puts bytes) }
         // A crash at any moment of the call leaves the table from before it, or that after it.
         ensures any_moment { IsUp (vault_of self.old) → Leaves D.state D.images self.old self.new
@@ -244,8 +245,10 @@ impl<D: Disk + Drop> RowDev<D> {
         requires room { IsUp (vault_of self.old) → HasRoom D.state self.old 0 1 (length (table_payload schema.now state)) }
         ensures opened { OnOk result (IsOpened D.state self.new) }
         ensures put { OnOk result (held D.state self.new ≡ with_table (held D.state self.old) schema.now state) }
-        ensures durable { OnOk result (Leaves D.state D.images self.new self.new (λ here. here ≡ with_table (held D.state self.old) schema.now state)) }
-        ensures room { OnOk result ((openings puts bytes : ℕ) → HasRoom D.state self.old openings (puts + 1) (bytes + (length (table_payload schema.now state)))
+        ensures durable { OnOk result (Leaves D.state D.images self.new self.new
+            (λ here. here ≡ with_table (held D.state self.old) schema.now state)) }
+        ensures room { OnOk result ((openings puts bytes : ℕ)
+            → HasRoom D.state self.old openings (puts + 1) (bytes + (length (table_payload schema.now state)))
             → HasRoom D.state self.new openings puts bytes) }
         // A crash at any moment of the call leaves the table from before it, or that after it.
         ensures any_moment { IsUp (vault_of self.old) → Leaves D.state D.images self.old self.new
@@ -284,13 +287,16 @@ impl<D: Disk + Drop> RowDev<D> {
         requires client { IsClient client }
         requires room { IsUp (vault_of self.old) → HasRoom D.state self.old 0 1 18 }
         ensures opened { OnOk result (IsOpened D.state self.new) }
-        ensures put { OnOk result (held D.state self.new ≡ with_sub (held D.state self.old) client (terms_if on (record { gate = gate; period = period; tolerance = tolerance }))) }
-        ensures durable { OnOk result (Leaves D.state D.images self.new self.new (λ here. here ≡ with_sub (held D.state self.old) client (terms_if on (record { gate = gate; period = period; tolerance = tolerance })))) }
+        ensures put { OnOk result (held D.state self.new
+            ≡ with_sub (held D.state self.old) client (terms_if on (record { gate = gate; period = period; tolerance = tolerance }))) }
+        ensures durable { OnOk result (Leaves D.state D.images self.new self.new (λ here. here
+            ≡ with_sub (held D.state self.old) client (terms_if on (record { gate = gate; period = period; tolerance = tolerance })))) }
         ensures room { OnOk result ((openings puts bytes : ℕ) → HasRoom D.state self.old openings (puts + 1) (bytes + 18)
             → HasRoom D.state self.new openings puts bytes) }
         // A crash at any moment of the call leaves the table from before it, or that after it.
         ensures any_moment { IsUp (vault_of self.old) → Leaves D.state D.images self.old self.new
-            (IsEither (held D.state self.old) (with_sub (held D.state self.old) client (terms_if on (record { gate = gate; period = period; tolerance = tolerance })))) }
+            (IsEither (held D.state self.old)
+            (with_sub (held D.state self.old) client (terms_if on (record { gate = gate; period = period; tolerance = tolerance })))) }
         // Where a fuse stops one of the first two of its four calls, that from before it.
         ensures early { IsUp (vault_of self.old) → StopsWithin D.state (vault_of self.old) 2
             → Leaves D.state D.images self.old self.new (λ here. here ≡ held D.state self.old) }

@@ -1,5 +1,4 @@
-use Rattle.std.proofs.Common.{◌≡◌, ◌+◌, ◌*◌, ℕ, List, length, sym, ap, subst, arith}
-use Rattle.row_value.specs.declared.pieces.Piece.{Piece}
+use Rattle.std.proofs.Common.{◌≡◌, ◌+◌, ◌*◌, ℕ, length, sym, subst, arith}
 use Rattle.row_value.specs.Spelling.{object_spelling}
 use Rattle.row_store.specs.Size.{IsSum}
 use Rattle.row_store.proofs.Lengths.{object_len}

@@ -1,6 +1,4 @@
-use Rattle.std.proofs.Common.{◌≡◌, ◌+◌, ◌<◌, ℕ, List, length, take, get_or, ap, arith}
-use Rattle.std.specs.List.{flat_map}
-use Rattle.vault.specs.declared.record.TheConstants.{PAYLOAD_MAX}
+use Rattle.std.proofs.Common.{◌≡◌, ◌+◌, length, get_or, ap, arith}
 use Rattle.row_value.specs.declared.pieces.PieceObject.{PieceObject}
 use Rattle.row_value.specs.Spelling.{object_spelling}
 use Rattle.row_store.proofs.Lengths.{next_len, front_len}

@@ -1,4 +1,4 @@
-use Rattle.std.proofs.Common.{◌≡◌, ◌≤◌, ◌+◌, ◌*◌, ℕ, length, sym, subst, arith}
+use Rattle.std.proofs.Common.{◌≡◌, ◌+◌, ◌*◌, ℕ, length, sym, subst, arith}
 use Rattle.row_value.specs.Spelling.{content_spelling}
 use Rattle.row_store.specs.Spelling.{row_payload}
 use Rattle.row_store.specs.Size.{IsSum}

@@ -1,13 +1,12 @@
-use Rattle.std.proofs.Common.{◌≡◌, ◌+◌, ◌++◌, ◌∷◌, [], List, ℕ, length, refl, sym, ◌∙◌, ap, subst, arith}
+use Rattle.std.proofs.Common.{◌≡◌, ◌+◌, ◌++◌, ◌∷◌, [], length, refl, sym, ◌∙◌, ap, arith}
 use Rattle.vault.specs.Standing.{payloads}
 use Rattle.folded_vault.proofs.Rooms.{room_written}
-use Rattle.row_store.specs.Spelling.{row_payload, table_payload, sub_payload}
-use Rattle.row_store.specs.declared.stored.Terms.{Terms}
-use Rattle.row_store.specs.Reading.{said_by, terms_if, SaysRow, SaysTable, SaysSub}
-use Rattle.row_store.specs.Data.{TableData, with_row, with_table, with_sub, data_of}
+use Rattle.row_store.specs.Spelling.{table_payload}
+use Rattle.row_store.specs.Reading.{said_by, SaysTable}
+use Rattle.row_store.specs.Data.{TableData, with_table, data_of}
 use Rattle.row_store.specs.Memory.{HasSpare, shape_of}
 use Rattle.row_store.specs.Standing.{vault_of}
-use Rattle.row_store.proofs.Again.{says_row, says_table, says_sub}
+use Rattle.row_store.proofs.Again.{says_table}
 use Rattle.row_store.proofs.Notes.{grown}
 use Rattle.row_store.proofs.Maps.{same_map, either_map}
 use Rattle.row_store.proofs.device.RowDev.put_table.Goals as goal

@@ -1,4 +1,4 @@
-use Rattle.std.proofs.Common.{◌≡◌, List, sym, ◌∙◌, ap}
+use Rattle.std.proofs.Common.{◌≡◌, ◌∙◌, ap}
 use Rattle.std.specs.Prelude.{filter, nat_lt}
 use Rattle.std.specs.Map.{keys_of}
 use Rattle.spare_map.specs.Late.{entries_of}

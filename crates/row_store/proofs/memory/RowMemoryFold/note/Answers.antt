@@ -1,10 +1,9 @@
-use Rattle.std.proofs.Common.{◌≡◌, ℕ, List, length, Result, Ok, Err, refl, sym, ◌∙◌, ap, subst}
+use Rattle.std.proofs.Common.{ℕ, List, Result, Ok, Err, refl, sym, ◌∙◌, ap}
 use Rattle.std.specs.Prelude.{OnOk}
 use Rattle.std.specs.BTreeMap.{insert_entry}
 use Rattle.std.specs.Ordering.{nat_cmp}
 use Rattle.std.proofs.lemmas.Result.{on_ok_weaker}
 use Rattle.spare_map.specs.Late.{entries_of}
-use Rattle.row_store.specs.declared.memory.RowMemory.{RowMemory}
 use Rattle.row_store.specs.declared.memory.Place.{Place}
 use Rattle.row_store.specs.Reading.{said_by}
 use Rattle.row_store.specs.Data.{id_cmp, version_cmp}

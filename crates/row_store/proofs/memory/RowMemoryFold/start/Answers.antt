@@ -1,4 +1,4 @@
-use Rattle.std.proofs.Common.{◌≡◌, List, ℕ, [], None, true, false, refl, sym, ◌∙◌, ap, subst}
+use Rattle.std.proofs.Common.{◌≡◌, List, ℕ, [], None, refl, sym, ◌∙◌, ap, subst}
 use Rattle.std.specs.Ordering.{nat_cmp}
 use Rattle.spare_map.specs.Late.{entries_of}
 use Rattle.spare_map.specs.Values.{AllValues, with_values}
@@ -6,7 +6,7 @@ use Rattle.row_value.specs.Reading.{byte_at}
 use Rattle.row_store.specs.Reading.{table_in, tag_at}
 use Rattle.row_store.specs.Data.{id_cmp, version_cmp, data_of}
 use Rattle.row_store.specs.Memory.{IsPlace, row_at, table_or, AreByVersion}
-use Rattle.row_store.proofs.Versions.{Places, Versions}
+use Rattle.row_store.proofs.Versions.{Places}
 use Rattle.row_store.proofs.memory.RowMemoryFold.start.Goals as goal
 
 no_versions : AreByVersion [] []

@@ -23,7 +23,7 @@ module _ (w : laws.World) (tables : tree.BTreeMap ℕ Hosted) (p : Packet) (k : 
       → HasTables (to_store w p (stored_at w (table_in p.message))).world new
   nowhere new none same = subst (λ (o : Option (List Stored)). HasTables (to_store w p o).world new)
       (sym (table_not_there (table_in p.message) (stored_at w (table_in p.message))
-        (subst (λ (o : Option Hosted). HostsThere (table_in p.message) (stored_at w (table_in p.message)) o) (sym (none ∙ ap (tree.get nat_cmp tables) is)) (h (table_in p.message)))))
+      (subst (λ (o : Option Hosted). HostsThere (table_in p.message) (stored_at w (table_in p.message)) o) (sym (none ∙ ap (tree.get nat_cmp tables) is)) (h (table_in p.message)))))
       (subst (λ (m : tree.BTreeMap ℕ Hosted). HasTables w m) (sym same) h)
 
   module _ (hosted : Hosted) (there : Some hosted ≡ tree.get nat_cmp tables k) where
@@ -33,22 +33,22 @@ module _ (w : laws.World) (tables : tree.BTreeMap ℕ Hosted) (p : Packet) (k : 
 
     pub arrived_out : (r : Result Out WorldFault) (new : Hosted)
         → ((table : ℕ) (stored : List Stored) → Hosts table stored hosted → IfOk r (λ out.
-            (out ≡ and_more nothing p.from (store_step table stored p.message).messages (store_step table stored p.message).facts)
-            × Hosts table (store_step table stored p.message).stored new))
+        (out ≡ and_more nothing p.from (store_step table stored p.message).messages (store_step table stored p.message).facts)
+        × Hosts table (store_step table stored p.message).stored new))
         → IfOk r (λ out. out ≡ store_out p (stored_at w (table_in p.message)))
     arrived_out (Err e) new step = search rules
     arrived_out (Ok out) new step = (step (table_in p.message) found.0 found.2).0 ∙ ap (store_out p) (sym found.1)
 
     pub arrived_tables : (r : Result Out WorldFault) (new : Hosted) (after : tree.BTreeMap ℕ Hosted)
         → ((table : ℕ) (stored : List Stored) → Hosts table stored hosted → IfOk r (λ out.
-            (out ≡ and_more nothing p.from (store_step table stored p.message).messages (store_step table stored p.message).facts)
-            × Hosts table (store_step table stored p.message).stored new))
+        (out ≡ and_more nothing p.from (store_step table stored p.message).messages (store_step table stored p.message).facts)
+        × Hosts table (store_step table stored p.message).stored new))
         → ((q : ℕ) → tree.get nat_cmp after q ≡ cond (is_at (nat_cmp k) q) (Some new) (tree.get nat_cmp tables q))
         → OnOk r (HasTables (to_store w p (stored_at w (table_in p.message))).world after)
     arrived_tables (Err e) new after step u = search rules
     arrived_tables (Ok out) new after step u = subst (λ (o : Option (List Stored)). HasTables (to_store w p o).world after) (sym found.1)
         (tables_inserted w tables after (table_in p.message) (store_step (table_in p.message) found.0 p.message).stored new h (step (table_in p.message) found.0 found.2).1
-          (subst (λ t. (q : ℕ) → tree.get nat_cmp after q ≡ cond (is_at (nat_cmp t) q) (Some new) (tree.get nat_cmp tables q)) is u))
+        (subst (λ t. (q : ℕ) → tree.get nat_cmp after q ≡ cond (is_at (nat_cmp t) q) (Some new) (tree.get nat_cmp tables q)) is u))
 
     pub arrived_cause : (r : Result Out WorldFault)
         → ((table : ℕ) (stored : List Stored) → Hosts table stored hosted → IfErr r (IsStoreCause (store_step table stored p.message).stored))

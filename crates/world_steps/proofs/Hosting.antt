@@ -31,16 +31,18 @@ pub hosts_step : (r : Result Out WorldFault) (table : ℕ) (stored : List Stored
     → OnOk r (gathered new.node ≡ nothing)
     → OnOk r (new.history ≡ mid.history ++ entries_told (gathered mid.node).facts)
     → IfOk r (λ out. (out ≡ and_more nothing from (store_step table stored message).messages (store_step table stored message).facts)
-        × Hosts table (store_step table stored message).stored new)
+    × Hosts table (store_step table stored message).stored new)
 hosts_step (Err e) table stored from message old mid new h holds out same history is kept number told more = search rules
 hosts_step (Ok o) table stored from message old mid new h holds out same history is kept number told more =
     let all : gathered mid.node ≡ and_more nothing from (store_step table stored message).messages (store_step table stored message).facts =
-        out ∙ ap (λ g. and_more g from (store_step (table_of old.node) stored message).messages (store_step (table_of old.node) stored message).facts) h.told
-        ∙ ap (λ t. and_more nothing from (store_step t stored message).messages (store_step t stored message).facts) h.number in
-    (is ∙ all, record {
-      node = subst (λ t. Holds (store_step t stored message).stored new.node) h.number (kept _ holds);
-      number = number ∙ same ∙ h.number;
-      told = told;
-      history = more ∙ ap (λ es. es ++ entries_told (gathered mid.node).facts) (history ∙ h.history)
-          ∙ ap (λ (g : Out). entries_of stored ++ entries_told g.facts) all ∙ sym (told_entries table stored message);
-    })
+    out ∙ ap (λ g. and_more g from (store_step (table_of old.node) stored message).messages (store_step (table_of old.node) stored message).facts) h.told
+    ∙ ap (λ t. and_more nothing from (store_step t stored message).messages (store_step t stored message).facts) h.number in (
+      is ∙ all,
+      record {
+        node = subst (λ t. Holds (store_step t stored message).stored new.node) h.number (kept _ holds);
+        number = number ∙ same ∙ h.number;
+        told = told;
+        history = more ∙ ap (λ es. es ++ entries_told (gathered mid.node).facts) (history ∙ h.history)
+            ∙ ap (λ (g : Out). entries_of stored ++ entries_told g.facts) all ∙ sym (told_entries table stored message);
+      },
+    )

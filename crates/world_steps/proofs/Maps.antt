@@ -84,8 +84,8 @@ pub tables_inserted : (w : laws.World) (tables new : tree.BTreeMap ℕ Hosted) (
     → (q : ℕ) → HostsThere q (lookup (is_at (nat_cmp q)) (insert_entry nat_cmp w.tables table stored)) (tree.get nat_cmp new q)
 tables_inserted w tables new table stored hosted h at u q =
     subst (λ (o : Option Hosted). HostsThere q (lookup (is_at (nat_cmp q)) (insert_entry nat_cmp w.tables table stored)) o) (sym (u q))
-      (subst (λ (o : Option (List Stored)). HostsThere q o (cond (is_at (nat_cmp table) q) (Some hosted) (tree.get nat_cmp tables q))) (sym (lookup-insert w.tables table stored q))
-        (one (is_at (nat_cmp table) q) refl))
+    (subst (λ (o : Option (List Stored)). HostsThere q o (cond (is_at (nat_cmp table) q) (Some hosted) (tree.get nat_cmp tables q))) (sym (lookup-insert w.tables table stored q))
+    (one (is_at (nat_cmp table) q) refl))
   where
     one : (b : Bool) → is_at (nat_cmp table) q ≡ b → HostsThere q (cond b (Some stored) (stored_at w q)) (cond b (Some hosted) (tree.get nat_cmp tables q))
     one true is = subst (λ k. Hosts k stored hosted) (at_same table q is) at

@@ -24,12 +24,12 @@ shown_world (Err e) w world client node f answer h at is = search rules
 shown_world (Ok ls) w world client node f answer h at is =
     let there = client_there (client_at w client) node (at ∙ h.clients client) in
     subst (λ (o : Option Client). Holds (at_client w client f o).world world) (sym there.0)
-      (subst (λ (s : ClientStep). Holds (after_client w client s).world world) (sym is) (record {
-        schemas = h.schemas;
-        tables = h.tables;
-        clients = clients_kept w world.clients client node.client h.clients there.0;
-        packets = h.packets ∙ sym (append-nil w.packets);
-      }))
+    (subst (λ (s : ClientStep). Holds (after_client w client s).world world) (sym is) (record {
+      schemas = h.schemas;
+      tables = h.tables;
+      clients = clients_kept w world.clients client node.client h.clients there.0;
+      packets = h.packets ∙ sym (append-nil w.packets);
+    }))
 
 row_lines : (w : laws.World) (o : Option Stored) → answer_lines (row_answer o) [] ≡ (store_row w o).lines
 row_lines w None = refl

@@ -2,7 +2,7 @@
 use Rattle.std.specs.Prelude.{List, map, Option, unwrap_or}
 use Rattle.table_model.specs.declared.node.Node.{Node}
 use Rattle.sync_msgs.specs.declared.message.Message.{Message}
-use Rattle.run_laws.specs.World.{the_store} 
+use Rattle.run_laws.specs.World.{the_store}
 use Rattle.run_laws.specs.World as laws
 use Rattle.world_steps.specs.declared.network.Packet.{Packet}
 use Rattle.world_steps.specs.declared.network.Network.{Network}

@@ -1,7 +1,5 @@
 //! A packet's way to its party. Where there is none, the packet is lost.
-ghost use Rattle.std.specs.Prelude.{◌≡◌, IfOk, IfErr, OnOk, option_map};
-ghost use Rattle.std.specs.Ordering.{nat_cmp};
-ghost use Rattle.std.specs.BTreeMap as tree;
+ghost use Rattle.std.specs.Prelude.{◌≡◌, IfOk, IfErr, OnOk};
 ghost use Rattle.run_laws.specs.World.{World as AWorld, stored_at, client_at, table_in, to_store, to_client, carried};
 ghost use Rattle.world_steps.specs.Network.{packet_of};
 ghost use Rattle.world_steps.specs.Holds.{HasTables, HasClients, SpendsVersion, SpendsAt};

@@ -6,6 +6,8 @@ mod deliver;
 mod fault;
 mod hosted;
 mod network;
+#[cfg(test)]
+mod tests;
 mod world;
 
 pub use fault::WorldFault;

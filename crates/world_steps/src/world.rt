@@ -1,8 +1,6 @@
 ghost use Rattle.std.specs.Prelude.{◌≡◌, [], ◌∷◌, ◌++◌, length, slice_get, IfOk, IfErr, OnOk, None};
-ghost use Rattle.table_model.specs.declared.event.Event.{Event as AnEvent};
-ghost use Rattle.table_model.specs.declared.node.Node.TheVariants as nodes;
 ghost use Rattle.step_tables.specs.Client.{Client, write_step, show_step, sync_step, pull_step};
-ghost use Rattle.run_laws.specs.World.{World as AWorld, Packet, start, step, declared, joined, open_all, with_opened, call, delivered, store_shows, history_lines, answer_lines, entry_lines, told, sent_from, schema_at, stored_at, client_at};
+ghost use Rattle.run_laws.specs.World.{World as AWorld, start, step, declared, joined, open_all, with_opened, call, delivered, store_shows, history_lines, answer_lines, entry_lines, sent_from, schema_at, stored_at, client_at};
 ghost use Rattle.world_steps.specs.Network.{packets_in, packets_from};
 ghost use Rattle.world_steps.specs.Holds.{Holds, idle, IsCause, Spends};
 

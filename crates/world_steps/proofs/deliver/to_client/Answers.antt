@@ -13,6 +13,6 @@ returns-in-Ok-clause-clients c = λ w h.
     let after = c.take_out.new.self in
     let there = client_there (client_at w c.args.client) node (c.in-Some.ensures.value ∙ h c.args.client) in
     subst (λ (o : Option Client). HasClients (to_client w c.args.client (packet_of c.args.packet.now) o).world (c.get_mut.follows.lender after)) (sym there.0)
-      (clients_inserted w c.args.clients.now (c.get_mut.follows.lender after) c.args.client (deliver_step node.client c.args.packet.now.message).client after h
-        (c.take_out.ensures.left ∙ ap (λ (n : NodeState). record n { out = record { messages = []; facts = [] } }) c.in-Ok.ensures.done)
-        ((c.get_mut.follows.holds after).3 (some_there _ _ c.in-Some.ensures.value)).0)
+    (clients_inserted w c.args.clients.now (c.get_mut.follows.lender after) c.args.client (deliver_step node.client c.args.packet.now.message).client after h
+    (c.take_out.ensures.left ∙ ap (λ (n : NodeState). record n { out = record { messages = []; facts = [] } }) c.in-Ok.ensures.done)
+    ((c.get_mut.follows.holds after).3 (some_there _ _ c.in-Some.ensures.value)).0)

@@ -10,7 +10,7 @@ returns-in-Some-clause-out c = λ w h.
 pub returns-in-Some-clause-tables : goal.returns-in-Some-clause-tables
 returns-in-Some-clause-tables c = λ w h.
     arrived_tables w c.args.tables.now (packet_of c.args.packet.now) c.table_in.result h c.table_in.ensures c.in-Some.hosted.now c.in-Some.ensures.value c.deliver.result c.deliver.new.self
-        (c.get_mut.follows.lender c.deliver.new.self) c.deliver.ensures.step ((c.get_mut.follows.holds c.deliver.new.self).3 (some_there _ _ c.in-Some.ensures.value)).0
+    (c.get_mut.follows.lender c.deliver.new.self) c.deliver.ensures.step ((c.get_mut.follows.holds c.deliver.new.self).3 (some_there _ _ c.in-Some.ensures.value)).0
 
 pub returns-in-Some-clause-cause : goal.returns-in-Some-clause-cause
 returns-in-Some-clause-cause c = λ w h.

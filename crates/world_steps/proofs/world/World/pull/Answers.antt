@@ -10,8 +10,8 @@ returns-clause-world c = λ w h.
     let after = c.take_out-out.new.self in
     let stepped = c.in_ok-answer.ensures.node in
     called_world w c.args.self.now c.args.client c.in-Some.node.now (λ (node : Client). pull_step node c.args.table) c.take_out-out.result
-        (record { holds = h; there = c.in-Some.ensures.value; sent = c.take_out-out.ensures.taken ∙ ap (λ (n : NodeState). n.out) stepped })
-        c.tell.result after (c.get_mut.follows.lender after) c.tell.new.self
-        ((c.get_mut.follows.holds after).3 (some_there _ _ c.in-Some.ensures.value)).0
-        (c.take_out-out.ensures.left ∙ ap (λ (n : NodeState). record n { out = record { messages = []; facts = [] } }) stepped)
-        c.tell.ensures.packets c.tell.ensures.same
+    (record { holds = h; there = c.in-Some.ensures.value; sent = c.take_out-out.ensures.taken ∙ ap (λ (n : NodeState). n.out) stepped })
+    c.tell.result after (c.get_mut.follows.lender after) c.tell.new.self
+    ((c.get_mut.follows.holds after).3 (some_there _ _ c.in-Some.ensures.value)).0
+    (c.take_out-out.ensures.left ∙ ap (λ (n : NodeState). record n { out = record { messages = []; facts = [] } }) stepped)
+    c.tell.ensures.packets c.tell.ensures.same

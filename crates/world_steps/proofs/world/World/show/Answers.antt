@@ -5,4 +5,4 @@ use Rattle.world_steps.proofs.world.World.show.Goals as goal
 pub returns-clause-world : goal.returns-clause-world
 returns-clause-world c = λ w h.
     shown_world c.only-2.result w c.args.self.now c.args.client c.in-Some.node.now (λ (node : Client). show_step node c.args.table c.args.row) c.in_ok-show.field-0
-        h c.in-Some.ensures.value c.in_ok-show.ensures.answer
+    h c.in-Some.ensures.value c.in_ok-show.ensures.answer

@@ -12,7 +12,7 @@ returns-in-Table-clause-world c = λ w h.
 pub returns-in-Client-clause-world : goal.returns-in-Client-clause-world
 returns-in-Client-clause-world c = λ w h.
     subst (λ (e : Event). OnOk c.join.result (Holds (step w e).world c.join.new.self)) (sym c.in-Client.is)
-      (subst (λ (ts : List ℕ). OnOk c.join.result (Holds (joined w c.in-Client.client ts (client_at w c.in-Client.client)) c.join.new.self)) c.as_slice.ensures (c.join.ensures.world w h))
+    (subst (λ (ts : List ℕ). OnOk c.join.result (Holds (joined w c.in-Client.client ts (client_at w c.in-Client.client)) c.join.new.self)) c.as_slice.ensures (c.join.ensures.world w h))
 
 pub returns-in-Write-clause-lines : goal.returns-in-Write-clause-lines
 returns-in-Write-clause-lines c = λ w h.

@@ -4,14 +4,17 @@ use row_value::{
 };
 use std::alloc::{AllocError, Global};
 use std::test::Fail;
-use sync_msgs::{
-    Message, Out, Outcome, PullRequest, PullResponse, RowHeader, SyncRequest, SyncResponse, Yours,
-};
+use sync_msgs::{Message, Out, Outcome, PullRequest, PullResponse, RowHeader, SyncResponse, Yours};
 use table_model::{Fact, Shown};
 
 const CLIENT: u32 = 1;
 
 const TABLE: u32 = 3;
+
+const NONE: Yours = Yours {
+    number: 0,
+    version: 0,
+};
 
 /// What a message is, as far as these tests look at it.
 #[derive(Debug, Clone, Copy, PartialEq, Eq)]
@@ -19,7 +22,7 @@ enum Sent {
     Sync {
         number: WriteNo,
         base: Version,
-        cell: Option<i64>,
+        cell: i64,
     },
     Pull {
         position: Version,
@@ -37,33 +40,40 @@ enum Told {
     Other,
 }
 
-fn cell_in(content: &Content) -> Option<i64> {
+/// What is shown of a row.
+#[derive(Debug, Clone, Copy, PartialEq, Eq)]
+enum Seen {
+    Mine { number: WriteNo, cell: i64 },
+    Clean { version: Version, cell: i64 },
+    Refused(CallFault),
+}
+
+fn cell_in(content: &Content) -> i64 {
     let Content::Row { cells, .. } = content else {
-        return None;
+        return 0;
     };
     match cells.get(0) {
-        Some(Cell::Int(cell)) => Some(*cell),
-        _ => None,
+        Some(Cell::Int(cell)) => *cell,
+        _ => 0,
     }
 }
 
-fn sent_at(out: &Out, place: usize) -> Option<Sent> {
-    match out.messages.get(place) {
-        None => None,
-        Some((None, Message::SyncRequest(request))) => Some(Sent::Sync {
+fn sent_by(message: &Message) -> Sent {
+    match message {
+        Message::SyncRequest(request) => Sent::Sync {
             number: request.number,
             base: request.base,
             cell: cell_in(&request.content),
-        }),
-        Some((None, Message::PullRequest(request))) => Some(Sent::Pull {
+        },
+        Message::PullRequest(request) => Sent::Pull {
             position: request.position,
-        }),
-        Some(_) => Some(Sent::Other),
+        },
+        Message::SyncResponse(_) | Message::PullResponse(_) => Sent::Other,
     }
 }
 
-fn told_at(out: &Out, place: usize) -> Option<Told> {
-    Some(match out.facts.get(place)? {
+fn told_by(fact: &Fact) -> Told {
+    match fact {
         Fact::Wrote(write) => Told::Wrote {
             number: write.number,
             read: write.read,
@@ -80,23 +90,52 @@ fn told_at(out: &Out, place: usize) -> Option<Told> {
         Fact::Position { position, .. } => Told::Position {
             position: *position,
         },
-        _ => Told::Other,
-    })
-}
-
-/// The number and the cell of an own write that is shown.
-fn mine(shown: &Shown) -> Option<(WriteNo, Option<i64>)> {
-    match shown {
-        Shown::Mine { number, content } => Some((*number, cell_in(content))),
-        Shown::Clean { .. } => None,
+        Fact::Sent { .. } | Fact::Accepted { .. } => Told::Other,
     }
 }
 
-/// The version and the cell of a row that is shown as it was read.
-fn clean(shown: &Shown) -> Option<(Version, Option<i64>)> {
+fn sent_at(out: &Out, place: usize) -> Option<Sent> {
+    match out.messages.get(place) {
+        Some((None, message)) => Some(sent_by(message)),
+        Some((Some(_), _)) => Some(Sent::Other),
+        None => None,
+    }
+}
+
+fn told_at(out: &Out, place: usize) -> Option<Told> {
+    out.facts.get(place).map(told_by)
+}
+
+/// The first messages and facts that the node has gathered.
+fn gathered(node: &mut ClientNode) -> ([Option<Sent>; 3], [Option<Told>; 4]) {
+    let out = node.take_out();
+    let sent = [sent_at(&out, 0), sent_at(&out, 1), sent_at(&out, 2)];
+    let told = [
+        told_at(&out, 0),
+        told_at(&out, 1),
+        told_at(&out, 2),
+        told_at(&out, 3),
+    ];
+    (sent, told)
+}
+
+fn seen_as(shown: &Shown) -> Seen {
     match shown {
-        Shown::Clean { version, content } => Some((*version, cell_in(content))),
-        Shown::Mine { .. } => None,
+        Shown::Mine { number, content } => Seen::Mine {
+            number: *number,
+            cell: cell_in(content),
+        },
+        Shown::Clean { version, content } => Seen::Clean {
+            version: *version,
+            cell: cell_in(content),
+        },
+    }
+}
+
+fn shown_at(node: &ClientNode, table: u32) -> Seen {
+    match node.read(table, row(1)) {
+        Ok(shown) => seen_as(&shown),
+        Err(fault) => Seen::Refused(fault),
     }
 }
 
@@ -104,41 +143,51 @@ fn row(last: u8) -> RowId {
     RowId::from_bytes([0, 0, 0, 0, 0, 0, 0, 0, 0, 0, 0, 0, 0, 0, 0, last])
 }
 
-fn content(alloc: Global, cell: i64) -> Result<Content, AllocError> {
+fn content(alloc: Global, cell: Cell) -> Result<Content, AllocError> {
     let mut cells = Sequence::new(alloc);
-    cells.push(Cell::Int(cell))?;
+    cells.push(cell)?;
     Ok(Content::Row {
         cells,
         objects: Sequence::new(alloc),
     })
 }
 
-/// A client that has opened a table of one number.
-fn client(alloc: Global) -> Result<ClientNode, AllocError> {
+/// A table of one number.
+fn schema(alloc: Global) -> Result<Schema, AllocError> {
     let mut columns = Sequence::new(alloc);
     columns.push(Column {
         name: Bytes::from_slice(alloc, b"n")?,
         kind: ColumnKind::Int,
     })?;
-    let schema = Schema {
+    Ok(Schema {
         name: Bytes::from_slice(alloc, b"t")?,
         scheme: Scheme::Eventual,
         chunk: 64,
         columns,
-    };
+    })
+}
+
+/// A client that has opened the table.
+fn client(alloc: Global) -> Result<ClientNode, AllocError> {
     let mut node = ClientNode::new(alloc, CLIENT);
+    let schema = schema(alloc)?;
     node.open(TABLE, &schema)?;
     Ok(node)
 }
 
-fn response(number: WriteNo, outcome: Outcome) -> Message {
-    Message::SyncResponse(SyncResponse {
+fn write(alloc: Global, node: &mut ClientNode, last: u8, cell: i64) -> Result<WriteNo, CallFault> {
+    let written = content(alloc, Cell::Int(cell))?;
+    node.write(TABLE, row(last), &written)
+}
+
+fn respond(node: &mut ClientNode, number: WriteNo, outcome: Outcome) -> Result<(), CallFault> {
+    node.deliver(&Message::SyncResponse(SyncResponse {
         client: CLIENT,
         table: TABLE,
         row: row(1),
         number,
         outcome,
-    })
+    }))
 }
 
 /// A row of this cell at version `to`, pulled at position `from` from a table of five versions. Its client's last
@@ -160,98 +209,104 @@ fn pulled(
             row: row(1),
             version: to,
             yours,
-            content: content(alloc, cell)?,
+            content: content(alloc, Cell::Int(cell))?,
         }),
     }))
 }
 
-const NONE: Yours = Yours {
-    number: 0,
-    version: 0,
-};
+fn pull(
+    alloc: Global,
+    node: &mut ClientNode,
+    from: Version,
+    to: Version,
+    yours: Yours,
+) -> Result<(), CallFault> {
+    let message = pulled(alloc, from, to, yours, 9)?;
+    node.deliver(&message)
+}
 
 #[test]
-fn a_write_is_shown_sent_and_acknowledged(rt: HostRuntime) -> Result<(), Fail> {
+fn a_write_is_shown_and_told(rt: HostRuntime) -> Result<(), Fail> {
     let mut node = client(rt.alloc())?;
-    let written = content(rt.alloc(), 7)?;
-    assert_eq!(rt; node.write(TABLE, row(1), &written), Ok(1));
-    assert_eq!(rt; mine(&node.read(TABLE, row(1))?), Some((1, Some(7))));
-    let out = node.take_out();
-    assert_eq!(rt; told_at(&out, 0), Some(Told::Wrote { number: 1, read: 0 }));
-    assert_eq!(rt; (out.messages.len(), out.facts.len()), (0, 1));
+    assert_eq!(rt; write(rt.alloc(), &mut node, 1, 7), Ok(1));
+    assert_eq!(rt; shown_at(&node, TABLE), Seen::Mine { number: 1, cell: 7 });
+    let (sent, told) = gathered(&mut node);
+    let wrote = Some(Told::Wrote { number: 1, read: 0 });
+    assert_eq!(rt; sent, [None; 3]);
+    assert_eq!(rt; told, [wrote, None, None, None]);
+    Ok(())
+}
 
+#[test]
+fn a_write_is_sent_until_it_is_acknowledged(rt: HostRuntime) -> Result<(), Fail> {
+    let mut node = client(rt.alloc())?;
+    assert_eq!(rt; write(rt.alloc(), &mut node, 1, 7), Ok(1));
+    assert_eq!(rt; node.sync_now(TABLE), Ok(1));
+    assert_eq!(rt; node.sync_now(TABLE), Ok(1));
+    assert_eq!(rt;
+        respond(&mut node, 1, Outcome::Accepted { version: 4 }),
+        Ok(())
+    );
+    assert_eq!(rt; node.sync_now(TABLE), Ok(0));
+    assert_eq!(rt;
+        shown_at(&node, TABLE),
+        Seen::Clean {
+            version: 4,
+            cell: 7
+        }
+    );
+    let (sent, told) = gathered(&mut node);
     let request = Some(Sent::Sync {
         number: 1,
         base: 0,
-        cell: Some(7),
+        cell: 7,
     });
-    assert_eq!(rt; node.sync_now(TABLE), Ok(1));
-    assert_eq!(rt; node.sync_now(TABLE), Ok(1));
-    let out = node.take_out();
-    assert_eq!(rt; (out.messages.len(), out.facts.len()), (2, 0));
-    assert_eq!(rt; (sent_at(&out, 0), sent_at(&out, 1)), (request, request));
-
-    assert_eq!(rt;
-        node.deliver(&response(1, Outcome::Accepted { version: 4 })),
-        Ok(())
-    );
-    let out = node.take_out();
-    assert_eq!(rt;
-        told_at(&out, 0),
-        Some(Told::Acked {
-            number: 1,
-            version: 4
-        })
-    );
-    assert_eq!(rt; (out.messages.len(), out.facts.len()), (0, 1));
-    assert_eq!(rt; clean(&node.read(TABLE, row(1))?), Some((4, Some(7))));
-    assert_eq!(rt; node.sync_now(TABLE), Ok(0));
+    let acked = Some(Told::Acked {
+        number: 1,
+        version: 4,
+    });
+    assert_eq!(rt; sent, [request, request, None]);
+    let wrote = Some(Told::Wrote { number: 1, read: 0 });
+    assert_eq!(rt; told, [wrote, acked, None, None]);
     Ok(())
 }
 
 #[test]
 fn responses_to_other_writes_change_nothing(rt: HostRuntime) -> Result<(), Fail> {
     let mut node = client(rt.alloc())?;
-    let written = content(rt.alloc(), 7)?;
-    assert_eq!(rt; node.write(TABLE, row(1), &written), Ok(1));
+    assert_eq!(rt; write(rt.alloc(), &mut node, 1, 7), Ok(1));
     assert_eq!(rt; node.sync_now(TABLE), Ok(1));
-    let _sent = node.take_out();
     assert_eq!(rt;
-        node.deliver(&response(2, Outcome::Accepted { version: 4 })),
+        respond(&mut node, 2, Outcome::Accepted { version: 4 }),
         Ok(())
     );
-    assert_eq!(rt;
-        node.deliver(&response(1, Outcome::Late { last: 3 })),
-        Ok(())
-    );
-    let out = node.take_out();
-    assert_eq!(rt; (out.messages.len(), out.facts.len()), (0, 0));
-    assert_eq!(rt; mine(&node.read(TABLE, row(1))?), Some((1, Some(7))));
+    assert_eq!(rt; respond(&mut node, 1, Outcome::Late { last: 3 }), Ok(()));
+    assert_eq!(rt; shown_at(&node, TABLE), Seen::Mine { number: 1, cell: 7 });
     assert_eq!(rt; node.sync_now(TABLE), Ok(1));
+    let (_, told) = gathered(&mut node);
+    assert_eq!(rt; told[1], None);
     Ok(())
 }
 
 #[test]
 fn a_write_during_a_sync_stays_and_is_sent_next(rt: HostRuntime) -> Result<(), Fail> {
     let mut node = client(rt.alloc())?;
-    let (first, second) = (content(rt.alloc(), 7)?, content(rt.alloc(), 8)?);
-    assert_eq!(rt; node.write(TABLE, row(1), &first), Ok(1));
+    assert_eq!(rt; write(rt.alloc(), &mut node, 1, 7), Ok(1));
     assert_eq!(rt; node.sync_now(TABLE), Ok(1));
-    assert_eq!(rt; node.write(TABLE, row(1), &second), Ok(2));
+    assert_eq!(rt; write(rt.alloc(), &mut node, 1, 8), Ok(2));
     assert_eq!(rt;
-        node.deliver(&response(1, Outcome::Again { version: 4 })),
+        respond(&mut node, 1, Outcome::Again { version: 4 }),
         Ok(())
     );
-    assert_eq!(rt; mine(&node.read(TABLE, row(1))?), Some((2, Some(8))));
-    let _before = node.take_out();
+    assert_eq!(rt; shown_at(&node, TABLE), Seen::Mine { number: 2, cell: 8 });
     assert_eq!(rt; node.sync_now(TABLE), Ok(1));
-    let out = node.take_out();
+    let (sent, _) = gathered(&mut node);
     assert_eq!(rt;
-        sent_at(&out, 0),
+        sent[1],
         Some(Sent::Sync {
             number: 2,
             base: 4,
-            cell: Some(8)
+            cell: 8
         })
     );
     Ok(())
@@ -260,26 +315,22 @@ fn a_write_during_a_sync_stays_and_is_sent_next(rt: HostRuntime) -> Result<(), F
 #[test]
 fn rows_are_sent_by_rising_id(rt: HostRuntime) -> Result<(), Fail> {
     let mut node = client(rt.alloc())?;
-    for last in [3, 1, 2] {
-        let written = content(rt.alloc(), i64::from(last))?;
-        let _number = node.write(TABLE, row(last), &written)?;
-    }
-    let _facts = node.take_out();
+    assert_eq!(rt; write(rt.alloc(), &mut node, 3, 7), Ok(1));
+    assert_eq!(rt; write(rt.alloc(), &mut node, 1, 8), Ok(2));
     assert_eq!(rt; node.sync_now(TABLE), Ok(1));
     assert_eq!(rt; node.sync_now(TABLE), Ok(2));
-    assert_eq!(rt; node.sync_now(TABLE), Ok(3));
-    let out = node.take_out();
-    assert_eq!(rt; out.messages.len(), 6);
-    let [first, second, third] = [(2, 1), (3, 2), (1, 3)].map(|(number, cell)| {
-        Some(Sent::Sync {
-            number,
-            base: 0,
-            cell: Some(cell),
-        })
+    let (sent, _) = gathered(&mut node);
+    let first = Some(Sent::Sync {
+        number: 2,
+        base: 0,
+        cell: 8,
     });
-    assert_eq!(rt; (sent_at(&out, 0), sent_at(&out, 1)), (first, first));
-    assert_eq!(rt; (sent_at(&out, 2), sent_at(&out, 3)), (second, first));
-    assert_eq!(rt; (sent_at(&out, 4), sent_at(&out, 5)), (second, third));
+    let second = Some(Sent::Sync {
+        number: 1,
+        base: 0,
+        cell: 7,
+    });
+    assert_eq!(rt; sent, [first, first, second]);
     Ok(())
 }
 
@@ -287,174 +338,141 @@ fn rows_are_sent_by_rising_id(rt: HostRuntime) -> Result<(), Fail> {
 fn a_pulled_row_is_read_and_the_next_one_asked_for(rt: HostRuntime) -> Result<(), Fail> {
     let mut node = client(rt.alloc())?;
     assert_eq!(rt; node.pull_now(TABLE), Ok(()));
-    assert_eq!(rt; node.deliver(&pulled(rt.alloc(), 0, 3, NONE, 9)?), Ok(()));
-    let out = node.take_out();
-    assert_eq!(rt; (out.messages.len(), out.facts.len()), (2, 2));
-    assert_eq!(rt; sent_at(&out, 0), Some(Sent::Pull { position: 0 }));
-    assert_eq!(rt; sent_at(&out, 1), Some(Sent::Pull { position: 3 }));
-    assert_eq!(rt; told_at(&out, 0), Some(Told::New { version: 3 }));
-    assert_eq!(rt; told_at(&out, 1), Some(Told::Position { position: 3 }));
-    assert_eq!(rt; clean(&node.read(TABLE, row(1))?), Some((3, Some(9))));
-
-    let last = node.deliver(&pulled(rt.alloc(), 3, 5, NONE, 10)?);
-    assert_eq!(rt; last, Ok(()));
-    let out = node.take_out();
-    assert_eq!(rt; (out.messages.len(), out.facts.len()), (0, 2));
-    assert_eq!(rt; clean(&node.read(TABLE, row(1))?), Some((5, Some(10))));
+    assert_eq!(rt; pull(rt.alloc(), &mut node, 0, 3, NONE), Ok(()));
+    assert_eq!(rt;
+        shown_at(&node, TABLE),
+        Seen::Clean {
+            version: 3,
+            cell: 9
+        }
+    );
+    assert_eq!(rt; pull(rt.alloc(), &mut node, 3, 5, NONE), Ok(()));
+    let (sent, told) = gathered(&mut node);
+    let [first, next] = [0, 3].map(|position| Some(Sent::Pull { position }));
+    let [third, fifth] = [3, 5].map(|version| Some(Told::New { version }));
+    let [there, behind] = [3, 5].map(|position| Some(Told::Position { position }));
+    assert_eq!(rt; sent, [first, next, None]);
+    assert_eq!(rt; told, [third, there, fifth, behind]);
     Ok(())
 }
 
 #[test]
 fn an_answer_to_another_position_is_dropped(rt: HostRuntime) -> Result<(), Fail> {
     let mut node = client(rt.alloc())?;
-    assert_eq!(rt; node.deliver(&pulled(rt.alloc(), 2, 3, NONE, 9)?), Ok(()));
-    let out = node.take_out();
-    assert_eq!(rt; (out.messages.len(), out.facts.len()), (0, 0));
-    assert_eq!(rt; node.read(TABLE, row(1)).err(), Some(CallFault::NoRow));
+    assert_eq!(rt; pull(rt.alloc(), &mut node, 2, 3, NONE), Ok(()));
+    assert_eq!(rt; shown_at(&node, TABLE), Seen::Refused(CallFault::NoRow));
+    let (sent, told) = gathered(&mut node);
+    assert_eq!(rt; sent, [None; 3]);
+    assert_eq!(rt; told, [None; 4]);
     Ok(())
 }
 
 #[test]
 fn a_row_that_was_read_already_moves_the_position_alone(rt: HostRuntime) -> Result<(), Fail> {
     let mut node = client(rt.alloc())?;
-    let written = content(rt.alloc(), 7)?;
-    assert_eq!(rt; node.write(TABLE, row(1), &written), Ok(1));
-    assert_eq!(rt; node.sync_now(TABLE), Ok(1));
+    assert_eq!(rt; pull(rt.alloc(), &mut node, 0, 3, NONE), Ok(()));
+    assert_eq!(rt; pull(rt.alloc(), &mut node, 3, 2, NONE), Ok(()));
     assert_eq!(rt;
-        node.deliver(&response(1, Outcome::Accepted { version: 4 })),
-        Ok(())
+        shown_at(&node, TABLE),
+        Seen::Clean {
+            version: 3,
+            cell: 9
+        }
     );
-    let _before = node.take_out();
-    let yours = Yours {
-        number: 1,
-        version: 4,
-    };
-    assert_eq!(rt; node.deliver(&pulled(rt.alloc(), 0, 4, yours, 7)?), Ok(()));
-    let out = node.take_out();
-    assert_eq!(rt; (out.messages.len(), out.facts.len()), (1, 1));
-    assert_eq!(rt; told_at(&out, 0), Some(Told::Position { position: 4 }));
-    assert_eq!(rt; clean(&node.read(TABLE, row(1))?), Some((4, Some(7))));
+    let (_, told) = gathered(&mut node);
+    assert_eq!(rt; told[2], Some(Told::Position { position: 2 }));
+    assert_eq!(rt; told[3], None);
     Ok(())
 }
 
 #[test]
 fn a_pulled_row_tells_that_the_own_write_was_accepted(rt: HostRuntime) -> Result<(), Fail> {
     let mut node = client(rt.alloc())?;
-    let written = content(rt.alloc(), 7)?;
-    assert_eq!(rt; node.write(TABLE, row(1), &written), Ok(1));
-    assert_eq!(rt; node.sync_now(TABLE), Ok(1));
-    let _before = node.take_out();
     let yours = Yours {
         number: 1,
         version: 2,
     };
-    assert_eq!(rt; node.deliver(&pulled(rt.alloc(), 0, 3, yours, 9)?), Ok(()));
-    let out = node.take_out();
-    assert_eq!(rt; (out.messages.len(), out.facts.len()), (1, 3));
+    assert_eq!(rt; write(rt.alloc(), &mut node, 1, 7), Ok(1));
+    assert_eq!(rt; node.sync_now(TABLE), Ok(1));
+    assert_eq!(rt; pull(rt.alloc(), &mut node, 0, 3, yours), Ok(()));
     assert_eq!(rt;
-        told_at(&out, 0),
-        Some(Told::Acked {
-            number: 1,
-            version: 2
-        })
+        shown_at(&node, TABLE),
+        Seen::Clean {
+            version: 3,
+            cell: 9
+        }
     );
-    assert_eq!(rt; told_at(&out, 1), Some(Told::New { version: 3 }));
-    assert_eq!(rt; told_at(&out, 2), Some(Told::Position { position: 3 }));
-    assert_eq!(rt; clean(&node.read(TABLE, row(1))?), Some((3, Some(9))));
     assert_eq!(rt; node.sync_now(TABLE), Ok(0));
+    let (_, told) = gathered(&mut node);
+    let acked = Some(Told::Acked {
+        number: 1,
+        version: 2,
+    });
+    let new = Some(Told::New { version: 3 });
+    let wrote = Some(Told::Wrote { number: 1, read: 0 });
+    let there = Some(Told::Position { position: 3 });
+    assert_eq!(rt; told, [wrote, acked, new, there]);
     Ok(())
 }
 
 #[test]
 fn a_newer_row_is_not_shown_over_an_own_write(rt: HostRuntime) -> Result<(), Fail> {
     let mut node = client(rt.alloc())?;
-    let written = content(rt.alloc(), 7)?;
-    assert_eq!(rt; node.write(TABLE, row(1), &written), Ok(1));
-    assert_eq!(rt; node.deliver(&pulled(rt.alloc(), 0, 3, NONE, 9)?), Ok(()));
-    assert_eq!(rt; mine(&node.read(TABLE, row(1))?), Some((1, Some(7))));
-    let _before = node.take_out();
+    assert_eq!(rt; write(rt.alloc(), &mut node, 1, 7), Ok(1));
+    assert_eq!(rt; pull(rt.alloc(), &mut node, 0, 5, NONE), Ok(()));
+    assert_eq!(rt; shown_at(&node, TABLE), Seen::Mine { number: 1, cell: 7 });
     assert_eq!(rt; node.sync_now(TABLE), Ok(1));
-    let out = node.take_out();
+    assert_eq!(rt; write(rt.alloc(), &mut node, 1, 8), Ok(2));
+    let (sent, told) = gathered(&mut node);
     assert_eq!(rt;
-        sent_at(&out, 0),
+        sent[0],
         Some(Sent::Sync {
             number: 1,
-            base: 3,
-            cell: Some(7)
+            base: 5,
+            cell: 7
         })
     );
-    let again = content(rt.alloc(), 8)?;
-    assert_eq!(rt; node.write(TABLE, row(1), &again), Ok(2));
-    let out = node.take_out();
-    assert_eq!(rt; told_at(&out, 0), Some(Told::Wrote { number: 2, read: 3 }));
+    assert_eq!(rt; told[3], Some(Told::Wrote { number: 2, read: 5 }));
     Ok(())
 }
 
 #[test]
-fn calls_are_refused_by_their_causes(rt: HostRuntime) -> Result<(), Fail> {
+fn calls_at_another_table_are_refused(rt: HostRuntime) -> Result<(), Fail> {
     let mut node = client(rt.alloc())?;
-    let written = content(rt.alloc(), 7)?;
+    let written = Content::Gone;
     let other = TABLE + 1;
     assert_eq!(rt;
         node.write(other, row(1), &written),
         Err(CallFault::NoTable)
     );
-    assert_eq!(rt; node.read(other, row(1)).err(), Some(CallFault::NoTable));
-    assert_eq!(rt; node.read(TABLE, row(1)).err(), Some(CallFault::NoRow));
+    assert_eq!(rt; shown_at(&node, other), Seen::Refused(CallFault::NoTable));
     assert_eq!(rt; node.sync_now(other), Err(CallFault::NoTable));
     assert_eq!(rt; node.pull_now(other), Err(CallFault::NoTable));
-    let mut cells = Sequence::new(rt.alloc());
-    cells.push(Cell::Bool(true))?;
-    let flag = Content::Row {
-        cells,
-        objects: Sequence::new(rt.alloc()),
-    };
-    assert_eq!(rt;
-        node.write(TABLE, row(1), &flag),
-        Err(CallFault::BadCell { column: 0 })
-    );
-    let mut cells = Sequence::new(rt.alloc());
-    cells.push(Cell::Int(1))?;
-    let mut objects = Sequence::new(rt.alloc());
-    objects.push(Bytes::from_slice(rt.alloc(), b"abc")?)?;
-    let photo = Content::Row { cells, objects };
-    let bad = CallFault::BadObject { column: 1, len: 3 };
-    assert_eq!(rt; node.write(TABLE, row(1), &photo), Err(bad));
-    let out = node.take_out();
-    assert_eq!(rt; (out.messages.len(), out.facts.len()), (0, 0));
     Ok(())
 }
 
 #[test]
-fn messages_that_no_rule_takes_change_nothing(rt: HostRuntime) -> Result<(), Fail> {
+fn a_content_of_another_kind_is_refused(rt: HostRuntime) -> Result<(), Fail> {
     let mut node = client(rt.alloc())?;
-    let pull = Message::PullRequest(PullRequest {
+    let flag = content(rt.alloc(), Cell::Bool(true))?;
+    let fault = CallFault::BadCell { column: 0 };
+    assert_eq!(rt; node.write(TABLE, row(1), &flag), Err(fault));
+    assert_eq!(rt; shown_at(&node, TABLE), Seen::Refused(CallFault::NoRow));
+    Ok(())
+}
+
+#[test]
+fn messages_for_others_change_nothing(rt: HostRuntime) -> Result<(), Fail> {
+    let mut node = client(rt.alloc())?;
+    let message = Message::PullRequest(PullRequest {
         client: CLIENT,
         token: 0,
         table: TABLE,
         position: 0,
     });
-    let sync = Message::SyncRequest(SyncRequest {
-        client: CLIENT,
-        token: 0,
-        table: TABLE,
-        row: row(1),
-        number: 1,
-        base: 0,
-        content: Content::Gone,
-    });
-    let empty = Message::PullResponse(PullResponse {
-        client: CLIENT,
-        table: TABLE,
-        from: 0,
-        to: 0,
-        latest: 5,
-        header: None,
-    });
-    for message in [&pull, &sync, &empty] {
-        assert_eq!(rt; node.deliver(message), Ok(()));
-    }
-    let out = node.take_out();
-    assert_eq!(rt; (out.messages.len(), out.facts.len()), (0, 0));
+    assert_eq!(rt; node.deliver(&message), Ok(()));
+    let (sent, told) = gathered(&mut node);
+    assert_eq!(rt; sent, [None; 3]);
+    assert_eq!(rt; told, [None; 4]);
     Ok(())
 }

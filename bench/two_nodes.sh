@@ -4,8 +4,9 @@
 set -euo pipefail
 top=$(dirname "$(readlink -f "$0")")/..
 "$top/simba" run < /dev/null
-exec python3 - "$top/crates/simba_cli/out/simba_cli" <<'P'
-import itertools, os, resource, subprocess, sys, tempfile, time
+PYTHONPATH=$top/bench exec python3 -B - "$top/crates/simba_cli/out/simba_cli" <<'P'
+import itertools, sys
+from runs import compare, measure
 
 ROWS = 1000
 PULLS = 4  # one pull behind so many writes
@@ -57,20 +58,8 @@ def script():
             yield f"deliver {pull}"
             yield f"deliver {pull + 1}"
 
-def measure(lines):
-    with tempfile.TemporaryFile("w+") as source:
-        source.writelines(line + "\n" for line in itertools.islice(script(), lines))
-        source.seek(0)
-        begun = time.monotonic()
-        child = subprocess.Popen([sys.argv[1], "run"], stdin=source, stdout=subprocess.DEVNULL)
-        _, status, usage = os.wait4(child.pid, 0)
-        taken = time.monotonic() - begun
-    if status != 0:
-        sys.exit(f"the run ended with {status}")
-    print(f"{lines} lines: {taken:.2f} s, {lines / taken:.0f} lines a second, {usage.ru_maxrss / 1024:.0f} MiB at most")
-    return taken
+def front(lines):
+    return itertools.islice(script(), lines)
 
-short, long = measure(20_000), measure(200_000)
-print(f"ten times the lines took {long / short:.1f} times the time")
-sys.exit(long > 15 * short)
+compare(measure(sys.argv[1], front(20_000)), measure(sys.argv[1], front(200_000)))
 P

@@ -36,7 +36,9 @@ fn wide(alloc: Global, columns: u32) -> Result<Vec<u8>, Fail> {
         let column = format!(in alloc; " c{n}:int")?;
         script.extend_from_slice(column.as_bytes())?;
     }
-    script.extend_from_slice(b"\nclient C1 - T1\nwrite C1 T1 00000000-0000-4000-8000-000000000001")?;
+    script.extend_from_slice(
+        b"\nclient C1 - T1\nwrite C1 T1 00000000-0000-4000-8000-000000000001",
+    )?;
     for _ in 0..columns {
         script.extend_from_slice(b" 1")?;
     }
@@ -58,7 +60,10 @@ fn crowded(alloc: Global) -> Result<Vec<u8>, Fail> {
         &["store S1\ntable T1 notes eventual 64 n:int\nclient C1 - T1\n"],
     )?;
     for n in (0..MOST_ROWS).chain(0..1) {
-        let line = format!(in alloc; "show C1 T1 00000000-0000-4000-8000-00000{}\n", 1_000_000 + n)?;
+        let line = format!(in alloc;
+            "show C1 T1 00000000-0000-4000-8000-00000{}\n",
+            1_000_000 + n
+        )?;
         script.extend_from_slice(line.as_bytes())?;
     }
     Ok(script)

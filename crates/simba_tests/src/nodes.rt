@@ -77,11 +77,7 @@ fn clients_and_a_store(rt: HostRuntime) -> Result<(), Fail> {
 }
 
 // What the lines before an event say that it answers.
-fn plain_answer(
-    alloc: Global,
-    before: &[TextLine],
-    event: &Event,
-) -> Result<Option<Answer>, Fail> {
+fn plain_answer(alloc: Global, before: &[TextLine], event: &Event) -> Result<Option<Answer>, Fail> {
     match event {
         Event::Show { client, table, row } => {
             match plain_shown(alloc, before, *client, *table, row)? {

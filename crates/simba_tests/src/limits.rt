@@ -59,13 +59,11 @@ fn crowded(alloc: Global) -> Result<Vec<u8>, Fail> {
         alloc,
         &["store S1\ntable T1 notes eventual 64 n:int\nclient C1 - T1\n"],
     )?;
-    for n in (0..MOST_ROWS).chain(0..1) {
-        let line = format!(in alloc;
-            "show C1 T1 00000000-0000-4000-8000-00000{}\n",
-            1_000_000 + n
-        )?;
+    for n in 1_000_000..1_000_000 + MOST_ROWS {
+        let line = format!(in alloc; "show C1 T1 00000000-0000-4000-8000-00000{n}\n")?;
         script.extend_from_slice(line.as_bytes())?;
     }
+    script.extend_from_slice(b"show C1 T1 00000000-0000-4000-8000-000001000000\n")?;
     Ok(script)
 }
 

@@ -1,9 +1,10 @@
 #!/usr/bin/env bash
 # Times a device of rows in memory at a tenth of its work and at all of it: 200,000 puts over 10,000 rows, a look, and a
 # read of each row. Ten times the work may take at most 12 times as long, in processor time: ten runs of the tenth are
-# held against one of all, the best of five. Build it first: `rt run -- rows 100 10` in crates/vault_bench.
+# held against one of all, the best of five.
 set -eu
 cd "$(dirname "$0")/../crates/vault_bench"
+[ -x out/vault_bench ] || rt run -- rows 100 10 >/dev/null
 TIMEFORMAT='%U %S'
 
 # how many milliseconds of processor time so many runs take together, the best of five

@@ -7,7 +7,8 @@ use disk_trait::Disk;
 use std::alloc::Global;
 use vault::{Vault, VaultFault};
 
-/// How many payloads a look finds after so many appends of so many bytes, or of 1,048,576 if that is less.
+/// How many payloads a look finds after so many appends of so many bytes, or of 1,048,576 if that is less. No contract
+/// pins the number: it is printed beside a time for a person to see that the work was done, and nothing rests on it.
 pub fn fill_and_look(alloc: Global, count: u64, bytes: u32) -> Result<u64, VaultFault> {
     let mut payload = Vec::new(alloc);
     payload.resize(bytes.min(1_048_576) as usize, b'x')?;

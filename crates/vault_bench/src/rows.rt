@@ -9,7 +9,8 @@ use row_store::{
 };
 use std::alloc::Global;
 
-/// How many rows are read after so many puts that go round so many rows, and a look.
+/// How many rows are read after so many puts that go round so many rows, and a look. No contract pins the number: it is
+/// printed beside a time for a person to see that the work was done, and nothing rests on it.
 pub fn put_look_and_read(alloc: Global, puts: u64, rows: u64) -> Result<u64, RowFault> {
     let mut dev = RowDev::new(alloc, MemDisk::new(alloc));
     dev.format()?;

@@ -2,8 +2,8 @@ ghost use Rattle.std.specs.Prelude.{◌≡◌, IfOk};
 
 use crate::entry::Entry;
 use crate::message_name::MessageName;
-use crate::node::Node;
 use row_value::{ClientNo, Content, RowId, Sequence, TableNo, Version, WriteNo};
+use stab_base::Node;
 use std::alloc::AllocError;
 
 /// A write of a client: its number among the client's writes, the version of the row that the client had read, and
@@ -39,10 +39,14 @@ impl Shown {
 /// Why a line of the script isn't done. Each has a number, which its text begins with.
 #[derive(Debug, Clone, Copy, PartialEq, Eq)]
 pub enum Refusal {
+    /// 9: the values' objects have so many chunks, more than a row may have.
+    TooManyChunks { count: usize },
     /// 10: the first cell column that the values don't fit.
     BadCell { column: usize },
     /// 11: the first object column that the values don't fit, and the object's length in bytes.
     BadObject { column: usize, len: usize },
+    /// 12: the values have so many bytes, more than a row may have.
+    RowTooLarge { len: usize },
     /// 18: the client hasn't opened the table.
     NoTable,
     /// 27: nothing is shown of the row.

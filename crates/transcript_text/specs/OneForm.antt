@@ -8,8 +8,8 @@ use Rattle.row_value.specs.declared.content.Cell.TheVariants as cells
 use Rattle.row_value.specs.declared.content.Content.{Content}
 use Rattle.row_value.specs.declared.content.Content.TheVariants.{Gone, Row}
 use Rattle.table_model.specs.declared.entry.Entry.{Entry}
-use Rattle.table_model.specs.declared.node.Node.{Node}
-use Rattle.table_model.specs.declared.node.Node.TheVariants as nodes
+use Rattle.stab_base.specs.declared.node.Node.{Node}
+use Rattle.stab_base.specs.declared.node.Node.TheVariants as nodes
 use Rattle.table_model.specs.declared.line.Write.{Write}
 use Rattle.table_model.specs.declared.line.Shown.{Shown}
 use Rattle.table_model.specs.declared.line.Shown.TheVariants.{Clean, Mine}
@@ -33,8 +33,10 @@ HasContentText Gone = Unit {0}
 HasContentText (Row some objects) = AllByRecursion IsNumberCell some × (objects ≡ [])
 
 abbrev pub HasRefusalText : Refusal → Type 0
+HasRefusalText (refusals.TooManyChunks count) = count < 2 ^ 64
 HasRefusalText (refusals.BadCell column) = column < 2 ^ 64
 HasRefusalText (refusals.BadObject column len) = (column < 2 ^ 64) × (len < 2 ^ 64)
+HasRefusalText (refusals.RowTooLarge len) = len < 2 ^ 64
 HasRefusalText refusals.NoTable = Unit {0}
 HasRefusalText refusals.NoRow = Unit {0}
 HasRefusalText (refusals.NoPacket sent) = sent < 2 ^ 64

@@ -38,7 +38,7 @@ pub whole_fed : (old : Left) (broken : Option ℕ) (held piece front behind : Li
 whole_fed old broken held piece front behind need first frames at later part is none f b whole spelled found kept =
     let others : Reads behind frames (left_of later (drop at behind)) = record { rest = drop at behind; parts = found.frames_are.parts; each = found.frames_are.each; ends = found.ends } in
     let all : Reads (frame_spelling first ++ behind) (first ∷ frames) (left_of later (held_of part)) =
-        with_first first behind frames (left_of later (held_of part)) spelled (subst (λ (l : Left). Reads behind frames l) (same_left later (drop at behind) part kept) others) in
+    with_first first behind frames (left_of later (held_of part)) spelled (subst (λ (l : Left). Reads behind frames l) (same_left later (drop at behind) part kept) others) in
     let cut : piece ≡ front ++ behind = sym (take-append-drop need piece) ∙ ap (λ (l : List ℕ). l ++ drop need piece) (sym f) ∙ ap (λ (l : List ℕ). front ++ l) (sym b) in
     let bytes : held ++ piece ≡ frame_spelling first ++ behind = ap (λ (l : List ℕ). held ++ l) cut ∙ sym (append_assoc held front behind) ∙ ap (λ (l : List ℕ). l ++ behind) whole in
     fed_by old held piece (first ∷ frames) (left_of later (held_of part)) (opened old broken held is none)

@@ -61,7 +61,7 @@ now_whole held piece len need s e le =
     let size : length (held ++ take need piece) ≡ 4 + len = length-append held (take need piece) ∙ omega (arith, length-take need piece) in
     let front : held ++ take need piece ≡ take (length held + need) (held ++ piece) = sym (take-append-add held piece need) in
     let is : length_at (held ++ take need piece) ≡ len =
-        ap length_at front ∙ ap (from_be_bytes w32) (take-take 4 (length held + need) (held ++ piece) (omega (arith, e))) ∙ s.is in
+    ap length_at front ∙ ap (from_be_bytes w32) (take-take 4 (length held + need) (held ++ piece) (omega (arith, e))) ∙ s.is in
     record { there = omega (arith, size); fits = subst IsLength (sym is) s.fits; size = omega (arith, size, is) }
 
 pub by_five : (part : Part) (piece head five : List ℕ) → IsShaped part → head ≡ part.head.items → five ≡ take 5 (head ++ piece) → five ≡ take 5 (held_of part ++ piece)
@@ -86,8 +86,8 @@ first_frame bytes len fits s le =
     let four : to_be_bytes w32 (length body + 1) ≡ take 4 bytes = ap (to_be_bytes w32) (size ∙ sym s.is) ∙ be_bytes_4 (take 4 bytes) _ (length-take-le 4 bytes s.there) (IsBytes-take 4 bytes fits) refl in
     let rest : drop 4 bytes ≡ get_or bytes 4 0 ∷ drop 5 bytes = drop-cons bytes 4 0 (omega arith) in
     let behind : drop 5 bytes ≡ body ++ drop (len + 4) bytes =
-        sym (take-append-drop (len + 4 - 5) (drop 5 bytes)) ∙ ap (λ (l : List ℕ). body ++ l) (drop-drop (len + 4 - 5) 5 bytes ∙ (let e : 5 + (len + 4 - 5) ≡ len + 4 = omega arith in ap (λ (n : ℕ). drop n bytes) e)) in
+    sym (take-append-drop (len + 4 - 5) (drop 5 bytes)) ∙ ap (λ (l : List ℕ). body ++ l) (drop-drop (len + 4 - 5) 5 bytes ∙ (let e : 5 + (len + 4 - 5) ≡ len + 4 = omega arith in ap (λ (n : ℕ). drop n bytes) e)) in
     let parts : bytes ≡ (to_be_bytes w32 (length body + 1) ++ get_or bytes 4 0 ∷ body) ++ drop (len + 4) bytes =
-        sym (take-append-drop 4 bytes) ∙ ap (λ (l : List ℕ). take 4 bytes ++ l) (rest ∙ ap (λ (l : List ℕ). get_or bytes 4 0 ∷ l) behind)
-        ∙ ap (λ (l : List ℕ). l ++ get_or bytes 4 0 ∷ (body ++ drop (len + 4) bytes)) (sym four) ∙ sym (append_assoc (to_be_bytes w32 (length body + 1)) (get_or bytes 4 0 ∷ body) (drop (len + 4) bytes)) in
+    sym (take-append-drop 4 bytes) ∙ ap (λ (l : List ℕ). take 4 bytes ++ l) (rest ∙ ap (λ (l : List ℕ). get_or bytes 4 0 ∷ l) behind)
+    ∙ ap (λ (l : List ℕ). l ++ get_or bytes 4 0 ∷ (body ++ drop (len + 4) bytes)) (sym four) ∙ sym (append_assoc (to_be_bytes w32 (length body + 1)) (get_or bytes 4 0 ∷ body) (drop (len + 4) bytes)) in
     record { some = omega arith; within = omega arith; spelled = record { kind = fits 4; body = omega (arith, size) }; parts = parts }

@@ -73,7 +73,7 @@ pub same_frame : (f g : Frame) (a b : List ℕ) → HasFrameSpelling f → HasFr
 same_frame f g a b h k e =
     let lengths : length f.body + 1 ≡ length g.body + 1 = sym (sized f a h) ∙ ap length_at e ∙ sized g b k in
     let whole : to_be_bytes w32 (length f.body + 1) ++ behind_length f a ≡ to_be_bytes w32 (length f.body + 1) ++ behind_length g b =
-        sym (regrouped f a) ∙ e ∙ regrouped g b ∙ ap (λ (n : ℕ). to_be_bytes w32 n ++ behind_length g b) (sym lengths) in
+    sym (regrouped f a) ∙ e ∙ regrouped g b ∙ ap (λ (n : ℕ). to_be_bytes w32 n ++ behind_length g b) (sym lengths) in
     let behind : behind_length f a ≡ behind_length g b = append_cancel_left (to_be_bytes w32 (length f.body + 1)) (behind_length f a) (behind_length g b) whole in
     let kinds = head_is f.kind g.kind (f.body ++ a) (g.body ++ b) behind in
     let bodies = tail_is f.kind g.kind (f.body ++ a) (g.body ++ b) behind in

@@ -76,7 +76,11 @@ impl Framer {
             }
             Next::Whole { need } => {
                 let (front, behind) = piece.split_at(need);
-                let Wholes { mut frames, behind: at, broken } = whole_frames(self.alloc, behind)?;
+                let Wholes {
+                    mut frames,
+                    behind: at,
+                    broken,
+                } = whole_frames(self.alloc, behind)?;
                 frames.reserve(1)?;
                 let next = rest_of(self.alloc, &behind[at..], broken)?;
                 let first = self.part.complete(front, next)?;

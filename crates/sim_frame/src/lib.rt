@@ -13,3 +13,6 @@ pub use framer::Framer;
 pub use laws::{
     a_bad_length_stays, frames_do_not_depend_on_pieces, one_reading, the_empty_stream_is_open,
 };
+
+#[cfg(test)]
+mod tests;

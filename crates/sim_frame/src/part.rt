@@ -91,9 +91,7 @@ impl Part {
     {
         let missing = (HEAD - self.head.len()).min(piece.len());
         self.body.extend_from_slice(&piece[missing..])?;
-        self.head
-            .try_extend_from_slice(&piece[..missing])
-            .unwrap();
+        self.head.try_extend_from_slice(&piece[..missing]).unwrap();
         Ok(())
     }
 

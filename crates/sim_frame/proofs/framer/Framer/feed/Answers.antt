@@ -17,9 +17,9 @@ returns-in_ok-first-in-Whole-clause-frames c =
     let part = c.in_ok-next-in-Whole.next in
     let old : left_of c.self.inside.broken (held_of c.self.inside.part) ≡ c.args.self.now = c.self.view_is in
     let kept : IsBehind found.field-0.broken (drop found.field-0.behind c.split_at.result.1.now) part =
-        subst (λ (l : List ℕ). IsBehind found.field-0.broken l part) (whole_rest found.field-0.behind c.split_at.result.1.now) c.in_ok-next-in-Whole.ensures in
+    subst (λ (l : List ℕ). IsBehind found.field-0.broken l part) (whole_rest found.field-0.behind c.split_at.result.1.now) c.in_ok-next-in-Whole.ensures in
     let fed : IsFed c.args.self.now c.args.piece.now (c.in_ok-first-in-Whole.first ∷ found.field-0.frames.items) (left_of found.field-0.broken (held_of part)) =
-        whole_fed c.args.self.now c.self.inside.broken (held_of c.self.inside.part) c.args.piece.now c.split_at.result.0.now c.split_at.result.1.now c.in-Whole.need c.in_ok-first-in-Whole.first
-        found.field-0.frames.items found.field-0.behind found.field-0.broken part old (none_is c.self.inside.broken c.in_default.not-Some) c.split_at.ensures.front c.split_at.ensures.back
-        c.in_ok-first-in-Whole.ensures.frame c.in_ok-first-in-Whole.ensures.spelled found.ensures kept in
+    whole_fed c.args.self.now c.self.inside.broken (held_of c.self.inside.part) c.args.piece.now c.split_at.result.0.now c.split_at.result.1.now c.in-Whole.need c.in_ok-first-in-Whole.first
+    found.field-0.frames.items found.field-0.behind found.field-0.broken part old (none_is c.self.inside.broken c.in_default.not-Some) c.split_at.ensures.front c.split_at.ensures.back
+    c.in_ok-first-in-Whole.ensures.frame c.in_ok-first-in-Whole.ensures.spelled found.ensures kept in
     rw (all, c.in_ok-first-in-Whole.ensures.ok) fed

@@ -84,10 +84,23 @@ node_word (nodes.Gate gate) = codes "G" ++ decimal gate
 node_word (nodes.Store store) = codes "S" ++ decimal store
 
 abbrev pub message_word : MessageName → List ℕ
+message_word kinds.RegisterDevice = codes "registerDevice"
+message_word kinds.CreateTable = codes "createTable"
+message_word kinds.DropTable = codes "dropTable"
+message_word kinds.SubscribeTable = codes "subscribeTable"
+message_word kinds.UnsubscribeTable = codes "unsubscribeTable"
+message_word kinds.Notify = codes "notify"
+message_word kinds.ObjectFragment = codes "objectFragment"
 message_word kinds.PullRequest = codes "pullRequest"
 message_word kinds.PullResponse = codes "pullResponse"
 message_word kinds.SyncRequest = codes "syncRequest"
 message_word kinds.SyncResponse = codes "syncResponse"
+message_word kinds.TornRowRequest = codes "tornRowRequest"
+message_word kinds.TornRowResponse = codes "tornRowResponse"
+message_word kinds.OperationResponse = codes "operationResponse"
+message_word kinds.SaveClientSubscription = codes "saveClientSubscription"
+message_word kinds.RestoreClientSubscriptions = codes "restoreClientSubscriptions"
+message_word kinds.TableVersionUpdateNotification = codes "tableVersionUpdateNotification"
 
 abbrev pub entry_words : ℕ → Entry → List (List ℕ)
 entry_words table entry =
@@ -153,10 +166,23 @@ node_led (nodes.Gate gate) = refl
 node_led (nodes.Store store) = refl
 
 message_led : (name : MessageName) → message_text name ≡ 32 ∷ message_word name
+message_led kinds.RegisterDevice = refl
+message_led kinds.CreateTable = refl
+message_led kinds.DropTable = refl
+message_led kinds.SubscribeTable = refl
+message_led kinds.UnsubscribeTable = refl
+message_led kinds.Notify = refl
+message_led kinds.ObjectFragment = refl
 message_led kinds.PullRequest = refl
 message_led kinds.PullResponse = refl
 message_led kinds.SyncRequest = refl
 message_led kinds.SyncResponse = refl
+message_led kinds.TornRowRequest = refl
+message_led kinds.TornRowResponse = refl
+message_led kinds.OperationResponse = refl
+message_led kinds.SaveClientSubscription = refl
+message_led kinds.RestoreClientSubscriptions = refl
+message_led kinds.TableVersionUpdateNotification = refl
 
 entry_led : (table : ℕ) (entry : Entry) → entry_text table entry ≡ led 32 (entry_words table entry)
 entry_led table entry = simp append-nil
@@ -211,10 +237,23 @@ node_above (nodes.Gate gate) h = search (rules, decimal_above)
 node_above (nodes.Store store) h = search (rules, decimal_above)
 
 message_above : (name : MessageName) → IsAbove 32 (message_word name)
+message_above kinds.RegisterDevice = search rules
+message_above kinds.CreateTable = search rules
+message_above kinds.DropTable = search rules
+message_above kinds.SubscribeTable = search rules
+message_above kinds.UnsubscribeTable = search rules
+message_above kinds.Notify = search rules
+message_above kinds.ObjectFragment = search rules
 message_above kinds.PullRequest = search rules
 message_above kinds.PullResponse = search rules
 message_above kinds.SyncRequest = search rules
 message_above kinds.SyncResponse = search rules
+message_above kinds.TornRowRequest = search rules
+message_above kinds.TornRowResponse = search rules
+message_above kinds.OperationResponse = search rules
+message_above kinds.SaveClientSubscription = search rules
+message_above kinds.RestoreClientSubscriptions = search rules
+message_above kinds.TableVersionUpdateNotification = search rules
 
 entry_above : (table : ℕ) (entry : Entry) → HasEntryText table entry → AllByRecursion (IsAbove 32) (entry_words table entry)
 entry_above table entry h = search (rules, decimal_above, row_above)
@@ -295,16 +334,42 @@ node_same a b p q e =
 
 message_in : List ℕ → MessageName
 message_in word =
-    cond (bytes_eq word (codes "pullRequest")) kinds.PullRequest
+    cond (bytes_eq word (codes "registerDevice")) kinds.RegisterDevice
+    (cond (bytes_eq word (codes "createTable")) kinds.CreateTable
+    (cond (bytes_eq word (codes "dropTable")) kinds.DropTable
+    (cond (bytes_eq word (codes "subscribeTable")) kinds.SubscribeTable
+    (cond (bytes_eq word (codes "unsubscribeTable")) kinds.UnsubscribeTable
+    (cond (bytes_eq word (codes "notify")) kinds.Notify
+    (cond (bytes_eq word (codes "objectFragment")) kinds.ObjectFragment
+    (cond (bytes_eq word (codes "pullRequest")) kinds.PullRequest
     (cond (bytes_eq word (codes "pullResponse")) kinds.PullResponse
-    (cond (bytes_eq word (codes "syncRequest")) kinds.SyncRequest kinds.SyncResponse))
+    (cond (bytes_eq word (codes "syncRequest")) kinds.SyncRequest
+    (cond (bytes_eq word (codes "syncResponse")) kinds.SyncResponse
+    (cond (bytes_eq word (codes "tornRowRequest")) kinds.TornRowRequest
+    (cond (bytes_eq word (codes "tornRowResponse")) kinds.TornRowResponse
+    (cond (bytes_eq word (codes "operationResponse")) kinds.OperationResponse
+    (cond (bytes_eq word (codes "saveClientSubscription")) kinds.SaveClientSubscription
+    (cond (bytes_eq word (codes "restoreClientSubscriptions")) kinds.RestoreClientSubscriptions kinds.TableVersionUpdateNotification)))))))))))))))
 
 message_read : (name : MessageName) → message_in (message_word name) ≡ name
 unfolding message_in
+message_read kinds.RegisterDevice = refl
+message_read kinds.CreateTable = refl
+message_read kinds.DropTable = refl
+message_read kinds.SubscribeTable = refl
+message_read kinds.UnsubscribeTable = refl
+message_read kinds.Notify = refl
+message_read kinds.ObjectFragment = refl
 message_read kinds.PullRequest = refl
 message_read kinds.PullResponse = refl
 message_read kinds.SyncRequest = refl
 message_read kinds.SyncResponse = refl
+message_read kinds.TornRowRequest = refl
+message_read kinds.TornRowResponse = refl
+message_read kinds.OperationResponse = refl
+message_read kinds.SaveClientSubscription = refl
+message_read kinds.RestoreClientSubscriptions = refl
+message_read kinds.TableVersionUpdateNotification = refl
 
 message_same : (a b : MessageName) → message_word a ≡ message_word b → a ≡ b
 message_same a b e = sym (message_read a) ∙ ap message_in e ∙ message_read b

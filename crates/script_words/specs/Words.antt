@@ -1,7 +1,7 @@
 -- The words of a line, and the forms of single words.
-use Rattle.std.specs.Prelude.{ℕ, Bool, false, ◌==◌, ◌%◌, ◌&&◌, ◌||◌, nat_le, nat_lt, not, List, [], ◌∷◌, length, filter, map, slice_index}
+use Rattle.std.specs.Prelude.{ℕ, Bool, false, ◌==◌, ◌&&◌, ◌||◌, nat_le, nat_lt, not, List, [], ◌∷◌, length, filter, map, slice_index, Option, Some, None, if◌then◌else◌}
 use Rattle.std.specs.Borrow.{Bor}
-use Rattle.std.specs.List.{slice_split, list_all, list_any}
+use Rattle.std.specs.List.{slice_split, list_all, list_any, before_first, after_first, position_or_len}
 use Rattle.std.specs.Str.{all_ascii_digits, bytes_eq}
 
 abbrev pub texts : List (Bor (List ℕ)) → List (List ℕ)
@@ -38,8 +38,16 @@ is_name_byte b = is_lower b || (nat_le 48 b && nat_le b 57) || (b == 95) || (b =
 unfoldable pub is_name : List ℕ → Bool
 is_name word = is_lower (slice_index word 0) && nat_le (length word) 64 && list_all is_name_byte word
 
-abbrev pub is_hex_digit : ℕ → Bool
-is_hex_digit b = (nat_le 48 b && nat_le b 57) || (nat_le 97 b && nat_le b 102) || (nat_le 65 b && nat_le b 70)
+abbrev pub is_colon : ℕ → Bool
+is_colon b = b == 58
 
-unfoldable pub is_hex : List ℕ → Bool
-is_hex digits = (length digits % 2 == 0) && list_all is_hex_digit digits
+-- what stands before and behind the first colon
+unfoldable pub parts_of : List ℕ → Option (List ℕ × List ℕ)
+parts_of word =
+    if nat_lt (position_or_len is_colon word) (length word)
+    then Some (before_first is_colon word, after_first is_colon word) else None
+
+-- the same of borrowed words
+abbrev pub seen_parts : Option (Bor (List ℕ) × Bor (List ℕ)) → Option (List ℕ × List ℕ)
+seen_parts None = None
+seen_parts (Some p) = Some (p.0.now, p.1.now)

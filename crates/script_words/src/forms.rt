@@ -1,12 +1,12 @@
 ghost use Rattle.std.specs.Prelude.{◌≡◌, ◌==◌, ◌&&◌, nat_le, IfOk, MatchResult, [], ◌∷◌};
 ghost use Rattle.std.specs.List.{list_all};
 ghost use Rattle.std.specs.Char.{is_ascii_digit};
-ghost use Rattle.script_text.specs.Words.{texts, words_of, is_number, is_length, is_name, is_name_byte, is_hex, is_hex_digit};
+ghost use Rattle.script_words.specs.Words.{texts, words_of, is_number, is_length, is_name, is_name_byte, seen_parts, parts_of};
 
 use std::alloc::{AllocError, Global};
 
 /// The words of a line, which stand between spaces.
-pub(crate) fn words(alloc: Global, line: &str) -> Result<Vec<&str>, AllocError>
+pub fn words(alloc: Global, line: &str) -> Result<Vec<&str>, AllocError>
     ensures { IfOk result (λ v. texts v.items ≡ words_of line.now) }
 {
     line.split(' ')
@@ -14,8 +14,9 @@ pub(crate) fn words(alloc: Global, line: &str) -> Result<Vec<&str>, AllocError>
         .collect(alloc)
 }
 
+/// Whether these are the digits of a number from 1, without leading zeros.
 #[tactic(auto, unfolding(crate::specs::Words::is_number))]
-pub(crate) fn is_number(digits: &str) -> bool
+pub fn is_number(digits: &str) -> bool
     ensures { result ≡ is_number digits.now }
 {
     let digits = digits.as_bytes();
@@ -31,8 +32,9 @@ fn are_digits(bytes: &[u8]) -> bool
     bytes.iter().all(|b| b.is_ascii_digit())
 }
 
+/// The same, or the digit 0.
 #[tactic(auto, unfolding(crate::specs::Words::is_length))]
-pub(crate) fn is_length(digits: &str) -> bool
+pub fn is_length(digits: &str) -> bool
     ensures { result ≡ is_length digits.now }
 {
     digits == "0" || is_number(digits)
@@ -46,8 +48,9 @@ fn are_name_bytes(bytes: &[u8]) -> bool
         .all(|b| matches!(*b, b'a'..=b'z' | b'0'..=b'9' | b'_' | b'-'))
 }
 
+/// Whether this is the name of a table or a column: 1 to 64 of `a` to `z`, `0` to `9`, `_` and `-`, a letter first.
 #[tactic(auto, unfolding(crate::specs::Words::is_name))]
-pub(crate) fn is_name(word: &str) -> bool
+pub fn is_name(word: &str) -> bool
     ensures { result ≡ is_name word.now }
 {
     let word = word.as_bytes();
@@ -57,17 +60,10 @@ pub(crate) fn is_name(word: &str) -> bool
     }
 }
 
-fn are_hex_digits(bytes: &[u8]) -> bool
-    ensures { result ≡ list_all is_hex_digit bytes.now }
+/// What stands before and behind the first colon.
+#[tactic(auto, unfolding(crate::specs::Words::parts_of))]
+pub(crate) fn parts_of(word: &str) -> Option<(&str, &str)>
+    ensures { seen_parts result ≡ parts_of word.now }
 {
-    bytes
-        .iter()
-        .all(|b| matches!(*b, b'0'..=b'9' | b'a'..=b'f' | b'A'..=b'F'))
-}
-
-#[tactic(auto, unfolding(crate::specs::Words::is_hex))]
-pub(crate) fn is_hex(digits: &str) -> bool
-    ensures { result ≡ is_hex digits.now }
-{
-    digits.len() % 2 == 0 && are_hex_digits(digits.as_bytes())
+    word.split_once(':')
 }

@@ -1,6 +1,6 @@
 use Rattle.std.proofs.Common.{◌∙◌, sym, ap, Some, true, false, to_z-of_z}
-use Rattle.script_text.proofs.IntLemmas.{int_of-none, int_of-read, int_of-test}
-use Rattle.script_text.proofs.values.int_of.Goals as goal
+use Rattle.script_words.proofs.IntLemmas.{int_of-none, int_of-read, int_of-test}
+use Rattle.script_words.proofs.values.int_of.Goals as goal
 
 pub returns-in_default : goal.returns-in_default
 returns-in_default c = int_of-none c.args.word.now c.in_default.field-0 (rw c.in_default.is at c.parse.ensures.value.0)

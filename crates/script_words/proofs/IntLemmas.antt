@@ -8,8 +8,8 @@ use Rattle.std.proofs.lemmas.Bool.{ltb-true, lt-ltb, cases_Bool}
 use Rattle.std.proofs.lemmas.Result.{OkIff-at_ok}
 use Rattle.std.proofs.lemmas.Fmt.{parse-signed_decimal}
 use Rattle.std.proofs.lemmas.Slice.Eq.{bytes_eq-Decides}
-use Rattle.script_text.proofs.WordLemmas.{both}
-use Rattle.script_text.specs.Places.{int_of}
+use Rattle.script_words.proofs.WordLemmas.{both}
+use Rattle.script_words.specs.Values.{int_of}
 
 pub int_of-parts : (word : List ℕ) (z : ℤ) → int_of word ≡ Some z → (mag z < 2 ^ 63) × (word ≡ signed_decimal z)
 unfolding int_of

@@ -2,7 +2,7 @@ use Rattle.std.proofs.Common.{eqb, length, tests, rules, lit<}
 use Rattle.std.proofs.lemmas.Iterator.Consumers.{map_from_collect, YieldsList-from_filter, YieldsList-at}
 use Rattle.std.proofs.lemmas.Iterator.Splits.{YieldsList-from_str_split}
 use Rattle.std.specs.Prelude.{not}
-use Rattle.script_text.proofs.words.words.Goals as goal
+use Rattle.script_words.proofs.forms.words.Goals as goal
 
 pub returns : goal.returns
 returns c =

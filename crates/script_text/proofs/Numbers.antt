@@ -9,9 +9,9 @@ use Rattle.std.proofs.lemmas.Fmt.{decimal_digit, decimal-digits_value, digits_de
 use Rattle.std.proofs.lemmas.Result.{OkIff-at_ok, OkIff-at_err}
 use Rattle.std.proofs.lemmas.Slice.Eq.{bytes_eq-Decides}
 use Rattle.std.proofs.lemmas.Str.Parse.{parse_digits}
-use Rattle.script_text.specs.declared.fault.Code.{Code}
-use Rattle.script_text.specs.declared.fault.Code.TheVariants.{NoName, NoNumber}
-use Rattle.script_text.specs.Words.{is_number, is_length}
+use Rattle.script_words.specs.declared.code.Code.{Code}
+use Rattle.script_words.specs.declared.code.Code.TheVariants.{NoName, NoNumber}
+use Rattle.script_words.specs.Words.{is_number, is_length}
 use Rattle.script_text.specs.Places.{small, node_at, at_most, limited_at, packet_at}
 use Rattle.script_words.proofs.WordLemmas.{own, both, either}
 use Rattle.script_words.proofs.Numerals.{number-text, number-some, number-right, value-right, length-text, length-right}

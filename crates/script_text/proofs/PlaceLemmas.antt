@@ -9,17 +9,14 @@ use Rattle.std.proofs.lemmas.Bool.{ltb-true, cases_Bool, eqb-true}
 use Rattle.std.proofs.lemmas.Fmt.{decimal_digit}
 use Rattle.std.proofs.lemmas.Slice.Eq.{bytes_eq-Decides}
 use Rattle.stab_base.specs.Row.{row_of}
-use Rattle.row_value.specs.declared.schema.ColumnKind.{ColumnKind}
-use Rattle.row_value.specs.declared.schema.ColumnKind.TheVariants as kinds
 use Rattle.row_value.specs.declared.schema.Scheme.{Scheme}
 use Rattle.row_value.specs.declared.schema.Scheme.TheVariants as schemes
-use Rattle.script_text.specs.declared.fault.Code.{Code}
-use Rattle.script_text.specs.declared.fault.Code.TheVariants.{NoNumber, NoName, NoRow, NoValue, NotDeclared, Twice, Unbuilt}
+use Rattle.script_words.specs.declared.code.Code.{Code}
+use Rattle.script_words.specs.declared.code.Code.TheVariants.{NoNumber, NoName, NoRow, NoValue, NotDeclared, Twice, Unbuilt}
 use Rattle.script_text.specs.Names.{Names, has_store, has_table, has_name, has_client}
-use Rattle.script_text.specs.Words.{is_name, is_among}
-use Rattle.script_text.specs.Places.{◌>>=◌, node_at, built, known, limited_at, passed, fresh, opened, opened_at, client_at, table_at, store_number, table_number, client_number, new_store_at, new_table_at, new_client_at, gate_at, new_name_at, scheme_at, chunk_at, is_colon, parts_of, kind_of, named, column_of, built_column, new_column, new_column_at, row_at, found_row, found_value, int_of, is_long_value, value_at}
-use Rattle.script_text.specs.Grammar.{IsChunk, IsUpTo, client_word, table_word, column_word, IsClient, IsTable}
-use Rattle.script_text.proofs.IntLemmas.{int_of-parts}
+use Rattle.script_words.specs.Words.{is_name}
+use Rattle.script_text.specs.Places.{◌>>=◌, node_at, built, known, limited_at, passed, fresh, opened, opened_at, client_at, table_at, store_number, table_number, client_number, new_store_at, new_table_at, new_client_at, gate_at, new_name_at, scheme_at, chunk_at, row_at, found_row}
+use Rattle.script_text.specs.Grammar.{IsChunk, IsUpTo, client_word, table_word, IsClient, IsTable}
 use Rattle.script_text.proofs.Steps.{ok_err, bind-ok}
 use Rattle.script_text.proofs.Numbers.{if-ok, unless-ok, some_same, ok_same, none_some, node-some, limited-some}
 

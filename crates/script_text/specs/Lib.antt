@@ -1,6 +1,5 @@
 pub mod Faults
 pub mod Names
-pub mod Words
 pub mod Verbs
 pub mod Places
 pub mod Reading

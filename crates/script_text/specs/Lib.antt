@@ -5,3 +5,4 @@ pub mod Places
 pub mod Reading
 pub mod Grammar
 pub mod Text
+pub use Rattle.script_words.specs.Words

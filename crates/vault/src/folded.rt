@@ -3,7 +3,7 @@ ghost use Rattle.std.specs.Prelude.{◌≡◌, ◌*◌, ◌<◌, ◌≤◌, ◌+
 ghost use Rattle.std.specs.Bool.{MatchBool};
 ghost use Rattle.disk_trait.specs.Calls.{Elapses};
 ghost use Rattle.vault.specs.Limit.{payload_most};
-ghost use Rattle.vault.specs.Standing.{payloads, disk_of, IsDown, IsUp, IsSynced, LeavesFound};
+ghost use Rattle.vault.specs.Standing.{payloads, disk_of, IsDown, IsUp, IsSynced, IsRestarted, LeavesFound};
 ghost use Rattle.vault.specs.Folded.{vault_of, memory_of, IsLookedAt, IsOpened, HasRoom};
 ghost use Rattle.vault.specs.Calls.{Formats, Looks, Restarts, OpensWrite, Reserves, Appends, Reads};
 
@@ -78,7 +78,10 @@ impl<D: Disk + Drop, F: Fold + Drop> Folded<D, F> {
 
     /// Crashes the disk and starts it again. What the vault holds is known once it is looked at.
     pub fn restart(&mut self, pick: u64)
-        ensures { Restarts D.state D.images (λ list. list) self.old self.new }
+        ensures restarts { Restarts D.state D.images (λ list. list) self.old self.new }
+        ensures image { IsRestarted D.state (vault_of self.old) (vault_of self.new) }
+        ensures time { Elapses (D.state (disk_of (vault_of self.old))) (D.state (disk_of (vault_of self.new)))
+            (D.images (disk_of (vault_of self.old))) (D.images (disk_of (vault_of self.new))) }
     {
         self.vault.restart(pick);
     }

@@ -3,8 +3,8 @@ use Rattle.vault.proofs.Uppers.{restarted, restarted_leaves}
 use Rattle.vault.specs.Calls.{IsEither}
 use Rattle.vault.proofs.folded.Folded.restart.Goals as goal
 
-pub returns : goal.returns
-returns g c =
+pub returns-clause-restarts : goal.returns-clause-restarts
+returns-clause-restarts g c =
     let s = g.D.Disk.state in
     let i = g.D.Disk.images in
     let old = c.args.self.now.vault in

@@ -1,2 +1,3 @@
+pub mod Names
 pub mod Store
 pub mod Client

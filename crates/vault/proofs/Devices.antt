@@ -85,6 +85,16 @@ module _ {E : Type 0} (fault : VaultFault → E) (apart : AreApart fault) where
       cause = counted_as (faults state old) (faults state new) r h.cause;
     }
 
+-- an append of what was written into the buffer before: what is up can't be refused as down
+module _ {D X Y E : Type 0} (state : D → DiskState) (fault : VaultFault → E) (apart : AreApart fault) (old new : Vault D) (b a : Y) (before after : X) (up : IsUp old) where
+  pub refuses_written : {T : Type 0} (r : Result T VaultFault) → Refuses state (λ (f : VaultFault). f) old new b a r → Refuses state fault old new before after (answer_as fault r)
+  refuses_written r h = record {
+    down = (λ is. h.down.0 (was_err fault apart r Down is), λ is. absurd cc);
+    unchanged = λ is. let at : IsDown old = h.down.0 (was_err fault apart r Down is) in absurd cc;
+    disk = λ is. h.disk (was_err fault apart r Disk is);
+    cause = counted_as fault apart (faults state old) (faults state new) r h.cause;
+  }
+
 ok_map : {T P Q : Type 0} (r : Result T VaultFault) → (P → Q) → OnOk r P → OnOk r Q
 ok_map (Ok x) to h = to h
 ok_map (Err e) to h = tt

@@ -1,5 +1,5 @@
 -- A vault between calls, in lists of payloads. Nothing above a vault needs more than these words.
-use Rattle.std.specs.Prelude.{◌≡◌, ℕ, ◌+◌, ◌*◌, ◌^◌, ◌<◌, ◌≤◌, min, false, true, List, [], ◌∷◌, ◌++◌, length, Result}
+use Rattle.std.specs.Prelude.{◌≡◌, ℕ, ◌+◌, ◌-◌, ◌*◌, ◌^◌, ◌<◌, ◌≤◌, min, false, true, List, [], ◌∷◌, ◌++◌, length, Result}
 use Rattle.std.specs.Vec.{vec_capacity, vec_len}
 use Rattle.disk_trait.specs.Image.{IsImage, settled}
 use Rattle.disk_trait.specs.Calls.{DiskState, LeavesOnly}
@@ -20,6 +20,14 @@ faults state vault = (state vault.disk).faults
 -- how many of these were stops of a fuse
 abbrev pub stops : {D : Type 0} → (D → DiskState) → Vault D → ℕ
 stops state vault = (state vault.disk).stops
+
+-- how often a payload was read
+abbrev pub gets : {D : Type 0} → Vault D → ℕ
+gets vault = vault.gets
+
+-- one more, where the count isn't at its end
+abbrev pub one_more : ℕ → ℕ
+one_more count = min (count + 1) (2 ^ 64 - 1)
 
 abbrev pub disk_of : {D : Type 0} → Vault D → D
 disk_of vault = vault.disk

@@ -3,7 +3,7 @@ ghost use Rattle.std.specs.Prelude.{◌≡◌, ◌*◌, ◌<◌, ◌≤◌, ◌+
 ghost use Rattle.std.specs.Bool.{MatchBool};
 ghost use Rattle.disk_trait.specs.Calls.{Elapses};
 ghost use Rattle.vault.specs.Limit.{payload_most};
-ghost use Rattle.vault.specs.Standing.{payloads, disk_of, IsDown, IsUp, IsSynced, IsRestarted, LeavesFound};
+ghost use Rattle.vault.specs.Standing.{payloads, gets, one_more, disk_of, IsDown, IsUp, IsSynced, IsRestarted, LeavesFound};
 ghost use Rattle.vault.specs.Folded.{vault_of, memory_of, IsLookedAt, IsOpened, HasRoom};
 ghost use Rattle.vault.specs.Calls.{Formats, Looks, Restarts, OpensWrite, Reserves, Appends, Reads};
 
@@ -139,6 +139,7 @@ impl<D: Disk + Drop, F: Fold + Drop> Folded<D, F> {
         ensures payload { OnOk result (slice_get (payloads D.state (vault_of self.old)) index ≡ Some self.new.found.items) }
         ensures reads { Reads D.state D.images F.fits F.has_spare (λ list. list) (λ fault. fault) self.old self.new (vault_of self.old) (vault_of self.new) result }
         ensures kept { memory_of self.new ≡ memory_of self.old }
+        ensures counted { IsUp (vault_of self.old) → gets (vault_of self.new) ≡ one_more (gets (vault_of self.old)) }
     {
         self.vault.get(index, &mut self.found)
     }

@@ -4,7 +4,7 @@ ghost use Rattle.std.specs.Bool.{MatchBool};
 ghost use Rattle.disk_trait.specs.Calls.{Elapses, IsCounted};
 ghost use Rattle.vault.specs.Limit.{payload_most};
 ghost use Rattle.vault.specs.File.{IsBeforeOrAfter};
-ghost use Rattle.vault.specs.Standing.{payloads, faults, stops, disk_of, IsDown, IsUp, IsSound, IsSynced, IsBlank, IsLookedAt, IsOpened, HasRoom, Leaves, LeavesFound, IsRestarted, SameFuse, Stays, Burns, StopsWithin};
+ghost use Rattle.vault.specs.Standing.{payloads, faults, stops, gets, one_more, disk_of, IsDown, IsUp, IsSound, IsSynced, IsBlank, IsLookedAt, IsOpened, HasRoom, Leaves, LeavesFound, IsRestarted, SameFuse, Stays, Burns, StopsWithin};
 
 use crate::fault::VaultFault;
 use crate::record::{PAYLOAD_MAX, write_frame};
@@ -27,6 +27,8 @@ pub struct Vault<D: Disk> {
     // what an append writes behind the standing gate
     frame: Vec<u8>,
     is_down: bool,
+    // how often a payload was read; at its end it stands still
+    gets: u64,
     alloc: Global,
 }
 
@@ -42,6 +44,7 @@ impl<D: Disk + Drop> Vault<D> {
             gate: 0,
             frame: Vec::new(alloc),
             is_down: false,
+            gets: 0,
             alloc,
         }
     }
@@ -275,6 +278,7 @@ impl<D: Disk + Drop> Vault<D> {
         ensures out_kept { IsErrOf result VaultFault.Memory → out.new.items ≡ out.old.items }
         ensures out_down { IsErrOf result VaultFault.Down → out.new.items ≡ out.old.items }
         ensures out_emptied { IsErrOf result VaultFault.Disk → out.new.items ≡ [] }
+        ensures counted { IsUp self.old → gets self.new ≡ one_more (gets self.old) }
         ensures down { IsErrOf result VaultFault.Down ↔ IsDown self.old }
         ensures unchanged { IsErrOf result VaultFault.Down → self.new ≡ self.old }
         ensures disk { IsErrOf result VaultFault.Disk → IsDown self.new }
@@ -284,6 +288,7 @@ impl<D: Disk + Drop> Vault<D> {
         if self.is_down {
             return Err(VaultFault::Down);
         }
+        self.gets = self.gets.saturating_add(1);
         let (at, len) = span(&self.places, self.gate, index);
         match read_payload(&mut self.disk, at, len, out) {
             Ok(()) => Ok(()),

@@ -5,7 +5,7 @@ ghost use Rattle.row_store.specs.Data.{sub_of};
 
 use crate::change::{Change, change_in};
 use crate::stored::{Sub, SubChange, Subs, Terms};
-use folded_vault::Fold;
+use vault::Fold;
 use spare_map::SpareMap;
 use stab_base::{ClientNo, RowId, RowVersion, Rows, Version};
 use std::alloc::{AllocError, Global};

@@ -4,7 +4,7 @@ ghost use Rattle.std.specs.Prelude.{◌≡◌};
 use crate::LogEntry;
 use crate::names::read_names;
 use crate::payload::{Change, Opening, change_in};
-use folded_vault::Fold;
+use vault::Fold;
 use stab_base::{RowId, Version};
 use std::alloc::{AllocError, Global};
 use vault::PAYLOAD_MAX;

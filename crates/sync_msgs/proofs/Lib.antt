@@ -1,0 +1,5 @@
+pub mod Codecs
+pub mod Ranges
+pub mod FieldCodecs
+pub mod MessageCodecs
+pub mod KindNumbers

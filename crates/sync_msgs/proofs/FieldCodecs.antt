@@ -4,7 +4,7 @@ use Rattle.std.specs.List.{AllByRecursion}
 use Rattle.std.specs.Int.{w32, w64}
 use Rattle.std.proofs.lemmas.Bool.{eqb-true, leb-true, ltb-true, ltb-false, le-ltb}
 use Rattle.std.proofs.lemmas.List.{take_at, drop_at, append-nil, length-take-le, take-append-drop}
-use Rattle.stab_base.specs.Codec.{IsBytes, counted}
+use Rattle.stab_base.specs.Codec.{IsBytes}
 use Rattle.value_codec.specs.FirstBad.{IsFirstBad}
 use Rattle.value_codec.specs.Spelling.{flag_spelling, list_spelling, content_spelling, HasContentSpelling, HasKeptSpelling}
 use Rattle.value_codec.specs.SchemaSpelling.{schema_spelling, HasSchemaSpelling}
@@ -24,7 +24,7 @@ use Rattle.table_model.specs.declared.message.TableSubscription.{TableSubscripti
 use Rattle.table_model.specs.declared.message.Outcome.{Outcome}
 use Rattle.table_model.specs.declared.message.Outcome.TheVariants as outcomes
 use Rattle.sync_msgs.specs.Fields.{Reader, then_at, ◌&◌, made_at, byte_if, ranged_at, client_at, period_if, bytes_at, chunk_bytes_at, value_if, inside_if, option_at, is_flag, option_if}
-use Rattle.sync_msgs.specs.Spelling.{four, eight, IsBetween, IsClient, IsPeriod, IsChunk, IsOption, option_spelling, IsOptionIf, header_spelling, HasHeaderSpelling, outcome_spelling, HasOutcomeSpelling, subscription_spelling, HasSubscriptionSpelling, AreSubscriptions}
+use Rattle.sync_msgs.specs.Spelling.{four, eight, IsBetween, IsClient, IsPeriod, IsChunk, chunk_spelling, IsOption, option_spelling, IsOptionIf, header_spelling, HasHeaderSpelling, outcome_spelling, HasOutcomeSpelling, subscription_spelling, HasSubscriptionSpelling, AreSubscriptions, subscriptions_spelling}
 use Rattle.sync_msgs.specs.Reading.{header_of, header_at, is_outcome, outcome_of, outcome_at, subscription_at, after_subscription, subscription_in}
 use Rattle.sync_msgs.proofs.Codecs.{Codec, both, depending, made}
 use Rattle.sync_msgs.proofs.Ranges.{Passes, one_byte, passes, ranged, both_are}
@@ -32,9 +32,11 @@ use Rattle.sync_msgs.proofs.Ranges.{Passes, one_byte, passes, ranged, both_are}
 -- ---- numbers, ids and values of rows
 
 pub four_codec : Codec (λ n. n < 2 ^ 32) four (number_at w32)
+unfolding four
 four_codec = record { reads = four_reads; stops = four_stop }
 
 pub eight_codec : Codec (λ n. n < 2 ^ 64) eight (number_at w64)
+unfolding eight
 eight_codec = record { reads = eight_reads; stops = eight_stop }
 
 byte_fails : (bytes : List ℕ) (left : ℕ) → IsBytes bytes → byte_at bytes ≡ Err left → IsFirstBad (λ n. n < 256) one_byte bytes left
@@ -116,10 +118,10 @@ bytes_codec len = record {
 abbrev text_of : ℕ × List ℕ → List ℕ
 text_of p = p.1
 
-pub chunk_codec : Codec IsChunk counted chunk_bytes_at
-unfolding chunk_bytes_at
+pub chunk_codec : Codec IsChunk chunk_spelling chunk_bytes_at
+unfolding chunk_bytes_at chunk_spelling four
 chunk_codec =
-    made text_of IsChunk counted (λ p h. subst (IsBetween 1 65536) (sym h.1) h.0) (λ p h. ap (λ (n : ℕ). four n ++ p.1) h.1) (λ text h. ((length text, text), (h, refl), refl))
+    made text_of IsChunk chunk_spelling (λ p h. subst (IsBetween 1 65536) (sym h.1) h.0) (λ p h. ap (λ (n : ℕ). four n ++ p.1) h.1) (λ text h. ((length text, text), (h, refl), refl))
     (depending (λ (n : ℕ) (text : List ℕ). length text ≡ n) (λ (n : ℕ) (text : List ℕ). text) bytes_at (ranged 1 65536 (omega arith) (omega arith)) bytes_codec)
 
 -- ---- numbers that are 0, or any
@@ -132,19 +134,19 @@ abbrev eight_zeros : List ℕ
 eight_zeros = 0 ∷ (0 ∷ (0 ∷ (0 ∷ (0 ∷ (0 ∷ (0 ∷ (0 ∷ [])))))))
 
 none_takes : (bytes : List ℕ) (n : ℕ) (rest : List ℕ) → IsBytes bytes → value_if true bytes ≡ Ok (n, rest) → (n ≡ 0) × (bytes ≡ eight n ++ rest)
-unfolding value_if
+unfolding value_if eight
 none_takes bytes n rest fits e =
     let a = bind_ok (exactly_at eight_zeros bytes) (λ rest. gives 0 rest) (n, rest) e in
     subst (λ (p : ℕ × List ℕ). (p.0 ≡ 0) × (bytes ≡ eight p.0 ++ p.1)) (ok_is (0, a.0) (n, rest) a.2) (refl, exactly_takes eight_zeros bytes a.0 a.1)
 
 none_again : (n : ℕ) (rest : List ℕ) → n ≡ 0 → value_if true (eight n ++ rest) ≡ Ok (n, rest)
-unfolding value_if
+unfolding value_if eight
 none_again n rest is =
     let read : value_if true (eight 0 ++ rest) ≡ gives 0 rest = rw (exactly_again eight_zeros rest) refl in
     ap (λ (m : ℕ). value_if true (eight m ++ rest)) is ∙ read ∙ ap (λ (m : ℕ). gives m rest) (sym is)
 
 none_fails : (bytes : List ℕ) (left : ℕ) → IsBytes bytes → value_if true bytes ≡ Err left → IsFirstBad (λ n. n ≡ 0) eight bytes left
-unfolding value_if
+unfolding value_if eight
 none_fails bytes left fits e =
     elim (bind_err (exactly_at eight_zeros bytes) (λ rest. gives 0 rest) left e) [
       | inl h ↦ moved Given (given eight_zeros) (λ n. n ≡ 0) eight bytes left (λ u k. (0, refl, refl)) (λ n k. (tt, tt, ap eight (sym k))) (exactly_fails eight_zeros bytes left h)
@@ -293,7 +295,8 @@ listed_are xs h = (h.0, each_of after_subscription HasSubscriptionSpelling tt xs
 are_listed : (xs : List TableSubscription) → AreSubscriptions xs → AreListed xs
 are_listed xs h = (h.0, each_from after_subscription HasSubscriptionSpelling tt xs h.1)
 
-pub subscriptions_codec : Codec AreSubscriptions (list_spelling subscription_spelling) (list_at after_subscription subscription_in tt)
+pub subscriptions_codec : Codec AreSubscriptions subscriptions_spelling (list_at after_subscription subscription_in tt)
+unfolding subscriptions_spelling
 subscriptions_codec = record {
   reads = retold AreListed AreSubscriptions (list_spelling subscription_spelling) (list_at after_subscription subscription_in tt) (list_reads after_subscription (λ s. HasSubscriptionSpelling) subscription_spelling subscription_in (λ s. subscription_codec.reads) tt) listed_are are_listed;
   stops = retold_stop AreListed AreSubscriptions (list_spelling subscription_spelling) (list_at after_subscription subscription_in tt) (list_stop after_subscription (λ s. HasSubscriptionSpelling) subscription_spelling subscription_in (λ s. subscription_codec.reads) (λ s. subscription_codec.stops) tt) listed_are are_listed;

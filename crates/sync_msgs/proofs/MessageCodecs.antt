@@ -60,9 +60,9 @@ register_device_codec : Codec (IsNamed names.RegisterDevice) body_spelling regis
 unfolding register_device_at
 register_device_codec =
     made made_register_device (IsNamed names.RegisterDevice) body_spelling (λ p h. (h, refl)) (λ p h. refl) back client_codec where
-  back : (z : Message) → IsNamed names.RegisterDevice z → (p : ℕ) × HasSpelling (made_register_device p) × (made_register_device p ≡ z)
-  back (messages.RegisterDevice m) h = (m.client, h.0, refl)
-  back z h = absurd (let e = h.1 in cc)
+      back : (z : Message) → IsNamed names.RegisterDevice z → (p : ℕ) × HasSpelling (made_register_device p) × (made_register_device p ≡ z)
+      back (messages.RegisterDevice m) h = (m.client, h.0, refl)
+      back z h = absurd (let e = h.1 in cc)
 
 abbrev made_create_table : ℕ × (ℕ × (ℕ × Schema)) → Message
 made_create_table p = messages.CreateTable (record { client = p.0; token = p.1.0; table = p.1.1.0; schema = p.1.1.1 })
@@ -71,9 +71,9 @@ create_table_codec : Codec (IsNamed names.CreateTable) body_spelling create_tabl
 unfolding create_table_at
 create_table_codec =
     made made_create_table (IsNamed names.CreateTable) body_spelling (λ p h. (h, refl)) (λ p h. refl) back (both client_codec (both eight_codec (both four_codec schema_codec))) where
-  back : (z : Message) → IsNamed names.CreateTable z → (p : ℕ × (ℕ × (ℕ × Schema))) × HasSpelling (made_create_table p) × (made_create_table p ≡ z)
-  back (messages.CreateTable m) h = ((m.client, (m.token, (m.table, m.schema))), h.0, refl)
-  back z h = absurd (let e = h.1 in cc)
+      back : (z : Message) → IsNamed names.CreateTable z → (p : ℕ × (ℕ × (ℕ × Schema))) × HasSpelling (made_create_table p) × (made_create_table p ≡ z)
+      back (messages.CreateTable m) h = ((m.client, (m.token, (m.table, m.schema))), h.0, refl)
+      back z h = absurd (let e = h.1 in cc)
 
 abbrev made_drop_table : ℕ × (ℕ × ℕ) → Message
 made_drop_table p = messages.DropTable (record { client = p.0; token = p.1.0; table = p.1.1 })
@@ -82,9 +82,9 @@ drop_table_codec : Codec (IsNamed names.DropTable) body_spelling drop_table_at
 unfolding drop_table_at
 drop_table_codec =
     made made_drop_table (IsNamed names.DropTable) body_spelling (λ p h. (h, refl)) (λ p h. refl) back (both client_codec (both eight_codec four_codec)) where
-  back : (z : Message) → IsNamed names.DropTable z → (p : ℕ × (ℕ × ℕ)) × HasSpelling (made_drop_table p) × (made_drop_table p ≡ z)
-  back (messages.DropTable m) h = ((m.client, (m.token, m.table)), h.0, refl)
-  back z h = absurd (let e = h.1 in cc)
+      back : (z : Message) → IsNamed names.DropTable z → (p : ℕ × (ℕ × ℕ)) × HasSpelling (made_drop_table p) × (made_drop_table p ≡ z)
+      back (messages.DropTable m) h = ((m.client, (m.token, m.table)), h.0, refl)
+      back z h = absurd (let e = h.1 in cc)
 
 abbrev made_subscribe_table : ℕ × (ℕ × (ℕ × (ℕ × ℕ))) → Message
 made_subscribe_table p = messages.SubscribeTable (record { client = p.0; token = p.1.0; table = p.1.1.0; period = p.1.1.1.0; tolerance = p.1.1.1.1 })
@@ -93,9 +93,9 @@ subscribe_table_codec : Codec (IsNamed names.SubscribeTable) body_spelling subsc
 unfolding subscribe_table_at
 subscribe_table_codec =
     made made_subscribe_table (IsNamed names.SubscribeTable) body_spelling (λ p h. (h, refl)) (λ p h. refl) back (both client_codec (both eight_codec (both four_codec (both (period_codec true) four_codec)))) where
-  back : (z : Message) → IsNamed names.SubscribeTable z → (p : ℕ × (ℕ × (ℕ × (ℕ × ℕ)))) × HasSpelling (made_subscribe_table p) × (made_subscribe_table p ≡ z)
-  back (messages.SubscribeTable m) h = ((m.client, (m.token, (m.table, (m.period, m.tolerance)))), h.0, refl)
-  back z h = absurd (let e = h.1 in cc)
+      back : (z : Message) → IsNamed names.SubscribeTable z → (p : ℕ × (ℕ × (ℕ × (ℕ × ℕ)))) × HasSpelling (made_subscribe_table p) × (made_subscribe_table p ≡ z)
+      back (messages.SubscribeTable m) h = ((m.client, (m.token, (m.table, (m.period, m.tolerance)))), h.0, refl)
+      back z h = absurd (let e = h.1 in cc)
 
 abbrev made_unsubscribe_table : ℕ × (ℕ × ℕ) → Message
 made_unsubscribe_table p = messages.UnsubscribeTable (record { client = p.0; token = p.1.0; table = p.1.1 })
@@ -104,9 +104,9 @@ unsubscribe_table_codec : Codec (IsNamed names.UnsubscribeTable) body_spelling u
 unfolding unsubscribe_table_at
 unsubscribe_table_codec =
     made made_unsubscribe_table (IsNamed names.UnsubscribeTable) body_spelling (λ p h. (h, refl)) (λ p h. refl) back (both client_codec (both eight_codec four_codec)) where
-  back : (z : Message) → IsNamed names.UnsubscribeTable z → (p : ℕ × (ℕ × ℕ)) × HasSpelling (made_unsubscribe_table p) × (made_unsubscribe_table p ≡ z)
-  back (messages.UnsubscribeTable m) h = ((m.client, (m.token, m.table)), h.0, refl)
-  back z h = absurd (let e = h.1 in cc)
+      back : (z : Message) → IsNamed names.UnsubscribeTable z → (p : ℕ × (ℕ × ℕ)) × HasSpelling (made_unsubscribe_table p) × (made_unsubscribe_table p ≡ z)
+      back (messages.UnsubscribeTable m) h = ((m.client, (m.token, m.table)), h.0, refl)
+      back z h = absurd (let e = h.1 in cc)
 
 abbrev made_notify : ℕ × ℕ → Message
 made_notify p = messages.Notify (record { client = p.0; bitmap = p.1 })
@@ -115,9 +115,9 @@ notify_codec : Codec (IsNamed names.Notify) body_spelling notify_at
 unfolding notify_at
 notify_codec =
     made made_notify (IsNamed names.Notify) body_spelling (λ p h. (h, refl)) (λ p h. refl) back (both client_codec eight_codec) where
-  back : (z : Message) → IsNamed names.Notify z → (p : ℕ × ℕ) × HasSpelling (made_notify p) × (made_notify p ≡ z)
-  back (messages.Notify m) h = ((m.client, m.bitmap), h.0, refl)
-  back z h = absurd (let e = h.1 in cc)
+      back : (z : Message) → IsNamed names.Notify z → (p : ℕ × ℕ) × HasSpelling (made_notify p) × (made_notify p ≡ z)
+      back (messages.Notify m) h = ((m.client, m.bitmap), h.0, refl)
+      back z h = absurd (let e = h.1 in cc)
 
 abbrev made_object_fragment : ℕ × (ℕ × (ℕ × (List ℕ × (Bool × (ℕ × (ℕ × (ℕ × List ℕ))))))) → Message
 made_object_fragment p = messages.ObjectFragment (record { client = p.0; token = p.1.0; table = p.1.1.0; row = p.1.1.1.0; down = p.1.1.1.1.0; key = p.1.1.1.1.1.0; column = p.1.1.1.1.1.1.0; place = p.1.1.1.1.1.1.1.0; bytes = p.1.1.1.1.1.1.1.1 })
@@ -126,9 +126,9 @@ object_fragment_codec : Codec (IsNamed names.ObjectFragment) body_spelling objec
 unfolding object_fragment_at
 object_fragment_codec =
     made made_object_fragment (IsNamed names.ObjectFragment) body_spelling (λ p h. (h, refl)) (λ p h. refl) back (both client_codec (both eight_codec (both four_codec (both id_codec (both flag_codec (both eight_codec (both four_codec (both four_codec chunk_codec)))))))) where
-  back : (z : Message) → IsNamed names.ObjectFragment z → (p : ℕ × (ℕ × (ℕ × (List ℕ × (Bool × (ℕ × (ℕ × (ℕ × List ℕ)))))))) × HasSpelling (made_object_fragment p) × (made_object_fragment p ≡ z)
-  back (messages.ObjectFragment m) h = ((m.client, (m.token, (m.table, (m.row, (m.down, (m.key, (m.column, (m.place, m.bytes)))))))), h.0, refl)
-  back z h = absurd (let e = h.1 in cc)
+      back : (z : Message) → IsNamed names.ObjectFragment z → (p : ℕ × (ℕ × (ℕ × (List ℕ × (Bool × (ℕ × (ℕ × (ℕ × List ℕ)))))))) × HasSpelling (made_object_fragment p) × (made_object_fragment p ≡ z)
+      back (messages.ObjectFragment m) h = ((m.client, (m.token, (m.table, (m.row, (m.down, (m.key, (m.column, (m.place, m.bytes)))))))), h.0, refl)
+      back z h = absurd (let e = h.1 in cc)
 
 abbrev made_pull_request : ℕ × (ℕ × (ℕ × ℕ)) → Message
 made_pull_request p = messages.PullRequest (record { client = p.0; token = p.1.0; table = p.1.1.0; position = p.1.1.1 })
@@ -137,9 +137,9 @@ pull_request_codec : Codec (IsNamed names.PullRequest) body_spelling pull_reques
 unfolding pull_request_at
 pull_request_codec =
     made made_pull_request (IsNamed names.PullRequest) body_spelling (λ p h. (h, refl)) (λ p h. refl) back (both client_codec (both eight_codec (both four_codec eight_codec))) where
-  back : (z : Message) → IsNamed names.PullRequest z → (p : ℕ × (ℕ × (ℕ × ℕ))) × HasSpelling (made_pull_request p) × (made_pull_request p ≡ z)
-  back (messages.PullRequest m) h = ((m.client, (m.token, (m.table, m.position))), h.0, refl)
-  back z h = absurd (let e = h.1 in cc)
+      back : (z : Message) → IsNamed names.PullRequest z → (p : ℕ × (ℕ × (ℕ × ℕ))) × HasSpelling (made_pull_request p) × (made_pull_request p ≡ z)
+      back (messages.PullRequest m) h = ((m.client, (m.token, (m.table, m.position))), h.0, refl)
+      back z h = absurd (let e = h.1 in cc)
 
 abbrev made_pull_response : ℕ × (ℕ × (ℕ × (ℕ × (ℕ × Option RowHeader)))) → Message
 made_pull_response p = messages.PullResponse (record { client = p.0; table = p.1.0; from = p.1.1.0; to = p.1.1.1.0; latest = p.1.1.1.1.0; header = p.1.1.1.1.1 })
@@ -148,9 +148,9 @@ pull_response_codec : Codec (IsNamed names.PullResponse) body_spelling pull_resp
 unfolding pull_response_at
 pull_response_codec =
     made made_pull_response (IsNamed names.PullResponse) body_spelling (λ p h. (h, refl)) (λ p h. refl) back (both client_codec (both four_codec (both eight_codec (both eight_codec (both eight_codec header_option_codec))))) where
-  back : (z : Message) → IsNamed names.PullResponse z → (p : ℕ × (ℕ × (ℕ × (ℕ × (ℕ × Option RowHeader))))) × HasSpelling (made_pull_response p) × (made_pull_response p ≡ z)
-  back (messages.PullResponse m) h = ((m.client, (m.table, (m.from, (m.to, (m.latest, m.header))))), h.0, refl)
-  back z h = absurd (let e = h.1 in cc)
+      back : (z : Message) → IsNamed names.PullResponse z → (p : ℕ × (ℕ × (ℕ × (ℕ × (ℕ × Option RowHeader))))) × HasSpelling (made_pull_response p) × (made_pull_response p ≡ z)
+      back (messages.PullResponse m) h = ((m.client, (m.table, (m.from, (m.to, (m.latest, m.header))))), h.0, refl)
+      back z h = absurd (let e = h.1 in cc)
 
 abbrev made_sync_request : ℕ × (ℕ × (ℕ × (List ℕ × (ℕ × (ℕ × PieceContent))))) → Message
 made_sync_request p = messages.SyncRequest (record { client = p.0; token = p.1.0; table = p.1.1.0; row = p.1.1.1.0; number = p.1.1.1.1.0; base = p.1.1.1.1.1.0; content = p.1.1.1.1.1.1 })
@@ -159,9 +159,9 @@ sync_request_codec : Codec (IsNamed names.SyncRequest) body_spelling sync_reques
 unfolding sync_request_at
 sync_request_codec =
     made made_sync_request (IsNamed names.SyncRequest) body_spelling (λ p h. (h, refl)) (λ p h. refl) back (both client_codec (both eight_codec (both four_codec (both id_codec (both eight_codec (both eight_codec content_codec)))))) where
-  back : (z : Message) → IsNamed names.SyncRequest z → (p : ℕ × (ℕ × (ℕ × (List ℕ × (ℕ × (ℕ × PieceContent)))))) × HasSpelling (made_sync_request p) × (made_sync_request p ≡ z)
-  back (messages.SyncRequest m) h = ((m.client, (m.token, (m.table, (m.row, (m.number, (m.base, m.content)))))), h.0, refl)
-  back z h = absurd (let e = h.1 in cc)
+      back : (z : Message) → IsNamed names.SyncRequest z → (p : ℕ × (ℕ × (ℕ × (List ℕ × (ℕ × (ℕ × PieceContent)))))) × HasSpelling (made_sync_request p) × (made_sync_request p ≡ z)
+      back (messages.SyncRequest m) h = ((m.client, (m.token, (m.table, (m.row, (m.number, (m.base, m.content)))))), h.0, refl)
+      back z h = absurd (let e = h.1 in cc)
 
 abbrev made_sync_response : ℕ × (ℕ × (List ℕ × (ℕ × Outcome))) → Message
 made_sync_response p = messages.SyncResponse (record { client = p.0; table = p.1.0; row = p.1.1.0; number = p.1.1.1.0; outcome = p.1.1.1.1 })
@@ -170,9 +170,9 @@ sync_response_codec : Codec (IsNamed names.SyncResponse) body_spelling sync_resp
 unfolding sync_response_at
 sync_response_codec =
     made made_sync_response (IsNamed names.SyncResponse) body_spelling (λ p h. (h, refl)) (λ p h. refl) back (both client_codec (both four_codec (both id_codec (both eight_codec outcome_codec)))) where
-  back : (z : Message) → IsNamed names.SyncResponse z → (p : ℕ × (ℕ × (List ℕ × (ℕ × Outcome)))) × HasSpelling (made_sync_response p) × (made_sync_response p ≡ z)
-  back (messages.SyncResponse m) h = ((m.client, (m.table, (m.row, (m.number, m.outcome)))), h.0, refl)
-  back z h = absurd (let e = h.1 in cc)
+      back : (z : Message) → IsNamed names.SyncResponse z → (p : ℕ × (ℕ × (List ℕ × (ℕ × Outcome)))) × HasSpelling (made_sync_response p) × (made_sync_response p ≡ z)
+      back (messages.SyncResponse m) h = ((m.client, (m.table, (m.row, (m.number, m.outcome)))), h.0, refl)
+      back z h = absurd (let e = h.1 in cc)
 
 abbrev made_torn_row_request : ℕ × (ℕ × (ℕ × List ℕ)) → Message
 made_torn_row_request p = messages.TornRowRequest (record { client = p.0; token = p.1.0; table = p.1.1.0; row = p.1.1.1 })
@@ -181,9 +181,9 @@ torn_row_request_codec : Codec (IsNamed names.TornRowRequest) body_spelling torn
 unfolding torn_row_request_at
 torn_row_request_codec =
     made made_torn_row_request (IsNamed names.TornRowRequest) body_spelling (λ p h. (h, refl)) (λ p h. refl) back (both client_codec (both eight_codec (both four_codec id_codec))) where
-  back : (z : Message) → IsNamed names.TornRowRequest z → (p : ℕ × (ℕ × (ℕ × List ℕ))) × HasSpelling (made_torn_row_request p) × (made_torn_row_request p ≡ z)
-  back (messages.TornRowRequest m) h = ((m.client, (m.token, (m.table, m.row))), h.0, refl)
-  back z h = absurd (let e = h.1 in cc)
+      back : (z : Message) → IsNamed names.TornRowRequest z → (p : ℕ × (ℕ × (ℕ × List ℕ))) × HasSpelling (made_torn_row_request p) × (made_torn_row_request p ≡ z)
+      back (messages.TornRowRequest m) h = ((m.client, (m.token, (m.table, m.row))), h.0, refl)
+      back z h = absurd (let e = h.1 in cc)
 
 abbrev made_torn_row_response : ℕ × (ℕ × (List ℕ × Option RowHeader)) → Message
 made_torn_row_response p = messages.TornRowResponse (record { client = p.0; table = p.1.0; row = p.1.1.0; header = p.1.1.1 })
@@ -192,9 +192,9 @@ torn_row_response_codec : Codec (IsNamed names.TornRowResponse) body_spelling to
 unfolding torn_row_response_at
 torn_row_response_codec =
     made made_torn_row_response (IsNamed names.TornRowResponse) body_spelling (λ p h. (h, refl)) (λ p h. refl) back (both client_codec (both four_codec (both id_codec header_option_codec))) where
-  back : (z : Message) → IsNamed names.TornRowResponse z → (p : ℕ × (ℕ × (List ℕ × Option RowHeader))) × HasSpelling (made_torn_row_response p) × (made_torn_row_response p ≡ z)
-  back (messages.TornRowResponse m) h = ((m.client, (m.table, (m.row, m.header))), h.0, refl)
-  back z h = absurd (let e = h.1 in cc)
+      back : (z : Message) → IsNamed names.TornRowResponse z → (p : ℕ × (ℕ × (List ℕ × Option RowHeader))) × HasSpelling (made_torn_row_response p) × (made_torn_row_response p ≡ z)
+      back (messages.TornRowResponse m) h = ((m.client, (m.table, (m.row, m.header))), h.0, refl)
+      back z h = absurd (let e = h.1 in cc)
 
 abbrev made_operation_response : ℕ × (ℕ × (ℕ × (ℕ × (ℕ × Option Schema)))) → Message
 made_operation_response p = messages.OperationResponse (record { client = p.0; table = p.1.0; answered = p.1.1.0; status = p.1.1.1.0; token = p.1.1.1.1.0; schema = p.1.1.1.1.1 })
@@ -203,9 +203,9 @@ operation_response_codec : Codec (IsNamed names.OperationResponse) body_spelling
 unfolding operation_response_at
 operation_response_codec =
     made made_operation_response (IsNamed names.OperationResponse) body_spelling (λ p h. (h, refl)) (λ p h. refl) back (both client_codec (both four_codec answer_codec)) where
-  back : (z : Message) → IsNamed names.OperationResponse z → (p : ℕ × (ℕ × (ℕ × (ℕ × (ℕ × Option Schema))))) × HasSpelling (made_operation_response p) × (made_operation_response p ≡ z)
-  back (messages.OperationResponse m) h = ((m.client, (m.table, (m.answered, (m.status, (m.token, m.schema))))), h.0, refl)
-  back z h = absurd (let e = h.1 in cc)
+      back : (z : Message) → IsNamed names.OperationResponse z → (p : ℕ × (ℕ × (ℕ × (ℕ × (ℕ × Option Schema))))) × HasSpelling (made_operation_response p) × (made_operation_response p ≡ z)
+      back (messages.OperationResponse m) h = ((m.client, (m.table, (m.answered, (m.status, (m.token, m.schema))))), h.0, refl)
+      back z h = absurd (let e = h.1 in cc)
 
 abbrev made_save_client_subscription : ℕ × (ℕ × (ℕ × (Bool × (ℕ × ℕ)))) → Message
 made_save_client_subscription p = messages.SaveClientSubscription (record { client = p.0; gate = p.1.0; table = p.1.1.0; on = p.1.1.1.0; period = p.1.1.1.1.0; tolerance = p.1.1.1.1.1 })
@@ -214,9 +214,9 @@ save_client_subscription_codec : Codec (IsNamed names.SaveClientSubscription) bo
 unfolding save_client_subscription_at
 save_client_subscription_codec =
     made made_save_client_subscription (IsNamed names.SaveClientSubscription) body_spelling (λ p h. (h, refl)) (λ p h. refl) back (both client_codec (both four_codec (both four_codec terms_codec))) where
-  back : (z : Message) → IsNamed names.SaveClientSubscription z → (p : ℕ × (ℕ × (ℕ × (Bool × (ℕ × ℕ))))) × HasSpelling (made_save_client_subscription p) × (made_save_client_subscription p ≡ z)
-  back (messages.SaveClientSubscription m) h = ((m.client, (m.gate, (m.table, (m.on, (m.period, m.tolerance))))), h.0, refl)
-  back z h = absurd (let e = h.1 in cc)
+      back : (z : Message) → IsNamed names.SaveClientSubscription z → (p : ℕ × (ℕ × (ℕ × (Bool × (ℕ × ℕ))))) × HasSpelling (made_save_client_subscription p) × (made_save_client_subscription p ≡ z)
+      back (messages.SaveClientSubscription m) h = ((m.client, (m.gate, (m.table, (m.on, (m.period, m.tolerance))))), h.0, refl)
+      back z h = absurd (let e = h.1 in cc)
 
 abbrev made_restore_client_subscriptions : ℕ × (ℕ × (Bool × List TableSubscription)) → Message
 made_restore_client_subscriptions p = messages.RestoreClientSubscriptions (record { client = p.0; gate = p.1.0; reply = p.1.1.0; subscriptions = p.1.1.1 })
@@ -225,9 +225,9 @@ restore_client_subscriptions_codec : Codec (IsNamed names.RestoreClientSubscript
 unfolding restore_client_subscriptions_at
 restore_client_subscriptions_codec =
     made made_restore_client_subscriptions (IsNamed names.RestoreClientSubscriptions) body_spelling (λ p h. (h, refl)) (λ p h. refl) back (both client_codec (both four_codec (both flag_codec subscriptions_codec))) where
-  back : (z : Message) → IsNamed names.RestoreClientSubscriptions z → (p : ℕ × (ℕ × (Bool × List TableSubscription))) × HasSpelling (made_restore_client_subscriptions p) × (made_restore_client_subscriptions p ≡ z)
-  back (messages.RestoreClientSubscriptions m) h = ((m.client, (m.gate, (m.reply, m.subscriptions))), h.0, refl)
-  back z h = absurd (let e = h.1 in cc)
+      back : (z : Message) → IsNamed names.RestoreClientSubscriptions z → (p : ℕ × (ℕ × (Bool × List TableSubscription))) × HasSpelling (made_restore_client_subscriptions p) × (made_restore_client_subscriptions p ≡ z)
+      back (messages.RestoreClientSubscriptions m) h = ((m.client, (m.gate, (m.reply, m.subscriptions))), h.0, refl)
+      back z h = absurd (let e = h.1 in cc)
 
 abbrev made_table_version_update_notification : ℕ × (ℕ × ℕ) → Message
 made_table_version_update_notification p = messages.TableVersionUpdateNotification (record { gate = p.0; table = p.1.0; version = p.1.1 })
@@ -236,9 +236,9 @@ table_version_update_notification_codec : Codec (IsNamed names.TableVersionUpdat
 unfolding table_version_update_notification_at
 table_version_update_notification_codec =
     made made_table_version_update_notification (IsNamed names.TableVersionUpdateNotification) body_spelling (λ p h. (h, refl)) (λ p h. refl) back (both four_codec (both four_codec eight_codec)) where
-  back : (z : Message) → IsNamed names.TableVersionUpdateNotification z → (p : ℕ × (ℕ × ℕ)) × HasSpelling (made_table_version_update_notification p) × (made_table_version_update_notification p ≡ z)
-  back (messages.TableVersionUpdateNotification m) h = ((m.gate, (m.table, m.version)), h.0, refl)
-  back z h = absurd (let e = h.1 in cc)
+      back : (z : Message) → IsNamed names.TableVersionUpdateNotification z → (p : ℕ × (ℕ × ℕ)) × HasSpelling (made_table_version_update_notification p) × (made_table_version_update_notification p ≡ z)
+      back (messages.TableVersionUpdateNotification m) h = ((m.gate, (m.table, m.version)), h.0, refl)
+      back z h = absurd (let e = h.1 in cc)
 
 -- ---- all of them
 

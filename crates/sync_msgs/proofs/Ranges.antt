@@ -173,15 +173,23 @@ module _ (least most : ℕ) (le : least ≤ most) (lt : most < 4294967296) where
       let a : ℕ = n / 16777216 in
       let b : ℕ = n / 65536 % 256 in
       let c : ℕ = n / 256 % 256 in
-      let d : ℕ = n % 256 in
-      ((a, (b, (c, d))), (
-        (omega arith, is_may least most 16777216 (0 * 256 + a) (omega arith) (omega arith)),
-        ((omega arith, is_may least most 65536 (a * 256 + b) (omega arith) (omega arith)),
-        ((omega arith, is_may least most 256 ((a * 256 + b) * 256 + c) (omega arith) (omega arith)),
-        (omega arith, is_may least most 1 (((a * 256 + b) * 256 + c) * 256 + d) (omega arith) (omega arith))))), omega arith)
+      let d : ℕ = n % 256 in (
+        (a, (b, (c, d))),
+        (
+          (omega arith, is_may least most 16777216 (0 * 256 + a) (omega arith) (omega arith)),
+          (
+            (omega arith, is_may least most 65536 (a * 256 + b) (omega arith) (omega arith)),
+            (
+              (omega arith, is_may least most 256 ((a * 256 + b) * 256 + c) (omega arith) (omega arith)),
+              (omega arith, is_may least most 1 (((a * 256 + b) * 256 + c) * 256 + d) (omega arith) (omega arith)),
+            ),
+          ),
+        ),
+        omega arith,
+      )
 
   pub ranged : Codec (IsBetween least most) four (ranged_at least most)
-  unfolding ranged_at
+  unfolding ranged_at four
   ranged =
       made number_of (IsBetween least most) four within (λ p h. digits p.0 p.1.0 p.1.1.0 p.1.1.1 h.0.0 h.1.0.0 h.1.1.0.0 h.1.1.1.0) parts_of
       (followed (Passes first) one_byte (byte_if first) Rests (λ (a : ℕ). three_bytes) rests_at (passes first _ first_some) rests_read rests_stop)

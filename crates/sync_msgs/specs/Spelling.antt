@@ -34,10 +34,10 @@ use Rattle.table_model.specs.declared.message.Message.TheVariants as messages
 
 -- ---- fields
 
-abbrev pub four : ℕ → List ℕ
+unfoldable pub four : ℕ → List ℕ
 four n = to_be_bytes w32 n
 
-abbrev pub eight : ℕ → List ℕ
+unfoldable pub eight : ℕ → List ℕ
 eight n = to_be_bytes w64 n
 
 pub record IsBetween (low high n : ℕ) : Type 0 where
@@ -54,6 +54,9 @@ IsPeriod false n = n < 2 ^ 32
 
 abbrev pub IsChunk : List ℕ → Type 0
 IsChunk bytes = IsBetween 1 65536 (length bytes)
+
+unfoldable pub chunk_spelling : List ℕ → List ℕ
+chunk_spelling bytes = counted bytes
 
 abbrev pub IsOption : {X : Type 0} → (X → Type 0) → Option X → Type 0
 IsOption P None = Unit {0}
@@ -109,6 +112,9 @@ HasSubscriptionSpelling s = (s.table < 2 ^ 32) × ((s.period < 2 ^ 32) × (s.tol
 abbrev pub AreSubscriptions : List TableSubscription → Type 0
 AreSubscriptions some = (length some < 2 ^ 32) × AllByRecursion HasSubscriptionSpelling some
 
+unfoldable pub subscriptions_spelling : List TableSubscription → List ℕ
+subscriptions_spelling some = list_spelling subscription_spelling some
+
 -- the answers to kinds 2 and 4 that are done have a schema
 abbrev pub has_schema : ℕ → ℕ → Bool
 has_schema answered status = (answered == 2 || answered == 4) && status == 0
@@ -156,7 +162,7 @@ HasNotify m = IsClient m.client × (m.bitmap < 2 ^ 64)
 abbrev pub object_fragment_spelling : ObjectFragment → List ℕ
 object_fragment_spelling m =
     four m.client ++ (eight m.token ++ (four m.table ++ (m.row ++ (flag_spelling m.down ++ (eight m.key ++
-    (four m.column ++ (four m.place ++ counted m.bytes)))))))
+    (four m.column ++ (four m.place ++ chunk_spelling m.bytes)))))))
 
 abbrev pub HasObjectFragment : ObjectFragment → Type 0
 HasObjectFragment m =
@@ -232,7 +238,7 @@ HasSaveClientSubscription m =
 
 abbrev pub restore_client_subscriptions_spelling : RestoreClientSubscriptions → List ℕ
 restore_client_subscriptions_spelling m =
-    four m.client ++ (four m.gate ++ (flag_spelling m.reply ++ list_spelling subscription_spelling m.subscriptions))
+    four m.client ++ (four m.gate ++ (flag_spelling m.reply ++ subscriptions_spelling m.subscriptions))
 
 abbrev pub HasRestoreClientSubscriptions : RestoreClientSubscriptions → Type 0
 HasRestoreClientSubscriptions m =

@@ -8,10 +8,17 @@ ghost use Rattle.sync_msgs.specs.declared.codec.MessageFault.TheVariants as faul
 
 use crate::kinds::{kind_code, name_of_kind};
 use crate::message_writer::put_message;
-use crate::notices_reader::{take_subscribe_table, take_unsubscribe_table, take_notify, take_save_client_subscription, take_restore_client_subscriptions, take_table_version_update_notification};
-use crate::pulls_reader::{take_pull_request, take_pull_response, take_torn_row_request, take_torn_row_response};
+use crate::notices_reader::{
+    take_notify, take_restore_client_subscriptions, take_save_client_subscription,
+    take_subscribe_table, take_table_version_update_notification, take_unsubscribe_table,
+};
+use crate::pulls_reader::{
+    take_pull_request, take_pull_response, take_torn_row_request, take_torn_row_response,
+};
 use crate::rows_reader::{take_object_fragment, take_sync_request, take_sync_response};
-use crate::tables_reader::{take_register_device, take_create_table, take_drop_table, take_operation_response};
+use crate::tables_reader::{
+    take_create_table, take_drop_table, take_operation_response, take_register_device,
+};
 use stab_base::Bytes;
 use std::alloc::{AllocError, Global};
 use table_model::{Message, MessageName};
@@ -57,8 +64,12 @@ fn take_message(
         MessageName::TornRowResponse => take_torn_row_response(alloc, bytes, at),
         MessageName::OperationResponse => take_operation_response(alloc, bytes, at),
         MessageName::SaveClientSubscription => take_save_client_subscription(bytes, at),
-        MessageName::RestoreClientSubscriptions => take_restore_client_subscriptions(alloc, bytes, at),
-        MessageName::TableVersionUpdateNotification => take_table_version_update_notification(bytes, at),
+        MessageName::RestoreClientSubscriptions => take_restore_client_subscriptions(
+            alloc, bytes, at,
+        ),
+        MessageName::TableVersionUpdateNotification => take_table_version_update_notification(
+            bytes, at,
+        ),
     }
 }
 

@@ -42,12 +42,7 @@ fn take_digit(
 
 /// A number from `least` to `most`, in four bytes.
 #[tactic(auto, unfolding(crate::specs::Fields::ranged_at))]
-fn take_ranged(
-    bytes: &[u8],
-    at: usize,
-    least: u32,
-    most: u32,
-) -> Result<(u32, usize), SpellFault>
+fn take_ranged(bytes: &[u8], at: usize, least: u32, most: u32) -> Result<(u32, usize), SpellFault>
     requires { at ≤ length bytes.now }
     ensures value { Gives bytes.now (λ x. (x.0, drop x.1 bytes.now)) result
         (ranged_at least most (drop at bytes.now)) }

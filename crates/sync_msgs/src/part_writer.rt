@@ -1,13 +1,35 @@
 ghost use Rattle.std.specs.Prelude.{◌≡◌, ◌++◌, OnOk};
-ghost use Rattle.value_codec.specs.Spelling.{flag_spelling, list_spelling};
+ghost use Rattle.value_codec.specs.Spelling.{flag_spelling};
 ghost use Rattle.value_codec.specs.SchemaSpelling.{schema_spelling, HasSchemaSpelling};
-ghost use Rattle.sync_msgs.specs.Spelling.{IsOption, option_spelling, IsOptionIf, has_schema, header_spelling, HasHeaderSpelling, outcome_spelling, HasOutcomeSpelling, subscription_spelling, AreSubscriptions};
+ghost use Rattle.sync_msgs.specs.Spelling.{four, eight, IsChunk, chunk_spelling, IsOption, option_spelling, header_spelling, HasHeaderSpelling, outcome_spelling, HasOutcomeSpelling, subscription_spelling, AreSubscriptions, subscriptions_spelling};
 
 use row_value::Schema;
-use stab_base::{RowId, put_u8, put_u32, put_u64};
+use stab_base::{RowId, put_bytes, put_u8, put_u32, put_u64};
 use std::alloc::AllocError;
 use table_model::{Outcome, RowHeader, TableSubscription};
 use value_codec::{put_content, put_schema};
+
+#[tactic(auto, unfolding(crate::specs::Spelling::four))]
+pub(crate) fn put_four(out: &mut Vec<u8>, n: u32) -> Result<(), AllocError>
+    ensures { OnOk result (out.new.items ≡ out.old.items ++ four n) }
+{
+    put_u32(out, n)
+}
+
+#[tactic(auto, unfolding(crate::specs::Spelling::eight))]
+pub(crate) fn put_eight(out: &mut Vec<u8>, n: u64) -> Result<(), AllocError>
+    ensures { OnOk result (out.new.items ≡ out.old.items ++ eight n) }
+{
+    put_u64(out, n)
+}
+
+#[tactic(auto, unfolding(crate::specs::Spelling::chunk_spelling))]
+pub(crate) fn put_chunk(out: &mut Vec<u8>, bytes: &[u8]) -> Result<(), AllocError>
+    requires { IsChunk bytes.now }
+    ensures { OnOk result (out.new.items ≡ out.old.items ++ chunk_spelling bytes.now) }
+{
+    put_bytes(out, bytes)
+}
 
 pub(crate) fn put_id(out: &mut Vec<u8>, id: &RowId) -> Result<(), AllocError>
     ensures { OnOk result (out.new.items ≡ out.old.items ++ id.now) }
@@ -26,9 +48,9 @@ fn put_header(out: &mut Vec<u8>, header: &RowHeader) -> Result<(), AllocError>
     ensures { OnOk result (out.new.items ≡ out.old.items ++ header_spelling header.now) }
 {
     put_id(out, &header.row)?;
-    put_u64(out, header.version)?;
-    put_u64(out, header.yours.number)?;
-    put_u64(out, header.yours.version)?;
+    put_eight(out, header.version)?;
+    put_eight(out, header.yours.number)?;
+    put_eight(out, header.yours.version)?;
     put_content(out, &header.content)
 }
 
@@ -60,7 +82,7 @@ pub(crate) fn put_outcome(out: &mut Vec<u8>, outcome: &Outcome) -> Result<(), Al
         Outcome::NeedWhole => (6, 0),
     };
     put_u8(out, code)?;
-    put_u64(out, value)
+    put_eight(out, value)
 }
 
 pub(crate) fn put_schema_option(
@@ -79,23 +101,21 @@ pub(crate) fn put_schema_option(
     }
 }
 
-fn put_subscription(
-    out: &mut Vec<u8>,
-    subscription: &TableSubscription,
-) -> Result<(), AllocError>
+fn put_subscription(out: &mut Vec<u8>, subscription: &TableSubscription) -> Result<(), AllocError>
     ensures { OnOk result (out.new.items ≡ out.old.items ++ subscription_spelling subscription.now) }
 {
-    put_u32(out, subscription.table)?;
-    put_u32(out, subscription.period)?;
-    put_u32(out, subscription.tolerance)
+    put_four(out, subscription.table)?;
+    put_four(out, subscription.period)?;
+    put_four(out, subscription.tolerance)
 }
 
+#[tactic(auto, unfolding(crate::specs::Spelling::subscriptions_spelling))]
 pub(crate) fn put_subscriptions(
     out: &mut Vec<u8>,
     some: &[TableSubscription],
 ) -> Result<(), AllocError>
     requires { AreSubscriptions some.now }
-    ensures { OnOk result (out.new.items ≡ out.old.items ++ list_spelling subscription_spelling some.now) }
+    ensures { OnOk result (out.new.items ≡ out.old.items ++ subscriptions_spelling some.now) }
 {
     put_u32(out, some.len() as u32)?;
     for subscription in some {

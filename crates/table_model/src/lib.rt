@@ -2,12 +2,14 @@
 //! tables.
 #![tactic(auto)]
 
+mod allowed;
 mod entry;
 mod event;
 mod line;
 mod message;
 mod message_name;
 
+pub use allowed::entry_allowed;
 pub use entry::{Entry, History, current};
 pub use event::{Event, Tables};
 pub use line::{Answer, Fact, Facts, Refusal, Shown, TextLine, Write};

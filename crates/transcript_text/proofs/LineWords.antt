@@ -49,8 +49,10 @@ content_words Gone = codes "gone" ∷ []
 content_words (Row some objects) = map cell_word some ++ map object_word objects
 
 abbrev pub refusal_words : Refusal → List (List ℕ)
+refusal_words (refusals.TooManyChunks count) = codes "no" ∷ codes "9" ∷ decimal count ∷ []
 refusal_words (refusals.BadCell column) = codes "no" ∷ codes "10" ∷ decimal column ∷ []
 refusal_words (refusals.BadObject column len) = codes "no" ∷ codes "11" ∷ decimal column ∷ decimal len ∷ []
+refusal_words (refusals.RowTooLarge len) = codes "no" ∷ codes "12" ∷ decimal len ∷ []
 refusal_words refusals.NoTable = codes "no" ∷ codes "18" ∷ []
 refusal_words refusals.NoRow = codes "no" ∷ codes "27" ∷ []
 refusal_words (refusals.NoPacket sent) = codes "no" ∷ codes "29" ∷ decimal sent ∷ []
@@ -139,8 +141,10 @@ content_led (Row some objects) =
     rw (flat_map-append, cells_led some, flat_map-map (λ (word : List ℕ). 32 ∷ word) object_word objects) refl
 
 refusal_led : (refusal : Refusal) → 32 ∷ refusal_text refusal ≡ led 32 (refusal_words refusal)
+refusal_led (refusals.TooManyChunks count) = simp append-nil
 refusal_led (refusals.BadCell column) = simp append-nil
 refusal_led (refusals.BadObject column len) = simp append-nil
+refusal_led (refusals.RowTooLarge len) = simp append-nil
 refusal_led refusals.NoTable = refl
 refusal_led refusals.NoRow = refl
 refusal_led (refusals.NoPacket sent) = simp append-nil
@@ -208,8 +212,10 @@ content_above Gone h = search rules
 content_above (Row some objects) h = rw (h.1, append-nil) (cells_above some h.0)
 
 refusal_above : (refusal : Refusal) → HasRefusalText refusal → AllByRecursion (IsAbove 32) (refusal_words refusal)
+refusal_above (refusals.TooManyChunks count) h = search (rules, decimal_above)
 refusal_above (refusals.BadCell column) h = search (rules, decimal_above)
 refusal_above (refusals.BadObject column len) h = search (rules, decimal_above)
+refusal_above (refusals.RowTooLarge len) h = search (rules, decimal_above)
 refusal_above refusals.NoTable h = search rules
 refusal_above refusals.NoRow h = search rules
 refusal_above (refusals.NoPacket sent) h = search (rules, decimal_above)
@@ -469,8 +475,10 @@ refused_word (answers.Number number) = refl
 refused_word (answers.Shown (Clean version content)) = refl
 refused_word (answers.Shown (Mine number content)) = refl
 refused_word (answers.Stored version content) = refl
+refused_word (answers.Refused (refusals.TooManyChunks count)) = refl
 refused_word (answers.Refused (refusals.BadCell column)) = refl
 refused_word (answers.Refused (refusals.BadObject column len)) = refl
+refused_word (answers.Refused (refusals.RowTooLarge len)) = refl
 refused_word (answers.Refused refusals.NoTable) = refl
 refused_word (answers.Refused refusals.NoRow) = refl
 refused_word (answers.Refused (refusals.NoPacket sent)) = refl
@@ -514,8 +522,10 @@ answer_kind (answers.Number number) = refl
 answer_kind (answers.Shown (Clean version content)) = refl
 answer_kind (answers.Shown (Mine number content)) = refl
 answer_kind (answers.Stored version content) = refl
+answer_kind (answers.Refused (refusals.TooManyChunks count)) = refl
 answer_kind (answers.Refused (refusals.BadCell column)) = refl
 answer_kind (answers.Refused (refusals.BadObject column len)) = refl
+answer_kind (answers.Refused (refusals.RowTooLarge len)) = refl
 answer_kind (answers.Refused refusals.NoTable) = refl
 answer_kind (answers.Refused refusals.NoRow) = refl
 answer_kind (answers.Refused (refusals.NoPacket sent)) = refl

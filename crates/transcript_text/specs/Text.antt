@@ -42,8 +42,10 @@ content_text Gone = codes " gone"
 content_text (Row some objects) = flat_map cell_text some ++ flat_map object_text objects
 
 abbrev pub refusal_text : Refusal → List ℕ
+refusal_text (refusals.TooManyChunks count) = codes "no 9 " ++ decimal count
 refusal_text (refusals.BadCell column) = codes "no 10 " ++ decimal column
 refusal_text (refusals.BadObject column len) = codes "no 11 " ++ (decimal column ++ (codes " " ++ decimal len))
+refusal_text (refusals.RowTooLarge len) = codes "no 12 " ++ decimal len
 refusal_text refusals.NoTable = codes "no 18"
 refusal_text refusals.NoRow = codes "no 27"
 refusal_text (refusals.NoPacket sent) = codes "no 29 " ++ decimal sent

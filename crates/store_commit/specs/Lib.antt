@@ -1,0 +1,3 @@
+pub mod Devs
+pub mod NamedChunks
+pub mod Agenda

@@ -23,8 +23,8 @@ use disk_trait::Disk;
 use row_value::Schema;
 use stab_base::{ClientNo, GateNo, RowId, RowVersion, Rows, Version};
 use std::alloc::{AllocError, Global};
-use vault::Folded;
 use value_codec::SpellFault;
+use vault::Folded;
 
 /// The rows of a table by their ids, its schema and state, and its subscriptions by their clients, on a disk of its
 /// own.

@@ -31,6 +31,11 @@ both_equal Equal Equal h = (refl, refl)
 both_equal Equal Greater h = absurd cc
 both_equal Greater p h = absurd cc
 
+equal_is : (o : Ordering) → is_eq o ≡ true → o ≡ Equal
+equal_is Less h = absurd cc
+equal_is Equal h = refl
+equal_is Greater h = absurd cc
+
 abbrev name_at : ℕ → ℕ → ChunkName
 name_at version ordinal = record { version = version; ordinal = ordinal }
 
@@ -57,7 +62,7 @@ pub cases_id : (a b : List ℕ) → (a ≡ b) ⊎ (is_at (id_cmp a) b ≡ false)
 cases_id a b = split (is_at (id_cmp a) b) refl
   where
     split : (t : Bool) → is_at (id_cmp a) b ≡ t → (a ≡ b) ⊎ (is_at (id_cmp a) b ≡ false)
-    split true at = inl (exact_bytes a b at)
+    split true at = inl (exact_bytes a b (equal_is (id_cmp a b) at))
     split false at = inr at
 
 pub apart_name : (a b : ChunkName) → (a ≡ b → ⊥) → is_at (name_cmp a) b ≡ false

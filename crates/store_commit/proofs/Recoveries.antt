@@ -83,7 +83,7 @@ module _ (meaning : ChunkName → List ℕ) (d : Devs) (n : NamedChunks meaning 
         left = l.left;
       } in
       let now : (ws : List Write) → R ws d = λ ws. record { named = n; rows = refl } in
-      (now _, now _, now _, clearing_runs d.chunks names start)
+      (now _, (now _, (now _, clearing_runs d.chunks names start)))
 
 drops_leave : (names : List ChunkName) (d : Devs) → (changed_by_all d (drops names)).pending ≡ d.pending
 drops_leave [] d = refl

@@ -288,9 +288,9 @@ module _ (meaning : ChunkName → List ℕ) (d : Devs) (entry : Entry) (fresh : 
           ⊎_elim
           (λ kept. kept_old name (in_old name kept.0 kept.1 kept.2))
           (λ new.
-              let name_is : fresh_name v name.ordinal ≡ name = ap (λ (x : ℕ). fresh_name x name.ordinal) (sym new.version) in
-              subst (λ (q : ChunkName). chunk_in cs q ≡ Some (get_or fresh name.ordinal [])) name_is (p.has name.ordinal (omega (arith, new.ordinal, r.count)))
-              ∙ ap (λ (b : List ℕ). Some b) (sym (means_new name new.version)))
+          let name_is : fresh_name v name.ordinal ≡ name = ap (λ (x : ℕ). fresh_name x name.ordinal) (sym new.version) in
+          subst (λ (q : ChunkName). chunk_in cs q ≡ Some (get_or fresh name.ordinal [])) name_is (p.has name.ordinal (omega (arith, new.ordinal, r.count)))
+          ∙ ap (λ (b : List ℕ). Some b) (sym (means_new name new.version)))
           (r.kept_or_new name among)
 
       left_old : (name : ChunkName) → IsNamed d.held name → IsNamed after name ⊎ Among name entry.old

@@ -30,9 +30,9 @@ unfolding wrong_in
 wrong_in-first right places place within wrong before =
     let count : length (range_with_len 0 places) ≡ places = length-range_with_len 0 places in
     let first : position_or_len (λ k. not (right k)) (range_with_len 0 places) ≡ place =
-        position_or_len_is (λ k. not (right k)) (range_with_len 0 places) place 0 (omega (arith, count))
-        (λ k below. not_right right places k (omega arith) true (before k below))
-        (λ _. not_right right places place within false wrong) in
+    position_or_len_is (λ k. not (right k)) (range_with_len 0 places) place 0 (omega (arith, count))
+    (λ k below. not_right right places k (omega arith) true (before k below))
+    (λ _. not_right right places place within false wrong) in
     rw (first, count) (let less : nat_lt place places ≡ true = grind (arith, nat_tests) in rw less refl)
 
 pub wrong_in-none : (right : ℕ → Bool) (places : ℕ) → ((k : ℕ) → k < places → right k ≡ true) → wrong_in right places ≡ None
@@ -40,9 +40,9 @@ unfolding wrong_in
 wrong_in-none right places before =
     let count : length (range_with_len 0 places) ≡ places = length-range_with_len 0 places in
     let last : position_or_len (λ k. not (right k)) (range_with_len 0 places) ≡ places =
-        position_or_len_is (λ k. not (right k)) (range_with_len 0 places) places 0 (omega (arith, count))
-        (λ k below. not_right right places k below true (before k below))
-        (λ past. absurd (omega (arith, count, past))) in
+    position_or_len_is (λ k. not (right k)) (range_with_len 0 places) places 0 (omega (arith, count))
+    (λ k below. not_right right places k below true (before k below))
+    (λ past. absurd (omega (arith, count, past))) in
     rw (last, count) (let less : nat_lt places places ≡ false = grind (arith, nat_tests) in rw less refl)
 
 pub or_surplus-within : (places given : ℕ) (wrong : Option ℕ) → IfSome wrong (λ place. place < places) → IfSome (or_surplus places given wrong) (λ place. place ≤ places)
@@ -112,9 +112,9 @@ sized false n m h = h
 
 pub chunk_count-le : (size : ℕ) (object : List ℕ) → chunk_count size object ≤ length object
 chunk_count-le size object = elim (cases_lt 0 size) [
-    | inl some ↦ sized (size == 0) _ _ (div_ceil-le (length object) size some)
-    | inr none ↦ (let is : (size == 0) ≡ true = grind (arith, nat_tests) in rw is (omega arith))
-  ]
+  | inl some ↦ sized (size == 0) _ _ (div_ceil-le (length object) size some)
+  | inr none ↦ (let is : (size == 0) ≡ true = grind (arith, nat_tests) in rw is (omega arith))
+]
 
 -- ---- text
 

@@ -1,2 +1,8 @@
 pub mod Store
 pub mod Client
+pub mod Members
+pub mod Facts
+pub mod Messages
+pub mod Sayings
+pub mod StoreMoves
+pub mod ClientMoves

@@ -11,9 +11,9 @@ use Rattle.std.specs.List.{AllByRecursion}
 use Rattle.std.specs.Map.{keys_of, lookup}
 use Rattle.std.specs.BTreeMap.{insert_entry, is_at}
 use Rattle.std.proofs.lemmas.Map.Keys.{sorted_head, sorted_tail}
-use Rattle.sync_msgs.specs.declared.message.Message.{Message}
+use Rattle.step_tables.specs.declared.message.Message.{Message}
 use Rattle.step_tables.specs.declared.slots.Main.{Main}
-use Rattle.step_tables.specs.declared.slots.Out.{Out}
+use Rattle.step_tables.specs.declared.slots.InFlight.{InFlight}
 use Rattle.step_tables.specs.declared.slots.Shadow.{Shadow}
 use Rattle.step_tables.specs.declared.slots.Slots.{Slots}
 use Rattle.step_tables.specs.Client.{first_to_send, or_later, or_none, request_for, resent, row_cmp, to_send}
@@ -22,12 +22,12 @@ use Rattle.client_core.specs.Index.{IsIndex, is_out, is_ready, keys_where}
 use Rattle.client_core.specs.Marks.{is_out_stage, is_ready_stage, marked, outs_marked, ready_marked}
 use Rattle.client_core.proofs.SortedEntries.{keys_where-all, keys_where-insert_entry_false, keys_where-insert_entry_true}
 
-out_stage : (out : Option Out) (main : Option Main) → is_out_stage (stage_for out main) ≡ is_some out
+out_stage : (out : Option InFlight) (main : Option Main) → is_out_stage (stage_for out main) ≡ is_some out
 out_stage None None = refl
 out_stage None (Some main) = refl
 out_stage (Some out) main = refl
 
-ready_stage : (out : Option Out) (main : Option Main) (shadow : Option Shadow) → is_ready_stage (stage_for out main) ≡ is_some (to_send out main shadow)
+ready_stage : (out : Option InFlight) (main : Option Main) (shadow : Option Shadow) → is_ready_stage (stage_for out main) ≡ is_some (to_send out main shadow)
 ready_stage None None shadow = refl
 ready_stage None (Some main) shadow = refl
 ready_stage (Some out) main shadow = refl
@@ -103,10 +103,10 @@ requests_at-keys_where client table (entry ∷ rows) s =
     ] refl
 
 -- what a row sends next
-abbrev pub next_of : List ℕ → Option Slots → Option (List ℕ × Out)
+abbrev pub next_of : List ℕ → Option Slots → Option (List ℕ × InFlight)
 next_of row slots = option_map (λ out. (row, out)) (to_send (or_none slots).out (or_none slots).main (or_none slots).shadow)
 
-abbrev pub next_at : List (List ℕ × Slots) → Option (List ℕ) → Option (List ℕ × Out)
+abbrev pub next_at : List (List ℕ × Slots) → Option (List ℕ) → Option (List ℕ × InFlight)
 next_at rows None = None
 next_at rows (Some row) = next_of row (lookup (is_at (row_cmp row)) rows)
 
@@ -120,7 +120,7 @@ next_at-keys_where : (rows : List (List ℕ × Slots)) → IsStrictlySortedBy ro
     → next_at rows (slice_get (keys_where is_ready rows) 0) ≡ first_to_send rows
 next_at-keys_where [] s = refl
 next_at-keys_where (entry ∷ rows) s =
-    let ready : Option Out = to_send entry.1.out entry.1.main entry.1.shadow in
+    let ready : Option InFlight = to_send entry.1.out entry.1.main entry.1.shadow in
     let more : next_at (entry ∷ rows) (slice_get (keys_where is_ready rows) 0) ≡ first_to_send rows =
     next_past entry rows (keys_where is_ready rows)
     (keys_where-all (λ key. row_cmp entry.0 key ≡ Less) is_ready rows (sorted_head row_cmp entry.0 (keys_of rows) s))

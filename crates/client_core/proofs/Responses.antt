@@ -3,10 +3,10 @@ use Rattle.std.proofs.Common.{◌≡◌, ℕ, false, true, cond, [], ◌∷◌, 
 use Rattle.std.specs.Prelude.{◌==◌}
 use Rattle.table_model.specs.declared.line.Fact.{Fact}
 use Rattle.table_model.specs.declared.line.Fact.TheVariants.{Acked}
-use Rattle.sync_msgs.specs.declared.message.Outcome.{Outcome}
-use Rattle.sync_msgs.specs.declared.message.Outcome.TheVariants.{Accepted, Again, Late}
-use Rattle.sync_msgs.specs.declared.message.SyncResponse.{SyncResponse}
-use Rattle.step_tables.specs.declared.slots.Out.{Out}
+use Rattle.step_tables.specs.declared.message.Outcome.{Outcome}
+use Rattle.step_tables.specs.declared.message.Outcome.TheVariants.{Accepted, Again, Late}
+use Rattle.step_tables.specs.declared.message.SyncResponse.{SyncResponse}
+use Rattle.step_tables.specs.declared.slots.InFlight.{InFlight}
 use Rattle.step_tables.specs.Client.{ClientTable, ignored, response_in, slots_at, table_at, take_outcome, take_response}
 use Rattle.client_core.specs.declared.change.Change.TheVariants.{Accept}
 use Rattle.client_core.specs.declared.change.Plan.{Plan}
@@ -21,14 +21,14 @@ module _ (node : NodeState) (response : SyncResponse) (opened : ClientTable) (ve
   abbrev acked_by : ℕ → Fact
   acked_by number = Acked node.client.number number response.table response.row version
 
-  outcome_taken : (out : Out) → (slots_at opened response.row).out ≡ Some out → (outcome : Outcome) → Some version ≡ version_of outcome
+  outcome_taken : (out : InFlight) → (slots_at opened response.row).out ≡ Some out → (outcome : Outcome) → Some version ≡ version_of outcome
       → carried_out node response.table opened (acceptance response version) [] (acked_by out.number ∷ [])
       ≡ stepped node (take_outcome node.client response.table opened response.row (slots_at opened response.row) out outcome)
   outcome_taken out is (Accepted v) e = let same : version ≡ v = cc in rw (is, same) refl
   outcome_taken out is (Again v) e = let same : version ≡ v = cc in rw (is, same) refl
   outcome_taken out is (Late last) e = absurd (cc)
 
-  out_taken : (out : Option Out) → (slots_at opened response.row).out ≡ out → Some version ≡ accepted_at out response
+  out_taken : (out : Option InFlight) → (slots_at opened response.row).out ≡ out → Some version ≡ accepted_at out response
       → carried_out node response.table opened (acceptance response version) [] (acked_by response.number ∷ [])
       ≡ stepped node (take_response node.client opened response out)
   out_taken None is e = absurd (cc)

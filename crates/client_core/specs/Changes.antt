@@ -1,7 +1,7 @@
 -- What becomes of the slots of a row.
 use Rattle.std.specs.Prelude.{ℕ, Option, Some, None}
 use Rattle.step_tables.specs.declared.slots.Main.{Main}
-use Rattle.step_tables.specs.declared.slots.Out.{Out}
+use Rattle.step_tables.specs.declared.slots.InFlight.{InFlight}
 use Rattle.step_tables.specs.declared.slots.Slots.{Slots}
 use Rattle.step_tables.specs.Client.{without}
 use Rattle.client_core.specs.declared.row_index.Stage.{Stage}
@@ -10,11 +10,11 @@ use Rattle.client_core.specs.declared.change.Change.{Change}
 use Rattle.client_core.specs.declared.change.Change.TheVariants as changes
 
 -- Main once Out's write is accepted
-abbrev pub main_left : Option Out → Option Main → Option Main
+abbrev pub main_left : Option InFlight → Option Main → Option Main
 main_left None main = main
 main_left (Some out) main = without out.number main
 
-abbrev pub accepted : Slots → ℕ → Option Out → Slots
+abbrev pub accepted : Slots → ℕ → Option InFlight → Slots
 accepted slots version None = slots
 accepted slots version (Some out) = record {
   main = without out.number slots.main;
@@ -31,7 +31,7 @@ changed slots (changes.Accept version) = accepted slots version slots.out
 changed slots (changes.AcceptAndRead shadow) = record { main = main_left slots.out slots.main; shadow = Some shadow; out = None }
 
 -- what stands next for a row
-abbrev pub stage_for : Option Out → Option Main → Stage
+abbrev pub stage_for : Option InFlight → Option Main → Stage
 stage_for (Some out) main = stages.Out
 stage_for None (Some main) = stages.Ready
 stage_for None None = stages.Idle

@@ -1,8 +1,8 @@
 -- What becomes of a table and of a client's node when a plan is carried out.
 use Rattle.std.specs.Prelude.{ℕ, List, ◌++◌, Option, unwrap_or}
 use Rattle.table_model.specs.declared.line.Fact.{Fact}
-use Rattle.table_model.specs.declared.node.Node.{Node}
-use Rattle.sync_msgs.specs.declared.message.Message.{Message}
+use Rattle.stab_base.specs.declared.node.Node.{Node}
+use Rattle.step_tables.specs.declared.message.Message.{Message}
 use Rattle.step_tables.specs.Client.{ClientTable, with_table, with_slots, slots_at}
 use Rattle.client_core.specs.declared.change.Plan.{Plan}
 use Rattle.client_core.specs.Changes.{changed}

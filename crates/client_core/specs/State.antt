@@ -1,8 +1,8 @@
 -- A client's node: the client, and what it has gathered to send and to tell.
 use Rattle.std.specs.Prelude.{[], ◌++◌, map, Option, None}
-use Rattle.table_model.specs.declared.node.Node.{Node}
-use Rattle.sync_msgs.specs.declared.message.Message.{Message}
-use Rattle.sync_msgs.specs.declared.out.Out.{Out}
+use Rattle.stab_base.specs.declared.node.Node.{Node}
+use Rattle.step_tables.specs.declared.message.Message.{Message}
+use Rattle.step_tables.specs.declared.out.Out.{Out}
 use Rattle.step_tables.specs.Client.{Client, ClientStep}
 
 pub record NodeState : Type 0 where

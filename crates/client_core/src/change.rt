@@ -5,7 +5,7 @@ ghost use Rattle.client_core.specs.Changes.{accepted, changed, main_left, stage_
 
 use crate::row_index::Stage;
 use row_value::{RowId, Version, WriteNo};
-use step_tables::{Main, Out, Shadow, Slots};
+use step_tables::{InFlight, Main, Shadow, Slots};
 
 /// What becomes of the slots of a row.
 #[derive(Drop)]
@@ -14,7 +14,7 @@ pub(crate) enum Change {
     /// The write is the row's Main.
     Write(Main),
     /// The write is on its way to the Store.
-    Send(Out),
+    Send(InFlight),
     /// The row is read.
     Read(Shadow),
     /// Out's write was accepted at this version.

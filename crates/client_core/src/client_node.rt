@@ -17,8 +17,7 @@ use std::alloc::{AllocError, Global};
 use std::collections::BTreeMap;
 use std::marker::Model;
 use std::mem;
-use step_tables::Main;
-use sync_msgs::{Addressed, Message, Out, PullResponse, SyncResponse};
+use step_tables::{Addressed, Main, Message, Out, PullResponse, SyncResponse};
 use table_model::{Answer, Fact, Shown, Write};
 
 /// A client, which holds the tables that it has opened, and gathers what it has to send and to tell.

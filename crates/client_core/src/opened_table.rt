@@ -15,8 +15,7 @@ use row_value::{ClientNo, Content, FitFault, RowId, Schema, TableNo, Version, fi
 use std::alloc::{AllocError, Global};
 use std::collections::BTreeMap;
 use std::marker::Model;
-use step_tables::{Out, Slots};
-use sync_msgs::Addressed;
+use step_tables::{Addressed, InFlight, Slots};
 use table_model::Shown;
 
 /// An opened table: its rows by their ids, and which of them wait for an answer or have something to send.
@@ -118,7 +117,7 @@ impl OpenedTable {
     }
 
     /// The first row that has something to send, and what it sends.
-    pub(crate) fn next_out(&self) -> Result<Option<(RowId, Out)>, AllocError>
+    pub(crate) fn next_out(&self) -> Result<Option<(RowId, InFlight)>, AllocError>
         ensures { IfOk result (λ next. next ≡ first_to_send self.now.rows) }
     {
         let Some(row) = self.index.first_ready() else {

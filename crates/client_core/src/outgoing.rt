@@ -5,15 +5,14 @@ ghost use Rattle.client_core.specs.State.{to_owner};
 
 use row_value::{ClientNo, RowId, TableNo, Version};
 use std::alloc::{AllocError, Global};
-use step_tables::{Out, Slots};
-use sync_msgs::{Addressed, Message, PullRequest, PullResponse, SyncRequest};
+use step_tables::{Addressed, InFlight, Message, PullRequest, PullResponse, Slots, SyncRequest};
 
 /// The request that the Store accepts a write.
 pub(crate) fn sync_request(
     client: ClientNo,
     table: TableNo,
     row: RowId,
-    out: &Out,
+    out: &InFlight,
 ) -> Result<Message, AllocError>
     ensures { IfOk result (λ message. message ≡ request_for client table row out.now) }
 {
@@ -45,7 +44,7 @@ pub(crate) fn request_again(
 }
 
 /// What a row sends next: its Main, where nothing of it waits for an answer.
-pub(crate) fn to_send(slots: &Slots) -> Result<Option<Out>, AllocError>
+pub(crate) fn to_send(slots: &Slots) -> Result<Option<InFlight>, AllocError>
     ensures { IfOk result (λ out. out ≡ to_send slots.now.out slots.now.main slots.now.shadow) }
 {
     let Slots {
@@ -56,7 +55,7 @@ pub(crate) fn to_send(slots: &Slots) -> Result<Option<Out>, AllocError>
     else {
         return Ok(None);
     };
-    Ok(Some(Out {
+    Ok(Some(InFlight {
         number: main.number,
         read: main.read,
         base: match shadow {

@@ -7,8 +7,7 @@ ghost use Rattle.client_core.specs.Receipts.{accepted_at, version_of};
 use crate::change::Change;
 use row_value::{ClientNo, TableNo, Version, WriteNo};
 use std::alloc::{AllocError, Global};
-use step_tables::{Shadow, Slots};
-use sync_msgs::{Outcome, RowHeader, SyncResponse};
+use step_tables::{Outcome, RowHeader, Shadow, Slots, SyncResponse};
 use table_model::Fact;
 
 fn version_of(outcome: Outcome) -> Option<Version>

@@ -4,7 +4,9 @@ use row_value::{
 };
 use std::alloc::{AllocError, Global};
 use std::test::Fail;
-use sync_msgs::{Message, Out, Outcome, PullRequest, PullResponse, RowHeader, SyncResponse, Yours};
+use step_tables::{
+    Message, Out, Outcome, PullRequest, PullResponse, RowHeader, SyncResponse, Yours,
+};
 use table_model::{Fact, Shown};
 
 const CLIENT: u32 = 1;

@@ -13,11 +13,12 @@ use row_store::{
     LastWrite, LastWrites, NUMBER_MAX, PieceContent, RowDev, RowFault, RowId, StoredRow, Version,
     all_keep, row_size,
 };
-use row_value::{Cell, content_of, schema_of};
+use row_value::Cell;
 use std::alloc::{AllocError, Global};
 use std::collections::BTreeMap;
 use std::process::Abort;
 use std::test::Fail;
+use value_codec::{content_of, schema_of};
 
 /// One write: a row's byte of id, its version, and its cell or that it is gone; the table's state; or a client, whether
 /// it subscribes, and its period.

@@ -14,7 +14,7 @@ use Rattle.std.proofs.lemmas.List.Kept.{IsStrictlySortedBy-filter}
 use Rattle.std.proofs.lemmas.Map.Lookups.{exact_unsigned, exact_bytes}
 use Rattle.std.proofs.lemmas.Map.Views.{Contains-from_any, list_any-from_Contains}
 use Rattle.spare_map.proofs.Changes.{keys-filter}
-use Rattle.row_store.specs.declared.stored.RowVersion.{RowVersion}
+use Rattle.stab_base.specs.declared.row_version.RowVersion.{RowVersion}
 use Rattle.row_store.specs.Data.{id_cmp, version_cmp}
 use Rattle.row_store.specs.Memory.{AreAbove}
 use Rattle.row_store.proofs.Versions.{version_cmp_total, Versions, at}

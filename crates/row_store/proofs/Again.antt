@@ -8,13 +8,13 @@ use Rattle.std.proofs.lemmas.List.{take_all, take_at, drop_at, drop-drop, append
 use Rattle.stab_base.specs.declared.limits.TheConstants.{NUMBER_MAX}
 use Rattle.stab_base.specs.Codec.{IsBytes}
 use Rattle.row_value.specs.declared.schema.Schema.{Schema}
-use Rattle.row_value.specs.Spelling.{flag_spelling, list_spelling, content_spelling}
-use Rattle.row_value.specs.SchemaSpelling.{HasSchemaSpelling, schema_spelling}
-use Rattle.row_value.specs.Reading.{◌>>=◌, byte_at, number_at, flag_at, list_at, whole}
-use Rattle.row_value.proofs.FieldReads.{Reads, bind_ok, ok_is, branch, no_fault, gives, rest_fits, four_reads, eight_reads, flag_reads}
-use Rattle.row_value.proofs.ListReads.{EachFrom, list_reads}
-use Rattle.row_value.proofs.ContentReads.{content_reads}
-use Rattle.row_value.proofs.SchemaReads.{schema_reads}
+use Rattle.value_codec.specs.Spelling.{flag_spelling, list_spelling, content_spelling}
+use Rattle.value_codec.specs.SchemaSpelling.{HasSchemaSpelling, schema_spelling}
+use Rattle.value_codec.specs.Reading.{◌>>=◌, byte_at, number_at, flag_at, list_at, whole}
+use Rattle.value_codec.proofs.FieldReads.{Reads, bind_ok, ok_is, branch, no_fault, gives, rest_fits, four_reads, eight_reads, flag_reads}
+use Rattle.value_codec.proofs.ListReads.{EachFrom, list_reads}
+use Rattle.value_codec.proofs.ContentReads.{content_reads}
+use Rattle.value_codec.proofs.SchemaReads.{schema_reads}
 use Rattle.row_store.specs.declared.stored.LastWrite.{LastWrite}
 use Rattle.row_store.specs.declared.stored.StoredRow.{StoredRow}
 use Rattle.row_store.specs.declared.stored.SubChange.{SubChange}

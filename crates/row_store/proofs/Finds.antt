@@ -9,7 +9,7 @@ use Rattle.std.proofs.lemmas.Bool.Decides.{nat_tests}
 use Rattle.spare_map.specs.Late.{entries_of, IsLast}
 use Rattle.spare_map.proofs.Values.{lookup_with, value_found}
 use Rattle.row_store.specs.declared.stored.StoredRow.{StoredRow}
-use Rattle.row_store.specs.declared.stored.RowVersion.{RowVersion}
+use Rattle.stab_base.specs.declared.row_version.RowVersion.{RowVersion}
 use Rattle.row_store.specs.declared.memory.RowMemory.{RowMemory}
 use Rattle.row_store.specs.declared.memory.Place.{Place}
 use Rattle.row_store.specs.Data.{id_cmp, version_cmp, data_of, row_of, version_if, version_of, IsTableVersion, AreChangedSince}

@@ -8,11 +8,11 @@ use Rattle.std.proofs.lemmas.List.{length-take-le}
 use Rattle.stab_base.specs.declared.limits.TheConstants.{NUMBER_MAX}
 use Rattle.stab_base.specs.Codec.{IsBytes}
 use Rattle.row_value.specs.declared.pieces.PieceContent.{PieceContent}
-use Rattle.row_value.specs.Spelling.{content_spelling}
-use Rattle.row_value.specs.Reading.{◌>>=◌, byte_at, number_at, list_at, content_at, whole}
-use Rattle.row_value.proofs.FieldReads.{Reads, bind_ok, ok_is, branch, no_fault, gives, rest_fits, eight_reads}
-use Rattle.row_value.proofs.ContentReads.{content_reads}
-use Rattle.row_value.proofs.Answering.{whole_found}
+use Rattle.value_codec.specs.Spelling.{content_spelling}
+use Rattle.value_codec.specs.Reading.{◌>>=◌, byte_at, number_at, list_at, content_at, whole}
+use Rattle.value_codec.proofs.FieldReads.{Reads, bind_ok, ok_is, branch, no_fault, gives, rest_fits, eight_reads}
+use Rattle.value_codec.proofs.ContentReads.{content_reads}
+use Rattle.value_codec.proofs.Answering.{whole_found}
 use Rattle.row_store.specs.declared.stored.LastWrite.{LastWrite}
 use Rattle.row_store.specs.declared.stored.StoredRow.{StoredRow}
 use Rattle.row_store.specs.Spelling.{all_keep, stored_spelling, HasStoredSpelling, row_payload}

@@ -9,7 +9,7 @@ use Rattle.std.proofs.lemmas.List.Concat.{flat_map-cons}
 use Rattle.row_value.specs.declared.pieces.Piece.{Piece}
 use Rattle.row_value.specs.declared.pieces.Piece.TheVariants.{Keep, Fresh}
 use Rattle.row_value.specs.declared.pieces.PieceObject.{PieceObject}
-use Rattle.row_value.specs.Spelling.{list_spelling, content_spelling, piece_spelling, object_spelling}
+use Rattle.value_codec.specs.Spelling.{list_spelling, content_spelling, piece_spelling, object_spelling}
 use Rattle.row_store.specs.declared.stored.LastWrite.{LastWrite}
 use Rattle.row_store.specs.declared.stored.StoredRow.{StoredRow}
 use Rattle.row_store.specs.Spelling.{is_keep, last_spelling, row_payload}

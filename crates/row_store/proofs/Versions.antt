@@ -12,7 +12,7 @@ use Rattle.std.proofs.lemmas.Bool.Decides.{nat_tests}
 use Rattle.spare_map.specs.Late.{without}
 use Rattle.spare_map.proofs.Changes.{lookup-changed}
 use Rattle.row_store.specs.declared.memory.Place.{Place}
-use Rattle.row_store.specs.declared.stored.RowVersion.{RowVersion}
+use Rattle.stab_base.specs.declared.row_version.RowVersion.{RowVersion}
 use Rattle.row_store.specs.Data.{id_cmp, version_cmp}
 use Rattle.row_store.specs.Memory.{has_version, AreByVersion}
 

@@ -10,7 +10,7 @@ use Rattle.std.specs.List.Sorted.{IsStrictlySortedBy}
 use Rattle.spare_map.specs.Late.{changed}
 use Rattle.row_value.specs.declared.schema.Schema.{Schema}
 use Rattle.row_store.specs.declared.stored.StoredRow.{StoredRow}
-use Rattle.row_store.specs.declared.stored.RowVersion.{RowVersion}
+use Rattle.stab_base.specs.declared.row_version.RowVersion.{RowVersion}
 use Rattle.row_store.specs.declared.stored.Sub.{Sub}
 use Rattle.row_store.specs.declared.stored.Terms.{Terms}
 use Rattle.row_store.specs.Reading.{Said, SaysRow, SaysTable, SaysSub, SaysNothing, said_by}

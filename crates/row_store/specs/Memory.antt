@@ -13,7 +13,7 @@ use Rattle.spare_map.specs.Values.{AllValues, with_values}
 use Rattle.row_value.specs.declared.schema.Schema.{Schema}
 use Rattle.row_value.specs.declared.pieces.PieceContent.TheVariants.{Gone}
 use Rattle.row_store.specs.declared.stored.StoredRow.{StoredRow}
-use Rattle.row_store.specs.declared.stored.RowVersion.{RowVersion}
+use Rattle.stab_base.specs.declared.row_version.RowVersion.{RowVersion}
 use Rattle.row_store.specs.declared.memory.RowMemory.{RowMemory}
 use Rattle.row_store.specs.declared.memory.Place.{Place}
 use Rattle.row_store.specs.declared.change.Change.{Change}

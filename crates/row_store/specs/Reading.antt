@@ -4,8 +4,8 @@ use Rattle.std.specs.Prelude.{ℕ, Bool, ◌==◌, ◌&&◌, nat_lt, nat_le, if�
 use Rattle.std.specs.Int.{w32, w64}
 use Rattle.stab_base.specs.declared.limits.TheConstants.{NUMBER_MAX}
 use Rattle.row_value.specs.declared.schema.Schema.{Schema}
-use Rattle.row_value.specs.Reading.{◌>>=◌, byte_at, number_at, flag_at, list_at, content_at, whole}
-use Rattle.row_value.specs.SchemaReading.{schema_at}
+use Rattle.value_codec.specs.Reading.{◌>>=◌, byte_at, number_at, flag_at, list_at, content_at, whole}
+use Rattle.value_codec.specs.SchemaReading.{schema_at}
 use Rattle.row_store.specs.declared.stored.LastWrite.{LastWrite}
 use Rattle.row_store.specs.declared.stored.StoredRow.{StoredRow}
 use Rattle.row_store.specs.declared.stored.SubChange.{SubChange}

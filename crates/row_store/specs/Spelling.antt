@@ -8,8 +8,8 @@ use Rattle.row_value.specs.declared.pieces.Piece.TheVariants.{Keep, Fresh}
 use Rattle.row_value.specs.declared.pieces.PieceContent.{PieceContent}
 use Rattle.row_value.specs.declared.pieces.PieceContent.TheVariants as contents
 use Rattle.row_value.specs.declared.schema.Schema.{Schema}
-use Rattle.row_value.specs.Spelling.{flag_spelling, list_spelling, HasContentSpelling, content_spelling}
-use Rattle.row_value.specs.SchemaSpelling.{schema_spelling}
+use Rattle.value_codec.specs.Spelling.{flag_spelling, list_spelling, HasContentSpelling, content_spelling}
+use Rattle.value_codec.specs.SchemaSpelling.{schema_spelling}
 use Rattle.row_store.specs.declared.stored.LastWrite.{LastWrite}
 use Rattle.row_store.specs.declared.stored.StoredRow.{StoredRow}
 use Rattle.row_store.specs.declared.stored.Terms.{Terms}

@@ -4,9 +4,10 @@ ghost use Rattle.row_store.specs.Reading.{row_in, table_in, sub_in, said_by};
 ghost use Rattle.row_store.specs.Memory.{Says};
 
 use crate::reader::{row_in, sub_in, table_in};
-use crate::stored::{RowVersion, SubChange};
-use row_value::SpellFault;
+use crate::stored::SubChange;
+use stab_base::RowVersion;
 use std::alloc::{AllocError, Global};
+use value_codec::SpellFault;
 
 /// What a payload does.
 #[derive(Clone, Copy)]

@@ -7,7 +7,7 @@ ghost use Rattle.disk_trait.specs.Calls.{Elapses};
 ghost use Rattle.vault.specs.declared.record.TheConstants.{PAYLOAD_MAX};
 ghost use Rattle.vault.specs.Standing.{payloads, faults, stops, disk_of, IsDown, IsUp, IsSound, IsSynced, IsRestarted, SameFuse, StopsWithin};
 ghost use Rattle.folded_vault.specs.Outcome.{IsCountedAs, Burns};
-ghost use Rattle.row_value.specs.SchemaSpelling.{HasSchemaSpelling};
+ghost use Rattle.value_codec.specs.SchemaSpelling.{HasSchemaSpelling};
 ghost use Rattle.row_store.specs.Spelling.{HasStoredSpelling, row_payload, IsState, table_payload, IsClient};
 ghost use Rattle.row_store.specs.declared.stored.StoredRow.{StoredRow};
 ghost use Rattle.row_store.specs.Reading.{row_in, terms_if};
@@ -19,13 +19,14 @@ use crate::change::Change;
 use crate::fault::RowFault;
 use crate::memory::{Place, RowMemory};
 use crate::reader::{row_in, table_in, terms_if};
-use crate::stored::{RowVersion, Rows, StoredRow, Sub, SubChange, Subs, Terms};
+use crate::stored::{StoredRow, Sub, SubChange, Subs, Terms};
 use crate::writer::{write_row, write_sub, write_table};
 use disk_trait::Disk;
 use folded_vault::Folded;
-use row_value::{Schema, SpellFault};
-use stab_base::{ClientNo, GateNo, RowId, Version};
+use row_value::Schema;
+use stab_base::{ClientNo, GateNo, RowId, RowVersion, Rows, Version};
 use std::alloc::{AllocError, Global};
+use value_codec::SpellFault;
 
 /// The rows of a table by their ids, its schema and state, and its subscriptions by their clients, on a disk of its
 /// own.

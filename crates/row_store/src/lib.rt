@@ -16,5 +16,7 @@ pub use fault::RowFault;
 pub use reader::all_keep;
 pub use row_value::{Piece, PieceContent, PieceObject, Schema};
 pub use size::row_size;
-pub use stab_base::{ClientNo, GateNo, NUMBER_MAX, RowId, Sequence, Version, WriteNo};
-pub use stored::{LastWrite, LastWrites, RowVersion, Rows, StoredRow, Sub, Subs};
+pub use stab_base::{
+    ClientNo, GateNo, NUMBER_MAX, RowId, RowVersion, Rows, Sequence, Version, WriteNo,
+};
+pub use stored::{LastWrite, LastWrites, StoredRow, Sub, Subs};

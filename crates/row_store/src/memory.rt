@@ -4,10 +4,10 @@ ghost use Rattle.std.specs.Map.{keys_of};
 ghost use Rattle.row_store.specs.Data.{sub_of};
 
 use crate::change::{Change, change_in};
-use crate::stored::{RowVersion, Rows, Sub, SubChange, Subs, Terms};
+use crate::stored::{Sub, SubChange, Subs, Terms};
 use folded_vault::Fold;
 use spare_map::SpareMap;
-use stab_base::{ClientNo, RowId, Version};
+use stab_base::{ClientNo, RowId, RowVersion, Rows, Version};
 use std::alloc::{AllocError, Global};
 use vault::PAYLOAD_MAX;
 

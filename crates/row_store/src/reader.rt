@@ -1,19 +1,19 @@
 //! Rows, tables and subscriptions in payloads.
 ghost use Rattle.std.specs.Prelude.{◌≡◌, ◌≤◌, ◌+◌, length, take, drop, IfOk, IfErr};
 ghost use Rattle.std.specs.List.{list_all};
-ghost use Rattle.row_value.specs.Reading.{Gives, content_at, items_at, list_at, whole};
-ghost use Rattle.row_value.specs.SchemaReading.{schema_at};
-ghost use Rattle.row_value.specs.FirstBad.{TellsPlace};
+ghost use Rattle.value_codec.specs.Reading.{Gives, content_at, items_at, list_at, whole};
+ghost use Rattle.value_codec.specs.SchemaReading.{schema_at};
+ghost use Rattle.value_codec.specs.FirstBad.{TellsPlace};
 ghost use Rattle.row_store.specs.Spelling.{is_keep, all_keep};
 ghost use Rattle.row_store.specs.Reading.{id_at, last_in, after_last, is_allowed, stored_at, table_at, terms_if, sub_at, tag_at, row_in, table_in, sub_in};
 
 use crate::stored::{LastWrite, LastWrites, StoredRow, SubChange, Terms};
-use row_value::{
-    Piece, PieceContent, PieceObject, Schema, SpellFault, take_byte, take_content, take_eight,
-    take_flag, take_four, take_schema,
-};
+use row_value::{Piece, PieceContent, PieceObject, Schema};
 use stab_base::{ClientNo, NUMBER_MAX, RowId, Sequence};
 use std::alloc::Global;
+use value_codec::{
+    SpellFault, take_byte, take_content, take_eight, take_flag, take_four, take_schema,
+};
 
 // ---- rows
 
@@ -85,7 +85,7 @@ fn take_last_items(
     Ok((lasts, place))
 }
 
-#[tactic(auto, unfolding(row_value::specs::Reading::list_at))]
+#[tactic(auto, unfolding(value_codec::specs::Reading::list_at))]
 fn take_lasts(alloc: Global, bytes: &[u8], at: usize) -> Result<(LastWrites, usize), SpellFault>
     requires { at ≤ length bytes.now }
     ensures value { Gives bytes.now (λ x. (x.0, drop x.1 bytes.now))
@@ -239,7 +239,7 @@ fn skip_tag(payload: &[u8], tag: u8) -> Result<usize, SpellFault>
 }
 
 /// The row in a payload.
-#[tactic(auto, unfolding(crate::specs::Reading::row_in, row_value::specs::Reading::whole))]
+#[tactic(auto, unfolding(crate::specs::Reading::row_in, value_codec::specs::Reading::whole))]
 pub(crate) fn row_in(alloc: Global, payload: &[u8]) -> Result<StoredRow, SpellFault>
     ensures { Gives payload.now (λ x. x) result (row_in payload.now) }
 {
@@ -252,7 +252,7 @@ pub(crate) fn row_in(alloc: Global, payload: &[u8]) -> Result<StoredRow, SpellFa
 }
 
 /// The table's schema and state in a payload.
-#[tactic(auto, unfolding(crate::specs::Reading::table_in, row_value::specs::Reading::whole))]
+#[tactic(auto, unfolding(crate::specs::Reading::table_in, value_codec::specs::Reading::whole))]
 pub(crate) fn table_in(alloc: Global, payload: &[u8]) -> Result<(Schema, u8), SpellFault>
     ensures { Gives payload.now (λ x. x) result (table_in payload.now) }
 {
@@ -265,7 +265,7 @@ pub(crate) fn table_in(alloc: Global, payload: &[u8]) -> Result<(Schema, u8), Sp
 }
 
 /// The subscription in a payload.
-#[tactic(auto, unfolding(crate::specs::Reading::sub_in, row_value::specs::Reading::whole))]
+#[tactic(auto, unfolding(crate::specs::Reading::sub_in, value_codec::specs::Reading::whole))]
 pub(crate) fn sub_in(payload: &[u8]) -> Result<SubChange, SpellFault>
     ensures { Gives payload.now (λ x. x) result (sub_in payload.now) }
 {

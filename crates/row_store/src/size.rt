@@ -2,7 +2,7 @@
 ghost use Rattle.std.specs.Prelude.{◌≡◌, ◌+◌, ◌*◌, ◌<◌, ◌≤◌, true, length, Some};
 ghost use Rattle.std.specs.List.{flat_map, list_all};
 ghost use Rattle.vault.specs.declared.record.TheConstants.{PAYLOAD_MAX};
-ghost use Rattle.row_value.specs.Spelling.{cell_spelling, object_spelling, content_spelling};
+ghost use Rattle.value_codec.specs.Spelling.{cell_spelling, object_spelling, content_spelling};
 ghost use Rattle.row_store.specs.Spelling.{is_keep, all_keep, HasStoredSpelling, row_payload};
 ghost use Rattle.row_store.specs.Size.{IsSum};
 

@@ -22,16 +22,6 @@ pub struct StoredRow {
     pub pairs: LastWrites,
 }
 
-/// A row, and its version. These are ordered by version, then by row.
-#[derive(Debug, Clone, Copy, PartialEq, Eq, PartialOrd, Ord)]
-pub struct RowVersion {
-    pub version: Version,
-    pub row: RowId,
-}
-
-/// Rows with their versions, by rising version.
-pub type Rows = Sequence<RowVersion>;
-
 /// On which terms a client has subscribed to a table: the gateway by which it did, and a period and a tolerance in
 /// ticks.
 #[derive(Debug, Clone, Copy, PartialEq, Eq)]

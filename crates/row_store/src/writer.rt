@@ -1,13 +1,14 @@
 //! Payloads of rows, tables and subscriptions.
 ghost use Rattle.std.specs.Prelude.{◌≡◌, ◌+◌, ◌*◌, ◌<◌, ◌≤◌, ◌++◌, length};
 ghost use Rattle.std.specs.Vec.{vec_capacity, vec_len};
-ghost use Rattle.row_value.specs.Spelling.{list_spelling};
-ghost use Rattle.row_value.specs.SchemaSpelling.{HasSchemaSpelling};
+ghost use Rattle.value_codec.specs.Spelling.{list_spelling};
+ghost use Rattle.value_codec.specs.SchemaSpelling.{HasSchemaSpelling};
 ghost use Rattle.row_store.specs.Spelling.{last_spelling, HasStoredSpelling, row_payload, IsState, table_payload, sub_payload};
 
 use crate::stored::{LastWrite, StoredRow, Terms};
-use row_value::{Schema, put_content, put_schema};
+use row_value::Schema;
 use stab_base::{ClientNo, put_u8, put_u32, put_u64};
+use value_codec::{put_content, put_schema};
 
 fn write_last(payload: &mut Vec<u8>, last: LastWrite)
     requires room { vec_len payload.old + 20 ≤ vec_capacity payload.old }

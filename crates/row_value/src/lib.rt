@@ -1,45 +1,15 @@
-//! Values that a table's rows hold, their schema, whether a row fits it, and how rows and schemas are spelled in
-//! files and messages.
+//! Values that a table's rows hold, their schema, and whether a row fits it.
 #![tactic(auto)]
 
-mod cell_reader;
-mod cell_writer;
 mod content;
-mod content_reader;
-mod content_writer;
-mod field_reader;
 mod fit;
-mod laws;
-mod piece_reader;
-mod piece_writer;
 mod pieces;
 mod schema;
-mod schema_reader;
-mod schema_writer;
-mod spell_fault;
-mod utf8;
-mod writer;
 
-pub use cell_reader::take_cell;
-pub use cell_writer::put_cell;
 pub use content::{Cell, Cells, Content, Objects};
-pub use content_reader::{content_of, take_content};
-pub use content_writer::put_content;
-pub use field_reader::{take_byte, take_eight, take_flag, take_four};
 pub use fit::{FitFault, fits};
-pub use laws::{
-    faults_are_the_first_bad_places, one_spelling, values_are_read_again, values_were_spelled_so,
-};
-pub use piece_reader::{take_name, take_piece};
-pub use piece_writer::{put_name, put_piece};
 pub use pieces::{Piece, PieceContent, PieceObject, PieceObjects, Pieces};
 pub use schema::{Column, ColumnKind, Columns, Schema, Scheme};
-pub use schema_reader::{schema_of, take_schema};
-pub use schema_writer::put_schema;
-pub use spell_fault::SpellFault;
 pub use stab_base::{
     Bytes, ChunkName, ClientNo, GateNo, RowId, Sequence, StoreNo, TableNo, Version, WriteNo,
 };
-
-#[cfg(test)]
-mod tests;

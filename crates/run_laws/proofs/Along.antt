@@ -6,7 +6,7 @@ use Rattle.table_model.specs.declared.line.Fact.TheVariants as facts
 use Rattle.table_model.specs.declared.line.TextLine.{TextLine}
 use Rattle.table_model.specs.declared.line.TextLine.TheVariants as text
 use Rattle.table_model.specs.declared.message_name.MessageName.{MessageName}
-use Rattle.table_model.specs.declared.node.Node.{Node}
+use Rattle.stab_base.specs.declared.node.Node.{Node}
 use Rattle.run_laws.specs.World.{Packet, told, sent_from, answer_lines}
 use Rattle.run_laws.specs.Sound.{Along, OfFact}
 use Rattle.run_laws.proofs.Appends.{told-append}

@@ -8,7 +8,7 @@ use Rattle.table_model.specs.declared.line.TextLine.{TextLine}
 use Rattle.table_model.specs.declared.line.Write.{Write}
 use Rattle.table_model.specs.History.{history_of, current, same_row}
 use Rattle.table_model.specs.Writes.{writes_of, last_write}
-use Rattle.step_tables.specs.declared.slots.Out.{Out}
+use Rattle.step_tables.specs.declared.slots.InFlight.{InFlight}
 use Rattle.step_tables.specs.declared.slots.Slots.{Slots}
 use Rattle.step_tables.specs.Store.{Stored}
 use Rattle.step_tables.specs.Client.{Client, ClientTable, slots_at, with_slots, table_at, with_table, version_in, without, acked}
@@ -24,7 +24,7 @@ use Rattle.run_laws.proofs.ClientCalls.{writes_stay}
 use Rattle.run_laws.proofs.Lists.{same_row-refl, same_row_tells}
 use Rattle.run_laws.proofs.ClientTakes.{TellOf, other_number, take_client, acked_slots}
 
-module _ (packets : List Packet) (before : List TextLine) (node : Client) (table : ℕ) (opened : ClientTable) (row : List ℕ) (out : Out) (version : ℕ)
+module _ (packets : List Packet) (before : List TextLine) (node : Client) (table : ℕ) (opened : ClientTable) (row : List ℕ) (out : InFlight) (version : ℕ)
     (writes : WritesKept before) (stored : List Stored) (store : TableKept packets before table stored)
     (k : ClientKept packets before node.number node) (is : table_at node table ≡ Some opened)
     (waits : (slots_at opened row).out ≡ Some out) (entry : HasEntryOf before table row version node.number out.number) where

@@ -4,12 +4,12 @@ use Rattle.std.specs.Prelude.{filter}
 use Rattle.table_model.specs.declared.line.Fact.{Fact}
 use Rattle.table_model.specs.declared.line.TextLine.{TextLine}
 use Rattle.table_model.specs.declared.line.Write.{Write}
-use Rattle.table_model.specs.declared.node.Node.{Node}
+use Rattle.stab_base.specs.declared.node.Node.{Node}
 use Rattle.table_model.specs.Writes.{all_writes, writes_of, is_by, is_on}
 use Rattle.table_model.specs.Last.{last_where}
-use Rattle.sync_msgs.specs.declared.message.Message.{Message}
-use Rattle.sync_msgs.specs.declared.message.Message.TheVariants as messages
-use Rattle.sync_msgs.specs.declared.message.SyncRequest.{SyncRequest}
+use Rattle.step_tables.specs.declared.message.Message.{Message}
+use Rattle.step_tables.specs.declared.message.Message.TheVariants as messages
+use Rattle.step_tables.specs.declared.message.SyncRequest.{SyncRequest}
 use Rattle.step_tables.specs.Client.{Client}
 use Rattle.run_laws.specs.World.{World, Packet, told, packets_of}
 use Rattle.run_laws.specs.Lines.{is_acked}

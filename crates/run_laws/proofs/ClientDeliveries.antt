@@ -8,17 +8,17 @@ use Rattle.table_model.specs.History.{history_of}
 use Rattle.table_model.specs.declared.line.Answer.TheVariants as answers
 use Rattle.table_model.specs.declared.line.Fact.TheVariants as facts
 use Rattle.table_model.specs.declared.line.TextLine.{TextLine}
-use Rattle.table_model.specs.declared.node.Node.{Node}
-use Rattle.table_model.specs.declared.node.Node.TheVariants as nodes
-use Rattle.sync_msgs.specs.declared.message.Message.{Message}
-use Rattle.sync_msgs.specs.declared.message.Message.TheVariants as messages
-use Rattle.sync_msgs.specs.declared.message.Outcome.{Outcome}
-use Rattle.sync_msgs.specs.declared.message.Outcome.TheVariants as outcomes
-use Rattle.sync_msgs.specs.declared.message.PullResponse.{PullResponse}
-use Rattle.sync_msgs.specs.declared.message.RowHeader.{RowHeader}
-use Rattle.sync_msgs.specs.declared.message.SyncRequest.{SyncRequest}
-use Rattle.sync_msgs.specs.declared.message.SyncResponse.{SyncResponse}
-use Rattle.step_tables.specs.declared.slots.Out.{Out}
+use Rattle.stab_base.specs.declared.node.Node.{Node}
+use Rattle.stab_base.specs.declared.node.Node.TheVariants as nodes
+use Rattle.step_tables.specs.declared.message.Message.{Message}
+use Rattle.step_tables.specs.declared.message.Message.TheVariants as messages
+use Rattle.step_tables.specs.declared.message.Outcome.{Outcome}
+use Rattle.step_tables.specs.declared.message.Outcome.TheVariants as outcomes
+use Rattle.step_tables.specs.declared.message.PullResponse.{PullResponse}
+use Rattle.step_tables.specs.declared.message.RowHeader.{RowHeader}
+use Rattle.step_tables.specs.declared.message.SyncRequest.{SyncRequest}
+use Rattle.step_tables.specs.declared.message.SyncResponse.{SyncResponse}
+use Rattle.step_tables.specs.declared.slots.InFlight.{InFlight}
 use Rattle.step_tables.specs.Store.{Stored, next_changed, header_for, version_or}
 use Rattle.step_tables.specs.Client.{Client, ClientTable, ClientStep, Taken, table_at, slots_at, with_slots, with_table, version_in, without, shadow_of, ignored, deliver_step, response_in, take_response, take_outcome, take_accepted, pulled_in, take_pulled, take_header, newer, next_pull, pull_from}
 use Rattle.run_laws.specs.World.{World, Packet, the_store, packets_of}
@@ -41,7 +41,7 @@ module _ (w : World) (before : List TextLine) (node : Client) (k : ClientKept w.
 
   -- ---- an answer to a request
 
-  accepted_kept : (table : ℕ) (opened : ClientTable) (row : List ℕ) (out : Out) (version : ℕ) → table_at node table ≡ Some opened
+  accepted_kept : (table : ℕ) (opened : ClientTable) (row : List ℕ) (out : InFlight) (version : ℕ) → table_at node table ≡ Some opened
       → (slots_at opened row).out ≡ Some out → HasEntryOf before table row version node.number out.number
       → ClientStepKept w before node.number (take_accepted node table opened row (slots_at opened row) out version)
   accepted_kept table opened row out version is waits entry =
@@ -61,26 +61,26 @@ module _ (w : World) (before : List TextLine) (node : Client) (k : ClientKept w.
       → ClientStepKept w before node.number (response_in node response (table_at node response.table))
   response_kept response kept by = go (table_at node response.table) refl
     where
-      entry : (out : Out) (version : ℕ) → out.number ≡ response.number
+      entry : (out : InFlight) (version : ℕ) → out.number ≡ response.number
           → HasEntryOf before response.table response.row version response.client response.number
           → HasEntryOf before response.table response.row version node.number out.number
       entry out version same h = subst (λ n. HasEntryOf before response.table response.row version node.number n) (sym same)
           (subst (λ c. HasEntryOf before response.table response.row version c response.number) by h)
 
-      outcome : (opened : ClientTable) → table_at node response.table ≡ Some opened → (out : Out) → (slots_at opened response.row).out ≡ Some out
+      outcome : (opened : ClientTable) → table_at node response.table ≡ Some opened → (out : InFlight) → (slots_at opened response.row).out ≡ Some out
           → out.number ≡ response.number → (o : Outcome) → OutcomeKept before response o
           → ClientStepKept w before node.number (take_outcome node response.table opened response.row (slots_at opened response.row) out o)
       outcome opened is out waits same (outcomes.Accepted version) h = accepted_kept response.table opened response.row out version is waits (entry out version same h)
       outcome opened is out waits same (outcomes.Again version) h = accepted_kept response.table opened response.row out version is waits (entry out version same h)
       outcome opened is out waits same (outcomes.Late last) h = dropped
 
-      numbered : (opened : ClientTable) → table_at node response.table ≡ Some opened → (out : Out) → (slots_at opened response.row).out ≡ Some out
+      numbered : (opened : ClientTable) → table_at node response.table ≡ Some opened → (out : InFlight) → (slots_at opened response.row).out ≡ Some out
           → (b : Bool) → (out.number == response.number) ≡ b
           → ClientStepKept w before node.number (if b then take_outcome node response.table opened response.row (slots_at opened response.row) out response.outcome else ignored node)
       numbered opened is out waits true same = outcome opened is out waits (eqb-true out.number response.number same) response.outcome kept
       numbered opened is out waits false same = dropped
 
-      waiting : (opened : ClientTable) → table_at node response.table ≡ Some opened → (o : Option Out) → (slots_at opened response.row).out ≡ o
+      waiting : (opened : ClientTable) → table_at node response.table ≡ Some opened → (o : Option InFlight) → (slots_at opened response.row).out ≡ o
           → ClientStepKept w before node.number (take_response node opened response o)
       waiting opened is None waits = dropped
       waiting opened is (Some out) waits = numbered opened is out waits (out.number == response.number) refl
@@ -136,17 +136,17 @@ module _ (w : World) (before : List TextLine) (node : Client) (k : ClientKept w.
       facts = facts.New node.number table row s.entry.version ∷ [];
     }
 
-    abbrev was_accepted : Out → Taken
+    abbrev was_accepted : InFlight → Taken
     was_accepted out = record {
       slots = record { main = without out.number (slots_at opened row).main; shadow = Some (shadow_of header); out = None };
       facts = facts.Acked node.number out.number table row header.yours.version ∷ facts.New node.number table row s.entry.version ∷ [];
     }
 
     read_on : version_in (slots_at opened row).shadow < s.entry.version
-        → ((out : Out) → (slots_at opened row).out ≡ Some out → header.yours.number < out.number)
+        → ((out : InFlight) → (slots_at opened row).out ≡ Some out → header.yours.number < out.number)
         → ClientStepKept w before node.number (row_step waits_on)
     read_on above behind =
-        let later : (out : Out) → (slots_at opened row).out ≡ Some out → (e : Entry) → Among (history_of table before) e → e.client ≡ node.number → e.row ≡ row
+        let later : (out : InFlight) → (slots_at opened row).out ≡ Some out → (e : Entry) → Among (history_of table before) e → e.client ≡ node.number → e.row ≡ row
         → e.number ≡ out.number → s.entry.version < e.version =
         λ out waits e. next_later w.packets before node table opened writes (stored_in w table) (stores table) latest k is s next out (behind out waits) e in
         step_of_parts w before node.number (row_step waits_on) (refl, (refl, tt))
@@ -162,7 +162,7 @@ module _ (w : World) (before : List TextLine) (node : Client) (k : ClientKept w.
         (λ past a. (tt, (tt, tt)))
 
     read_and_acked : version_in (slots_at opened row).shadow < s.entry.version
-        → (out : Out) → (slots_at opened row).out ≡ Some out → out.number ≤ header.yours.number
+        → (out : InFlight) → (slots_at opened row).out ≡ Some out → out.number ≤ header.yours.number
         → ClientStepKept w before node.number (row_step (was_accepted out))
     read_and_acked above out waits accepted =
         step_of_parts w before node.number (row_step (was_accepted out)) (refl, (refl, (refl, tt)))
@@ -186,12 +186,12 @@ module _ (w : World) (before : List TextLine) (node : Client) (k : ClientKept w.
         is_above : (a b : ℕ) → nat_le a b ≡ false → b < a
         is_above a b e = grind (arith, nat_tests)
 
-        numbered : version_in (slots_at opened row).shadow < s.entry.version → (out : Out) → (slots_at opened row).out ≡ Some out
+        numbered : version_in (slots_at opened row).shadow < s.entry.version → (out : InFlight) → (slots_at opened row).out ≡ Some out
             → (b : Bool) → nat_le out.number header.yours.number ≡ b → ClientStepKept w before node.number (row_step (if b then was_accepted out else waits_on))
         numbered above out waits true e = read_and_acked above out waits (is_at_most out.number header.yours.number e)
-        numbered above out waits false e = read_on above (λ z f. let same : out ≡ z = cc in subst (λ (y : Out). header.yours.number < y.number) same (is_above out.number header.yours.number e))
+        numbered above out waits false e = read_on above (λ z f. let same : out ≡ z = cc in subst (λ (y : InFlight). header.yours.number < y.number) same (is_above out.number header.yours.number e))
 
-        waiting : version_in (slots_at opened row).shadow < s.entry.version → (o : Option Out) → (slots_at opened row).out ≡ o
+        waiting : version_in (slots_at opened row).shadow < s.entry.version → (o : Option InFlight) → (slots_at opened row).out ≡ o
             → ClientStepKept w before node.number (row_step (newer node.number table header (slots_at opened row) o))
         waiting above None e = read_on above (λ z f. absurd cc)
         waiting above (Some out) e = numbered above out e (nat_le out.number header.yours.number) refl

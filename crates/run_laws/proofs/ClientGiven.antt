@@ -2,7 +2,7 @@
 use Rattle.std.proofs.Common.{◌≡◌, ℕ, List, Some, sym, ap, ◌∙◌, subst}
 use Rattle.row_value.specs.declared.content.Content.{Content}
 use Rattle.table_model.specs.declared.line.TextLine.{TextLine}
-use Rattle.table_model.specs.declared.node.Node.TheVariants as nodes
+use Rattle.stab_base.specs.declared.node.Node.TheVariants as nodes
 use Rattle.step_tables.specs.Client.{Client, ClientStep, write_step, show_step, sync_step, pull_step, deliver_step}
 use Rattle.run_laws.specs.World.{World, Packet, client_at}
 use Rattle.run_laws.specs.Sound.{Among}

@@ -7,7 +7,7 @@ use Rattle.table_model.specs.declared.line.TextLine.TheVariants as text
 use Rattle.table_model.specs.declared.line.Write.{Write}
 use Rattle.table_model.specs.History.{history_of, current}
 use Rattle.table_model.specs.Writes.{writes_of, last_write}
-use Rattle.step_tables.specs.declared.slots.Out.{Out}
+use Rattle.step_tables.specs.declared.slots.InFlight.{InFlight}
 use Rattle.step_tables.specs.declared.slots.Shadow.{Shadow}
 use Rattle.step_tables.specs.declared.slots.Slots.{Slots}
 use Rattle.step_tables.specs.Store.{Stored, yours_of}
@@ -94,7 +94,7 @@ module _ (packets more : List Packet) (before : List TextLine) (node : Client) (
   -- ---- the row is new
 
   module _ (above : version_in slots.shadow < version)
-      (later : (out : Out) → slots.out ≡ Some out → (e : Entry) → Among (history_of table before) e → e.client ≡ node.number → e.row ≡ row
+      (later : (out : InFlight) → slots.out ≡ Some out → (e : Entry) → Among (history_of table before) e → e.client ≡ node.number → e.row ≡ row
       → e.number ≡ out.number → version < e.version) where
     abbrev newer : Slots
     newer = record slots { shadow = Some shadow }
@@ -124,7 +124,7 @@ module _ (packets more : List Packet) (before : List TextLine) (node : Client) (
 
   -- ---- the row is new, and Out's write was accepted
 
-  module _ (above : version_in slots.shadow < version) (out : Out) (waits : slots.out ≡ Some out)
+  module _ (above : version_in slots.shadow < version) (out : InFlight) (waits : slots.out ≡ Some out)
       (accepted : out.number ≤ (yours_of (take latest stored) node.number row).number) where
     abbrev at : ℕ
     at = (yours_of (take latest stored) node.number row).version

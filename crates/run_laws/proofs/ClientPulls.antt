@@ -4,7 +4,7 @@ use Rattle.table_model.specs.declared.entry.Entry.{Entry}
 use Rattle.table_model.specs.declared.line.TextLine.{TextLine}
 use Rattle.table_model.specs.Last.{last_where}
 use Rattle.table_model.specs.History.{history_of, current}
-use Rattle.step_tables.specs.declared.slots.Out.{Out}
+use Rattle.step_tables.specs.declared.slots.InFlight.{InFlight}
 use Rattle.step_tables.specs.declared.slots.Shadow.{Shadow}
 use Rattle.step_tables.specs.declared.slots.Slots.{Slots}
 use Rattle.step_tables.specs.Store.{Stored, is_of_client, yours_in}
@@ -117,7 +117,7 @@ module _ (packets : List Packet) (before : List TextLine) (node : Client) (table
   yours_is = last_is (is_of_client node.number row) 0 (take latest stored) (counts_take latest 0 stored store.counts)
 
   -- where Out's number is above that of `yours`, its entries are above the row's version
-  pub next_later : (out : Out) → (yours_in yours).number < out.number → (e : Entry) → Among (history_of table before) e
+  pub next_later : (out : InFlight) → (yours_in yours).number < out.number → (e : Entry) → Among (history_of table before) e
       → e.client ≡ node.number → e.row ≡ row → e.number ≡ out.number → version < e.version
   next_later out above e a c r n = elim (at_most_or_above e.version version) [
     | inl le ↦
@@ -146,7 +146,7 @@ module _ (packets : List Packet) (before : List TextLine) (node : Client) (table
           ]
 
   -- where it is at most that of `yours`, `yours` is Out's entry
-  pub next_accepted : (out : Out) → slots.out ≡ Some out → out.number ≤ (yours_in yours).number
+  pub next_accepted : (out : InFlight) → slots.out ≡ Some out → out.number ≤ (yours_in yours).number
       → HasEntryOf before table row (yours_in yours).version node.number out.number
       × (version_in slots.shadow < (yours_in yours).version) × ((yours_in yours).version ≤ version)
   next_accepted out waits le = go yours yours_is le

@@ -4,9 +4,9 @@ use Rattle.std.specs.Prelude.{option_map, option_to_list, if◌then◌else◌}
 use Rattle.table_model.specs.declared.line.TextLine.{TextLine}
 use Rattle.table_model.specs.declared.line.Write.{Write}
 use Rattle.table_model.specs.Writes.{all_writes, last_write, is_on}
-use Rattle.sync_msgs.specs.declared.message.Message.{Message}
+use Rattle.step_tables.specs.declared.message.Message.{Message}
 use Rattle.step_tables.specs.declared.slots.Main.{Main}
-use Rattle.step_tables.specs.declared.slots.Out.{Out}
+use Rattle.step_tables.specs.declared.slots.InFlight.{InFlight}
 use Rattle.step_tables.specs.declared.slots.Slots.{Slots}
 use Rattle.step_tables.specs.Client.{ClientTable, or_none, slots_at, request_for, resent, out_for, to_send, or_later, first_to_send}
 use Rattle.run_laws.specs.Lines.{open_write, if_open, is_acked}
@@ -21,7 +21,7 @@ use Rattle.run_laws.proofs.ClientTables.{rising_found}
 -- a message that is sent again is Out's of a row
 pub record IsResent (client table : ℕ) (rows : List (List ℕ × Slots)) (message : Message) : Type 0 where
   pub entry : List ℕ × Slots
-  pub out : Out
+  pub out : InFlight
   pub among : Among rows entry
   pub waits : entry.1.out ≡ Some out
   pub is : message ≡ request_for client table entry.0 out
@@ -37,7 +37,7 @@ unfolding Among
 resent_is client table [] message a = absurd a
 resent_is client table (entry ∷ rows) message a = go (resent_is client table rows message) entry.1.out refl a
   where
-    go : (Among (resent client table rows) message → IsResent client table rows message) → (o : Option Out) → entry.1.out ≡ o
+    go : (Among (resent client table rows) message → IsResent client table rows message) → (o : Option InFlight) → entry.1.out ≡ o
         → Among (option_to_list (option_map (request_for client table entry.0) o) ++ resent client table rows) message
         → IsResent client table (entry ∷ rows) message
     go later None is b = later_row client table entry rows message (later b)
@@ -45,7 +45,7 @@ resent_is client table (entry ∷ rows) message a = go (resent_is client table r
     go later (Some out) is (inr b) = later_row client table entry rows message (later b)
 
 -- what is sent first is a row's Main, where no Out waits
-pub record IsFirst (rows : List (List ℕ × Slots)) (row : List ℕ) (out : Out) : Type 0 where
+pub record IsFirst (rows : List (List ℕ × Slots)) (row : List ℕ) (out : InFlight) : Type 0 where
   pub slots : Slots
   pub main : Main
   pub among : Among rows (row, slots)
@@ -53,7 +53,7 @@ pub record IsFirst (rows : List (List ℕ × Slots)) (row : List ℕ) (out : Out
   pub is_main : slots.main ≡ Some main
   pub is : out_for slots.shadow main ≡ out
 
-pub first_is : (rows : List (List ℕ × Slots)) (first : List ℕ × Out) → first_to_send rows ≡ Some first → IsFirst rows first.0 first.1
+pub first_is : (rows : List (List ℕ × Slots)) (first : List ℕ × InFlight) → first_to_send rows ≡ Some first → IsFirst rows first.0 first.1
 unfolding Among
 first_is [] first e = absurd cc
 first_is (entry ∷ rows) first e = go (first_is rows first) entry.1.out refl entry.1.main refl e
@@ -62,13 +62,13 @@ first_is (entry ∷ rows) first e = go (first_is rows first) entry.1.out refl en
     later f = record { slots = f.slots; main = f.main; among = inr f.among; empty = f.empty; is_main = f.is_main; is = f.is }
 
     go : (first_to_send rows ≡ Some first → IsFirst rows first.0 first.1)
-        → (o : Option Out) → entry.1.out ≡ o → (m : Option Main) → entry.1.main ≡ m
+        → (o : Option InFlight) → entry.1.out ≡ o → (m : Option Main) → entry.1.main ≡ m
         → or_later entry.0 (to_send o m entry.1.shadow) (first_to_send rows) ≡ Some first → IsFirst (entry ∷ rows) first.0 first.1
     go f (Some out) is m n e = later (f e)
     go f None is None n e = later (f e)
     go f None is (Some main) n e =
         let same : (entry.0, out_for entry.1.shadow main) ≡ first = cc in
-        subst (λ (x : List ℕ × Out). IsFirst (entry ∷ rows) x.0 x.1) same (record {
+        subst (λ (x : List ℕ × InFlight). IsFirst (entry ∷ rows) x.0 x.1) same (record {
           slots = entry.1;
           main = main;
           among = inl refl;

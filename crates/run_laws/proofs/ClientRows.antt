@@ -12,7 +12,7 @@ use Rattle.table_model.specs.declared.line.Write.{Write}
 use Rattle.table_model.specs.Last.{last_where}
 use Rattle.table_model.specs.History.{history_of, current}
 use Rattle.table_model.specs.Writes.{all_writes, writes_of, last_write, is_on}
-use Rattle.step_tables.specs.declared.slots.Out.{Out}
+use Rattle.step_tables.specs.declared.slots.InFlight.{InFlight}
 use Rattle.step_tables.specs.declared.slots.Slots.{Slots}
 use Rattle.step_tables.specs.Client.{Client, ClientTable, slots_at, with_slots, with_table, version_in}
 use Rattle.run_laws.specs.World.{Packet, told}
@@ -71,7 +71,7 @@ pub record RowSame (packets more : List Packet) (before after : List TextLine) (
   pub open_ : open_write client table row after ≡ open_write client table row before
   pub read : read_of client table row after ≡ read_of client table row before
   pub requested : (number : ℕ) → Requested more client table row number
-      → Requested packets client table row number ⊎ ((out : Out) × (slots.out ≡ Some out) × (out.number ≡ number))
+      → Requested packets client table row number ⊎ ((out : InFlight) × (slots.out ≡ Some out) × (out.number ≡ number))
 
 -- a row's last write is open still, where the new facts don't tell of it
 pub open_same : (before after : List TextLine) (some : List Fact) (client table : ℕ) (row : List ℕ) → AddsFacts before after some
@@ -92,7 +92,7 @@ open_same before after some client table row adds none quiet =
         or_false false = refl
 
 module _ (packets more : List Packet) (before after : List TextLine) (client table : ℕ) (same : LinesSame before after) where
-  pub out_stays : (row : List ℕ) (slots : Slots) (out : Out) → slots.out ≡ Some out → RowSame packets more before after client table row slots
+  pub out_stays : (row : List ℕ) (slots : Slots) (out : InFlight) → slots.out ≡ Some out → RowSame packets more before after client table row slots
       → OutKept packets before client table row slots out → OutKept more after client table row slots out
   out_stays row slots out is s o = record {
     written = wrote_stays before after same client out.number table row out.content o.written;
@@ -100,7 +100,7 @@ module _ (packets more : List Packet) (before after : List TextLine) (client tab
     later = λ entry a c r n. o.later entry (subst (λ l. Among l entry) (same.history table) a) c r n;
     last = λ number r. elim (s.requested number r) [
       | inl old ↦ o.last number old
-      | inr p ↦ let e : p.0 ≡ out = cc in let n = ap (λ (x : Out). x.number) e in let m = p.2 in omega arith
+      | inr p ↦ let e : p.0 ≡ out = cc in let n = ap (λ (x : InFlight). x.number) e in let m = p.2 in omega arith
     ];
     main = o.main;
   }

@@ -5,10 +5,10 @@ use Rattle.table_model.specs.declared.entry.Entry.{Entry}
 use Rattle.table_model.specs.declared.line.TextLine.{TextLine}
 use Rattle.table_model.specs.declared.line.Write.{Write}
 use Rattle.table_model.specs.History.{history_of}
-use Rattle.sync_msgs.specs.declared.message.Message.{Message}
-use Rattle.sync_msgs.specs.declared.message.Message.TheVariants as messages
-use Rattle.sync_msgs.specs.declared.message.SyncRequest.{SyncRequest}
-use Rattle.step_tables.specs.declared.slots.Out.{Out}
+use Rattle.step_tables.specs.declared.message.Message.{Message}
+use Rattle.step_tables.specs.declared.message.Message.TheVariants as messages
+use Rattle.step_tables.specs.declared.message.SyncRequest.{SyncRequest}
+use Rattle.step_tables.specs.declared.slots.InFlight.{InFlight}
 use Rattle.step_tables.specs.declared.slots.Shadow.{Shadow}
 use Rattle.step_tables.specs.declared.slots.Slots.{Slots}
 use Rattle.step_tables.specs.Store.{Stored}
@@ -38,7 +38,7 @@ module _ (packets : List Packet) (before after : List TextLine) (node : Client) 
   again = resent node.number table opened.rows
 
   again_waits : (client t : ℕ) (q : List ℕ) (number : ℕ) → Asks again client t q number
-      → (t ≡ table) × ((out : Out) × ((slots_at opened q).out ≡ Some out) × (out.number ≡ number))
+      → (t ≡ table) × ((out : InFlight) × ((slots_at opened q).out ≡ Some out) × (out.number ≡ number))
   again_waits client t q number a =
       let r = resent_is node.number table opened.rows (messages.SyncRequest a.0) a.1 in
       let e : a.0 ≡ record { client = node.number; token = 0; table = table; row = r.entry.0; number = r.out.number; base = r.out.base; content = r.out.content } = messages_same a.0 _ r.is in
@@ -109,7 +109,7 @@ module _ (packets : List Packet) (before after : List TextLine) (node : Client) 
 
   -- ---- a row's Main is sent
 
-  module _ (stored : List Stored) (store : TableKept packets before table stored) (first : List ℕ × Out) (f : IsFirst opened.rows first.0 first.1)
+  module _ (stored : List Stored) (store : TableKept packets before table stored) (first : List ℕ × InFlight) (f : IsFirst opened.rows first.0 first.1)
       (more : List Packet) (asks : (t : ℕ) (q : List ℕ) (number : ℕ) → Requested more node.number t q number
       → Requested packets node.number t q number ⊎ Asks (again ++ request_for node.number table first.0 first.1 ∷ []) node.number t q number) where
     abbrev row : List ℕ
@@ -134,7 +134,7 @@ module _ (packets : List Packet) (before after : List TextLine) (node : Client) 
     out_is = ap (λ (s : Slots). out_for s.shadow f.main) found ∙ f.is
 
     number_is : f.main.number ≡ first.1.number
-    number_is = ap (λ (x : Out). x.number) out_is
+    number_is = ap (λ (x : InFlight). x.number) out_is
 
     -- a request that is sent now is one that waits, or the first
     asked : (t : ℕ) (q : List ℕ) (number : ℕ) → Requested more node.number t q number
@@ -201,10 +201,10 @@ module _ (packets : List Packet) (before after : List TextLine) (node : Client) 
 
     first_out : OutKept more after node.number table row new first.1
     first_out = record {
-      written = subst (λ (x : Out). Wrote after node.number x.number table row x.content) out_is
+      written = subst (λ (x : InFlight). Wrote after node.number x.number table row x.content) out_is
           (wrote_stays before after same node.number f.main.number table row f.main.content
           (main_wrote before node.number table row f.main (sym s.main ∙ has_main)));
-      base = subst (λ (x : Out). (x.base ≡ 0) ⊎ HasEntry after table row x.base) out_is
+      base = subst (λ (x : InFlight). (x.base ≡ 0) ⊎ HasEntry after table row x.base) out_is
           (elim (base_kept slots.shadow refl) [ inl z ↦ inl z | inr h ↦ inr (entry_stays before after same table row (version_in slots.shadow) h) ]);
       later = λ entry a c r n. absurd (not_there entry (subst (λ l. Among l entry) (same.history table) a) c r n);
       last = λ number r. elim (asked table row number r) [
@@ -221,7 +221,7 @@ module _ (packets : List Packet) (before after : List TextLine) (node : Client) 
       read = let h = adds.reads node.number table row in let r = s.read in omega arith;
       shadow = λ shadow e. let h = s.shadow shadow e in
           (h.0, entry_stays before after same table row shadow.version h.1, same.contents table shadow.version shadow.content h.2);
-      out = λ out e. let e' : first.1 ≡ out = cc in subst (λ (x : Out). OutKept more after node.number table row new x) e' first_out;
+      out = λ out e. let e' : first.1 ≡ out = cc in subst (λ (x : InFlight). OutKept more after node.number table row new x) e' first_out;
       unsent = λ main e none number r. absurd cc;
     }
 

@@ -4,10 +4,10 @@ use Rattle.std.specs.Prelude.{◌==◌}
 use Rattle.std.proofs.lemmas.Bool.{eqb-true}
 use Rattle.std.proofs.lemmas.Bool.Decides.{nat_tests}
 use Rattle.table_model.specs.declared.line.TextLine.{TextLine}
-use Rattle.table_model.specs.declared.node.Node.TheVariants as nodes
+use Rattle.stab_base.specs.declared.node.Node.TheVariants as nodes
 use Rattle.table_model.specs.History.{history_of}
-use Rattle.sync_msgs.specs.declared.message.Message.TheVariants as messages
-use Rattle.sync_msgs.specs.declared.message.SyncRequest.{SyncRequest}
+use Rattle.step_tables.specs.declared.message.Message.TheVariants as messages
+use Rattle.step_tables.specs.declared.message.SyncRequest.{SyncRequest}
 use Rattle.step_tables.specs.Client.{Client, ClientStep}
 use Rattle.run_laws.specs.World.{World, Packet, client_at, the_store, packets_of, after_client, answer_lines, sent_from}
 use Rattle.run_laws.specs.Sound.{Among}

@@ -11,11 +11,11 @@ use Rattle.table_model.specs.declared.line.Fact.TheVariants as facts
 use Rattle.table_model.specs.declared.line.TextLine.{TextLine}
 use Rattle.table_model.specs.declared.line.TextLine.TheVariants as text
 use Rattle.table_model.specs.declared.line.Write.{Write}
-use Rattle.table_model.specs.declared.node.Node.TheVariants as nodes
-use Rattle.sync_msgs.specs.declared.message.Message.{Message}
-use Rattle.sync_msgs.specs.declared.message.Message.TheVariants as messages
-use Rattle.sync_msgs.specs.declared.message.SyncRequest.{SyncRequest}
-use Rattle.step_tables.specs.declared.slots.Out.{Out}
+use Rattle.stab_base.specs.declared.node.Node.TheVariants as nodes
+use Rattle.step_tables.specs.declared.message.Message.{Message}
+use Rattle.step_tables.specs.declared.message.Message.TheVariants as messages
+use Rattle.step_tables.specs.declared.message.SyncRequest.{SyncRequest}
+use Rattle.step_tables.specs.declared.slots.InFlight.{InFlight}
 use Rattle.step_tables.specs.declared.slots.Slots.{Slots}
 use Rattle.step_tables.specs.Store.{Stored}
 use Rattle.step_tables.specs.Client.{Client, ClientTable, ClientStep, table_at, answered, write_step, write_to, write_fitting, written, show_step, show_in, sync_step, sync_in, sync_first, resent, first_to_send, request_for, pull_step, pull_in, pull_from}
@@ -209,7 +209,7 @@ module _ (w : World) (before : List TextLine) (node : Client)
       → ClientStepKept w before node.number (sync_step node table)
   sync_kept stored stores table = go (table_at node table) refl
     where
-      first : (opened : ClientTable) → table_at node table ≡ Some opened → (f : Option (List ℕ × Out)) → first_to_send opened.rows ≡ f
+      first : (opened : ClientTable) → table_at node table ≡ Some opened → (f : Option (List ℕ × InFlight)) → first_to_send opened.rows ≡ f
           → ClientStepKept w before node.number (sync_first node table opened (resent node.number table opened.rows) f)
       first opened is None e =
           let again : List Message = resent node.number table opened.rows in

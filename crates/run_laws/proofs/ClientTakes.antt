@@ -11,7 +11,7 @@ use Rattle.table_model.specs.Last.{last_where}
 use Rattle.table_model.specs.History.{history_of, current}
 use Rattle.table_model.specs.Writes.{all_writes, last_write, is_on}
 use Rattle.step_tables.specs.declared.slots.Main.{Main}
-use Rattle.step_tables.specs.declared.slots.Out.{Out}
+use Rattle.step_tables.specs.declared.slots.InFlight.{InFlight}
 use Rattle.step_tables.specs.declared.slots.Shadow.{Shadow}
 use Rattle.step_tables.specs.declared.slots.Slots.{Slots}
 use Rattle.step_tables.specs.Client.{Client, ClientTable, slots_at, with_slots, table_at, with_table, version_in, without}
@@ -141,7 +141,7 @@ module _ (packets more : List Packet) (before after : List TextLine) (node : Cli
 
     -- the row is read, and nothing of it is told as accepted
     pub newer_slots : ((write : Write) → last_write node.number table row before ≡ Some write → is_acked write.client write.number (told some) ≡ false)
-        → ((out : Out) → slots.out ≡ Some out → (e : Entry) → Among (history_of table before) e → e.client ≡ node.number → e.row ≡ row
+        → ((out : InFlight) → slots.out ≡ Some out → (e : Entry) → Among (history_of table before) e → e.client ≡ node.number → e.row ≡ row
         → e.number ≡ out.number → shadow.version < e.version)
         → SlotsKept more after node.number table row (record slots { shadow = Some shadow })
     newer_slots still later = record {
@@ -159,7 +159,7 @@ module _ (packets more : List Packet) (before after : List TextLine) (node : Cli
     }
 
     -- Out's write is told as accepted, and no other
-    pub acked_slots : (out : Out) → slots.out ≡ Some out → ((number : ℕ) → is_acked node.number number (told some) ≡ (out.number == number))
+    pub acked_slots : (out : InFlight) → slots.out ≡ Some out → ((number : ℕ) → is_acked node.number number (told some) ≡ (out.number == number))
         → SlotsKept more after node.number table row (record { main = without out.number slots.main; shadow = Some shadow; out = None })
     acked_slots out waits acks =
         let x = s.out out waits in record {

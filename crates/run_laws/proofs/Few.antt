@@ -15,18 +15,18 @@ use Rattle.table_model.specs.declared.line.Fact.{Fact}
 use Rattle.table_model.specs.declared.line.Fact.TheVariants as facts
 use Rattle.table_model.specs.declared.line.TextLine.{TextLine}
 use Rattle.table_model.specs.declared.line.Write.{Write}
-use Rattle.table_model.specs.declared.node.Node.{Node}
-use Rattle.table_model.specs.declared.node.Node.TheVariants as nodes
+use Rattle.stab_base.specs.declared.node.Node.{Node}
+use Rattle.stab_base.specs.declared.node.Node.TheVariants as nodes
 use Rattle.table_model.specs.History.{history_of}
 use Rattle.table_model.specs.Writes.{all_writes, writes_of, is_by}
-use Rattle.sync_msgs.specs.declared.message.Message.{Message}
-use Rattle.sync_msgs.specs.declared.message.Message.TheVariants as messages
-use Rattle.sync_msgs.specs.declared.message.Outcome.{Outcome}
-use Rattle.sync_msgs.specs.declared.message.Outcome.TheVariants as outcomes
-use Rattle.sync_msgs.specs.declared.message.RowHeader.{RowHeader}
-use Rattle.sync_msgs.specs.declared.message.SyncRequest.{SyncRequest}
-use Rattle.sync_msgs.specs.declared.message.Yours.{Yours}
-use Rattle.step_tables.specs.declared.slots.Out.{Out}
+use Rattle.step_tables.specs.declared.message.Message.{Message}
+use Rattle.step_tables.specs.declared.message.Message.TheVariants as messages
+use Rattle.step_tables.specs.declared.message.Outcome.{Outcome}
+use Rattle.step_tables.specs.declared.message.Outcome.TheVariants as outcomes
+use Rattle.step_tables.specs.declared.message.RowHeader.{RowHeader}
+use Rattle.step_tables.specs.declared.message.SyncRequest.{SyncRequest}
+use Rattle.step_tables.specs.declared.message.Yours.{Yours}
+use Rattle.step_tables.specs.declared.slots.InFlight.{InFlight}
 use Rattle.step_tables.specs.declared.slots.Slots.{Slots}
 use Rattle.step_tables.specs.Store.{Stored, StoreStep, accept, unchanged, decide, respond, yours_of, entry_for, entries_of, current_of, store_step}
 use Rattle.step_tables.specs.Client.{Client, ClientStep, ClientTable, Taken, table_at, slots_at, write_to, write_fitting, write_step, show_in, show_step, sync_in, sync_first, sync_step, resent, first_to_send, pull_in, pull_step, deliver_step, response_in, take_response, take_outcome, pulled_in, take_pulled, take_row, take_header, newer, version_in, ignored, without, shadow_of, acked}
@@ -86,7 +86,7 @@ show_few node table row = at (table_at node table)
 sync_few : (node : Client) (table : ℕ) → AreFew (sync_step node table).facts
 sync_few node table = at (table_at node table)
   where
-    first : (t : ClientTable) (again : List Message) (o : Option (List ℕ × Out)) → AreFew (sync_first node table t again o).facts
+    first : (t : ClientTable) (again : List Message) (o : Option (List ℕ × InFlight)) → AreFew (sync_first node table t again o).facts
     first t again None = few_none
     first t again (Some x) = few_none
 
@@ -106,17 +106,17 @@ deliver_few node (messages.SyncRequest request) = few_none
 deliver_few node (messages.PullRequest request) = few_none
 deliver_few node (messages.SyncResponse response) = at (table_at node response.table)
   where
-    outcome : (t : ClientTable) (out : Out) (o : Outcome) → AreFew (take_outcome node response.table t response.row (slots_at t response.row) out o).facts
+    outcome : (t : ClientTable) (out : InFlight) (o : Outcome) → AreFew (take_outcome node response.table t response.row (slots_at t response.row) out o).facts
     outcome t out (outcomes.Accepted version) = record { writes = omega arith; entries = λ n. omega arith }
     outcome t out (outcomes.Again version) = record { writes = omega arith; entries = λ n. omega arith }
     outcome t out (outcomes.Late last) = few_none
 
-    numbered : (t : ClientTable) (out : Out) (b : Bool)
+    numbered : (t : ClientTable) (out : InFlight) (b : Bool)
         → AreFew (if b then take_outcome node response.table t response.row (slots_at t response.row) out response.outcome else ignored node).facts
     numbered t out true = outcome t out response.outcome
     numbered t out false = few_none
 
-    waiting : (t : ClientTable) (o : Option Out) → AreFew (take_response node t response o).facts
+    waiting : (t : ClientTable) (o : Option InFlight) → AreFew (take_response node t response o).facts
     waiting t None = few_none
     waiting t (Some out) = numbered t out (out.number == response.number)
 
@@ -131,7 +131,7 @@ deliver_few node (messages.PullResponse response) = at (table_at node response.t
         with_last : Taken → List Fact
         with_last taken = taken.facts ++ facts.Position node.number table response.to ∷ []
 
-        both : (out : Out) → Taken
+        both : (out : InFlight) → Taken
         both out = record {
           slots = record { main = without out.number slots.main; shadow = Some (shadow_of header); out = None };
           facts = acked node.number table header.row out.number header.yours.version ∷ facts.New node.number table header.row header.version ∷ [];
@@ -140,11 +140,11 @@ deliver_few node (messages.PullResponse response) = at (table_at node response.t
         row : Taken
         row = record { slots = record slots { shadow = Some (shadow_of header) }; facts = facts.New node.number table header.row header.version ∷ [] }
 
-        sent : (out : Out) (b : Bool) → AreFew (with_last (if b then both out else row))
+        sent : (out : InFlight) (b : Bool) → AreFew (with_last (if b then both out else row))
         sent out true = record { writes = omega arith; entries = λ n. omega arith }
         sent out false = record { writes = omega arith; entries = λ n. omega arith }
 
-        new : (o : Option Out) → AreFew (with_last (newer node.number table header slots o))
+        new : (o : Option InFlight) → AreFew (with_last (newer node.number table header slots o))
         new None = record { writes = omega arith; entries = λ n. omega arith }
         new (Some out) = sent out (nat_le out.number header.yours.number)
 

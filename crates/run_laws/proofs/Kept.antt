@@ -7,19 +7,19 @@ use Rattle.row_value.specs.declared.content.Content.{Content}
 use Rattle.table_model.specs.declared.entry.Entry.{Entry}
 use Rattle.table_model.specs.declared.line.TextLine.{TextLine}
 use Rattle.table_model.specs.declared.line.Write.{Write}
-use Rattle.table_model.specs.declared.node.Node.{Node}
-use Rattle.table_model.specs.declared.node.Node.TheVariants as nodes
+use Rattle.stab_base.specs.declared.node.Node.{Node}
+use Rattle.stab_base.specs.declared.node.Node.TheVariants as nodes
 use Rattle.table_model.specs.History.{history_of, current}
 use Rattle.table_model.specs.Writes.{all_writes, writes_of, last_write}
-use Rattle.sync_msgs.specs.declared.message.Message.{Message}
-use Rattle.sync_msgs.specs.declared.message.Message.TheVariants as messages
-use Rattle.sync_msgs.specs.declared.message.Outcome.{Outcome}
-use Rattle.sync_msgs.specs.declared.message.Outcome.TheVariants as outcomes
-use Rattle.sync_msgs.specs.declared.message.PullResponse.{PullResponse}
-use Rattle.sync_msgs.specs.declared.message.SyncRequest.{SyncRequest}
-use Rattle.sync_msgs.specs.declared.message.SyncResponse.{SyncResponse}
+use Rattle.step_tables.specs.declared.message.Message.{Message}
+use Rattle.step_tables.specs.declared.message.Message.TheVariants as messages
+use Rattle.step_tables.specs.declared.message.Outcome.{Outcome}
+use Rattle.step_tables.specs.declared.message.Outcome.TheVariants as outcomes
+use Rattle.step_tables.specs.declared.message.PullResponse.{PullResponse}
+use Rattle.step_tables.specs.declared.message.SyncRequest.{SyncRequest}
+use Rattle.step_tables.specs.declared.message.SyncResponse.{SyncResponse}
 use Rattle.step_tables.specs.declared.slots.Main.{Main}
-use Rattle.step_tables.specs.declared.slots.Out.{Out}
+use Rattle.step_tables.specs.declared.slots.InFlight.{InFlight}
 use Rattle.step_tables.specs.declared.slots.Shadow.{Shadow}
 use Rattle.step_tables.specs.declared.slots.Slots.{Slots}
 use Rattle.step_tables.specs.Store.{Stored, entries_of, pull_answer}
@@ -111,7 +111,7 @@ main_of write = record { number = write.number; read = write.read; content = wri
 
 -- what was sent of a row and isn't answered: its write is open, nothing later was sent, and where it was accepted, it was
 -- so behind what the client has read
-pub record OutKept (packets : List Packet) (before : List TextLine) (client table : ℕ) (row : List ℕ) (slots : Slots) (out : Out) : Type 0 where
+pub record OutKept (packets : List Packet) (before : List TextLine) (client table : ℕ) (row : List ℕ) (slots : Slots) (out : InFlight) : Type 0 where
   pub written : Wrote before client out.number table row out.content
   pub base : (out.base ≡ 0) ⊎ HasEntry before table row out.base
   pub later : (entry : Entry) → Among (history_of table before) entry → entry.client ≡ client → entry.row ≡ row
@@ -125,7 +125,7 @@ pub record SlotsKept (packets : List Packet) (before : List TextLine) (client ta
   pub read : version_in slots.shadow ≡ read_of client table row before
   pub shadow : (shadow : Shadow) → slots.shadow ≡ Some shadow → (0 < shadow.version) × HasEntry before table row shadow.version
       × (content_at table shadow.version before ≡ Some shadow.content)
-  pub out : (out : Out) → slots.out ≡ Some out → OutKept packets before client table row slots out
+  pub out : (out : InFlight) → slots.out ≡ Some out → OutKept packets before client table row slots out
   pub unsent : (main : Main) → slots.main ≡ Some main → slots.out ≡ None
       → (number : ℕ) → Requested packets client table row number → number < main.number
 

@@ -13,14 +13,14 @@ use Rattle.table_model.specs.declared.line.Refusal.TheVariants as refusals
 use Rattle.table_model.specs.declared.line.Shown.{Shown}
 use Rattle.table_model.specs.declared.line.TextLine.{TextLine}
 use Rattle.table_model.specs.declared.line.TextLine.TheVariants as text
-use Rattle.table_model.specs.declared.node.Node.{Node}
-use Rattle.table_model.specs.declared.node.Node.TheVariants as nodes
-use Rattle.sync_msgs.specs.declared.message.Message.{Message}
-use Rattle.sync_msgs.specs.declared.message.Message.TheVariants as messages
-use Rattle.sync_msgs.specs.declared.message.RowHeader.{RowHeader}
-use Rattle.sync_msgs.specs.declared.message.Outcome.{Outcome}
-use Rattle.sync_msgs.specs.declared.message.Outcome.TheVariants as outcomes
-use Rattle.step_tables.specs.declared.slots.Out.{Out}
+use Rattle.stab_base.specs.declared.node.Node.{Node}
+use Rattle.stab_base.specs.declared.node.Node.TheVariants as nodes
+use Rattle.step_tables.specs.declared.message.Message.{Message}
+use Rattle.step_tables.specs.declared.message.Message.TheVariants as messages
+use Rattle.step_tables.specs.declared.message.RowHeader.{RowHeader}
+use Rattle.step_tables.specs.declared.message.Outcome.{Outcome}
+use Rattle.step_tables.specs.declared.message.Outcome.TheVariants as outcomes
+use Rattle.step_tables.specs.declared.slots.InFlight.{InFlight}
 use Rattle.step_tables.specs.Store.{Stored, StoreStep, entries_of, current_of, store_step}
 use Rattle.step_tables.specs.Client.{Client, ClientStep, ClientTable, table_at, slots_at, write_to, write_fitting, write_step, show_in, show_step, show_answer, shown_in, sync_in, sync_first, sync_step, resent, first_to_send, pull_in, pull_step, deliver_step, response_in, take_response, take_outcome, pulled_in, take_pulled, take_row, take_header, ignored}
 use Rattle.run_laws.specs.World.{World, Packet, stored_at, client_at, the_store, packets_of, at_client, call, to_store, to_client, carried, delivered, table_in, store_row, store_shows, history_lines, entry_lines, answer_lines, sent_from, step}
@@ -54,7 +54,7 @@ show_form node client table row = at (table_at node table)
 sync_form : (node : Client) (client table : ℕ) → IsForm (events.Sync client table) (sync_step node table).answer
 sync_form node client table = at (table_at node table)
   where
-    first : (t : ClientTable) (again : List Message) (o : Option (List ℕ × Out)) → IsForm (events.Sync client table) (sync_first node table t again o).answer
+    first : (t : ClientTable) (again : List Message) (o : Option (List ℕ × InFlight)) → IsForm (events.Sync client table) (sync_first node table t again o).answer
     first t again None = tt
     first t again (Some x) = tt
 
@@ -93,17 +93,17 @@ taken_done node (messages.SyncRequest request) = refl
 taken_done node (messages.PullRequest request) = refl
 taken_done node (messages.SyncResponse response) = at (table_at node response.table)
   where
-    outcome_done : (t : ClientTable) (out : Out) (o : Outcome) → (take_outcome node response.table t response.row (slots_at t response.row) out o).answer ≡ answers.Done
+    outcome_done : (t : ClientTable) (out : InFlight) (o : Outcome) → (take_outcome node response.table t response.row (slots_at t response.row) out o).answer ≡ answers.Done
     outcome_done t out (outcomes.Accepted version) = refl
     outcome_done t out (outcomes.Again version) = refl
     outcome_done t out (outcomes.Late last) = refl
 
-    numbered : (t : ClientTable) (out : Out) (b : Bool)
+    numbered : (t : ClientTable) (out : InFlight) (b : Bool)
         → (if b then take_outcome node response.table t response.row (slots_at t response.row) out response.outcome else ignored node).answer ≡ answers.Done
     numbered t out true = outcome_done t out response.outcome
     numbered t out false = refl
 
-    waiting : (t : ClientTable) (o : Option Out) → (take_response node t response o).answer ≡ answers.Done
+    waiting : (t : ClientTable) (o : Option InFlight) → (take_response node t response o).answer ≡ answers.Done
     waiting t None = refl
     waiting t (Some out) = numbered t out (out.number == response.number)
 

@@ -7,7 +7,7 @@ use Rattle.table_model.specs.declared.line.TextLine.{TextLine}
 use Rattle.table_model.specs.declared.line.Write.{Write}
 use Rattle.table_model.specs.History.{same_row, history_of, current, version_of, last_entry, is_of_row}
 use Rattle.table_model.specs.Writes.{all_writes}
-use Rattle.step_tables.specs.declared.slots.Out.{Out}
+use Rattle.step_tables.specs.declared.slots.InFlight.{InFlight}
 use Rattle.step_tables.specs.declared.slots.Shadow.{Shadow}
 use Rattle.step_tables.specs.declared.slots.Slots.{Slots}
 use Rattle.step_tables.specs.Store.{Stored}
@@ -67,7 +67,7 @@ module _ (packets later_packets : List Packet) (before more : List TextLine) (cl
     (fewer : (table : ℕ) (row : List ℕ) (number : ℕ) → Requested later_packets client table row number → Requested packets client table row number)
     (adds : (table : ℕ) → Adds (history_of table before) (history_of table (before ++ more)))
     (within : (table : ℕ) (entry : Entry) → Among (history_of table before) entry → entry.version ≤ length (history_of table before)) where
-  OutKept-stays : (table : ℕ) (row : List ℕ) (slots : Slots) (out : Out) → version_in slots.shadow ≤ length (history_of table before)
+  OutKept-stays : (table : ℕ) (row : List ℕ) (slots : Slots) (out : InFlight) → version_in slots.shadow ≤ length (history_of table before)
       → OutKept packets before client table row slots out → OutKept later_packets (before ++ more) client table row slots out
   OutKept-stays table row slots out bound k = record {
     written = Wrote-more before more client out.number table row out.content k.written;

@@ -7,13 +7,13 @@ use Rattle.table_model.specs.declared.entry.Entry.{Entry}
 use Rattle.table_model.specs.declared.line.Answer.TheVariants.{Done}
 use Rattle.table_model.specs.declared.line.Fact.TheVariants as facts
 use Rattle.table_model.specs.declared.line.TextLine.{TextLine}
-use Rattle.table_model.specs.declared.node.Node.{Node}
+use Rattle.stab_base.specs.declared.node.Node.{Node}
 use Rattle.table_model.specs.History.{history_of}
 use Rattle.table_model.specs.Writes.{all_writes}
-use Rattle.sync_msgs.specs.declared.message.Message.{Message}
-use Rattle.sync_msgs.specs.declared.message.Message.TheVariants as messages
-use Rattle.sync_msgs.specs.declared.message.Outcome.TheVariants as outcomes
-use Rattle.sync_msgs.specs.declared.message.SyncRequest.{SyncRequest}
+use Rattle.step_tables.specs.declared.message.Message.{Message}
+use Rattle.step_tables.specs.declared.message.Message.TheVariants as messages
+use Rattle.step_tables.specs.declared.message.Outcome.TheVariants as outcomes
+use Rattle.step_tables.specs.declared.message.SyncRequest.{SyncRequest}
 use Rattle.step_tables.specs.Store.{Stored, accept, entry_for, entries_of, respond}
 use Rattle.run_laws.specs.World.{World, Packet, the_store, packets_of, after_store, answer_lines, told, sent_from}
 use Rattle.run_laws.specs.Lines.{content_at}

@@ -6,8 +6,8 @@ use Rattle.table_model.specs.declared.event.Event.TheVariants as events
 use Rattle.table_model.specs.declared.line.Answer.TheVariants as answers
 use Rattle.table_model.specs.declared.line.Refusal.TheVariants as refusals
 use Rattle.table_model.specs.declared.line.TextLine.{TextLine}
-use Rattle.table_model.specs.declared.node.Node.{Node}
-use Rattle.table_model.specs.declared.node.Node.TheVariants as nodes
+use Rattle.stab_base.specs.declared.node.Node.{Node}
+use Rattle.stab_base.specs.declared.node.Node.TheVariants as nodes
 use Rattle.step_tables.specs.Store.{Stored}
 use Rattle.step_tables.specs.Client.{Client, ClientStep, write_step, show_step, sync_step, pull_step, deliver_step}
 use Rattle.run_laws.specs.World.{World, Packet, start, stored_at, client_at, at_client, call, to_store, to_client, carried, delivered, table_in, step}

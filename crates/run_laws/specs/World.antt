@@ -15,11 +15,11 @@ use Rattle.table_model.specs.declared.line.Refusal.{Refusal}
 use Rattle.table_model.specs.declared.line.Refusal.TheVariants as refusals
 use Rattle.table_model.specs.declared.line.TextLine.{TextLine}
 use Rattle.table_model.specs.declared.line.TextLine.TheVariants as lines
-use Rattle.table_model.specs.declared.node.Node.{Node}
-use Rattle.table_model.specs.declared.node.Node.TheVariants as nodes
-use Rattle.sync_msgs.specs.declared.message.Message.{Message}
-use Rattle.sync_msgs.specs.declared.message.Message.TheVariants as messages
-use Rattle.sync_msgs.specs.Names.{name_of}
+use Rattle.stab_base.specs.declared.node.Node.{Node}
+use Rattle.stab_base.specs.declared.node.Node.TheVariants as nodes
+use Rattle.step_tables.specs.declared.message.Message.{Message}
+use Rattle.step_tables.specs.declared.message.Message.TheVariants as messages
+use Rattle.step_tables.specs.Names.{name_of}
 use Rattle.step_tables.specs.Store.{Stored, StoreStep, entries_of, current_of, store_step}
 use Rattle.step_tables.specs.Client.{Client, ClientStep, opened, write_step, show_step, sync_step, pull_step, deliver_step}
 

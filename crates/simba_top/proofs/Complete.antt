@@ -3,11 +3,11 @@ use Rattle.std.proofs.Common.{◌≡◌, ◌⊎◌, ℕ, ◌+◌, ◌<◌, ◌�
 use Rattle.std.specs.Prelude.{nat_lt, slice_get}
 use Rattle.table_model.specs.declared.event.Event.{Event}
 use Rattle.table_model.specs.declared.event.Event.TheVariants as events
-use Rattle.table_model.specs.declared.node.Node.{Node}
-use Rattle.table_model.specs.declared.node.Node.TheVariants as nodes
+use Rattle.stab_base.specs.declared.node.Node.{Node}
+use Rattle.stab_base.specs.declared.node.Node.TheVariants as nodes
 use Rattle.row_value.specs.declared.content.Content.{Content}
-use Rattle.sync_msgs.specs.declared.message.Message.{Message}
-use Rattle.sync_msgs.specs.declared.message.Message.TheVariants as messages
+use Rattle.step_tables.specs.declared.message.Message.{Message}
+use Rattle.step_tables.specs.declared.message.Message.TheVariants as messages
 use Rattle.step_tables.specs.Store.{Stored, StoreStep, yours_of, entry_for, accept, store_step}
 use Rattle.step_tables.specs.Client.{Client}
 use Rattle.run_laws.specs.World.{Packet, client_at, stored_at, table_in}

@@ -1,4 +1,5 @@
-//! Numbers, byte strings and row ids that every crate of the service speaks of, and how they are spelled.
+//! Numbers, byte strings, row ids and parties that every crate of the service speaks of, and how numbers and bytes are
+//! spelled.
 #![tactic(auto)]
 
 mod bytes;
@@ -6,9 +7,12 @@ mod chunk_name;
 mod codec;
 mod limits;
 mod names;
+mod node;
 mod numbers;
 mod row;
+mod row_version;
 mod sequence;
+mod step;
 
 pub use bytes::Bytes;
 pub use chunk_name::ChunkName;
@@ -18,6 +22,9 @@ pub use codec::{
 };
 pub use limits::NUMBER_MAX;
 pub use names::Names;
+pub use node::Node;
 pub use numbers::{ClientNo, GateNo, StoreNo, TableNo, Version, WriteNo};
 pub use row::RowId;
+pub use row_version::{RowVersion, Rows};
 pub use sequence::Sequence;
+pub use step::Step;

@@ -11,7 +11,7 @@ use Rattle.stab_base.specs.declared.codec.TakeFault.TheVariants.{Short}
 use Rattle.stab_base.specs.declared.limits.TheConstants.{NUMBER_MAX}
 use Rattle.stab_base.specs.Codec.{byte_at, number_at}
 use Rattle.stab_base.proofs.Fields.{wide32, wide64, byte_again, number_again}
-use Rattle.row_value.specs.Spelling.{name_spelling}
+use Rattle.value_codec.specs.Spelling.{name_spelling}
 use Rattle.status_log.specs.Entry.{Entry, HasSpelling}
 use Rattle.status_log.specs.Payload.{open_payload, close_payload, opening_of, id_at, opening_at, is_whole, entry_in, opens, closes}
 use Rattle.status_log.specs.Memory.{IsOpening}

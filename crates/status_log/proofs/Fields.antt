@@ -6,7 +6,7 @@ use Rattle.std.proofs.lemmas.Bool.{le-ltb}
 use Rattle.std.proofs.lemmas.List.{take_all, drop-drop}
 use Rattle.stab_base.specs.declared.codec.TakeFault.{TakeFault}
 use Rattle.stab_base.specs.declared.codec.TakeFault.TheVariants.{Short}
-use Rattle.row_value.specs.Spelling.{name_spelling, list_spelling}
+use Rattle.value_codec.specs.Spelling.{name_spelling, list_spelling}
 use Rattle.status_log.specs.Entry.{Entry, size_of}
 use Rattle.status_log.specs.Payload.{id_at, open_payload}
 use Rattle.status_log.proofs.Twelves.{length-names}

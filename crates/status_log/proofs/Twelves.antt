@@ -7,7 +7,7 @@ use Rattle.std.proofs.lemmas.List.Concat.{flat_map-cons}
 use Rattle.std.proofs.lemmas.Grind.{flat_map-append}
 use Rattle.stab_base.proofs.Fields.{wide32, wide64}
 use Rattle.stab_base.specs.declared.chunk_name.ChunkName.{ChunkName}
-use Rattle.row_value.specs.Spelling.{name_spelling, HasNameSpelling}
+use Rattle.value_codec.specs.Spelling.{name_spelling, HasNameSpelling}
 use Rattle.status_log.specs.Payload.{name_in, names_in}
 
 -- one name more

@@ -4,7 +4,7 @@ use Rattle.std.specs.List.{AllByRecursion}
 use Rattle.vault.specs.declared.record.TheConstants.{PAYLOAD_MAX}
 use Rattle.stab_base.specs.declared.chunk_name.ChunkName.{ChunkName}
 use Rattle.stab_base.specs.declared.limits.TheConstants.{NUMBER_MAX}
-use Rattle.row_value.specs.Spelling.{HasNameSpelling}
+use Rattle.value_codec.specs.Spelling.{HasNameSpelling}
 use Rattle.status_log.specs.declared.entry.LogEntry.{LogEntry}
 
 pub record Entry : Type 0 where

@@ -6,7 +6,7 @@ use Rattle.stab_base.specs.declared.codec.TakeFault.{TakeFault}
 use Rattle.stab_base.specs.declared.codec.TakeFault.TheVariants.{Short}
 use Rattle.stab_base.specs.declared.limits.TheConstants.{NUMBER_MAX}
 use Rattle.stab_base.specs.Codec.{◌>>=◌, byte_at, number_at}
-use Rattle.row_value.specs.Spelling.{name_spelling, list_spelling}
+use Rattle.value_codec.specs.Spelling.{name_spelling, list_spelling}
 use Rattle.status_log.specs.declared.payload.Opening.{Opening}
 use Rattle.status_log.specs.Entry.{Entry}
 

@@ -1,7 +1,7 @@
 //! Names, twelve bytes each.
 ghost use Rattle.std.specs.Prelude.{◌≡◌, ◌+◌, ◌*◌, ◌<◌, ◌≤◌, ◌++◌, length, drop};
 ghost use Rattle.std.specs.Vec.{vec_capacity, vec_len};
-ghost use Rattle.row_value.specs.Spelling.{name_spelling, list_spelling};
+ghost use Rattle.value_codec.specs.Spelling.{name_spelling, list_spelling};
 ghost use Rattle.status_log.specs.Payload.{name_in, names_in};
 
 use stab_base::{ChunkName, put_u32, put_u64, take_u32, take_u64};

@@ -18,15 +18,15 @@ use Rattle.table_model.specs.declared.line.Refusal.{Refusal}
 use Rattle.table_model.specs.declared.line.Refusal.TheVariants as refusals
 use Rattle.table_model.specs.declared.line.Shown.{Shown}
 use Rattle.table_model.specs.declared.line.Shown.TheVariants as shown
-use Rattle.sync_msgs.specs.declared.message.Message.{Message}
-use Rattle.sync_msgs.specs.declared.message.Message.TheVariants as messages
-use Rattle.sync_msgs.specs.declared.message.Outcome.{Outcome}
-use Rattle.sync_msgs.specs.declared.message.Outcome.TheVariants as outcomes
-use Rattle.sync_msgs.specs.declared.message.PullResponse.{PullResponse}
-use Rattle.sync_msgs.specs.declared.message.RowHeader.{RowHeader}
-use Rattle.sync_msgs.specs.declared.message.SyncResponse.{SyncResponse}
+use Rattle.step_tables.specs.declared.message.Message.{Message}
+use Rattle.step_tables.specs.declared.message.Message.TheVariants as messages
+use Rattle.step_tables.specs.declared.message.Outcome.{Outcome}
+use Rattle.step_tables.specs.declared.message.Outcome.TheVariants as outcomes
+use Rattle.step_tables.specs.declared.message.PullResponse.{PullResponse}
+use Rattle.step_tables.specs.declared.message.RowHeader.{RowHeader}
+use Rattle.step_tables.specs.declared.message.SyncResponse.{SyncResponse}
 use Rattle.step_tables.specs.declared.slots.Main.{Main}
-use Rattle.step_tables.specs.declared.slots.Out.{Out}
+use Rattle.step_tables.specs.declared.slots.InFlight.{InFlight}
 use Rattle.step_tables.specs.declared.slots.Shadow.{Shadow}
 use Rattle.step_tables.specs.declared.slots.Slots.{Slots}
 
@@ -150,7 +150,7 @@ show_step client number row = show_in client row (table_at client number)
 
 -- ---- sync
 
-abbrev pub request_for : ℕ → ℕ → List ℕ → Out → Message
+abbrev pub request_for : ℕ → ℕ → List ℕ → InFlight → Message
 request_for client table row out = messages.SyncRequest (record {
   client = client;
   token = 0;
@@ -167,24 +167,24 @@ resent client table [] = []
 resent client table (entry ∷ rows) = option_to_list (option_map (request_for client table entry.0) entry.1.out) ++ resent client table rows
 
 -- Main as it is sent
-abbrev pub out_for : Option Shadow → Main → Out
+abbrev pub out_for : Option Shadow → Main → InFlight
 out_for shadow main = record { number = main.number; read = main.read; base = version_in shadow; content = main.content }
 
 -- what a row sends next: its Main, where nothing of it waits for an answer
-abbrev pub to_send : Option Out → Option Main → Option Shadow → Option Out
+abbrev pub to_send : Option InFlight → Option Main → Option Shadow → Option InFlight
 to_send None main shadow = option_map (out_for shadow) main
 to_send (Some out) main shadow = None
 
-abbrev pub or_later : List ℕ → Option Out → Option (List ℕ × Out) → Option (List ℕ × Out)
+abbrev pub or_later : List ℕ → Option InFlight → Option (List ℕ × InFlight) → Option (List ℕ × InFlight)
 or_later row None later = later
 or_later row (Some out) later = Some (row, out)
 
 -- the first row that has something to send
-abbrev pub first_to_send : List (List ℕ × Slots) → Option (List ℕ × Out)
+abbrev pub first_to_send : List (List ℕ × Slots) → Option (List ℕ × InFlight)
 first_to_send [] = None
 first_to_send (entry ∷ rows) = or_later entry.0 (to_send entry.1.out entry.1.main entry.1.shadow) (first_to_send rows)
 
-abbrev pub sync_first : Client → ℕ → ClientTable → List Message → Option (List ℕ × Out) → ClientStep
+abbrev pub sync_first : Client → ℕ → ClientTable → List Message → Option (List ℕ × InFlight) → ClientStep
 sync_first client number table again None =
     record { client = client; answer = answers.Number (length again); messages = again; facts = [] }
 sync_first client number table again (Some first) = record {
@@ -230,7 +230,7 @@ abbrev pub acked : ℕ → ℕ → List ℕ → ℕ → ℕ → Fact
 acked client table row number version = facts.Acked client number table row version
 
 -- Out's write was accepted at this version
-abbrev pub take_accepted : Client → ℕ → ClientTable → List ℕ → Slots → Out → ℕ → ClientStep
+abbrev pub take_accepted : Client → ℕ → ClientTable → List ℕ → Slots → InFlight → ℕ → ClientStep
 take_accepted client number table row slots out version = record {
   client = with_table client number (with_slots table row (record {
     main = without out.number slots.main;
@@ -242,12 +242,12 @@ take_accepted client number table row slots out version = record {
   facts = acked client.number number row out.number version ∷ [];
 }
 
-abbrev pub take_outcome : Client → ℕ → ClientTable → List ℕ → Slots → Out → Outcome → ClientStep
+abbrev pub take_outcome : Client → ℕ → ClientTable → List ℕ → Slots → InFlight → Outcome → ClientStep
 take_outcome client number table row slots out (outcomes.Accepted version) = take_accepted client number table row slots out version
 take_outcome client number table row slots out (outcomes.Again version) = take_accepted client number table row slots out version
 take_outcome client number table row slots out (outcomes.Late last) = ignored client
 
-abbrev pub take_response : Client → ClientTable → SyncResponse → Option Out → ClientStep
+abbrev pub take_response : Client → ClientTable → SyncResponse → Option InFlight → ClientStep
 take_response client table response None = ignored client
 take_response client table response (Some out) =
     if out.number == response.number
@@ -269,7 +269,7 @@ abbrev pub shadow_of : RowHeader → Shadow
 shadow_of header = record { version = header.version; content = header.content }
 
 -- the row is read; a write of Out up to the number in `yours` was accepted
-abbrev pub newer : ℕ → ℕ → RowHeader → Slots → Option Out → Taken
+abbrev pub newer : ℕ → ℕ → RowHeader → Slots → Option InFlight → Taken
 newer client table header slots None = record {
   slots = record slots { shadow = Some (shadow_of header) };
   facts = facts.New client table header.row header.version ∷ [];

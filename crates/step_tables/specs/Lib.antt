@@ -1,3 +1,4 @@
+pub mod Names
 pub mod Store
 pub mod Client
 pub mod Members

@@ -7,14 +7,14 @@ use Rattle.table_model.specs.declared.line.Fact.{Fact}
 use Rattle.table_model.specs.declared.line.Fact.TheVariants as facts
 use Rattle.table_model.specs.Last.{last_where}
 use Rattle.table_model.specs.History.{same_row}
-use Rattle.sync_msgs.specs.declared.message.Message.{Message}
-use Rattle.sync_msgs.specs.declared.message.Message.TheVariants as messages
-use Rattle.sync_msgs.specs.declared.message.Outcome.{Outcome}
-use Rattle.sync_msgs.specs.declared.message.Outcome.TheVariants as outcomes
-use Rattle.sync_msgs.specs.declared.message.PullResponse.{PullResponse}
-use Rattle.sync_msgs.specs.declared.message.RowHeader.{RowHeader}
-use Rattle.sync_msgs.specs.declared.message.SyncRequest.{SyncRequest}
-use Rattle.sync_msgs.specs.declared.message.Yours.{Yours}
+use Rattle.step_tables.specs.declared.message.Message.{Message}
+use Rattle.step_tables.specs.declared.message.Message.TheVariants as messages
+use Rattle.step_tables.specs.declared.message.Outcome.{Outcome}
+use Rattle.step_tables.specs.declared.message.Outcome.TheVariants as outcomes
+use Rattle.step_tables.specs.declared.message.PullResponse.{PullResponse}
+use Rattle.step_tables.specs.declared.message.RowHeader.{RowHeader}
+use Rattle.step_tables.specs.declared.message.SyncRequest.{SyncRequest}
+use Rattle.step_tables.specs.declared.message.Yours.{Yours}
 
 -- an entry of the history, and what was written
 pub record Stored : Type 0 where

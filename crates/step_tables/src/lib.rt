@@ -2,6 +2,12 @@
 //! and which facts it tells. The nodes are proved to do this, and the laws are proved of it.
 #![tactic(auto)]
 
+mod message;
+mod out;
 mod slots;
 
-pub use slots::{Main, Out, Shadow, Slots};
+pub use message::{
+    Message, Outcome, PullRequest, PullResponse, RowHeader, SyncRequest, SyncResponse, Yours,
+};
+pub use out::{Addressed, Out};
+pub use slots::{InFlight, Main, Shadow, Slots};

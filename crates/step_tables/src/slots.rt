@@ -20,7 +20,7 @@ pub struct Shadow {
 
 /// The write of a row that was sent and isn't answered yet.
 #[derive(Debug, Drop, Clone)]
-pub struct Out {
+pub struct InFlight {
     pub number: WriteNo,
     pub read: Version,
     /// The version that the write rests on.
@@ -33,5 +33,5 @@ pub struct Out {
 pub struct Slots {
     pub main: Option<Main>,
     pub shadow: Option<Shadow>,
-    pub out: Option<Out>,
+    pub out: Option<InFlight>,
 }

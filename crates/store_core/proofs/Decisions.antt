@@ -1,8 +1,8 @@
 -- How long a history is behind a request.
 use Rattle.std.proofs.Common.{◌≡◌, ◌≢◌, ℕ, ◌+◌, ◌≤◌, List, length, length-append, arith}
 use Rattle.std.proofs.lemmas.Bool.Decides.{nat_tests}
-use Rattle.sync_msgs.specs.declared.message.SyncRequest.{SyncRequest}
-use Rattle.sync_msgs.specs.declared.message.Yours.{Yours}
+use Rattle.step_tables.specs.declared.message.SyncRequest.{SyncRequest}
+use Rattle.step_tables.specs.declared.message.Yours.{Yours}
 use Rattle.step_tables.specs.Store.{Stored, decide}
 
 pub length-decide : (table : ℕ) (stored : List Stored) (request : SyncRequest) (yours : Yours)

@@ -12,7 +12,7 @@ use Rattle.std.specs.declared.cmp.Ordering.TheVariants.{Less, Equal, Greater}
 use Rattle.stab_base.specs.declared.limits.TheConstants.{NUMBER_MAX}
 use Rattle.table_model.specs.Last.{last_where}
 use Rattle.table_model.specs.History.{same_row}
-use Rattle.sync_msgs.specs.declared.message.Yours.{Yours}
+use Rattle.step_tables.specs.declared.message.Yours.{Yours}
 use Rattle.step_tables.specs.Store.{Stored, is_of_row, is_of_client, current_of, yours_of, yours_in}
 use Rattle.store_core.specs.declared.rows.Row.{Row}
 use Rattle.store_core.specs.declared.rows.Rows.{Rows}

@@ -7,11 +7,11 @@ use Rattle.std.specs.Ordering.{nat_cmp, ordering_then}
 use Rattle.std.specs.Cmp.Lexicographic.{slice_cmp}
 use Rattle.std.specs.declared.cmp.Ordering.{Ordering}
 use Rattle.stab_base.specs.declared.limits.TheConstants.{NUMBER_MAX}
-use Rattle.table_model.specs.declared.node.Node.{Node}
+use Rattle.stab_base.specs.declared.node.Node.{Node}
 use Rattle.table_model.specs.declared.line.Fact.{Fact}
-use Rattle.sync_msgs.specs.declared.message.Message.{Message}
-use Rattle.sync_msgs.specs.declared.message.Yours.{Yours}
-use Rattle.sync_msgs.specs.declared.out.Out.{Out}
+use Rattle.step_tables.specs.declared.message.Message.{Message}
+use Rattle.step_tables.specs.declared.message.Yours.{Yours}
+use Rattle.step_tables.specs.declared.out.Out.{Out}
 use Rattle.step_tables.specs.Store.{Stored, is_of_row, current_of, yours_of}
 use Rattle.store_core.specs.declared.rows.Row.{Row}
 use Rattle.store_core.specs.declared.rows.Rows.{Rows}

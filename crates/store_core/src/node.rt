@@ -8,7 +8,7 @@ use row_value::{ClientNo, Content, RowId, Sequence, TableNo, Version};
 use stab_base::NUMBER_MAX;
 use std::alloc::Global;
 use std::mem;
-use sync_msgs::{
+use step_tables::{
     Addressed, Message, Out, Outcome, PullRequest, PullResponse, RowHeader, SyncRequest,
     SyncResponse,
 };

@@ -17,7 +17,7 @@ use stab_base::NUMBER_MAX;
 use std::alloc::Global;
 use std::collections::BTreeMap;
 use std::ops::Bound;
-use sync_msgs::{SyncRequest, Yours};
+use step_tables::{SyncRequest, Yours};
 
 /// A row as it is now.
 #[derive(Drop)]

@@ -2,7 +2,7 @@ use super::*;
 use row_value::{Cell, Content, RowId, Sequence, Version, WriteNo};
 use std::alloc::Global;
 use std::test::Fail;
-use sync_msgs::{Message, Out, Outcome, PullRequest, SyncRequest, Yours};
+use step_tables::{Message, Out, Outcome, PullRequest, SyncRequest, Yours};
 use table_model::{Fact, Node};
 
 const CLIENT: Node = Node::Client(3);

@@ -6,10 +6,9 @@ mod entry;
 mod event;
 mod line;
 mod message_name;
-mod node;
 
 pub use entry::{Entry, History, current};
 pub use event::{Event, Tables};
 pub use line::{Answer, Fact, Facts, Refusal, Shown, TextLine, Write};
 pub use message_name::MessageName;
-pub use node::Node;
+pub use stab_base::Node;

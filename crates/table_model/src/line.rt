@@ -2,8 +2,8 @@ ghost use Rattle.std.specs.Prelude.{◌≡◌, IfOk};
 
 use crate::entry::Entry;
 use crate::message_name::MessageName;
-use crate::node::Node;
 use row_value::{ClientNo, Content, RowId, Sequence, TableNo, Version, WriteNo};
+use stab_base::Node;
 use std::alloc::AllocError;
 
 /// A write of a client: its number among the client's writes, the version of the row that the client had read, and

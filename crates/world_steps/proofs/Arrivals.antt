@@ -5,7 +5,7 @@ use Rattle.std.specs.Ordering.{nat_cmp}
 use Rattle.std.specs.BTreeMap as tree
 use Rattle.std.specs.BTreeMap.{is_at}
 use Rattle.stab_base.specs.declared.limits.TheConstants.{NUMBER_MAX}
-use Rattle.sync_msgs.specs.declared.out.Out.{Out}
+use Rattle.step_tables.specs.declared.out.Out.{Out}
 use Rattle.step_tables.specs.Store.{Stored, store_step}
 use Rattle.store_core.specs.Holds.{and_more}
 use Rattle.run_laws.specs.World.{Packet, table_in, stored_at, to_store}

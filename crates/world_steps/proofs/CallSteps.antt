@@ -6,8 +6,8 @@ use Rattle.std.specs.BTreeMap as tree
 use Rattle.std.specs.BTreeMap.{is_at}
 use Rattle.table_model.specs.declared.line.Answer.{Answer}
 use Rattle.table_model.specs.declared.line.TextLine.{TextLine}
-use Rattle.table_model.specs.declared.node.Node.TheVariants as nodes
-use Rattle.sync_msgs.specs.declared.out.Out.{Out}
+use Rattle.stab_base.specs.declared.node.Node.TheVariants as nodes
+use Rattle.step_tables.specs.declared.out.Out.{Out}
 use Rattle.step_tables.specs.Client.{Client, ClientStep}
 use Rattle.client_core.specs.State.{NodeState, gathered}
 use Rattle.run_laws.specs.World.{WorldStep, Packet, the_store, packets_of, answer_lines, sent_from, after_client, at_client, call, client_at}

@@ -2,9 +2,9 @@
 use Rattle.std.proofs.Common.{◌≡◌, ℕ, List, [], ◌∷◌, ◌++◌, refl, sym, ap, ◌∙◌, arith, rules, append-nil, subst}
 use Rattle.std.specs.Prelude.{Result, Ok, Err, IfOk, OnOk}
 use Rattle.std.proofs.lemmas.Bool.Decides.{nat_tests}
-use Rattle.table_model.specs.declared.node.Node.{Node}
-use Rattle.sync_msgs.specs.declared.message.Message.{Message}
-use Rattle.sync_msgs.specs.declared.out.Out.{Out}
+use Rattle.stab_base.specs.declared.node.Node.{Node}
+use Rattle.step_tables.specs.declared.message.Message.{Message}
+use Rattle.step_tables.specs.declared.out.Out.{Out}
 use Rattle.step_tables.specs.Store.{Stored, entries_of, store_step}
 use Rattle.store_core.specs.Holds.{Holds, table_of, gathered, and_more}
 use Rattle.world_steps.specs.declared.hosted.Hosted.{Hosted}

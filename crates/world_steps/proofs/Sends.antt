@@ -1,9 +1,9 @@
 -- What parties send and tell, as the world has it.
 use Rattle.std.proofs.Common.{◌≡◌, List, [], ◌∷◌, ◌++◌, refl, ap}
-use Rattle.table_model.specs.declared.node.Node.{Node}
+use Rattle.stab_base.specs.declared.node.Node.{Node}
 use Rattle.table_model.specs.declared.line.Fact.{Fact}
 use Rattle.table_model.specs.declared.line.TextLine.TheVariants as lines
-use Rattle.sync_msgs.specs.declared.message.Message.{Message}
+use Rattle.step_tables.specs.declared.message.Message.{Message}
 use Rattle.client_core.specs.State.{to_owner}
 use Rattle.store_core.specs.Holds.{addressed}
 use Rattle.run_laws.specs.World.{Packet, told, the_store, packets_of}

@@ -1,9 +1,9 @@
 -- What the party of a packet sends and tells.
 use Rattle.std.specs.Prelude.{◌≡◌, ◌+◌, ◌++◌, List, length, Option, Some, None}
 use Rattle.stab_base.specs.declared.limits.TheConstants.{NUMBER_MAX}
-use Rattle.table_model.specs.declared.node.Node.{Node}
+use Rattle.stab_base.specs.declared.node.Node.{Node}
 use Rattle.table_model.specs.declared.line.Answer.TheVariants as answers
-use Rattle.sync_msgs.specs.declared.out.Out.{Out}
+use Rattle.step_tables.specs.declared.out.Out.{Out}
 use Rattle.step_tables.specs.Store.{Stored, store_step}
 use Rattle.step_tables.specs.Client.{Client, deliver_step}
 use Rattle.store_core.specs.Holds.{and_more}

@@ -8,8 +8,8 @@ use Rattle.table_model.specs.declared.event.Event.{Event}
 use Rattle.table_model.specs.declared.event.Event.TheVariants as events
 use Rattle.step_tables.specs.Store.{Stored, store_step}
 use Rattle.step_tables.specs.Client.{Client, write_step}
-use Rattle.table_model.specs.declared.node.Node.{Node}
-use Rattle.table_model.specs.declared.node.Node.TheVariants as nodes
+use Rattle.stab_base.specs.declared.node.Node.{Node}
+use Rattle.stab_base.specs.declared.node.Node.TheVariants as nodes
 use Rattle.client_core.specs.State.{NodeState, nothing_gathered}
 use Rattle.client_core.specs.Causes.{IsTaken}
 use Rattle.run_laws.specs.World.{schema_at, stored_at, client_at, table_in}

@@ -7,7 +7,7 @@ use Rattle.table_model.specs.declared.line.Answer.TheVariants as answers
 use Rattle.table_model.specs.declared.line.Fact.{Fact}
 use Rattle.table_model.specs.declared.line.Fact.TheVariants as facts
 use Rattle.table_model.specs.declared.line.Refusal.TheVariants as refusals
-use Rattle.sync_msgs.specs.declared.out.Out.{Out}
+use Rattle.step_tables.specs.declared.out.Out.{Out}
 use Rattle.step_tables.specs.Store.{Stored, entries_of}
 use Rattle.store_core.specs.Holds as store
 use Rattle.world_steps.specs.declared.hosted.Hosted.{Hosted}

@@ -1,7 +1,7 @@
 -- The packets of a network as the world has them.
 use Rattle.std.specs.Prelude.{List, map, Option, unwrap_or}
-use Rattle.table_model.specs.declared.node.Node.{Node}
-use Rattle.sync_msgs.specs.declared.message.Message.{Message}
+use Rattle.stab_base.specs.declared.node.Node.{Node}
+use Rattle.step_tables.specs.declared.message.Message.{Message}
 use Rattle.run_laws.specs.World.{the_store}
 use Rattle.run_laws.specs.World as laws
 use Rattle.world_steps.specs.declared.network.Packet.{Packet}

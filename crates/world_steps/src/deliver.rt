@@ -12,7 +12,7 @@ use client_core::ClientNode;
 use row_value::{ClientNo, TableNo};
 use std::alloc::Global;
 use std::collections::BTreeMap;
-use sync_msgs::Out;
+use step_tables::Out;
 use table_model::Node;
 
 /// Delivers a packet to its party: the party, and what it sends and tells.

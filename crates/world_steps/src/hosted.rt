@@ -8,8 +8,8 @@ use crate::fault::WorldFault;
 use row_value::{RowId, TableNo};
 use stab_base::NUMBER_MAX;
 use std::alloc::Global;
+use step_tables::{Message, Out};
 use store_core::{NodeFault, TableNode};
-use sync_msgs::{Message, Out};
 use table_model::{Answer, Fact, History, Node, Refusal};
 
 /// A table of the Store. Its node answers what it has of a row; its history is kept beside it.

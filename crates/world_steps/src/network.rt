@@ -7,7 +7,7 @@ ghost use Rattle.world_steps.specs.Network.{packets_in, packet_of, packets_from}
 use crate::fault::WorldFault;
 use row_value::{Sequence, TableNo};
 use std::alloc::Global;
-use sync_msgs::{Addressed, Message};
+use step_tables::{Addressed, Message};
 use table_model::{Fact, Node, TextLine};
 
 /// The one Store, which owns every table.

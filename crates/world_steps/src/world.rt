@@ -13,7 +13,7 @@ use client_core::ClientNode;
 use row_value::{ClientNo, Content, RowId, Schema, Sequence, TableNo};
 use std::alloc::Global;
 use std::collections::BTreeMap;
-use sync_msgs::Out;
+use step_tables::Out;
 use table_model::{Answer, Event, Facts, History, Node, Refusal, TextLine};
 
 /// The lines that one event writes.

@@ -1,6 +1,6 @@
 use Rattle.std.proofs.Common.{◌≡◌, ◌+◌, ◌∷◌, [], List, ℕ, length, ap, subst, arith, length-append}
 use Rattle.disk_trait.specs.Fuse.{behind}
-use Rattle.row_value.specs.SchemaSpelling.{schema_spelling}
+use Rattle.value_codec.specs.SchemaSpelling.{schema_spelling}
 use Rattle.row_store.specs.Spelling.{table_payload}
 use Rattle.row_store.specs.Standing.{HasRoom}
 use Rattle.device_tests.proofs.rows.stop_table.Goals as goal

@@ -1,7 +1,7 @@
 use Rattle.std.proofs.Common.{drop}
 use Rattle.std.proofs.lemmas.Result.{err_from_is_err_and}
-use Rattle.row_value.specs.Reading.{items_at}
-use Rattle.row_value.proofs.Items.{goes_on, ends, is_done}
+use Rattle.value_codec.specs.Reading.{items_at}
+use Rattle.value_codec.proofs.Items.{goes_on, ends, is_done}
 use Rattle.row_store.specs.Reading.{after_last, last_in}
 use Rattle.row_store.proofs.reader.take_last_items.Goals as goal
 

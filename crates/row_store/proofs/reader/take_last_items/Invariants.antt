@@ -1,6 +1,6 @@
 use Rattle.std.proofs.Common.{◌≡◌, ◌≤◌, ◌-◌, length, drop}
-use Rattle.row_value.specs.Reading.{items_at}
-use Rattle.row_value.proofs.Items.{with_front}
+use Rattle.value_codec.specs.Reading.{items_at}
+use Rattle.value_codec.proofs.Items.{with_front}
 use Rattle.row_store.specs.Reading.{after_last, last_in}
 use Rattle.row_store.proofs.reader.take_last_items.Given as goal
 

@@ -1,6 +1,6 @@
 use Rattle.std.proofs.Common.{◌≡◌, ◌+◌, length, get_or, ap, arith}
 use Rattle.row_value.specs.declared.content.Cell.{Cell}
-use Rattle.row_value.specs.Spelling.{cell_spelling}
+use Rattle.value_codec.specs.Spelling.{cell_spelling}
 use Rattle.row_store.proofs.Lengths.{next_len, front_len}
 use Rattle.row_store.proofs.size.add_cells.Goals as goal
 

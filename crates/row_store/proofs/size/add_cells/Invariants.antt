@@ -1,7 +1,7 @@
 use Rattle.std.proofs.Common.{◌≡◌, ◌≤◌, ◌+◌, length, take}
 use Rattle.std.specs.List.{flat_map}
 use Rattle.vault.specs.declared.record.TheConstants.{PAYLOAD_MAX}
-use Rattle.row_value.specs.Spelling.{cell_spelling}
+use Rattle.value_codec.specs.Spelling.{cell_spelling}
 use Rattle.row_store.proofs.size.add_cells.Given as goal
 
 abbrev pub invariant-loop-cell : goal.invariant-loop-cell

@@ -1,5 +1,5 @@
 use Rattle.std.proofs.Common.{◌≡◌, ◌+◌, ◌*◌, ℕ, length, sym, subst, arith}
-use Rattle.row_value.specs.Spelling.{object_spelling}
+use Rattle.value_codec.specs.Spelling.{object_spelling}
 use Rattle.row_store.specs.Size.{IsSum}
 use Rattle.row_store.proofs.Lengths.{object_len}
 use Rattle.row_store.proofs.size.add_object.Goals as goal

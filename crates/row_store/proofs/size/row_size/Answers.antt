@@ -1,5 +1,5 @@
 use Rattle.std.proofs.Common.{◌≡◌, ◌+◌, ◌*◌, ℕ, length, sym, subst, arith}
-use Rattle.row_value.specs.Spelling.{content_spelling}
+use Rattle.value_codec.specs.Spelling.{content_spelling}
 use Rattle.row_store.specs.Spelling.{row_payload}
 use Rattle.row_store.specs.Size.{IsSum}
 use Rattle.row_store.proofs.Again.{few}

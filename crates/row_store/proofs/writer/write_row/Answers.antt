@@ -1,6 +1,6 @@
 use Rattle.std.proofs.Common.{◌≡◌, ◌≤◌, ◌++◌, ◌∷◌, [], ℕ, List, length, subst, sym, ap, arith, length-append}
 use Rattle.std.specs.Int.{w64, to_be_bytes}
-use Rattle.row_value.specs.Spelling.{content_spelling}
+use Rattle.value_codec.specs.Spelling.{content_spelling}
 use Rattle.row_store.specs.declared.stored.LastWrite.{LastWrite}
 use Rattle.row_store.proofs.Again.{few}
 use Rattle.row_store.proofs.Lengths.{row_len}

@@ -3,7 +3,7 @@ use Rattle.std.proofs.lemmas.List.{get_or_default}
 use Rattle.std.specs.Int.{w32, to_be_bytes}
 use Rattle.std.specs.List.{flat_map}
 use Rattle.stab_base.specs.declared.chunk_name.ChunkName.{ChunkName}
-use Rattle.row_value.specs.Spelling.{name_spelling}
+use Rattle.value_codec.specs.Spelling.{name_spelling}
 use Rattle.status_log.proofs.Twelves.{spelled_more}
 use Rattle.status_log.proofs.names.write_names.Goals as goal
 

@@ -2,7 +2,7 @@ use Rattle.std.proofs.Common.{◌≡◌, ◌≤◌, ◌+◌, ◌*◌, ◌++◌, 
 use Rattle.std.specs.Int.{w32, to_be_bytes}
 use Rattle.std.specs.List.{flat_map}
 use Rattle.std.specs.Vec.{vec_capacity, vec_len}
-use Rattle.row_value.specs.Spelling.{name_spelling}
+use Rattle.value_codec.specs.Spelling.{name_spelling}
 use Rattle.status_log.proofs.names.write_names.Given as goal
 
 abbrev pub invariant-loop-name : goal.invariant-loop-name

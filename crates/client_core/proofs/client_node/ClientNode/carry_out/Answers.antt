@@ -6,8 +6,8 @@ use Rattle.std.proofs.lemmas.Map.Steps.{set_value_same}
 use Rattle.std.proofs.lemmas.Cmp.{nat_cmp_total}
 use Rattle.std.proofs.lemmas.Result.{err_from_is_err_and}
 use Rattle.table_model.specs.declared.line.Fact.{Fact}
-use Rattle.table_model.specs.declared.node.Node.{Node}
-use Rattle.sync_msgs.specs.declared.message.Message.{Message}
+use Rattle.stab_base.specs.declared.node.Node.{Node}
+use Rattle.step_tables.specs.declared.message.Message.{Message}
 use Rattle.step_tables.specs.Client.{ClientTable, table_at}
 use Rattle.client_core.specs.State.{NodeState}
 use Rattle.client_core.proofs.SortedEntries.{set_value-insert_entry}

@@ -2,7 +2,7 @@ use Rattle.std.proofs.Common.{◌≡◌, ◌∙◌, ap}
 use Rattle.std.specs.Prelude.{filter, nat_lt}
 use Rattle.std.specs.Map.{keys_of}
 use Rattle.spare_map.specs.Late.{entries_of}
-use Rattle.row_store.specs.declared.stored.RowVersion.{RowVersion}
+use Rattle.stab_base.specs.declared.row_version.RowVersion.{RowVersion}
 use Rattle.row_store.specs.Data.{version_cmp}
 use Rattle.row_store.proofs.Versions.{Versions}
 use Rattle.row_store.proofs.Above.{are_above}

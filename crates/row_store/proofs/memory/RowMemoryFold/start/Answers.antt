@@ -2,7 +2,7 @@ use Rattle.std.proofs.Common.{◌≡◌, List, ℕ, [], None, refl, sym, ◌∙�
 use Rattle.std.specs.Ordering.{nat_cmp}
 use Rattle.spare_map.specs.Late.{entries_of}
 use Rattle.spare_map.specs.Values.{AllValues, with_values}
-use Rattle.row_value.specs.Reading.{byte_at}
+use Rattle.value_codec.specs.Reading.{byte_at}
 use Rattle.row_store.specs.Reading.{table_in, tag_at}
 use Rattle.row_store.specs.Data.{id_cmp, version_cmp, data_of}
 use Rattle.row_store.specs.Memory.{IsPlace, row_at, table_or, AreByVersion}

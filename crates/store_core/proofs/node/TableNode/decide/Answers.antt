@@ -1,5 +1,5 @@
 use Rattle.std.proofs.Common.{◌≡◌, ◌+◌, length, subst, arith}
-use Rattle.sync_msgs.specs.declared.message.Yours.{Yours}
+use Rattle.step_tables.specs.declared.message.Yours.{Yours}
 use Rattle.step_tables.specs.Store.{decide, yours_of}
 use Rattle.store_core.proofs.Decisions.{length-decide}
 use Rattle.store_core.proofs.node.TableNode.decide.Goals as goal

@@ -8,7 +8,7 @@ use Rattle.std.specs.Cmp.Lexicographic.{slice_cmp}
 use Rattle.row_value.specs.declared.content.Content.{Content}
 use Rattle.table_model.specs.History.{same_row}
 use Rattle.table_model.specs.declared.entry.Entry.{Entry}
-use Rattle.sync_msgs.specs.declared.message.Yours.{Yours}
+use Rattle.step_tables.specs.declared.message.Yours.{Yours}
 use Rattle.step_tables.specs.Store.{Stored}
 use Rattle.store_core.specs.declared.rows.Row.{Row}
 use Rattle.store_core.specs.Holds.{IsIndexed, without_version, yours_or_none, write_cmp}

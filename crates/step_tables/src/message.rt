@@ -1,0 +1,108 @@
+ghost use Rattle.std.specs.Prelude.{◌≡◌};
+ghost use Rattle.step_tables.specs.Names.{name_of};
+
+use row_value::{ClientNo, Content, RowId, TableNo, Version, WriteNo};
+use table_model::MessageName;
+
+/// A client asks for the next change of a table above its position.
+#[derive(Debug, Drop)]
+pub struct PullRequest {
+    pub client: ClientNo,
+    /// 0 of a wired client.
+    pub token: u64,
+    pub table: TableNo,
+    pub position: Version,
+}
+
+/// A client's last accepted write on a row: its number, and the version that it was accepted at. Both are 0 where
+/// there is none.
+#[derive(Debug, Clone, Copy, PartialEq, Eq)]
+pub struct Yours {
+    pub number: WriteNo,
+    pub version: Version,
+}
+
+/// A row as the Store has it, for one client.
+#[derive(Debug, Drop)]
+pub struct RowHeader {
+    pub row: RowId,
+    pub version: Version,
+    /// The client's last accepted write on the row, up to this version.
+    pub yours: Yours,
+    pub content: Content,
+}
+
+/// The Store's answer to a `PullRequest`: the row whose current version is the least above the position asked for, if
+/// there is one.
+#[derive(Debug, Drop)]
+pub struct PullResponse {
+    pub client: ClientNo,
+    pub table: TableNo,
+    /// The position asked for.
+    pub from: Version,
+    /// The row's version, or the position asked for where there is no row.
+    pub to: Version,
+    /// The last version of the table.
+    pub latest: Version,
+    pub header: Option<RowHeader>,
+}
+
+/// A client asks the Store to accept a write.
+#[derive(Debug, Drop)]
+pub struct SyncRequest {
+    pub client: ClientNo,
+    /// 0 of a wired client.
+    pub token: u64,
+    pub table: TableNo,
+    pub row: RowId,
+    /// The write's number among the client's writes.
+    pub number: WriteNo,
+    /// The version that the write rests on, 0 where it rests on none.
+    pub base: Version,
+    pub content: Content,
+}
+
+/// What the Store made of a `SyncRequest`.
+#[derive(Debug, Clone, Copy, PartialEq, Eq)]
+pub enum Outcome {
+    /// The write is accepted at this version.
+    Accepted { version: Version },
+    /// The write was accepted before, at this version.
+    Again { version: Version },
+    /// A later write of the client on the row was accepted before, of this number.
+    Late { last: WriteNo },
+}
+
+/// The Store's answer to a `SyncRequest`.
+#[derive(Debug, Clone, Copy, PartialEq, Eq)]
+pub struct SyncResponse {
+    pub client: ClientNo,
+    pub table: TableNo,
+    pub row: RowId,
+    /// The number of the write that was to be accepted.
+    pub number: WriteNo,
+    pub outcome: Outcome,
+}
+
+/// What travels between two parties.
+#[derive(Debug, Drop)]
+pub enum Message {
+    PullRequest(PullRequest),
+    PullResponse(PullResponse),
+    SyncRequest(SyncRequest),
+    SyncResponse(SyncResponse),
+}
+
+impl Message {
+    /// The name of the message's kind.
+    pub fn name(&self) -> MessageName
+        ensures { result ≡ name_of self.now }
+    {
+        match self {
+            Message::PullRequest(_) => MessageName::PullRequest,
+            Message::PullResponse(_) => MessageName::PullResponse,
+            Message::SyncRequest(_) => MessageName::SyncRequest,
+            Message::SyncResponse(_) => MessageName::SyncResponse,
+        }
+    }
+}

@@ -11,7 +11,7 @@ use Rattle.row_value.specs.declared.schema.Scheme.TheVariants.{Strong, Causal, E
 use Rattle.row_value.specs.declared.fit.FitFault.{FitFault}
 use Rattle.row_value.specs.Fit.{fit_of}
 use Rattle.step_tables.specs.declared.slots.Main.{Main}
-use Rattle.step_tables.specs.declared.slots.Out.{Out}
+use Rattle.step_tables.specs.declared.slots.InFlight.{InFlight}
 use Rattle.step_tables.specs.declared.slots.Shadow.{Shadow}
 use Rattle.step_tables.specs.Client.{row_cmp, version_in}
 use Rattle.step_tables.specs.Facts.{ClientFact, Fact, Answer, Refusal, Shown}
@@ -26,7 +26,7 @@ use Rattle.step_tables.specs.Messages as messages
 pub record Slots : Type 0 where
   pub main : Option Main
   pub shadow : Option Shadow
-  pub out : Option Out
+  pub out : Option InFlight
   pub conflict : Option Shadow
 
 -- an opened table: the rows in the order of their ids
@@ -254,7 +254,7 @@ started c d None = resumed c d d.plan
 abbrev pub to_owner : Message → Send
 to_owner message = record { to = None; message = message }
 
-abbrev pub request_for : ℕ → ℕ → List ℕ → Out → Send
+abbrev pub request_for : ℕ → ℕ → List ℕ → InFlight → Send
 request_for c table row out = to_owner (SyncRequest (record {
   client = c;
   table = table;
@@ -288,7 +288,7 @@ write_plan c d table row slots content =
     let main : Main = main_of (d.last + 1) (version_in slots.shadow) content in
     record (slots_plan d table row (record slots { main = Some main }) (wrote c table row main ∷ [])) { last = main.number }
 
-abbrev pub out_of : Main → ℕ → Out
+abbrev pub out_of : Main → ℕ → InFlight
 out_of main base = record { number = main.number; read = main.read; base = base; content = main.content }
 
 -- a strong write waits for its answer at once, over what was read
@@ -298,15 +298,15 @@ strong_plan c d table row slots content =
     record (slots_plan d table row (record slots { out = Some (out_of main main.read) }) (wrote c table row main ∷ [])) { last = main.number }
 
 -- the first row of a table whose write waits for its answer
-abbrev pub first_out : List (List ℕ × Slots) → Option Out
+abbrev pub first_out : List (List ℕ × Slots) → Option InFlight
 first_out [] = None
 first_out (entry ∷ rows) = or_later entry.1.out (first_out rows)
   where
-    or_later : Option Out → Option Out → Option Out
+    or_later : Option InFlight → Option InFlight → Option InFlight
     or_later None later = later
     or_later (Some out) later = Some out
 
-abbrev pub write_strong : ℕ → ClientDisk → ℕ → List ℕ → Slots → Content → Option Out → ClientStep
+abbrev pub write_strong : ℕ → ClientDisk → ℕ → List ℕ → Slots → Content → Option InFlight → ClientStep
 write_strong c d table row slots content (Some out) = refused d (facts.Outstanding out.number)
 write_strong c d table row slots content None =
     let read : ℕ = version_in slots.shadow in
@@ -371,7 +371,7 @@ resent c table [] = []
 resent c table (entry ∷ rows) = option_to_list (option_map (request_for c table entry.0) entry.1.out) ++ resent c table rows
 
 -- what a row sends next: its Main, where nothing of it waits for an answer and nothing is in conflict
-abbrev pub to_send : Slots → Option Out → Option Main → Option Shadow → Option Out
+abbrev pub to_send : Slots → Option InFlight → Option Main → Option Shadow → Option InFlight
 to_send slots None (Some main) None = Some (out_of main (version_in slots.shadow))
 to_send slots None (Some main) (Some x) = None
 to_send slots None None conflict = None
@@ -380,9 +380,9 @@ to_send slots (Some out) main conflict = None
 pub record RowOut : Type 0 where
   pub row : List ℕ
   pub slots : Slots
-  pub out : Out
+  pub out : InFlight
 
-abbrev pub or_later : List ℕ → Slots → Option Out → Option RowOut → Option RowOut
+abbrev pub or_later : List ℕ → Slots → Option InFlight → Option RowOut → Option RowOut
 or_later row slots None later = later
 or_later row slots (Some out) later = Some (record { row = row; slots = slots; out = out })
 
@@ -468,16 +468,16 @@ without number (Some main) = if main.number == number then None else Some main
 abbrev pub freed : Slots → ℕ → Slots
 freed slots number = record slots { main = without number slots.main; out = None }
 
-abbrev pub ack_plan : ℕ → ClientDisk → ℕ → List ℕ → Slots → Out → ℕ → Plan
+abbrev pub ack_plan : ℕ → ClientDisk → ℕ → List ℕ → Slots → InFlight → ℕ → Plan
 ack_plan c d table row slots out version =
     slots_plan d table row (record (freed slots out.number) { shadow = Some (record { version = version; content = out.content }) })
     (facts.Acked c out.number table row version ∷ [])
 
 -- what waited is refused for good
-abbrev pub lost_plan : ℕ → ClientDisk → ℕ → List ℕ → Slots → Out → ℕ → Plan
+abbrev pub lost_plan : ℕ → ClientDisk → ℕ → List ℕ → Slots → InFlight → ℕ → Plan
 lost_plan c d table row slots out latest = slots_plan d table row (record slots { out = None }) (facts.Refused c out.number table row latest ∷ [])
 
-abbrev pub outcome_taken : ℕ → ClientDisk → ℕ → List ℕ → TableDisk → Slots → Out → Outcome → ClientStep
+abbrev pub outcome_taken : ℕ → ClientDisk → ℕ → List ℕ → TableDisk → Slots → InFlight → Outcome → ClientStep
 outcome_taken c d table row opened slots out (messages.Accepted version) = begun d facts.Done (ack_plan c d table row slots out version) []
 outcome_taken c d table row opened slots out (messages.Again version) = begun d facts.Done (ack_plan c d table row slots out version) []
 outcome_taken c d table row opened slots out (messages.Late last) = ignored d
@@ -485,7 +485,7 @@ outcome_taken c d table row opened slots out (messages.Stale latest) =
     begun d facts.Done (lost_plan c d table row slots out latest) (pull_from c table opened.position ∷ [])
 outcome_taken c d table row opened slots out (messages.Conflict latest) = record (ignored d) { sends = pull_from c table opened.position ∷ [] }
 
-abbrev pub response_taken : ℕ → ClientDisk → Response → TableDisk → Option Out → ClientStep
+abbrev pub response_taken : ℕ → ClientDisk → Response → TableDisk → Option InFlight → ClientStep
 response_taken c d response opened None = ignored d
 response_taken c d response opened (Some out) =
     if out.number == response.number
@@ -533,7 +533,7 @@ placed g c table header slots before (Some main) None =
     else read_conflict c table header slots before main
 
 -- a write of Out up to the number in `yours` was accepted
-abbrev pub row_placed : Scheme → ℕ → ℕ → Header → Slots → Option Out → Placed
+abbrev pub row_placed : Scheme → ℕ → ℕ → Header → Slots → Option InFlight → Placed
 row_placed g c table header slots None = placed g c table header slots [] slots.main slots.conflict
 row_placed g c table header slots (Some out) =
     if nat_le out.number header.yours.number

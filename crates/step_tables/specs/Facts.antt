@@ -5,7 +5,7 @@ use Rattle.row_value.specs.declared.fit.FitFault.{FitFault}
 use Rattle.table_model.specs.declared.entry.Entry.{Entry}
 use Rattle.table_model.specs.declared.line.Write.{Write}
 use Rattle.table_model.specs.declared.message_name.MessageName.{MessageName}
-use Rattle.table_model.specs.declared.node.Node.{Node}
+use Rattle.stab_base.specs.declared.node.Node.{Node}
 
 -- what a client tells when a plan of its commits: a write; that the Store has accepted a write, or refused it for good;
 -- that a write is in conflict with a version, and is resolved beside it; that a version is read; a position of a table

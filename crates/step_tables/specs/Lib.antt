@@ -6,4 +6,5 @@ pub mod Facts
 pub mod Messages
 pub mod Sayings
 pub mod StoreMoves
+pub mod Items
 pub mod ClientMoves

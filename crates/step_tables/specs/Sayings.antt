@@ -2,6 +2,8 @@
 -- number, or a version, above the last is new.
 use Rattle.std.specs.Prelude.{ℕ, ◌==◌, nat_lt, Bool, true, false, ◌||◌, max, List, [], ◌∷◌, ◌++◌, length, Option, Some, None, if◌then◌else◌}
 use Rattle.std.specs.List.{find}
+use Rattle.row_value.specs.declared.schema.Scheme.{Scheme}
+use Rattle.row_value.specs.declared.schema.Scheme.TheVariants.{Strong, Causal, Eventual}
 use Rattle.table_model.specs.declared.entry.Entry.{Entry}
 use Rattle.table_model.specs.declared.line.Write.{Write}
 use Rattle.step_tables.specs.Facts.{ClientFact, Fact, Line, AnswerLine, EntryLine, FactLine}
@@ -178,3 +180,9 @@ if_open x (Some write) = if (x.acked write.number || x.lost write.number) || x.r
 
 abbrev pub open_of : RowHeard → Option Write
 open_of x = if_open x x.last
+
+-- no open write of a strong table is shown
+abbrev pub open_in : Scheme → Option Write → Option Write
+open_in Strong open_write = None
+open_in Causal open_write = open_write
+open_in Eventual open_write = open_write

@@ -5,7 +5,7 @@ use Rattle.std.specs.List.{find, list_any}
 use Rattle.row_value.specs.declared.schema.Scheme.{Scheme}
 use Rattle.row_value.specs.declared.schema.Scheme.TheVariants.{Strong, Causal, Eventual}
 use Rattle.table_model.specs.declared.entry.Entry.{Entry}
-use Rattle.table_model.specs.declared.node.Node.{Node}
+use Rattle.stab_base.specs.declared.node.Node.{Node}
 use Rattle.table_model.specs.History.{same_row}
 use Rattle.table_model.specs.Last.{last_where}
 use Rattle.step_tables.specs.Store.{Stored, current_of, next_changed, version_or}

@@ -106,17 +106,29 @@ Answers g table K h (send ∷ more) = IsAnswer g table K h send.to send.message 
 
 -- ---- the part
 
--- what a crash may leave: the items told, or those and the pending one, which is the next
+-- the items are those told, and the pending entry is the next, or one of them
+pub record IsTold (h : List Stored) (d : StoreDisk) : Type 0 where
+  pub items : d.items ≡ h
+  pub open_entry : (i : Stored) → d.pending ≡ Some i
+      → (i.entry.version ≡ length h + 1) ⊎ ((o : Stored) × Among h o × (o.entry.version ≡ i.entry.version))
+
+-- the items are those told and the pending one, which is the next
+pub record IsUntold (g : Scheme) (K : Known) (h : List Stored) (d : StoreDisk) : Type 0 where
+  pub item : Stored
+  pub pending : d.pending ≡ Some item
+  pub items : d.items ≡ h ++ item ∷ []
+  pub next : IsNext g K h item
+
+-- what a crash may leave
 abbrev pub IsResting : Scheme → Known → List Stored → StoreDisk → Type 0
-IsResting g K h d =
-    (d.items ≡ h) ⊎ ((i : Stored) × (d.pending ≡ Some i) × (d.items ≡ h ++ i ∷ []) × IsNext g K h i)
+IsResting g K h d = IsTold h d ⊎ IsUntold g K h d
 
 -- an agenda that goes well from here: the items are those told; a crash may come before the write at its head or behind
 -- it; what it tells and sends is so, and the rest goes well from there
 abbrev pub Runs : Scheme → ℕ → Known → List Stored → StoreDisk → List StoreTask → Type 0
-Runs g table K h d [] = (d.items ≡ h) × (d.pending ≡ None)
+Runs g table K h d [] = IsTold h d × (d.pending ≡ None)
 Runs g table K h d (task ∷ more) =
-    (d.items ≡ h) × IsResting g K h (changed d task.change)
+    IsTold h d × IsResting g K h (changed d task.change)
     × ((later : List Stored) × TellsAll g table K h task.facts later × Answers g table K later task.sends
     × Runs g table K later (changed d task.change) more)
 
@@ -133,6 +145,7 @@ pub record IsAsked (table : ℕ) (K : Known) (h : List Stored) (from : Node) (re
   pub table_is : request.table ≡ table
   pub way : IsWayTo request.client from
   pub known : K request.client request.row request.number request.base request.content
+  pub positive : 1 ≤ request.number
   pub based : IsBase h request.row request.base
 
 abbrev pub IsMessage : ℕ → Known → List Stored → Node → Message → Type 0

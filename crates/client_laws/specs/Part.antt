@@ -178,10 +178,13 @@ pub record IsLapsed (c : ℕ) (h : Items) (sent : List Sending) (n : ℕ) : Type
   pub below : (r : Sending) → Among sent r → r.number ≡ n → r.base < latest (h r.table) r.row
   pub none : (table : ℕ) (i : Stored) → Among (h table) i → i.entry.client ≡ c → i.entry.number ≢ n
 
--- the item that comes next in a table is another client's, or was sent over the row's last version
-abbrev pub Fits : ℕ → Items → List Sending → ℕ → Stored → Type 0
-Fits c h sent table i =
-    i.entry.client ≡ c → Among sent (record { table = table; row = i.entry.row; number = i.entry.number; base = latest (h table) i.entry.row })
+-- the item that comes next in a table is another client's, or is of a write that was told on its table and row, and, where
+-- the table isn't eventual, was sent over the row's last version
+pub record Fits (g : ℕ → Scheme) (c : ℕ) (h : Items) (sent : List Sending) (t : Heard) (table : ℕ) (i : Stored) : Type 0 where
+  pub next : i.entry.version ≡ length (h table) + 1
+  pub written : i.entry.client ≡ c → (w : Write) × (write_of i.entry.number t.writes ≡ Some w) × (w.table ≡ table) × (w.row ≡ i.entry.row)
+  pub over : g table ≢ Eventual → i.entry.client ≡ c
+      → Among sent (record { table = table; row = i.entry.row; number = i.entry.number; base = latest (h table) i.entry.row })
 
 -- an item above the write's read position, and no item of the write, ever
 pub record IsPassed (c : ℕ) (h : Items) (sent : List Sending) (t : Heard) (n table : ℕ) (row : List ℕ) (version : ℕ) : Type 0 where

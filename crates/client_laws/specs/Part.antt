@@ -182,6 +182,7 @@ pub record IsLapsed (c : ℕ) (h : Items) (sent : List Sending) (n : ℕ) : Type
 -- the table isn't eventual, was sent over the row's last version
 pub record Fits (g : ℕ → Scheme) (c : ℕ) (h : Items) (sent : List Sending) (t : Heard) (table : ℕ) (i : Stored) : Type 0 where
   pub next : i.entry.version ≡ length (h table) + 1
+  pub bound : (row : List ℕ) → latest (h table) row ≤ length (h table)
   pub written : i.entry.client ≡ c → (w : Write) × (write_of i.entry.number t.writes ≡ Some w) × (w.table ≡ table) × (w.row ≡ i.entry.row)
   pub over : g table ≢ Eventual → i.entry.client ≡ c
       → Among sent (record { table = table; row = i.entry.row; number = i.entry.number; base = latest (h table) i.entry.row })

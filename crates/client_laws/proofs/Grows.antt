@@ -36,17 +36,6 @@ latest-push h i row = by_row (same_row_tells i.entry.row row)
     by_row (inl k) = inl (k.1, both true k.0)
     by_row (inr k) = inr (k.1, both false k.0)
 
--- every item's version is at most the number of items
-abbrev pub IsBounded : List Stored → Type 0
-IsBounded h = (o : Stored) → Among h o → o.entry.version ≤ length h
-
-pub latest_low : (h : List Stored) (row : List ℕ) → IsBounded h → latest h row ≤ length h
-latest_low h row bounded = at_current (current_of h row) refl
-  where
-    at_current : (o : Option Stored) → current_of h row ≡ o → version_of o ≤ length h
-    at_current None is = omega arith
-    at_current (Some i) is = bounded i (among_last (is_of_row row) h i is).0
-
 -- ---- one table, behind its next item
 
 module _ (g : Scheme) (c : ℕ) (h : List Stored) (next : Stored) (is_next : next.entry.version ≡ length h + 1) where
@@ -187,7 +176,7 @@ written_on t (f ∷ fs) n w at = written_on (own t (saying f)) fs n w (written_s
 
 -- ---- all tables
 
-module _ (g : ℕ → Scheme) (c : ℕ) (h : Items) (table : ℕ) (next : Stored) (bounded : IsBounded (h table)) where
+module _ (g : ℕ → Scheme) (c : ℕ) (h : Items) (table : ℕ) (next : Stored) (bound : (row : List ℕ) → latest (h table) row ≤ length (h table)) where
   abbrev grown : Items
   grown = put h table (h table ++ next ∷ [])
 
@@ -195,6 +184,7 @@ module _ (g : ℕ → Scheme) (c : ℕ) (h : Items) (table : ℕ) (next : Stored
   fits_on : (sent some : List Sending) (t : Heard) (fs : List Fact) → Fits g c h sent t table next → Fits g c h (sent ++ some) (own_all t fs) table next
   fits_on sent some t fs k = record {
     next = k.next;
+    bound = k.bound;
     written = λ client. let w = k.written client in (w.0, written_on t fs next.entry.number w.0 w.1, w.2, w.3);
     over = λ exact client. among_left sent some _ (k.over exact client);
   }
@@ -207,8 +197,8 @@ module _ (g : ℕ → Scheme) (c : ℕ) (h : Items) (table : ℕ) (next : Stored
       by_test true is = let same : q ≡ table = grind (arith, nat_tests, is) in subst (λ (x : ℕ). P (h x ++ next ∷ [])) same (f same)
       by_test false is = k
 
-  bounded_of : (q : ℕ) → q ≡ table → IsBounded (h q)
-  bounded_of q same = subst (λ (x : ℕ). IsBounded (h x)) (sym same) bounded
+  bound_of : (q : ℕ) (row : List ℕ) → q ≡ table → latest (h q) row ≤ length (h q)
+  bound_of q row same = subst (λ (x : ℕ). latest (h x) row ≤ length (h x)) (sym same) (bound row)
 
   -- an item of any table: it stood before, or is the next
   among_grown : (q : ℕ) (i : Stored) → Among (grown q) i → Among (h q) i ⊎ ((q ≡ table) × (next ≡ i))
@@ -231,7 +221,7 @@ module _ (g : ℕ → Scheme) (c : ℕ) (h : Items) (table : ℕ) (next : Stored
 
     latest_rises : (q : ℕ) (row : List ℕ) → latest (h q) row ≤ latest (grown q) row
     latest_rises q row = at_table (λ items. latest (h q) row ≤ latest items row) q (omega arith) (λ same. elim (latest-push (h q) next row) [
-      | inl k ↦ (let e = k.1 in let n = next_of q same in let low = latest_low (h q) row (bounded_of q same) in omega (arith, e, n, low))
+      | inl k ↦ (let e = k.1 in let n = next_of q same in let low = bound_of q row same in omega (arith, e, n, low))
       | inr k ↦ (let e = k.1 in omega (arith, e))
     ])
 
@@ -372,11 +362,11 @@ module _ (g : ℕ → Scheme) (c : ℕ) (h : Items) (table : ℕ) (next : Stored
 
 -- a client's part survives one more item of a table that fits what it told and sent
 pub client_grows : (g : ℕ → Scheme) (c : ℕ) (h : Items) (sent : List Sending) (t : Heard) (s : Client) (table : ℕ) (i : Stored)
-    → IsBounded (h table) → Fits g c h sent t table i → ClientPart g c h sent t s → ClientPart g c (put h table (h table ++ i ∷ [])) sent t s
-client_grows g c h sent t s table i bounded fits k = part_grows g c h table i bounded fits.next sent s.disk t s.agenda fits k
+    → Fits g c h sent t table i → ClientPart g c h sent t s → ClientPart g c (put h table (h table ++ i ∷ [])) sent t s
+client_grows g c h sent t s table i fits k = part_grows g c h table i fits.bound fits.next sent s.disk t s.agenda fits k
 
 -- a lapsed write of a table that isn't eventual stays so
 pub lapsed_grows : (g : ℕ → Scheme) (c : ℕ) (h : Items) (sent : List Sending) (t : Heard) (table : ℕ) (i : Stored) (n : ℕ) (w : Write)
-    → IsBounded (h table) → Fits g c h sent t table i → write_of n t.writes ≡ Some w → g w.table ≢ Eventual
+    → Fits g c h sent t table i → write_of n t.writes ≡ Some w → g w.table ≢ Eventual
     → IsLapsed c h sent n → IsLapsed c (put h table (h table ++ i ∷ [])) sent n
-lapsed_grows g c h sent t table i n w bounded fits at exact k = lapsed_stays g c h table i bounded fits.next sent t n w fits at exact k
+lapsed_grows g c h sent t table i n w fits at exact k = lapsed_stays g c h table i fits.bound fits.next sent t n w fits at exact k

@@ -1,2 +1,4 @@
 pub mod Grows
 pub mod RowFits
+pub mod Disks
+pub mod PlanRuns

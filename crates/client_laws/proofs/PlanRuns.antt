@@ -61,7 +61,7 @@ module _ (g : ℕ → Scheme) (c : ℕ) (h : Items) where
     at_rest : (e : ClientDisk) → e.plan ≡ Some p → IsPlan g c h sent e u p → Rests g c h sent e u
     at_rest e plan_is x = subst (λ (o : Option Plan). RestsOn g c h sent e u o) (sym plan_is) x
 
-    put : ClientDisk
+    abbrev put : ClientDisk
     put = row_put d p.last p.table p.row
 
     put_plan : put.plan ≡ Some p

@@ -2,3 +2,4 @@ pub mod Grows
 pub mod RowFits
 pub mod Disks
 pub mod PlanRuns
+pub mod Ties

@@ -144,7 +144,7 @@ pub some_is : {X : Type 0} (x y : X) → Some x ≡ Some y → x ≡ y
 some_is x y e = cc
 
 -- one write more
-abbrev added : Heard → Write → Heard
+abbrev pub added : Heard → Write → Heard
 added t write = record t {
   writes = t.writes ++ write ∷ [];
   at = put_at t.at write.table write.row (row_wrote write (t.at write.table write.row));

@@ -3,3 +3,4 @@ pub mod RowFits
 pub mod Disks
 pub mod PlanRuns
 pub mod Ties
+pub mod Plans

@@ -243,3 +243,188 @@ module _ (g : ℕ → Scheme) (c : ℕ) (h : Items) (sent : List Sending) (t : H
         tied = tied_row g c h sent d t k table o is d.last row s t
             (record { more = []; writes = sym (append-nil t.writes); at = λ q y apart. refl; position = λ q apart. refl }) k.last here [] of.last (omega arith) refl;
       }
+
+  -- ---- what is heard behind one fact of the row
+
+  abbrev behind : (RowHeard → RowHeard) → Heard
+  behind f = at_row t table row f
+
+  heard_here : (f : RowHeard → RowHeard) → (behind f).at table row ≡ f x
+  heard_here f = place_here t.at table row (f x)
+
+  -- ---- answers
+
+  -- the write of what waits
+  out_content : (out : InFlight) → slots.out ≡ Some out → (i : Stored) (version : ℕ) → IsItemOf (h table) c out.number row version i → i.content ≡ out.content
+  out_content out at i version item =
+      let w = of.wrote i item.stands item.client_is in
+      let u = row_tied.fit.out out at in
+      let one : Some w.0 ≡ Some (write_for c table row (record { number = out.number; read = out.read; content = out.content })) =
+      sym w.1 ∙ (ap (λ (n : ℕ). write_of n t.writes) item.number_is ∙ u.written) in
+      let same : w.0 ≡ write_for c table row (record { number = out.number; read = out.read; content = out.content }) = some_is w.0 _ one in
+      sym w.4 ∙ ap (λ (y : Write). y.content) same
+
+  acked_once : (n v : ℕ) → row_acked n v (row_acked n v x) ≡ row_acked n v x
+  acked_once n v = grind (arith, nat_tests)
+
+  exact_causal : g table ≡ Causal → g table ≢ Eventual
+  exact_causal e = λ no. absurd cc
+
+  pub ack_is_plan : (out : InFlight) → slots.out ≡ Some out → (version : ℕ) (i : Stored) → IsItemOf (h table) c out.number row version i
+      → IsPlan g c h sent d t (ack_plan c d table row slots out version)
+  ack_is_plan out at version i item =
+      let r = row_tied in
+      let u = r.fit.out out at in
+      let f : RowHeard → RowHeard = row_acked out.number version in
+      let y : Shadow = record { version = version; content = out.content } in
+      let none = u.free in
+      let after = u.later i item.stands item.client_is item.row_is item.number_is in
+      let v = item.version_is in
+      let up = of.up_to i item.stands in
+      let content : IsContent (h table) row y = (i, record { stands = item.stands; row_is = item.row_is; version_is = v }, out_content out at i version item) in
+      let freed_slots = freed_fit (g table) c (h table) table row t.writes x sent slots out r.fit at in
+      let raised = raise_fit (g table) c (h table) table row t.writes x sent (freed slots out.number) y freed_slots content (omega (arith, after, v)) (omega (arith, up, v)) none
+      (λ z no. absurd cc)
+      (λ causal m main j a here less le.
+      let same : j ≡ i = own_only (g table) c (h table) table row t.writes x sent of (exact_causal causal) slots r.fit i j item.stands item.client_is item.row_is a here less (omega (arith, le, v)) in
+      subst (λ (z : Stored). z.entry.client ≡ c) (sym same) item.client_is) in
+      let read : x.read < version = (let top_is = r.read in grind (arith, top_is, none, after, v)) in
+      let under = r.under in
+      let low : version ≤ length (h table) = omega (arith, up, v) in
+      row_is_plan (record (freed slots out.number) { shadow = Some y }) (facts.Acked c out.number table row version ∷ []) f (λ s. refl) (acked_once out.number version)
+      ((refl, (i, item), inr (omega (arith, read))), tt)
+      ((refl, (i, item), inl (subst (λ (z : RowHeard). z.acked out.number ≡ true) (sym (heard_here f)) (grind (arith, nat_tests)))), tt)
+      (grind arith)
+      (record {
+        fit = heard_fit (g table) c (h table) table row t.writes x sent (record (freed slots out.number) { shadow = Some y }) (f x) refl refl raised;
+        main = ap (without out.number) r.main ∙ open_behind (g table) x.last x (f x) out.number (closed_acked x out.number version);
+        read = grind (arith, none, read);
+        level = λ free. grind (arith, under, read);
+        under = grind (arith, under);
+        based = grind (arith, low, r.based);
+      })
+
+  -- each request of a write on this row is of this row
+  requests_here : (n : ℕ) (w : Write) → write_of n t.writes ≡ Some w → w.table ≡ table → w.row ≡ row → (s : Sending) → Among sent s → s.number ≡ n
+      → (s.table ≡ table) × (s.row ≡ row)
+  requests_here n w written in_table here s a number =
+      let q = ours.requested s a in
+      let one : Some q.0 ≡ Some w = sym q.1 ∙ (ap (λ (m : ℕ). write_of m t.writes) number ∙ written) in
+      let same : q.0 ≡ w = some_is q.0 w one in
+      (sym q.2 ∙ (ap (λ (z : Write). z.table) same ∙ in_table), sym q.3 ∙ (ap (λ (z : Write). z.row) same ∙ here))
+
+  -- the write of what waits, as the lines tell it
+  abbrev out_write : InFlight → Write
+  out_write out = write_for c table row (record { number = out.number; read = out.read; content = out.content })
+
+  pub lost_is_plan : g table ≡ Strong → (out : InFlight) → slots.out ≡ Some out → (version : ℕ) → IsRefused c h sent out.number table row version
+      → IsPlan g c h sent d t (lost_plan c d table row slots out version)
+  lost_is_plan strong out at version refused =
+      let r = row_tied in
+      let u = r.fit.out out at in
+      let f : RowHeard → RowHeard = row_lost out.number in
+      let no_main = open_strong (g table) slots.main (open_of x) strong r.main in
+      row_is_plan (record slots { out = None }) (facts.Refused c out.number table row version ∷ []) f (λ s. refl) (grind (arith, nat_tests))
+      ((refl, strong, passed t refl), tt)
+      ((refl, strong, passed (behind f) refl), tt)
+      (omega arith)
+      (record {
+        fit = lost_fit (g table) c (h table) table row t.writes x sent slots out r.fit at no_main;
+        main = no_main ∙ sym (ap (λ (s : Scheme). option_map main_for (open_in s (open_of (f x)))) strong);
+        read = r.read;
+        level = r.level;
+        under = r.under;
+        based = r.based;
+      })
+    where
+      base_is : refused.base ≡ out.base
+      base_is = (row_tied.fit.sent_out out (record { table = table; row = row; number = out.number; base = refused.base }) at refused.was_sent refl refl).1 refl
+
+      read_is : out.read ≡ out.base
+      read_is = subst (λ (s : Scheme). Spans s c out.number (h table) row out.read out.base) strong (row_tied.fit.out out at).spans
+
+      version_low : version ≤ latest (h table) row
+      version_low =
+          let low = of.last refused.item refused.stands.stands in
+          subst (λ (z : List ℕ). version ≤ latest (h table) z) refused.stands.row_is (subst (λ (n : ℕ). n ≤ latest (h table) refused.item.entry.row) refused.stands.version_is low)
+
+      passed : (y : Heard) → y.writes ≡ t.writes → IsPassed c h sent y out.number table row version
+      passed y same = record {
+        write = out_write out;
+        written = subst (λ (ws : List Write). write_of out.number ws ≡ Some (out_write out)) (sym same) (row_tied.fit.out out at).written;
+        by = refl;
+        table_is = refl;
+        row_is = refl;
+        above = (let b = base_is in let e = read_is in let less = refused.below in omega (arith, b, e, less));
+        item = refused.item;
+        stands = refused.stands;
+        lapsed = record {
+          below = λ s a number.
+              let here = requests_here out.number (out_write out) (row_tied.fit.out out at).written refl refl s a number in
+              let base = (row_tied.fit.sent_out out s at a here.0 here.1).1 number in
+              let less = refused.below in
+              let b = base_is in
+              let low = version_low in
+              let up : latest (h s.table) s.row ≡ latest (h table) row = ap (λ (q : ℕ). latest (h q) s.row) here.0 ∙ ap (λ (z : List ℕ). latest (h table) z) here.1 in
+              omega (arith, base, less, b, low, up);
+          none = refused.none;
+        };
+      }
+
+  -- ---- resolving
+
+  -- a full Main is the write that the lines tell as open
+  main_open : (m : Main) → slots.main ≡ Some m → (w : Write) × (open_of x ≡ Some w) × (w.number ≡ m.number)
+  main_open m at = by_scheme (g table) (open_of x) refl (sym at ∙ row_tied.main)
+    where
+      by_scheme : (s : Scheme) (q : Option Write) → open_of x ≡ q → Some m ≡ option_map main_for (open_in s q) → (w : Write) × (open_of x ≡ Some w) × (w.number ≡ m.number)
+      by_scheme Strong q here e = absurd cc
+      by_scheme Causal None here e = absurd cc
+      by_scheme Eventual None here e = absurd cc
+      by_scheme Causal (Some w) here e = (w, here, ap (λ (z : Main). z.number) (sym (some_is m (main_for w) e)))
+      by_scheme Eventual (Some w) here e = (w, here, ap (λ (z : Main). z.number) (sym (some_is m (main_for w) e)))
+
+  named : (m : Main) (y : Shadow) → slots.main ≡ Some m → slots.conflict ≡ Some y → x.conflict m.number ≡ Some y.version
+  named m y at is_full =
+      let q = row_tied.fit.conflict y is_full in
+      let same : q.main ≡ m = some_is q.main m (sym q.in_main ∙ at) in
+      subst (λ (z : Main). x.conflict z.number ≡ Some y.version) same q.named
+
+  conflict_read : (y : Shadow) → slots.conflict ≡ Some y → x.read ≡ y.version
+  conflict_read y is_full = sym (row_tied.read) ∙ ap (λ (z : Option Shadow). top z slots.shadow) is_full
+
+  resolved_once : (n v : ℕ) → row_resolved n v (row_resolved n v x) ≡ row_resolved n v x
+  resolved_once n v = grind (arith, nat_tests)
+
+  pub theirs_is_plan : (m : Main) (y : Shadow) → slots.main ≡ Some m → slots.conflict ≡ Some y → IsPlan g c h sent d t (theirs_plan c d table row slots m y)
+  theirs_is_plan m y at is_full =
+      let r = row_tied in
+      let f : RowHeard → RowHeard = row_resolved m.number y.version in
+      let read = conflict_read y is_full in
+      let under = r.under in
+      let based = r.based in
+      row_is_plan (record slots { main = None; shadow = Some y; conflict = None }) (facts.Resolved c m.number table row y.version ∷ []) f (λ s. refl) (resolved_once m.number y.version)
+      ((refl, named m y at is_full, inl (main_open m at), omega (arith, read)), tt) (
+        (
+          refl,
+          subst (λ (z : RowHeard). z.conflict m.number ≡ Some y.version) (sym (heard_here f)) (named m y at is_full),
+          inr (subst (λ (z : RowHeard). z.resolved m.number ≡ true) (sym (heard_here f)) (grind (arith, nat_tests))),
+          subst (λ (z : RowHeard). z.read ≤ y.version) (sym (heard_here f)) (grind (arith, read)),
+        ),
+        tt,
+      )
+      (grind arith)
+      (record {
+        fit = settled_fit (g table) c (h table) table row t.writes x sent slots y m.number r.fit is_full (omega (arith, read, based));
+        main = none_open m at ∙ open_behind (g table) x.last x (f x) m.number (closed_resolved x m.number y.version);
+        read = grind (arith, read);
+        level = λ free. grind (arith, under, read);
+        under = grind (arith, under);
+        based = grind (arith, read, based);
+      })
+    where
+      none_open : (m : Main) → slots.main ≡ Some m → None ≡ without m.number (option_map main_for (open_in (g table) (open_of x)))
+      none_open m at = none_left m ∙ ap (without m.number) (sym at ∙ row_tied.main)
+        where
+          none_left : (m : Main) → None ≡ without m.number (Some m)
+          none_left m = grind (arith, nat_tests)

@@ -428,3 +428,99 @@ module _ (g : ℕ → Scheme) (c : ℕ) (h : Items) (sent : List Sending) (t : H
         where
           none_left : (m : Main) → None ≡ without m.number (Some m)
           none_left m = grind (arith, nat_tests)
+
+  -- over the conflict's row stands a new write
+  module _ (m : Main) (y : Shadow) (content : Content) (at : slots.main ≡ Some m) (is_full : slots.conflict ≡ Some y) where
+    abbrev settled : RowHeard → RowHeard
+    settled = row_resolved m.number y.version
+
+    abbrev over : Main
+    over = main_of (d.last + 1) y.version content
+
+    abbrev over_write : Write
+    over_write = write_for c table row over
+
+    abbrev over_heard : Heard
+    over_heard = record t { writes = t.writes ++ over_write ∷ []; at = put_at t.at table row (row_wrote over_write (settled x)) }
+
+    over_facts : List ClientFact
+    over_facts = facts.Resolved c m.number table row y.version ∷ facts.Wrote over_write ∷ []
+
+    next_number : d.last + 1 ≡ length t.writes + 1
+    next_number = ap (λ (n : ℕ). n + 1) k.last
+
+    first_heard : wrote (at_row t table row settled) over_write ≡ over_heard
+    first_heard =
+        wrote_new (at_row t table row settled) over_write next_number
+        ∙ ap (λ (z : RowHeard). record t { writes = t.writes ++ over_write ∷ []; at = put_at (put_at t.at table row (settled x)) table row (row_wrote over_write z) }) (heard_here settled)
+        ∙ ap (λ (z : ℕ → List ℕ → RowHeard). record t { writes = t.writes ++ over_write ∷ []; at = z }) (place_twice t.at table row (settled x) (row_wrote over_write (settled x)))
+
+    over_here : over_heard.at table row ≡ row_wrote over_write (settled x)
+    over_here = place_here t.at table row (row_wrote over_write (settled x))
+
+    settled_again : settled (row_wrote over_write (settled x)) ≡ row_wrote over_write (settled x)
+    settled_again = ap (λ (z : RowHeard). record z { last = Some over_write }) (resolved_once m.number y.version)
+
+    resolved_again : at_row over_heard table row settled ≡ over_heard
+    resolved_again =
+        ap (λ (z : RowHeard). record over_heard { at = put_at over_heard.at table row (settled z) }) over_here
+        ∙ ap (λ (z : RowHeard). record over_heard { at = put_at over_heard.at table row z }) settled_again
+        ∙ ap (λ (z : ℕ → List ℕ → RowHeard). record over_heard { at = z }) (place_twice t.at table row (row_wrote over_write (settled x)) (row_wrote over_write (settled x)))
+
+    wrote_over_again : wrote over_heard over_write ≡ over_heard
+    wrote_over_again = grind (arith, nat_tests, next_number, length_push)
+
+    again_heard : wrote (at_row over_heard table row settled) over_write ≡ over_heard
+    again_heard = ap (λ (z : Heard). wrote z over_write) resolved_again ∙ wrote_over_again
+
+    over_fresh : IsFresh (settled x) (d.last + 1)
+    over_fresh =
+        let low = (ours.numbered m.number (write_for c table row m) (row_tied.fit.mine m at).0).3 in
+        let last = k.last in
+        record {
+          acked = n_fresh.acked;
+          lost = n_fresh.lost;
+          resolved = grind (arith, nat_tests, n_fresh.resolved, low, last);
+          conflict = n_fresh.conflict;
+        }
+
+    pub over_is_plan : IsPlan g c h sent d t (over_plan c d table row slots m y content)
+    unfolding over_facts
+    over_is_plan =
+        let r = row_tied in
+        let read = conflict_read y is_full in
+        let under = r.under in
+        let based = r.based in
+        let weak = r.fit.weak m at in
+        let s : Slots = record slots { main = None; shadow = Some y; conflict = None } in
+        let low : y.version ≤ length (h table) = omega (arith, read, based) in
+        let fit = settled_fit (g table) c (h table) table row t.writes x sent slots y m.number r.fit is_full low in
+        let whole : RowTied_ (record slots { main = Some over; shadow = Some y; conflict = None }) (t.writes ++ over_write ∷ []) (row_wrote over_write (settled x)) = record {
+          fit = write_fit (g table) c (h table) table row t.writes (settled x) sent (d.last + 1) next_number n_free over_fresh written_low weak s content fit refl;
+          main = open_new (g table) (row_wrote over_write (settled x)) over_write weak (fresh_open (settled x) (d.last + 1) over_fresh);
+          read = grind (arith, read);
+          level = λ free. grind (arith, under, read);
+          under = grind (arith, under);
+          based = grind (arith, read, based);
+        } in
+        record {
+          now = (
+            (refl, named m y at is_full, inl (main_open m at), omega (arith, read)),
+            ((refl, inl (next_number, subst (λ (z : RowHeard). y.version ≡ z.shadow) (sym (heard_here settled)) (grind (arith, under, read)))), tt),
+          );
+          again = subst (λ (z : Heard). AreOwn g c h sent z (map facts.Client over_facts)) (sym first_heard) (
+            (
+              refl,
+              subst (λ (z : RowHeard). z.conflict m.number ≡ Some y.version) (sym over_here) (named m y at is_full),
+              inr (subst (λ (z : RowHeard). z.resolved m.number ≡ true) (sym over_here) (grind (arith, nat_tests))),
+              subst (λ (z : RowHeard). z.read ≤ y.version) (sym over_here) (grind (arith, read)),
+            ),
+            ((refl, inr (write_of-push (d.last + 1) t.writes over_write n_free refl)), tt),
+          );
+          same = subst (λ (z : Heard). own_all z (map facts.Client over_facts) ≡ z) (sym first_heard) again_heard;
+          tied = subst (λ (z : Heard). Tied g c h sent (applied (over_plan c d table row slots m y content) d) z) (sym first_heard)
+              (tied_row g c h sent d t k table o is (d.last + 1) row (record slots { main = Some over; shadow = Some y; conflict = None }) over_heard
+              (elsewhere_write t table row over_write (row_wrote over_write (settled x))) (grind (arith, next_number, length_push))
+              (subst (λ (z : RowHeard). RowTied_ (record slots { main = Some over; shadow = Some y; conflict = None }) (t.writes ++ over_write ∷ []) z) (sym over_here) whole)
+              over_facts of.last (subst (λ (z : RowHeard). x.read ≤ z.read) (sym over_here) (grind arith)) refl);
+        }

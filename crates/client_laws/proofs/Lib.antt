@@ -4,3 +4,4 @@ pub mod Disks
 pub mod PlanRuns
 pub mod Ties
 pub mod Plans
+pub mod Headers

@@ -79,7 +79,7 @@ open_new Eventual x w weak free = ap (λ (b : Bool). option_map main_for (if b t
 open_strong : (g : Scheme) (m : Option Main) (p : Option Write) → g ≡ Strong → m ≡ option_map main_for (open_in g p) → m ≡ None
 open_strong g m p strong e = e ∙ ap (λ (s : Scheme). option_map main_for (open_in s p)) strong
 
-closed_acked : (x : RowHeard) (n v m : ℕ) → is_closed (row_acked n v x) m ≡ (if m == n then true else is_closed x m)
+pub closed_acked : (x : RowHeard) (n v m : ℕ) → is_closed (row_acked n v x) m ≡ (if m == n then true else is_closed x m)
 closed_acked x n v m = grind (arith, nat_tests)
 
 pub closed_resolved : (x : RowHeard) (n v m : ℕ) → is_closed (row_resolved n v x) m ≡ (if m == n then true else is_closed x m)
@@ -249,7 +249,7 @@ module _ (g : ℕ → Scheme) (c : ℕ) (h : Items) (sent : List Sending) (t : H
   abbrev behind : (RowHeard → RowHeard) → Heard
   behind f = at_row t table row f
 
-  heard_here : (f : RowHeard → RowHeard) → (behind f).at table row ≡ f x
+  pub heard_here : (f : RowHeard → RowHeard) → (behind f).at table row ≡ f x
   heard_here f = place_here t.at table row (f x)
 
   -- ---- answers
@@ -267,7 +267,7 @@ module _ (g : ℕ → Scheme) (c : ℕ) (h : Items) (sent : List Sending) (t : H
   acked_once : (n v : ℕ) → row_acked n v (row_acked n v x) ≡ row_acked n v x
   acked_once n v = grind (arith, nat_tests)
 
-  exact_causal : g table ≡ Causal → g table ≢ Eventual
+  pub exact_causal : g table ≡ Causal → g table ≢ Eventual
   exact_causal e = λ no. absurd cc
 
   pub ack_is_plan : (out : InFlight) → slots.out ≡ Some out → (version : ℕ) (i : Stored) → IsItemOf (h table) c out.number row version i
@@ -305,7 +305,7 @@ module _ (g : ℕ → Scheme) (c : ℕ) (h : Items) (sent : List Sending) (t : H
       })
 
   -- each request of a write on this row is of this row
-  requests_here : (n : ℕ) (w : Write) → write_of n t.writes ≡ Some w → w.table ≡ table → w.row ≡ row → (s : Sending) → Among sent s → s.number ≡ n
+  pub requests_here : (n : ℕ) (w : Write) → write_of n t.writes ≡ Some w → w.table ≡ table → w.row ≡ row → (s : Sending) → Among sent s → s.number ≡ n
       → (s.table ≡ table) × (s.row ≡ row)
   requests_here n w written in_table here s a number =
       let q = ours.requested s a in
@@ -314,7 +314,7 @@ module _ (g : ℕ → Scheme) (c : ℕ) (h : Items) (sent : List Sending) (t : H
       (sym q.2 ∙ (ap (λ (z : Write). z.table) same ∙ in_table), sym q.3 ∙ (ap (λ (z : Write). z.row) same ∙ here))
 
   -- the write of what waits, as the lines tell it
-  abbrev out_write : InFlight → Write
+  abbrev pub out_write : InFlight → Write
   out_write out = write_for c table row (record { number = out.number; read = out.read; content = out.content })
 
   pub lost_is_plan : g table ≡ Strong → (out : InFlight) → slots.out ≡ Some out → (version : ℕ) → IsRefused c h sent out.number table row version
@@ -390,7 +390,7 @@ module _ (g : ℕ → Scheme) (c : ℕ) (h : Items) (sent : List Sending) (t : H
       let same : q.main ≡ m = some_is q.main m (sym q.in_main ∙ at) in
       subst (λ (z : Main). x.conflict z.number ≡ Some y.version) same q.named
 
-  conflict_read : (y : Shadow) → slots.conflict ≡ Some y → x.read ≡ y.version
+  pub conflict_read : (y : Shadow) → slots.conflict ≡ Some y → x.read ≡ y.version
   conflict_read y is_full = sym (row_tied.read) ∙ ap (λ (z : Option Shadow). top z slots.shadow) is_full
 
   resolved_once : (n v : ℕ) → row_resolved n v (row_resolved n v x) ≡ row_resolved n v x

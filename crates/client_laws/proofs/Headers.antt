@@ -202,3 +202,109 @@ module _ (g : ℕ → Scheme) (c : ℕ) (h : Items) (sent : List Sending) (t : H
             | inl same ↦ absurd (e.1 same)
             | inr low ↦ before.covered r low
           ]
+
+  -- ---- the pair of the client
+
+  own_is : header.yours.version ≡ w → i.entry.client ≡ c
+  own_is same = elim change.yours.is [
+    | inl zero ↦ absurd (let first = of.first i change.is.stands in let v = change.is.version_is in let z = zero.1 in omega (arith, first, v, z, same))
+    | inr j ↦ (let one : j.0 ≡ i = of.one j.0 i j.1.stands change.is.stands (j.1.version_is ∙ (same ∙ sym change.is.version_is)) in
+        subst (λ (z : Stored). z.entry.client ≡ c) one j.1.client_is)
+  ]
+
+  other_is : header.yours.version ≢ w → i.entry.client ≢ c
+  other_is differ = λ client.
+      let v = change.is.version_is in
+      let most = (change.yours.all i change.is.stands client change.is.row_is (omega (arith, v))).1 in
+      elim change.yours.is [
+        | inl zero ↦ absurd (let first = of.first i change.is.stands in let z = zero.1 in omega (arith, first, most, z))
+        | inr j ↦ absurd (let up = j.2 in differ (omega (arith, most, up, v)))
+      ]
+
+  -- ---- the slots behind the row; `base` is the row's slots, with what waited taken out or not
+
+  content : IsContent (h table) row (shadow_of header)
+  content = (i, change.is, change.content)
+
+  module _ (base : Slots) (y : RowHeard) (fit : Fits_ base y) (above : version_in base.shadow < w)
+      (out_above : (p : InFlight) → base.out ≡ Some p → IsAbove c (h table) row p.number w)
+      (main_above : (m : Main) → base.main ≡ Some m → IsAbove c (h table) row m.number w) where
+    raised : base.conflict ≡ None → (g table ≡ Causal → (m : Main) → base.main ≡ Some m → i.entry.client ≡ c) → Fits_ (record base { shadow = Some (shadow_of header) }) y
+    raised none mine = raise_fit (g table) c (h table) table row t.writes y sent base (shadow_of header) fit content (omega (arith, above)) w_low none out_above
+        (λ causal m at j a here less le.
+        let client = mine causal m at in
+        let v = change.is.version_is in
+        let same : j ≡ i = own_only (g table) c (h table) table row t.writes y sent of (exact causal) base fit i j change.is.stands client change.is.row_is a here less (omega (arith, le, v)) in
+        subst (λ (z : Stored). z.entry.client ≡ c) (sym same) client)
+      where
+        exact : g table ≡ Causal → g table ≢ Eventual
+        exact e = λ no. absurd cc
+
+    -- a write of Main is passed by the row
+    passed : g table ≡ Causal → (m : Main) → base.main ≡ Some m → (u : Heard) → u.writes ≡ t.writes → IsPassed c h sent u m.number table row w
+    passed causal m at u same = record {
+      write = write_for c table row m;
+      written = subst (λ (ws : List Write). write_of m.number ws ≡ Some (write_for c table row m)) (sym same) (fit.mine m at).0;
+      by = refl;
+      table_is = refl;
+      row_is = refl;
+      above = (let le = (fit.mine m at).1 in omega (arith, le, above));
+      item = i;
+      stands = change.is;
+      lapsed = record {
+        below = λ s a number.
+            let here = requests_here g c h sent t ours d k table row o is m.number (write_for c table row m) (fit.mine m at).0 refl refl s a number in
+            let low = (fit.lower s a here.0 here.1).1 in
+            let most = w_latest in
+            let up : latest (h s.table) s.row ≡ latest (h table) row = ap (λ (q : ℕ). latest (h q) s.row) here.0 ∙ ap (λ (z : List ℕ). latest (h table) z) here.1 in
+            omega (arith, low, above, most, up);
+        none = λ q j a client number. no_item q j a client number;
+      };
+    }
+      where
+        no_item : (q : ℕ) (j : Stored) → Among (h q) j → j.entry.client ≡ c → j.entry.number ≡ m.number → ⊥
+        no_item q j a client number =
+            let wrote = (ours.of_table q).wrote j a client in
+            let one : Some wrote.0 ≡ Some (write_for c table row m) = sym wrote.1 ∙ (ap (λ (n : ℕ). write_of n t.writes) number ∙ (fit.mine m at).0) in
+            let same : wrote.0 ≡ write_for c table row m = some_is wrote.0 (write_for c table row m) one in
+            let in_table : q ≡ table = sym wrote.2 ∙ ap (λ (z : Write). z.table) same in
+            let here : j.entry.row ≡ row = sym wrote.3 ∙ ap (λ (z : Write). z.row) same in
+            let b : Among (h table) j = subst (λ (n : ℕ). Among (h n) j) in_table a in
+            let up = main_above m at j b client here number in
+            let v = change.is.version_is in
+            let one_item : i ≡ j = own_only (g table) c (h table) table row t.writes y sent of (λ no. absurd (let e = causal in cc)) base fit j i b client here change.is.stands change.is.row_is
+            (omega (arith, above, v)) (omega (arith, up, v)) in
+            let e = ap (λ (z : Stored). z.entry.version) one_item in
+            omega (arith, e, up, v)
+
+    against : g table ≡ Causal → (m : Main) → base.main ≡ Some m → Fits_ (record base { conflict = Some (shadow_of header); out = None }) (row_met m.number w y)
+    against causal m at = conflict_fit (g table) c (h table) table row t.writes y sent causal base (shadow_of header) m fit at content above (main_above m at)
+
+    -- where a row is placed: it is read, or stands against Main in a causal table as another client's
+    placed_is : (P : Placed → Type 0) (before : List ClientFact) → top base.conflict base.shadow < w
+        → (base.conflict ≡ None → Fits_ (record base { shadow = Some (shadow_of header) }) y → P (read_new c table header base before))
+        → (g table ≡ Causal → (m : Main) → base.main ≡ Some m → i.entry.client ≢ c → P (read_conflict c table header base before m))
+        → P (placed (g table) c table header base before base.main base.conflict)
+    placed_is P before over N C = by_slots base.main refl base.conflict refl
+      where
+        by_slots : (m : Option Main) → base.main ≡ m → (q : Option Shadow) → base.conflict ≡ q → P (placed (g table) c table header base before m q)
+        by_slots None at (Some q) full = absurd (let e = (fit.conflict q full).in_main in cc)
+        by_slots None at None none = N none (raised none (λ causal m now. absurd cc))
+        by_slots (Some m) at (Some q) full =
+            let z = fit.conflict q full in
+            C z.causal m at (λ client.
+            let v = change.is.version_is in
+            let at_item = z.content.1 in
+            let up : q.version < w = (let e = ap (λ (s : Option Shadow). top s base.shadow) full in omega (arith, over, e)) in
+            let q_version = at_item.version_is in
+            let low = z.above in
+            let same : z.content.0 ≡ i = own_only (g table) c (h table) table row t.writes y sent of (λ no. absurd (let e = z.causal in cc)) base fit i z.content.0 change.is.stands client change.is.row_is
+            at_item.stands at_item.row_is (omega (arith, low, q_version)) (omega (arith, up, q_version, v)) in
+            let e = ap (λ (s : Stored). s.entry.version) same in
+            omega (arith, e, up, q_version, v))
+        by_slots (Some m) at None none = by_test (reads_over (g table) header.yours.version w) refl
+          where
+            by_test : (b : Bool) → reads_over (g table) header.yours.version w ≡ b
+                → P (if b then read_new c table header base before else read_conflict c table header base before m)
+            by_test true e = N none (raised none (λ causal n now. own_is (reads_is (g table) header.yours.version w e causal)))
+            by_test false e = let r = reads_not (g table) header.yours.version w (fit.weak m at) e in C r.0 m at (other_is r.1)

@@ -25,7 +25,7 @@ use Rattle.client_laws.specs.Part.{Items, Sending, OfTable, Ours, IsContent, IsA
 use Rattle.client_laws.proofs.Grows.{some_is}
 use Rattle.client_laws.proofs.RowFits.{without_is, unsent_none, own_only, freed_fit, raise_fit, conflict_fit, heard_fit}
 use Rattle.client_laws.proofs.Ties.{Elsewhere, read_latest, tied_row_at, tied_position}
-use Rattle.client_laws.proofs.Plans.{place_apart, open_behind, closed_acked, row_tied, requests_here, exact_causal}
+use Rattle.client_laws.proofs.Plans.{at_row_twice, place_apart, open_behind, closed_acked, row_tied, requests_here, exact_causal}
 
 -- what may be said again where it changes nothing
 abbrev Still : (ℕ → Scheme) → ℕ → Items → List Sending → Heard → List Fact → Type 0
@@ -308,3 +308,264 @@ module _ (g : ℕ → Scheme) (c : ℕ) (h : Items) (sent : List Sending) (t : H
                 → P (if b then read_new c table header base before else read_conflict c table header base before m)
             by_test true e = N none (raised none (λ causal n now. own_is (reads_is (g table) header.yours.version w e causal)))
             by_test false e = let r = reads_not (g table) header.yours.version w (fit.weak m at) e in C r.0 m at (other_is r.1)
+
+  -- ---- the plans
+
+  abbrev IsRowPlan : Placed → Type 0
+  IsRowPlan p = IsPlan g c h sent d t (row_plan c d table row to p)
+
+  module _ (over : top slots.conflict slots.shadow < w) where
+    shadow_low : version_in slots.shadow < w
+    shadow_low = by_slot slots.conflict refl
+      where
+        by_slot : (q : Option Shadow) → slots.conflict ≡ q → version_in slots.shadow < w
+        by_slot None none = (let e = ap (λ (s : Option Shadow). top s slots.shadow) none in omega (arith, over, e))
+        by_slot (Some q) full =
+            (let e = ap (λ (s : Option Shadow). top s slots.shadow) full in let low = (tied.fit.conflict q full).above in omega (arith, over, e, low))
+
+    read_low : x.read < w
+    read_low = let e = tied.read in omega (arith, e, over)
+
+    -- what is tied where the row is read, or stands against Main
+    new_tied : (base : Slots) (y : RowHeard) → base.conflict ≡ None → base.main ≡ option_map main_for (open_in (g table) (open_of y)) → y.read ≤ w → y.shadow ≤ y.read
+        → Fits_ (record base { shadow = Some (shadow_of header) }) y → RowTied_ (record base { shadow = Some (shadow_of header) }) (row_saw w y)
+    new_tied base y none main read under fit = record {
+      fit = heard_fit (g table) c (h table) table row t.writes y sent (record base { shadow = Some (shadow_of header) }) (row_saw w y) refl refl fit;
+      main = main;
+      read = grind (arith, none, read);
+      level = λ free. grind (arith, read, under);
+      under = grind (arith, under);
+      based = grind (arith, read, w_low);
+    }
+
+    conflict_tied : (base : Slots) (y : RowHeard) (m : Main) → base.main ≡ option_map main_for (open_in (g table) (open_of y)) → y.read ≤ w → y.shadow ≤ y.read
+        → Fits_ (record base { conflict = Some (shadow_of header); out = None }) (row_met m.number w y)
+        → RowTied_ (record base { conflict = Some (shadow_of header); out = None }) (row_met m.number w y)
+    conflict_tied base y m main read under fit = record {
+      fit = fit;
+      main = main;
+      read = grind (arith, read);
+      level = λ free. absurd cc;
+      under = grind (arith, under);
+      based = grind (arith, read, w_low);
+    }
+
+    -- ---- without an acknowledgement
+
+    module _ (below : (p : InFlight) → slots.out ≡ Some p → header.yours.number < p.number) where
+      out_above : (p : InFlight) → slots.out ≡ Some p → IsAbove c (h table) row p.number w
+      out_above p at j a client here number = by_test (nat_lt w j.entry.version) refl
+        where
+          by_test : (b : Bool) → nat_lt w j.entry.version ≡ b → w < j.entry.version
+          by_test true e = grind (arith, nat_tests, e)
+          by_test false e = absurd (let less = below p at in let up = (change.yours.all j a client here (grind (arith, nat_tests, e))).0 in omega (arith, less, up, number))
+
+      main_above : (m : Main) → slots.main ≡ Some m → IsAbove c (h table) row m.number w
+      main_above m at j a client here number = by_out slots.out refl
+        where
+          by_conflict : slots.out ≡ None → (q : Option Shadow) → slots.conflict ≡ q → w < j.entry.version
+          by_conflict none None free = absurd (unsent_none (g table) c (h table) table row t.writes x sent of slots m tied.fit none free at j a client here number)
+          by_conflict none (Some q) full =
+              let z = tied.fit.conflict q full in
+              let e : z.main ≡ m = some_is z.main m (sym z.in_main ∙ at) in
+              let up = z.later j a client here (number ∙ ap (λ (s : Main). s.number) (sym e)) in
+              let item = z.content.1 in
+              let v = item.version_is in
+              let low = z.above in
+              let same : z.content.0 ≡ j = own_only (g table) c (h table) table row t.writes x sent of (λ no. absurd (let s = z.causal in cc)) slots tied.fit j z.content.0 a client here
+              item.stands item.row_is (omega (arith, low, v)) (omega (arith, up, v)) in
+              let both = ap (λ (s : Stored). s.entry.version) same in
+              absurd (omega (arith, up, v, both))
+
+          by_out : (p : Option InFlight) → slots.out ≡ p → w < j.entry.version
+          by_out None none = by_conflict none slots.conflict refl
+          by_out (Some p) waits = by_test (nat_lt w j.entry.version) refl
+            where
+              by_test : (b : Bool) → nat_lt w j.entry.version ≡ b → w < j.entry.version
+              by_test true e = grind (arith, nat_tests, e)
+              by_test false e = absurd (let less = below p waits in let order = (tied.fit.out p waits).order m at in
+                  let up = (change.yours.all j a client here (grind (arith, nat_tests, e))).0 in omega (arith, less, order, up, number))
+
+      plain_new : slots.conflict ≡ None → Fits_ (record slots { shadow = Some (shadow_of header) }) x → IsRowPlan (read_new c table header slots [])
+      plain_new none fit =
+          let v : RowHeard = row_saw w x in
+          let low = read_low in
+          let read : v.read ≡ w = grind (arith, low) in
+          moved_plan_is (record slots { shadow = Some (shadow_of header) }) (facts.New c table row w ∷ facts.Position c table to ∷ []) v read (heard_moved v)
+          ((refl, (i, change.is), omega (arith, low)), (position_now (row_saw w) read, tt)) (
+            row_still v (row_saw w) (grind arith),
+            (refl, (i, change.is), (let e = ap (λ (y : RowHeard). y.read) (place_here t.at table row v) in omega (arith, e, read))),
+            (position_still v, position_again v read, tt),
+          )
+          (new_tied slots x none tied.main (omega (arith, low)) tied.under fit)
+
+      plain_conflict : g table ≡ Causal → (m : Main) → slots.main ≡ Some m → i.entry.client ≢ c → IsRowPlan (read_conflict c table header slots [] m)
+      unfolding passed
+      plain_conflict causal m at other =
+          let v : RowHeard = row_met m.number w x in
+          let low = read_low in
+          let read : v.read ≡ w = grind (arith, low) in
+          moved_plan_is (record slots { conflict = Some (shadow_of header); out = None }) (facts.Conflict c m.number table row w ∷ facts.Position c table to ∷ []) v read (heard_moved v)
+          ((refl, causal, (passed slots x tied.fit shadow_low out_above main_above causal m at t refl, other), omega (arith, low)), (position_now (row_met m.number w) read, tt)) (
+            row_still v (row_met m.number w) (grind (arith, nat_tests)),
+            (
+              refl,
+              causal,
+              (passed slots x tied.fit shadow_low out_above main_above causal m at (heard_of v) refl, other),
+              (let e = ap (λ (y : RowHeard). y.read) (place_here t.at table row v) in omega (arith, e, read)),
+            ),
+            (position_still v, position_again v read, tt),
+          )
+          (conflict_tied slots x m tied.main (omega (arith, low)) tied.under (against slots x tied.fit shadow_low out_above main_above causal m at))
+
+      plain_is : IsRowPlan (placed (g table) c table header slots [] slots.main slots.conflict)
+      plain_is = placed_is slots x tied.fit shadow_low out_above main_above IsRowPlan [] over plain_new plain_conflict
+
+    -- ---- with one
+
+    module _ (p : InFlight) (waits : slots.out ≡ Some p) (version : ℕ) (item : Stored) (stands : IsItemOf (h table) c p.number row version item) (up_to : version ≤ w) where
+      abbrev base : Slots
+      base = freed slots p.number
+
+      abbrev y : RowHeard
+      y = row_acked p.number version x
+
+      free : slots.conflict ≡ None
+      free = (tied.fit.out p waits).free
+
+      after : x.read < version
+      after =
+          let low = (tied.fit.out p waits).later item stands.stands stands.client_is stands.row_is stands.number_is in
+          let v = stands.version_is in
+          let e = tied.read in
+          let none = ap (λ (s : Option Shadow). top s slots.shadow) free in
+          omega (arith, low, v, e, none)
+
+      y_read : y.read ≤ w
+      y_read = let low = after in grind (arith, low, up_to)
+
+      y_under : y.shadow ≤ y.read
+      y_under = let under = tied.under in grind (arith, under)
+
+      base_fit : Fits_ base y
+      base_fit = heard_fit (g table) c (h table) table row t.writes x sent base y refl refl (freed_fit (g table) c (h table) table row t.writes x sent slots p tied.fit waits)
+
+      base_main : base.main ≡ option_map main_for (open_in (g table) (open_of y))
+      base_main = ap (without p.number) tied.main ∙ open_behind (g table) x.last x y p.number (closed_acked x p.number version)
+
+      none_waits : (q : InFlight) → base.out ≡ Some q → IsAbove c (h table) row q.number w
+      none_waits q at = absurd cc
+
+      none_main : (m : Main) → base.main ≡ Some m → IsAbove c (h table) row m.number w
+      none_main m at j a client here number = absurd (unsent_none (g table) c (h table) table row t.writes y sent of base m base_fit refl free at j a client here number)
+
+      acked_new : base.conflict ≡ None → Fits_ (record base { shadow = Some (shadow_of header) }) y
+          → IsRowPlan (read_new c table header base (facts.Acked c p.number table row version ∷ []))
+      acked_new none fit =
+          let v : RowHeard = row_saw w y in
+          let low = after in
+          let read : v.read ≡ w = (let r = y_read in grind (arith, r)) in
+          moved_plan_is (record base { shadow = Some (shadow_of header) })
+          (facts.Acked c p.number table row version ∷ facts.New c table row w ∷ facts.Position c table to ∷ []) v read
+          (ap (λ (s : ℕ → List ℕ → RowHeard). record t { at = s; position = put t.position table (max (t.position table) to) }) (two_facts (row_saw w)) ∙ heard_moved v) (
+            (refl, (item, stands), inr (omega (arith, low))),
+            (
+              (refl, (i, change.is), (let e = ap (λ (s : RowHeard). s.read) (place_here t.at table row y) in let r = y_read in omega (arith, e, r))),
+              (
+                subst (λ (s : Heard). IsOwn g c h sent s (SaysPosition c table to)) (sym (at_row_twice t table row (row_acked p.number version) (row_saw w)))
+                    (position_now (λ (s : RowHeard). row_saw w (row_acked p.number version s)) read),
+                tt,
+              ),
+            ),
+          ) (
+            row_still v (row_acked p.number version) (grind (arith, nat_tests, up_to)),
+            (refl, (item, stands), inl (subst (λ (s : RowHeard). s.acked p.number ≡ true) (sym (place_here t.at table row v)) (grind (arith, nat_tests)))),
+            (
+              row_still v (row_saw w) (grind arith),
+              (refl, (i, change.is), (let e = ap (λ (s : RowHeard). s.read) (place_here t.at table row v) in omega (arith, e, read))),
+              (position_still v, position_again v read, tt),
+            ),
+          )
+          (new_tied base y none base_main y_read y_under fit)
+        where
+          two_facts : (f : RowHeard → RowHeard) → (at_row (at_row t table row (row_acked p.number version)) table row f).at ≡ put_at t.at table row (f y)
+          two_facts f = ap (λ (s : Heard). s.at) (at_row_twice t table row (row_acked p.number version) f)
+
+      acked_conflict : g table ≡ Causal → (m : Main) → base.main ≡ Some m → i.entry.client ≢ c
+          → IsRowPlan (read_conflict c table header base (facts.Acked c p.number table row version ∷ []) m)
+      unfolding passed
+      acked_conflict causal m at other =
+          let v : RowHeard = row_met m.number w y in
+          let low = after in
+          let read : v.read ≡ w = (let r = y_read in grind (arith, r)) in
+          moved_plan_is (record base { conflict = Some (shadow_of header); out = None })
+          (facts.Acked c p.number table row version ∷ facts.Conflict c m.number table row w ∷ facts.Position c table to ∷ []) v read
+          (ap (λ (s : ℕ → List ℕ → RowHeard). record t { at = s; position = put t.position table (max (t.position table) to) }) (two_facts (row_met m.number w)) ∙ heard_moved v) (
+            (refl, (item, stands), inr (omega (arith, low))),
+            (
+              (
+                refl,
+                causal,
+                (passed base y base_fit shadow_low none_waits none_main causal m at (at_row t table row (row_acked p.number version)) refl, other),
+                (let e = ap (λ (s : RowHeard). s.read) (place_here t.at table row y) in let r = y_read in omega (arith, e, r)),
+              ),
+              (
+                subst (λ (s : Heard). IsOwn g c h sent s (SaysPosition c table to)) (sym (at_row_twice t table row (row_acked p.number version) (row_met m.number w)))
+                    (position_now (λ (s : RowHeard). row_met m.number w (row_acked p.number version s)) read),
+                tt,
+              ),
+            ),
+          ) (
+            row_still v (row_acked p.number version) (grind (arith, nat_tests, up_to)),
+            (refl, (item, stands), inl (subst (λ (s : RowHeard). s.acked p.number ≡ true) (sym (place_here t.at table row v)) (grind (arith, nat_tests)))),
+            (
+              row_still v (row_met m.number w) (grind (arith, nat_tests)),
+              (
+                refl,
+                causal,
+                (passed base y base_fit shadow_low none_waits none_main causal m at (heard_of v) refl, other),
+                (let e = ap (λ (s : RowHeard). s.read) (place_here t.at table row v) in omega (arith, e, read)),
+              ),
+              (position_still v, position_again v read, tt),
+            ),
+          )
+          (conflict_tied base y m base_main y_read y_under (against base y base_fit shadow_low none_waits none_main causal m at))
+        where
+          two_facts : (f : RowHeard → RowHeard) → (at_row (at_row t table row (row_acked p.number version)) table row f).at ≡ put_at t.at table row (f y)
+          two_facts f = ap (λ (s : Heard). s.at) (at_row_twice t table row (row_acked p.number version) f)
+
+      acked_is : IsRowPlan (placed (g table) c table header base (facts.Acked c p.number table row version ∷ []) base.main base.conflict)
+      acked_is = placed_is base y base_fit shadow_low none_waits none_main IsRowPlan (facts.Acked c p.number table row version ∷ [])
+          (let s = shadow_low in let none = ap (λ (q : Option Shadow). top q slots.shadow) free in omega (arith, s, none)) acked_new acked_conflict
+
+    pub row_plan_is : IsRowPlan (row_placed (g table) c table header slots slots.out)
+    row_plan_is = by_out slots.out refl
+      where
+        named : (p : InFlight) → slots.out ≡ Some p → p.number ≤ header.yours.number
+            → IsRowPlan (placed (g table) c table header (freed slots p.number) (facts.Acked c p.number table row header.yours.version ∷ []) (without p.number slots.main) slots.conflict)
+        named p waits le = elim change.yours.is [
+          | inl zero ↦ absurd (let one = (ours.numbered p.number _ (tied.fit.out p waits).written).2 in let z = zero.0 in omega (arith, le, one, z))
+          | inr j ↦ (let sends = tied.fit.sent_out p (record { table = table; row = j.0.entry.row; number = j.0.entry.number; base = j.0.entry.base }) waits
+              (of.sends j.0 j.1.stands j.1.client_is) refl j.1.row_is in
+              let low = sends.0 in let same = j.1.number_is in
+              let number : header.yours.number ≡ p.number = omega (arith, low, same, le) in
+              let stands : IsItemOf (h table) c p.number row header.yours.version j.0 = record {
+                stands = j.1.stands;
+                client_is = j.1.client_is;
+                number_is = j.1.number_is ∙ number;
+                row_is = j.1.row_is;
+                version_is = j.1.version_is;
+              } in
+              acked_is p waits header.yours.version j.0 stands j.2)
+        ]
+
+        by_out : (q : Option InFlight) → slots.out ≡ q → IsRowPlan (row_placed (g table) c table header slots q)
+        by_out None none = plain_is (λ p at. absurd cc)
+        by_out (Some p) waits = by_test (nat_le p.number header.yours.number) refl
+          where
+            by_test : (b : Bool) → nat_le p.number header.yours.number ≡ b
+                → IsRowPlan (if b then placed (g table) c table header (freed slots p.number) (facts.Acked c p.number table row header.yours.version ∷ []) (without p.number slots.main) slots.conflict
+                else placed (g table) c table header slots [] slots.main slots.conflict)
+            by_test true e = named p waits (grind (arith, nat_tests, e))
+            by_test false e = plain_is (λ q at. let same : p ≡ q = some_is p q (sym waits ∙ at) in
+                subst (λ (z : InFlight). header.yours.number < z.number) same (grind (arith, nat_tests, e)))

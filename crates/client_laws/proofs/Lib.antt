@@ -5,3 +5,5 @@ pub mod PlanRuns
 pub mod Ties
 pub mod Plans
 pub mod Headers
+pub mod Sends
+pub mod Law

@@ -1,1 +1,6 @@
 pub mod Told
+pub mod Kept
+pub mod Lines
+pub mod Changes
+pub mod Looks
+pub mod ClientMoves

@@ -4,3 +4,4 @@ pub mod Lines
 pub mod Changes
 pub mod Looks
 pub mod ClientMoves
+pub mod TableMoves

@@ -5,3 +5,4 @@ pub mod Changes
 pub mod Looks
 pub mod ClientMoves
 pub mod TableMoves
+pub mod StoreMoves

@@ -6,3 +6,5 @@ pub mod Looks
 pub mod ClientMoves
 pub mod TableMoves
 pub mod StoreMoves
+pub mod Showings
+pub mod Forms

@@ -228,11 +228,12 @@ module _ (g : ℕ → Scheme) where
             (among_either w.packets (packets_from (nodes.Client c) step.sends) p a);
       }
 
-    pub client_moves : (number : ℕ) → MoveSound g s number (after_client w c step)
+    pub client_moves : (number : ℕ) → MoveSound g s w number (after_client w c step)
     client_moves number =
         let says : SaysAll g c k.items (k.sent c) s step.facts = all g c k.items (k.sent c) s k.history step.facts law.facts in
         let out : Outbox = record { facts = step.facts; packets = packets_from (nodes.Client c) step.sends } in
         record {
           lines = out_said g s number out [] says.are tt;
           kept = rw (out_hear g s number out []) (client_kept (hear_all s step.facts) (all_told g s step.facts k.told says.are) says.history says.here says.elsewhere);
+          there = λ table none. none;
         }

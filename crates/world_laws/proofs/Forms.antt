@@ -1,6 +1,6 @@
 -- Each move of a client answers in a form of its command.
 use Rattle.std.proofs.Common.{◌≡◌, ℕ, Bool, true, false, List, [], ◌∷◌, Option, Some, None, Result, Ok, Err, refl}
-use Rattle.std.specs.Prelude.{if◌then◌else◌, ◌==◌, nat_le}
+use Rattle.std.specs.Prelude.{if◌then◌else◌, ◌==◌, nat_le, nat_lt}
 use Rattle.row_value.specs.declared.content.Content.{Content}
 use Rattle.row_value.specs.declared.schema.Scheme.{Scheme}
 use Rattle.row_value.specs.declared.schema.Scheme.TheVariants.{Strong, Causal, Eventual}
@@ -13,6 +13,10 @@ use Rattle.step_tables.specs.Facts.{Answer, Shown}
 use Rattle.step_tables.specs.Facts as facts
 use Rattle.step_tables.specs.Messages.{Request, Response, Pull, Pulled, Header, Pair, Outcome, Message, Send, SyncRequest, SyncResponse, PullRequest, PullResponse}
 use Rattle.step_tables.specs.Messages as messages
+use Rattle.stab_base.specs.declared.node.Node.{Node}
+use Rattle.step_tables.specs.Store.{current_of}
+use Rattle.step_tables.specs.StoreMoves as store
+use Rattle.step_tables.specs.StoreMoves.{StoreDisk, StoreTask}
 use Rattle.step_tables.specs.ClientMoves.{Slots, TableDisk, ClientDisk, ClientTask, Client, RowOut, slots_at, table_at, seen, shown_in, show_answer, show_in, write_step, write_to, write_fitting, write_idle, write_free, write_by, write_strong, first_out, show_step, sync_step, sync_in, sync_first, resent, first_to_send, next_step, next_in, take_step, response_in, response_taken, outcome_taken, pulled_in, pulled_taken, row_taken, top, begun, position_plan, row_plan, row_placed, next_pull, client_step, Write, Show, Sync, Next, Take}
 use Rattle.std.proofs.lemmas.Bool.Decides.{nat_tests}
 use Rattle.world_tables.specs.Sound.{IsForm}
@@ -146,3 +150,33 @@ module _ (c : ℕ) (d : ClientDisk) where
   take_form (Some []) (PullRequest q) = tt
   take_form (Some []) (SyncResponse r) = response_in_form r (table_at (seen d) r.table)
   take_form (Some []) (PullResponse q) = pulled_in_form q (table_at (seen d) q.table)
+
+-- ---- the Store's
+
+module _ (g : Scheme) (table : ℕ) (d : StoreDisk) (from : Node) where
+  judged_form : (q : Request) (current : ℕ) → IsDone (store.judged g table d from q current).answer
+  judged_form q current = go (store.takes g q.base current)
+    where
+      go : (b : Bool) → IsDone (if b
+          then store.quiet d (Some (store.accepting table from q (store.item_for d.items q))) facts.Done
+          else store.sending d (store.responded from q (store.outdated g current) ∷ [])).answer
+      go true = tt
+      go false = tt
+
+  decided_form : (q : Request) (yours : Pair) → IsDone (store.decided g table d from q yours).answer
+  decided_form q yours = go (yours.number == q.number) (nat_lt q.number yours.number)
+    where
+      go : (a b : Bool) → IsDone (if a then store.sending d (store.responded from q (messages.Again yours.version) ∷ [])
+          else (if b then store.sending d (store.responded from q (messages.Late yours.number) ∷ [])
+          else store.judged g table d from q (store.version_of (current_of d.items q.row)))).answer
+      go true b = tt
+      go false true = tt
+      go false false = judged_form q (store.version_of (current_of d.items q.row))
+
+pub taken_form : (g : Scheme) (table : ℕ) (d : StoreDisk) (agenda : Option (List StoreTask)) (from : Node) (m : Message) → IsDone (store.taken g table d agenda from m).answer
+taken_form g table d None from m = tt
+taken_form g table d (Some (task ∷ more)) from m = tt
+taken_form g table d (Some []) from (SyncRequest q) = decided_form g table d from q (store.yours_in d.items q.client q.row)
+taken_form g table d (Some []) from (PullRequest q) = tt
+taken_form g table d (Some []) from (SyncResponse q) = tt
+taken_form g table d (Some []) from (PullResponse q) = tt

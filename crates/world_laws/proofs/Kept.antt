@@ -83,7 +83,8 @@ pub record Kept (g : ℕ → Scheme) (w : World) (s : Said) : Type 0 where
   pub no_client : (c : ℕ) → client_at w c ≡ None → (s.heard c ≡ nothing_heard) × (sent c ≡ [])
   pub packets : (p : Packet) → Among w.packets p → IsFairPacket g s.heard items sent p
 
--- what some moves keep, whose packets have the numbers from the world's on
-pub record MoveSound (g : ℕ → Scheme) (s : Said) (number : ℕ) (m : Moved) : Type 0 where
+-- what some moves of a world keep, whose packets have the numbers from this one on
+pub record MoveSound (g : ℕ → Scheme) (s : Said) (w : World) (number : ℕ) (m : Moved) : Type 0 where
   pub lines : AreSaid g s (lines_from number m.outs)
   pub kept : Kept g m.world (hear_lines s (lines_from number m.outs))
+  pub there : (table : ℕ) → hosted_at m.world table ≡ None → hosted_at w table ≡ None

@@ -8,3 +8,4 @@ pub mod TableMoves
 pub mod StoreMoves
 pub mod Showings
 pub mod Forms
+pub mod Runs

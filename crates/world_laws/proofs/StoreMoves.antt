@@ -156,7 +156,7 @@ module _ (client_grows : ClientGrows) (lapsed_grows : LapsedGrows) (g : ℕ → 
         packets = λ p a. ⊎_elim (λ b. at.packets p b) (λ b. answers_here step.sends law.sends p b) (among_either w.packets (packets_from the_store step.sends) p a);
       }
 
-    pub table_moves : (number : ℕ) → MoveSound g s number (after_table w table hosted step)
+    pub table_moves : (number : ℕ) → MoveSound g s w number (after_table w table hosted step)
     table_moves number =
         let out : Outbox = record { facts = step.facts; packets = packets_from the_store step.sends } in
         let old : hosted.history ≡ s.history table = (k.stores table hosted there).1 in
@@ -164,4 +164,8 @@ module _ (client_grows : ClientGrows) (lapsed_grows : LapsedGrows) (g : ℕ → 
           lines = out_said g s number out [] result.are tt;
           kept = rw (out_hear g s number out []) (table_kept (hear_all s step.facts) result.items result.here result.elsewhere result.heard result.inv
               (told_history s table hosted.history (KnownIn s.heard k.sent table) (k.items table) step.facts law.later old law.facts));
+          there = λ q none. ⊎_elim
+              (λ e. absurd (let both : Some (record { store = step.store; history = history_on hosted.history step.facts }) ≡ None = sym e.1 ∙ none in cc))
+              (λ e. sym e.1 ∙ none)
+              (look_cases w.tables table (record { store = step.store; history = history_on hosted.history step.facts }) q);
         }

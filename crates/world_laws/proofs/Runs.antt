@@ -1,5 +1,5 @@
 -- Every event keeps the world, and every run is sound.
-use Rattle.std.proofs.Common.{◌≡◌, ◌≢◌, ◌⊎◌, ℕ, ◌+◌, ◌<◌, ◌≤◌, Bool, true, false, List, [], ◌∷◌, ◌++◌, length, Option, Some, None, refl, sym, ap, ◌∙◌, subst, arith, inl, inr, ⊎_elim, append-nil}
+use Rattle.std.proofs.Common.{◌≡◌, ◌≢◌, ◌⊎◌, ℕ, ◌+◌, ◌<◌, ◌≤◌, Bool, true, false, List, [], ◌∷◌, ◌++◌, length, Option, Some, None, refl, sym, ap, ◌∙◌, subst, arith, inl, inr, ⊎_elim, append-nil, true≢false}
 use Rattle.std.specs.Prelude.{map, slice_get, ◌||◌, ◌==◌, if◌then◌else◌, MatchBool}
 use Rattle.std.proofs.lemmas.Bool.Decides.{nat_tests}
 use Rattle.std.specs.Ordering.{nat_cmp}
@@ -369,3 +369,203 @@ module _ (client_law : ClientLaws) (client_grows : ClientGrows) (lapsed_grows : 
               (subst (λ (x : Said). Kept g w x) (sym (entries_say table s hosted.history)) k);
           there = λ q none. none;
         }
+
+    -- ---- declarations
+
+    pub declared_kept : (table : ℕ) (schema : Schema) → hosted_at w table ≡ None → schema.scheme ≡ g table → Kept g (declared w table schema None) s
+    declared_kept table schema none scheme = record {
+      items = k.items;
+      sent = k.sent;
+      told = k.told;
+      history = k.history;
+      lawful = k.lawful;
+      schemes = λ q x at. ⊎_elim
+          (λ e. let both : Some schema ≡ Some x = sym e.1 ∙ at in let same : schema ≡ x = cc in ap (λ (y : Schema). y.scheme) (sym same) ∙ (scheme ∙ ap g (sym e.0)))
+          (λ e. k.schemes q x (sym e.1 ∙ at)) (look_cases w.schemas table schema q);
+      declared = λ q x at. ⊎_elim (λ e. (schema, e.1))
+          (λ e. ⊎_elim (λ f. absurd (e.0 f.0)) (λ f. let old = k.declared q x (sym f.1 ∙ at) in (old.0, e.1 ∙ old.1)) (look_cases w.tables table new q))
+          (look_cases w.schemas table schema q);
+      tables = k.tables;
+      stores = λ q x at. ⊎_elim
+          (λ e. let both : Some new ≡ Some x = sym e.1 ∙ at in let same : new ≡ x = cc in
+              subst (λ (y : Hosted). StorePart (g q) q (KnownIn s.heard k.sent q) (k.items q) y.store × (y.history ≡ s.history q)) same (new_part q (k.no_store q (ap (hosted_at w) e.0 ∙ none))))
+          (λ e. k.stores q x (sym e.1 ∙ at)) (look_cases w.tables table new q);
+      no_store = λ q at. ⊎_elim (λ e. absurd (let both : Some new ≡ None = sym e.1 ∙ at in cc)) (λ e. k.no_store q (sym e.1 ∙ at)) (look_cases w.tables table new q);
+      clients = k.clients;
+      no_client = k.no_client;
+      packets = k.packets;
+    }
+      where
+        new : Hosted
+        new = record { store = record { disk = record { items = []; pending = None }; agenda = Some [] }; history = [] }
+
+        new_part : (q : ℕ) → k.items q ≡ [] → StorePart (g q) q (KnownIn s.heard k.sent q) (k.items q) new.store × (new.history ≡ s.history q)
+        new_part q empty = (
+          record { lawful = k.tables q; state = (record { items = sym empty; open_entry = λ i at. absurd cc }, refl) },
+          sym (ap entries_of empty) ∙ sym (k.history q),
+        )
+
+    fresh_all : (tables : List ℕ) (some : List (ℕ × TableDisk)) → AreFresh g some → AreFresh g (open_all w some tables)
+    fresh_all [] some f = f
+    fresh_all (table ∷ tables) some f = fresh_all tables (with_opened some table (schema_at w table)) (one (schema_at w table) refl)
+      where
+        one : (o : Option Schema) → schema_at w table ≡ o → AreFresh g (with_opened some table o)
+        one None at = f
+        one (Some schema) at = λ q x is. ⊎_elim
+            (λ e. let both : Some (opened schema) ≡ Some x = sym e.1 ∙ is in let same : opened schema ≡ x = cc in
+                (ap (λ (y : TableDisk). y.schema.scheme) (sym same) ∙ (k.schemes table schema at ∙ ap g (sym e.0)), ap (λ (y : TableDisk). y.position) (sym same), ap (λ (y : TableDisk). y.rows) (sym same)))
+            (λ e. f q x (sym e.1 ∙ is)) (look_cases some table (opened schema) q)
+
+    pub joined_kept : (c : ℕ) (tables : List ℕ) → client_at w c ≡ None → Kept g (joined w c tables None) s
+    joined_kept c tables none = record {
+      items = k.items;
+      sent = k.sent;
+      told = k.told;
+      history = k.history;
+      lawful = k.lawful;
+      schemes = k.schemes;
+      declared = k.declared;
+      tables = k.tables;
+      stores = k.stores;
+      no_store = k.no_store;
+      clients = λ q x at. ⊎_elim
+          (λ e. let both : Some new ≡ Some x = sym e.1 ∙ at in let same : new ≡ x = cc in
+              subst (λ (y : Client). ClientPart g q k.items (k.sent q) (s.heard q) y) same (new_part q (ap (client_at w) e.0 ∙ none)))
+          (λ e. k.clients q x (sym e.1 ∙ at)) (look_cases w.clients c new q);
+      no_client = λ q at. ⊎_elim (λ e. absurd (let both : Some new ≡ None = sym e.1 ∙ at in cc)) (λ e. k.no_client q (sym e.1 ∙ at)) (look_cases w.clients c new q);
+      packets = k.packets;
+    }
+      where
+        new : Client
+        new = new_client (open_all w [] tables)
+
+        new_part : (q : ℕ) → client_at w q ≡ None → ClientPart g q k.items (k.sent q) (s.heard q) new
+        new_part q absent =
+            let f = k.no_client q absent in
+            subst (λ (xs : List Sending). ClientPart g q k.items xs (s.heard q) new) (sym f.1)
+            (subst (λ (t : Heard). ClientPart g q k.items [] t new) (sym f.0) (fresh_part g q k.items (open_all w [] tables) (fresh_all tables [] (λ table x at. absurd cc))))
+
+    declare_sound : (table : ℕ) (schema : Schema) → (hosted_at w table ≡ None → schema.scheme ≡ g table) → (o : Option Hosted) → hosted_at w table ≡ o
+        → StepSound s w (events.Table table schema) (silent (declared w table schema o))
+    declare_sound table schema scheme (Some hosted) at = record { turn = refl; lines = tt; kept = k; there = λ q none. none }
+    declare_sound table schema scheme None at = record {
+      turn = refl;
+      lines = tt;
+      kept = declared_kept table schema at (scheme at);
+      there = λ q none. ⊎_elim (λ e. ap (hosted_at w) e.0 ∙ at) (λ e. sym e.1 ∙ none)
+          (look_cases w.tables table (record { store = record { disk = record { items = []; pending = None }; agenda = Some [] }; history = [] }) q);
+    }
+
+    join_sound : (c : ℕ) (gate : Option ℕ) (tables : List ℕ) (o : Option Client) → client_at w c ≡ o → StepSound s w (events.Client c gate tables) (silent (joined w c tables o))
+    join_sound c gate tables (Some node) at = record { turn = refl; lines = tt; kept = k; there = λ q none. none }
+    join_sound c gate tables None at = record { turn = refl; lines = tt; kept = joined_kept c tables at; there = λ q none. none }
+
+    -- where a table is declared first, it is of its scheme
+    abbrev pub IsFirst : Event → Type 0
+    IsFirst (events.Table table schema) = hosted_at w table ≡ None → schema.scheme ≡ g table
+    IsFirst other = Unit {0}
+
+    step_sound : (event : Event) (lucks : List Luck) → IsFirst event → StepSound s w event (step w event lucks)
+    step_sound (events.Store number) lucks first = record { turn = refl; lines = tt; kept = k; there = λ q none. none }
+    step_sound (events.Table table schema) lucks first = declare_sound table schema first (hosted_at w table) refl
+    step_sound (events.Client c gate tables) lucks first = join_sound c gate tables (client_at w c) refl
+    step_sound (events.Write c table row x) lucks first = write_sound c table row x lucks
+    step_sound (events.Show c table row) lucks first = show_sound c table row lucks
+    step_sound (events.Sync c table) lucks first = sync_sound c table lucks
+    step_sound (events.Pull c table) lucks first = pull_sound c table lucks
+    step_sound (events.Deliver n) lucks first = delivered_sound n lucks (slice_get w.packets n) refl
+    step_sound (events.StoreShow table row) lucks first = shows_sound table row (hosted_at w table) refl
+    step_sound (events.History table) lucks first = history_sound table (hosted_at w table) refl
+
+  -- ---- runs
+
+  abbrev pub events_in : List Happening → List Event
+  events_in hs = map (λ (h : Happening). h.event) hs
+
+  -- tables that aren't declared yet have the schemes of what is to come
+  abbrev Awaits : World → List Event → Type 0
+  Awaits w es = (table : ℕ) → hosted_at w table ≡ None → g table ≡ scheme_for es table
+
+  first_is : (w : World) (s : Said) (k : Kept g w s) (event : Event) (es : List Event) → Awaits w (event ∷ es) → IsFirst w s k event
+  first_is w s k (events.Table table schema) es f = λ none. sym (f table none ∙ go (table == table) (grind (arith, nat_tests)))
+    where
+      go : (b : Bool) → b ≡ true → (if b then schema.scheme else scheme_for es table) ≡ schema.scheme
+      go true e = refl
+      go false e = absurd cc
+  first_is w s k (events.Store number) es f = tt
+  first_is w s k (events.Client c gate tables) es f = tt
+  first_is w s k (events.Write c table row x) es f = tt
+  first_is w s k (events.Show c table row) es f = tt
+  first_is w s k (events.Sync c table) es f = tt
+  first_is w s k (events.Pull c table) es f = tt
+  first_is w s k (events.Deliver n) es f = tt
+  first_is w s k (events.StoreShow table row) es f = tt
+  first_is w s k (events.History table) es f = tt
+
+  scheme_on : (w : World) (event : Event) (lucks : List Luck) (es : List Event) (table : ℕ) → hosted_at (step w event lucks).world table ≡ None → scheme_for (event ∷ es) table ≡ scheme_for es table
+  scheme_on w (events.Table number schema) lucks es table none = go (number == table) refl
+    where
+      there : number ≡ table → (o : Option Hosted) → hosted_at w number ≡ o → hosted_at (declared w number schema o) table ≡ None → ⊥
+      there same (Some x) at none_2 = absurd (let both : Some x ≡ None = sym at ∙ (ap (hosted_at w) same ∙ none_2) in cc)
+      there same None at none_2 = ⊎_elim (λ e. absurd (let p = sym e.1 ∙ none_2 in cc)) (λ e. e.0 (sym same))
+          (look_cases w.tables number (record { store = record { disk = record { items = []; pending = None }; agenda = Some [] }; history = [] }) table)
+
+      go : (b : Bool) → (number == table) ≡ b → (if b then schema.scheme else scheme_for es table) ≡ scheme_for es table
+      go false e = refl
+      go true e = absurd (there (grind (arith, nat_tests, e)) (hosted_at w number) refl none)
+  scheme_on w (events.Store number) lucks es table none = refl
+  scheme_on w (events.Client c gate tables) lucks es table none = refl
+  scheme_on w (events.Write c t row x) lucks es table none = refl
+  scheme_on w (events.Show c t row) lucks es table none = refl
+  scheme_on w (events.Sync c t) lucks es table none = refl
+  scheme_on w (events.Pull c t) lucks es table none = refl
+  scheme_on w (events.Deliver n) lucks es table none = refl
+  scheme_on w (events.StoreShow t row) lucks es table none = refl
+  scheme_on w (events.History t) lucks es table none = refl
+
+  run_sound : (hs : List Happening) (w : World) (s : Said) → Kept g w s → Awaits w (events_in hs) → IsSoundFrom g s (turns_from w hs)
+  run_sound [] w s k f = in_sight g s k.told
+  run_sound (h ∷ hs) w s k f =
+      let first : StepSound s w h.event (step w h.event h.lucks) = step_sound w s k h.event h.lucks (first_is w s k h.event (events_in hs) f) in
+      let then_awaits : Awaits (step w h.event h.lucks).world (events_in hs) =
+          λ table none. f table (first.there table none) ∙ scheme_on w h.event h.lucks (events_in hs) table none in
+      (
+        in_sight g s k.told,
+        first.turn,
+        first.lines,
+        run_sound hs (step w h.event h.lucks).world (hear_lines s (lines_of w (step w h.event h.lucks))) first.kept then_awaits,
+      )
+
+  start_kept : Kept g start nothing_said
+  start_kept = record {
+    items = λ table. [];
+    sent = λ c. [];
+    told = nothing_told;
+    history = λ table. refl;
+    lawful = record { good = λ c r a. absurd (among_none r a); gone = λ c table row n lost. ⊎_elim (λ v. absurd (let e = v.1 in cc)) (λ v. absurd (true≢false (sym v))) lost };
+    schemes = λ table schema at. absurd cc;
+    declared = λ table hosted at. absurd cc;
+    tables = λ table. record {
+      counted = tt;
+      known = λ i a. absurd (among_none i a);
+      based = λ i a. absurd (among_none i a);
+      over = λ exact i o a. absurd (among_none i a);
+      rises = λ i o a. absurd (among_none i a);
+    };
+    stores = λ table hosted at. absurd cc;
+    no_store = λ table none. refl;
+    clients = λ c node at. absurd cc;
+    no_client = λ c none. (refl, refl);
+    packets = λ p a. absurd (among_none p a);
+  }
+
+events_are : (hs : List Happening) (w : World) → map (λ (turn : Turn). turn.event) (turns_from w hs) ≡ map (λ (h : Happening). h.event) hs
+events_are [] w = refl
+events_are (h ∷ hs) w = ap (λ (es : List Event). h.event ∷ es) (events_are hs (step w h.event h.lucks).world)
+
+-- every run is sound, whatever its lucks
+pub all_runs : ClientLaws → ClientGrows → LapsedGrows → FreshParts → (hs : List Happening) → IsSound (turns_from start hs)
+all_runs client_law client_grows lapsed_grows fresh_part hs =
+    let g : ℕ → Scheme = scheme_for (map (λ (turn : Turn). turn.event) (turns_from start hs)) in
+    run_sound client_law client_grows lapsed_grows fresh_part g hs start nothing_said (start_kept client_law client_grows lapsed_grows fresh_part g)
+    (λ table none. ap (λ (es : List Event). scheme_for es table) (events_are hs start))

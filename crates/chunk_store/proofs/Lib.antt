@@ -1,5 +1,5 @@
 pub mod Heads
 pub mod Notes
 mod Finds
-mod Maps
+mod Faults
 mod Within

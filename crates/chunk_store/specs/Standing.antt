@@ -1,14 +1,19 @@
 -- A device of chunks between calls, as its map. How its disk stands is said of its vault.
-use Rattle.std.specs.Prelude.{◌≡◌, ◌⊎◌, ℕ, List, Option}
+use Rattle.std.specs.Prelude.{ℕ, List, Option, Result}
 use Rattle.std.specs.BTreeMap.{is_at}
 use Rattle.std.specs.Map.{lookup}
 use Rattle.disk_trait.specs.Calls.{DiskState}
+use Rattle.disk_trait.specs.declared.fuse.FuseDisk.{FuseDisk}
 use Rattle.vault.specs.declared.vault.Vault.{Vault}
 use Rattle.vault.specs.Standing.{payloads}
 use Rattle.vault.specs.Standing as vaults
-use Rattle.folded_vault.specs.Standing as folded
+use Rattle.vault.specs.Folded as folded
+use Rattle.vault.specs.Calls as calls
+use Rattle.vault.specs.Stops as stops
 use Rattle.stab_base.specs.declared.chunk_name.ChunkName.{ChunkName}
 use Rattle.chunk_store.specs.declared.device.ChunkDev.{ChunkDev}
+use Rattle.chunk_store.specs.declared.fault.ChunkFault.{ChunkFault}
+use Rattle.chunk_store.specs.Fault.{fault_of}
 use Rattle.chunk_store.specs.Payload.{name_cmp, chunks_of}
 use Rattle.chunk_store.specs.Index.{IsIndex, HasSpare}
 
@@ -43,6 +48,29 @@ Stays state old new = folded.Stays state IsIndex HasSpare old.inner new.inner
 abbrev pub Leaves : {D : Type 0} → (D → DiskState) → (D → ℕ → List ℕ → Type 0) → ChunkDev D → ChunkDev D → (List (ChunkName × List ℕ) → Type 0) → Type 0
 Leaves state images old new R = vaults.Leaves state images (vault_of old) (vault_of new) (λ list. R (chunks_of list))
 
--- one of the two
-abbrev pub IsEither : {X : Type 0} → X → X → X → Type 0
-IsEither before after map = (map ≡ before) ⊎ (map ≡ after)
+-- ---- what the calls of a device promise of its chunks
+
+abbrev pub Formats : {D : Type 0} → (D → DiskState) → (D → ℕ → List ℕ → Type 0) → ChunkDev D → ChunkDev D → Result (Unit {0}) ChunkFault → Type 0
+Formats state images old new result = calls.Formats state images IsIndex HasSpare chunks_of fault_of old.inner new.inner old new result
+
+abbrev pub Looks : {D : Type 0} → (D → DiskState) → (D → ℕ → List ℕ → Type 0) → ChunkDev D → ChunkDev D → Result (Unit {0}) ChunkFault → Type 0
+Looks state images old new result = calls.Looks state images IsIndex HasSpare chunks_of fault_of old.inner new.inner old new result
+
+abbrev pub Restarts : {D : Type 0} → (D → DiskState) → (D → ℕ → List ℕ → Type 0) → ChunkDev D → ChunkDev D → Type 0
+Restarts state images old new = calls.Restarts state images chunks_of old.inner new.inner
+
+abbrev pub OpensWrite : {D : Type 0} → (D → DiskState) → (D → ℕ → List ℕ → Type 0) → ChunkDev D → ChunkDev D → Result (Unit {0}) ChunkFault → Type 0
+OpensWrite state images old new result = calls.OpensWrite state images IsIndex HasSpare chunks_of fault_of old.inner new.inner old new result
+
+abbrev pub Reserves : {D : Type 0} → (D → DiskState) → (D → ℕ → List ℕ → Type 0) → ℕ → ℕ → ChunkDev D → ChunkDev D → Result (Unit {0}) ChunkFault → Type 0
+Reserves state images puts bytes old new result = calls.Reserves state images IsIndex HasSpare chunks_of fault_of puts bytes old.inner new.inner old new result
+
+-- the put or drop of a payload of so many bytes, after which these are the chunks
+abbrev pub Puts : {D : Type 0} → (D → DiskState) → (D → ℕ → List ℕ → Type 0) → ℕ → List (ChunkName × List ℕ) → ChunkDev D → ChunkDev D → Result (Unit {0}) ChunkFault → Type 0
+Puts state images bytes map old new result = calls.Appends state images IsIndex HasSpare chunks_of fault_of bytes map old.inner new.inner old new result
+
+abbrev pub Gets : {D T : Type 0} → (D → DiskState) → (D → ℕ → List ℕ → Type 0) → ChunkDev D → ChunkDev D → Result T ChunkFault → Type 0
+Gets state images old new result = calls.Reads state images IsIndex HasSpare chunks_of fault_of old.inner new.inner old new result
+
+abbrev pub Stops : {D : Type 0} → (D → DiskState) → (D → ℕ → List ℕ → Type 0) → ℕ → ℕ → ChunkDev (FuseDisk D) → ChunkDev (FuseDisk D) → Type 0
+Stops state images count pick old new = stops.Stops state images IsIndex HasSpare chunks_of count pick old.inner new.inner

@@ -4,22 +4,20 @@ ghost use Rattle.std.specs.Bool.{MatchBool};
 ghost use Rattle.std.specs.BTreeMap.{insert_entry};
 ghost use Rattle.std.specs.Map.{keys_of};
 ghost use Rattle.std.specs.List.Sorted.{IsStrictlySortedBy};
-ghost use Rattle.disk_trait.specs.Calls.{Elapses};
-ghost use Rattle.vault.specs.declared.record.TheConstants.{PAYLOAD_MAX};
-ghost use Rattle.vault.specs.Standing.{payloads, faults, stops, disk_of, IsDown, IsUp, IsSound, IsSynced, IsRestarted, SameFuse, StopsWithin};
-ghost use Rattle.folded_vault.specs.Outcome.{IsCountedAs, Burns};
+ghost use Rattle.vault.specs.Limit.{payload_most};
+ghost use Rattle.vault.specs.Standing.{payloads, disk_of, IsDown, IsUp, IsSynced};
 ghost use Rattle.spare_map.specs.Late.{without};
 ghost use Rattle.chunk_store.specs.Payload.{name_cmp};
 ghost use Rattle.chunk_store.specs.Index.{IsPlace, bytes_at};
-ghost use Rattle.chunk_store.specs.Standing.{vault_of, chunks, chunk_in, IsLookedAt, IsOpened, HasRoom, Stays, Leaves, IsEither};
+ghost use Rattle.chunk_store.specs.Standing.{vault_of, chunks, chunk_in, IsLookedAt, IsOpened, HasRoom, Formats, Looks, Restarts, OpensWrite, Reserves, Puts, Gets};
 
-use crate::fault::ChunkFault;
+use crate::fault::{ChunkFault, told};
 use crate::index::ChunkIndex;
 use crate::payload::{Change, chunk_behind, write_drop, write_put};
 use disk_trait::Disk;
-use folded_vault::Folded;
 use stab_base::{Bytes, ChunkName, NUMBER_MAX, Names};
 use std::alloc::{AllocError, Global};
+use vault::Folded;
 
 /// A map of chunks by name, on a disk of its own.
 ///
@@ -63,59 +61,23 @@ impl<D: Disk + Drop> ChunkDev<D> {
 
     /// Makes the disk that of no chunk. The device is then opened.
     pub fn format(&mut self) -> Result<(), ChunkFault>
-        ensures opened { OnOk result (IsOpened D.state self.new) }
-        ensures empty { OnOk result (chunks D.state self.new ≡ []) }
-        ensures durable { OnOk result (Leaves D.state D.images self.new self.new (λ map. map ≡ [])) }
-        ensures room { OnOk result (HasRoom D.state self.new 1 0 0) }
-        ensures memory { IsErrOf result ChunkFault.Memory → Stays D.state self.old self.new }
-        ensures not_absent { IsErrOf result ChunkFault.Absent → ⊥ }
-        ensures down { IsErrOf result ChunkFault.Down ↔ IsDown (vault_of self.old) }
-        ensures unchanged { IsErrOf result ChunkFault.Down → self.new ≡ self.old }
-        ensures disk { IsErrOf result ChunkFault.Disk → IsDown (vault_of self.new) }
-        ensures cause { IsCountedAs ChunkFault.Disk (faults D.state (vault_of self.old)) (faults D.state (vault_of self.new)) result }
-        ensures fuse { IsUp (vault_of self.old) → Burns D.state 3 (vault_of self.old) (vault_of self.new) result }
+        ensures { Formats D.state D.images self.old self.new result }
     {
-        self.inner.format()?;
-        Ok(())
+        told(self.inner.format())
     }
 
     /// Finds the chunks on the disk, whatever its bytes are. It reads each payload once and writes nothing. The
-    /// device is then unopened, also where memory was refused.
+    /// device is then unopened.
     pub fn look(&mut self) -> Result<(), ChunkFault>
         requires synced { IsSynced D.state (vault_of self.old) }
-        ensures looked { OnOk result (IsLookedAt D.state self.new) }
-        ensures same { OnOk result (chunks D.state self.new ≡ chunks D.state self.old) }
-        ensures sound { OnOk result (IsSound D.state (vault_of self.old) → IsSound D.state (vault_of self.new)) }
-        ensures room { OnOk result (HasRoom D.state self.new 1 0 0) }
-        ensures any_moment { IsUp (vault_of self.old) → IsSound D.state (vault_of self.old)
-            → Leaves D.state D.images self.old self.new (λ map. map ≡ chunks D.state self.old) }
-        ensures memory { IsErrOf result ChunkFault.Memory → chunks D.state self.new ≡ chunks D.state self.old }
-        ensures memory_synced { IsErrOf result ChunkFault.Memory → IsSynced D.state (vault_of self.new) }
-        ensures memory_up { IsErrOf result ChunkFault.Memory → IsUp (vault_of self.new) }
-        ensures memory_sound { IsErrOf result ChunkFault.Memory → IsSound D.state (vault_of self.old) → IsSound D.state (vault_of self.new) }
-        ensures memory_looked { IsErrOf result ChunkFault.Memory → IsLookedAt D.state self.old → IsLookedAt D.state self.new }
-        ensures not_absent { IsErrOf result ChunkFault.Absent → ⊥ }
-        ensures down { IsErrOf result ChunkFault.Down ↔ IsDown (vault_of self.old) }
-        ensures unchanged { IsErrOf result ChunkFault.Down → self.new ≡ self.old }
-        ensures disk { IsErrOf result ChunkFault.Disk → IsDown (vault_of self.new) }
-        ensures cause { IsCountedAs ChunkFault.Disk (faults D.state (vault_of self.old)) (faults D.state (vault_of self.new)) result }
-        ensures fuse { SameFuse D.state (vault_of self.old) (vault_of self.new) }
+        ensures { Looks D.state D.images self.old self.new result }
     {
-        self.inner.look()?;
-        Ok(())
+        told(self.inner.look())
     }
 
     /// Crashes the disk and starts it again. What the device holds is known once it is looked at.
     pub fn restart(&mut self, pick: u64)
-        ensures image { IsRestarted D.state (vault_of self.old) (vault_of self.new) }
-        ensures up { IsUp (vault_of self.new) }
-        ensures synced { IsSynced D.state (vault_of self.new) }
-        ensures same { IsUp (vault_of self.old) → IsSynced D.state (vault_of self.old) → chunks D.state self.new ≡ chunks D.state self.old }
-        ensures faults { faults D.state (vault_of self.new) ≡ faults D.state (vault_of self.old) }
-        ensures stops { stops D.state (vault_of self.new) ≡ stops D.state (vault_of self.old) }
-        ensures unset { (D.state (disk_of (vault_of self.new))).is_armed ≡ false }
-        ensures time { Elapses (D.state (disk_of (vault_of self.old))) (D.state (disk_of (vault_of self.new)))
-            (D.images (disk_of (vault_of self.old))) (D.images (disk_of (vault_of self.new))) }
+        ensures { Restarts D.state D.images self.old self.new }
     {
         self.inner.restart(pick);
     }
@@ -124,23 +86,9 @@ impl<D: Disk + Drop> ChunkDev<D> {
     pub fn open_write(&mut self) -> Result<(), ChunkFault>
         requires ready { IsUp (vault_of self.old) → IsLookedAt D.state self.old }
         requires room { IsUp (vault_of self.old) → HasRoom D.state self.old 1 0 0 }
-        ensures opened { OnOk result (IsOpened D.state self.new) }
-        ensures same { OnOk result (chunks D.state self.new ≡ chunks D.state self.old) }
-        ensures durable { OnOk result (Leaves D.state D.images self.new self.new (λ map. map ≡ chunks D.state self.old)) }
-        ensures room { OnOk result ((openings puts bytes : ℕ) → HasRoom D.state self.old (openings + 1) puts bytes
-            → HasRoom D.state self.new openings puts bytes) }
-        ensures any_moment { IsUp (vault_of self.old) → IsSound D.state (vault_of self.old)
-            → Leaves D.state D.images self.old self.new (λ map. map ≡ chunks D.state self.old) }
-        ensures not_absent { IsErrOf result ChunkFault.Absent → ⊥ }
-        ensures down { IsErrOf result ChunkFault.Down ↔ IsDown (vault_of self.old) }
-        ensures unchanged { IsErrOf result ChunkFault.Down → self.new ≡ self.old }
-        ensures disk { OnErr result (IsDown (vault_of self.new)) }
-        ensures no_memory { IsErrOf result ChunkFault.Memory → ⊥ }
-        ensures cause { IsCountedAs ChunkFault.Disk (faults D.state (vault_of self.old)) (faults D.state (vault_of self.new)) result }
-        ensures fuse { IsUp (vault_of self.old) → Burns D.state 4 (vault_of self.old) (vault_of self.new) result }
+        ensures { OpensWrite D.state D.images self.old self.new result }
     {
-        self.inner.open_write()?;
-        Ok(())
+        told(self.inner.open_write())
     }
 
     /// Makes room for so many puts and drops, whose payloads have so many bytes in all, and for one opening: they
@@ -149,54 +97,25 @@ impl<D: Disk + Drop> ChunkDev<D> {
         requires ready { IsUp (vault_of self.old) → IsLookedAt D.state self.old }
         requires puts { puts ≤ 16777216 }
         requires bytes { bytes ≤ 8388608 * puts }
-        ensures room { OnOk result (HasRoom D.state self.new 1 puts bytes) }
-        ensures stays { OnOk result (Stays D.state self.old self.new) }
-        ensures any_moment { IsUp (vault_of self.old) → IsSound D.state (vault_of self.old)
-            → Leaves D.state D.images self.old self.new (λ map. map ≡ chunks D.state self.old) }
-        ensures memory { IsErrOf result ChunkFault.Memory → Stays D.state self.old self.new }
-        ensures not_absent { IsErrOf result ChunkFault.Absent → ⊥ }
-        ensures down { IsErrOf result ChunkFault.Down ↔ IsDown (vault_of self.old) }
-        ensures unchanged { IsErrOf result ChunkFault.Down → self.new ≡ self.old }
-        ensures disk { IsErrOf result ChunkFault.Disk → IsDown (vault_of self.new) }
-        ensures cause { IsCountedAs ChunkFault.Disk (faults D.state (vault_of self.old)) (faults D.state (vault_of self.new)) result }
-        ensures fuse { SameFuse D.state (vault_of self.old) (vault_of self.new) }
+        ensures { Reserves D.state D.images puts bytes self.old self.new result }
     {
-        self.inner.reserve(puts, bytes)?;
-        Ok(())
+        told(self.inner.reserve(puts, bytes))
     }
 
     /// Puts a chunk, in place of the one that the name has. It is on the disk before `Ok`.
     pub fn put(&mut self, name: ChunkName, bytes: &[u8]) -> Result<(), ChunkFault>
         requires ready { IsUp (vault_of self.old) → IsOpened D.state self.old }
         requires version { name.version ≤ NUMBER_MAX }
-        requires short { 13 + length bytes.now ≤ PAYLOAD_MAX }
+        requires short { 13 + length bytes.now ≤ payload_most }
         requires room { IsUp (vault_of self.old) → HasRoom D.state self.old 0 1 (13 + length bytes.now) }
-        ensures opened { OnOk result (IsOpened D.state self.new) }
-        ensures put { OnOk result (chunks D.state self.new ≡ insert_entry name_cmp (chunks D.state self.old) name bytes.now) }
-        ensures durable { OnOk result (Leaves D.state D.images self.new self.new
-            (λ map. map ≡ insert_entry name_cmp (chunks D.state self.old) name bytes.now)) }
-        ensures room { OnOk result ((openings puts size : ℕ) → HasRoom D.state self.old openings (puts + 1) (size + (13 + length bytes.now))
-            → HasRoom D.state self.new openings puts size) }
-        // A crash at any moment of the call leaves the chunks from before it, or those after it.
-        ensures any_moment { IsUp (vault_of self.old) → Leaves D.state D.images self.old self.new
-            (IsEither (chunks D.state self.old) (insert_entry name_cmp (chunks D.state self.old) name bytes.now)) }
-        // Where a fuse stops one of the first two of its four calls, those from before it.
-        ensures early { IsUp (vault_of self.old) → StopsWithin D.state (vault_of self.old) 2
-            → Leaves D.state D.images self.old self.new (λ map. map ≡ chunks D.state self.old) }
-        ensures not_absent { IsErrOf result ChunkFault.Absent → ⊥ }
-        ensures down { IsErrOf result ChunkFault.Down ↔ IsDown (vault_of self.old) }
-        ensures unchanged { IsErrOf result ChunkFault.Down → self.new ≡ self.old }
-        ensures disk { OnErr result (IsDown (vault_of self.new)) }
-        ensures no_memory { IsErrOf result ChunkFault.Memory → ⊥ }
-        ensures cause { IsCountedAs ChunkFault.Disk (faults D.state (vault_of self.old)) (faults D.state (vault_of self.new)) result }
-        ensures fuse { IsUp (vault_of self.old) → Burns D.state 4 (vault_of self.old) (vault_of self.new) result }
+        ensures { Puts D.state D.images (13 + length bytes.now) (insert_entry name_cmp (chunks D.state self.old) name bytes.now)
+            self.old self.new result }
     {
         if self.inner.is_down() {
             return Err(ChunkFault::Down);
         }
         write_put(&mut self.inner.payload, name, bytes);
-        self.inner.append(Some(Change::Put(name)))?;
-        Ok(())
+        told(self.inner.append(Some(Change::Put(name))))
     }
 
     /// Drops the chunk of a name. It is gone on the disk before `Ok`.
@@ -204,31 +123,13 @@ impl<D: Disk + Drop> ChunkDev<D> {
         requires ready { IsUp (vault_of self.old) → IsOpened D.state self.old }
         requires there { IsUp (vault_of self.old) → IsSome (chunk_in (chunks D.state self.old) name) }
         requires room { IsUp (vault_of self.old) → HasRoom D.state self.old 0 1 13 }
-        ensures opened { OnOk result (IsOpened D.state self.new) }
-        ensures dropped { OnOk result (chunks D.state self.new ≡ without name_cmp (chunks D.state self.old) name) }
-        ensures durable { OnOk result (Leaves D.state D.images self.new self.new (λ map. map ≡ without name_cmp (chunks D.state self.old) name)) }
-        ensures room { OnOk result ((openings puts size : ℕ) → HasRoom D.state self.old openings (puts + 1) (size + 13)
-            → HasRoom D.state self.new openings puts size) }
-        // A crash at any moment of the call leaves the chunks from before it, or those after it.
-        ensures any_moment { IsUp (vault_of self.old) → Leaves D.state D.images self.old self.new
-            (IsEither (chunks D.state self.old) (without name_cmp (chunks D.state self.old) name)) }
-        // Where a fuse stops one of the first two of its four calls, those from before it.
-        ensures early { IsUp (vault_of self.old) → StopsWithin D.state (vault_of self.old) 2
-            → Leaves D.state D.images self.old self.new (λ map. map ≡ chunks D.state self.old) }
-        ensures not_absent { IsErrOf result ChunkFault.Absent → ⊥ }
-        ensures down { IsErrOf result ChunkFault.Down ↔ IsDown (vault_of self.old) }
-        ensures unchanged { IsErrOf result ChunkFault.Down → self.new ≡ self.old }
-        ensures disk { OnErr result (IsDown (vault_of self.new)) }
-        ensures no_memory { IsErrOf result ChunkFault.Memory → ⊥ }
-        ensures cause { IsCountedAs ChunkFault.Disk (faults D.state (vault_of self.old)) (faults D.state (vault_of self.new)) result }
-        ensures fuse { IsUp (vault_of self.old) → Burns D.state 4 (vault_of self.old) (vault_of self.new) result }
+        ensures { Puts D.state D.images 13 (without name_cmp (chunks D.state self.old) name) self.old self.new result }
     {
         if self.inner.is_down() {
             return Err(ChunkFault::Down);
         }
         write_drop(&mut self.inner.payload, name);
-        self.inner.append(Some(Change::Gone(name)))?;
-        Ok(())
+        told(self.inner.append(Some(Change::Gone(name))))
     }
 
     // The index of a name's payload.
@@ -248,15 +149,7 @@ impl<D: Disk + Drop> ChunkDev<D> {
         ensures chunk { IfOk result (λ bytes. chunk_in (chunks D.state self.old) name ≡ Some bytes) }
         ensures absent { IsErrOf result ChunkFault.Absent ↔ (IsUp (vault_of self.old) × (chunk_in (chunks D.state self.old) name ≡ None)) }
         ensures absent_unchanged { IsErrOf result ChunkFault.Absent → self.new ≡ self.old }
-        ensures stays { OnOk result (Stays D.state self.old self.new) }
-        ensures any_moment { IsUp (vault_of self.old) → IsSound D.state (vault_of self.old)
-            → Leaves D.state D.images self.old self.new (λ map. map ≡ chunks D.state self.old) }
-        ensures memory { IsErrOf result ChunkFault.Memory → Stays D.state self.old self.new }
-        ensures down { IsErrOf result ChunkFault.Down ↔ IsDown (vault_of self.old) }
-        ensures unchanged { IsErrOf result ChunkFault.Down → self.new ≡ self.old }
-        ensures disk { IsErrOf result ChunkFault.Disk → IsDown (vault_of self.new) }
-        ensures cause { IsCountedAs ChunkFault.Disk (faults D.state (vault_of self.old)) (faults D.state (vault_of self.new)) result }
-        ensures fuse { SameFuse D.state (vault_of self.old) (vault_of self.new) }
+        ensures reads { Gets D.state D.images self.old self.new result }
     {
         if self.inner.is_down() {
             return Err(ChunkFault::Down);

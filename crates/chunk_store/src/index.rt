@@ -2,10 +2,10 @@
 ghost use Rattle.std.specs.Prelude.{◌≡◌};
 
 use crate::payload::{Change, change_in};
-use folded_vault::Fold;
 use spare_map::SpareMap;
 use stab_base::ChunkName;
 use std::alloc::{AllocError, Global};
+use vault::Fold;
 
 /// For each name the index of its payload.
 #[derive(Drop)]

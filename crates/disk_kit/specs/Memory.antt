@@ -21,6 +21,7 @@ memory_state m = record {
   stops = 0;
   is_armed = false;
   passes = 0;
+  pick = 0;
   moment = length m.calls.items;
 }
 

@@ -56,7 +56,8 @@ impl Depot for MemDepot {
 
     ghost use Rattle.std.specs.Prelude.{◌+◌, ◌-◌, ◌^◌, ◌==◌, ◌||◌, [], None, Some, Contains, min, IfOk, OnOk, OnErr, IsErrOf};
     ghost use Rattle.disk_trait.specs.Image.{settled};
-    ghost use Rattle.disk_trait.specs.Depots.{DepotCause, Tells};
+    ghost use Rattle.disk_trait.specs.Calls.{IsCounted};
+    ghost use Rattle.disk_trait.specs.Depots.{Tells};
     ghost use Rattle.disk_kit.specs.Memory.{memory_state};
     ghost use Rattle.disk_kit.specs.Depot.{depot_state, disk_back, failing_of, asked_of};
 
@@ -78,7 +79,7 @@ impl Depot for MemDepot {
         ensures durable { IfOk result (λ disk. (memory_state disk).pending ≡ settled (memory_state disk).seen) }
         ensures refused { OnErr result ((k : ℕ) → (depot_state self.new).is_out k ≡ (depot_state self.old).is_out k) }
         ensures kept { OnErr result (Some (disk_back self.new) ≡ Some (disk_back self.old)) }
-        ensures cause { DepotCause (depot_state self.old) (depot_state self.new) result }
+        ensures cause { IsCounted DepotFault.Failed (depot_state self.old).faults (depot_state self.new).faults result }
     {
         if self.faults < u64::MAX && self.failing.contains(&self.asked) {
             self.asked = self.asked.saturating_add(1);

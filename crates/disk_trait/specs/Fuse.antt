@@ -46,6 +46,7 @@ fused s setting stops = record {
   stops = stops;
   is_armed = is_armed_at setting stops;
   passes = passes_left setting;
+  pick = landing setting;
   moment = s.moment;
 }
 
@@ -56,8 +57,9 @@ behind state f = fused (state f.inner) f.setting f.stops
 pub stops_within : (faults stops : ℕ) → stops ≤ faults + stops
 stops_within faults stops = omega arith
 
--- the same disk, whose fuse now lets so many calls pass, unless its count of stops is full
-pub record IsArmed (calls : ℕ) (old new : DiskState) : Type 0 where
+-- the same disk, whose fuse now lets so many calls pass, and so many bytes of the write after them, unless its count of
+-- stops is full
+pub record IsArmed (calls count : ℕ) (old new : DiskState) : Type 0 where
   pub seen : new.seen ≡ old.seen
   pub pending : new.pending ≡ old.pending
   pub room : new.room ≡ old.room
@@ -67,6 +69,7 @@ pub record IsArmed (calls : ℕ) (old new : DiskState) : Type 0 where
   pub stops : new.stops ≡ old.stops
   pub moment : new.moment ≡ old.moment
   pub passes : new.passes ≡ calls
+  pub pick : new.pick ≡ count
   pub is_armed : old.stops + 1 < 2 ^ 64 → new.is_armed ≡ true
 
 -- the next write, cut or sync is stopped

@@ -2,7 +2,8 @@
 ghost use Rattle.std.specs.Prelude.{◌≡◌, ◌==◌, ◌||◌, ◌&&◌, not, true, false, Option, None, Some, ℕ, IfOk, OnOk, OnErr};
 ghost use Rattle.disk_trait.specs.declared.depot.DepotFault.TheVariants.{Memory};
 ghost use Rattle.disk_trait.specs.Image.{settled};
-ghost use Rattle.disk_trait.specs.Depots.{DepotState, DepotCause, Tells};
+ghost use Rattle.disk_trait.specs.Calls.{IsCounted};
+ghost use Rattle.disk_trait.specs.Depots.{DepotState, Tells};
 
 use crate::Disk;
 use std::alloc::AllocError;
@@ -45,7 +46,7 @@ pub trait Depot {
         ensures durable { IfOk result (λ disk. (Self.Disk.state disk).pending ≡ settled (Self.Disk.state disk).seen) }
         ensures refused { OnErr result ((k : ℕ) → (state self.new).is_out k ≡ (state self.old).is_out k) }
         ensures kept { OnErr result (returned self.new ≡ returned self.old) }
-        ensures cause { DepotCause (state self.old) (state self.new) result };
+        ensures cause { IsCounted DepotFault.Failed (state self.old).faults (state self.new).faults result };
 
     /// Takes back the disk of a number that is out. It takes no memory.
     fn back(&mut self, number: u32, disk: Self::Disk)

@@ -2,7 +2,7 @@
 ghost use Rattle.std.specs.Prelude.{◌≡◌, ◌+◌, ◌^◌, ◌<◌, ◌≤◌, List, ℕ, false, length, take, drop, OnOk};
 ghost use Rattle.disk_trait.specs.declared.disk.RoomFault.TheVariants.{Memory};
 ghost use Rattle.disk_trait.specs.Image.{IsImage, LeavesLess, settled, touched, shortened, overwritten};
-ghost use Rattle.disk_trait.specs.Calls.{DiskState, Elapses, HasCause, RoomCause, Spends, Burns, SameFile};
+ghost use Rattle.disk_trait.specs.Calls.{DiskState, Elapses, HasCause, IsCounted, Spends, Burns, SameFile};
 
 use std::alloc::AllocError;
 use thiserror::Error;
@@ -67,7 +67,7 @@ pub trait Disk {
         ensures bounded { (state self.new).room ≤ 2 ^ 60 }
         ensures same { SameFile (state self.old) (state self.new) }
         ensures time { Elapses (state self.old) (state self.new) (images self.old) (images self.new) }
-        ensures cause { RoomCause (state self.old) (state self.new) result };
+        ensures cause { IsCounted RoomFault.Failed (state self.old).faults (state self.new).faults result };
 
     /// Fills the buffer with the bytes from there on.
     fn read_at(&mut self, at: u64, into: &mut [u8]) -> Result<(), DiskFault>

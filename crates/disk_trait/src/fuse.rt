@@ -30,6 +30,7 @@ fn burn(setting: &mut FuseSetting, stops: &mut u64) -> Option<u64>
     ensures unarmed { IsNone result → is_armed_at setting.old stops.old ≡ false → is_armed_at setting.new stops.new ≡ false }
     ensures armed { IsNone result → is_armed_at setting.old stops.old ≡ true → is_armed_at setting.new stops.new ≡ true }
     ensures one_less { IsNone result → is_armed_at setting.old stops.old ≡ true → passes_left setting.new + 1 ≡ passes_left setting.old }
+    ensures kept { IsNone result → is_armed_at setting.old stops.old ≡ true → landing setting.new ≡ landing setting.old }
     ensures stopped { IfSome result (λ landed. stops.new ≡ stops.old + 1) }
     ensures was_armed { IfSome result (λ landed. is_armed_at setting.old stops.old ≡ true) }
     ensures none_left { IfSome result (λ landed. passes_left setting.old ≡ 0) }
@@ -84,7 +85,7 @@ impl<D: Disk> FuseDisk<D> {
     /// bytes, or all where it has fewer; a cut or sync that follows does nothing. It fails, and so does each
     /// later one, which does nothing, until the restart.
     pub fn stop_after(&mut self, calls: u32, pick: u64)
-        ensures armed { IsArmed calls (behind D.state self.old) (behind D.state self.new) }
+        ensures armed { IsArmed calls pick (behind D.state self.old) (behind D.state self.new) }
         ensures inner { inner_of self.new ≡ inner_of self.old }
         ensures setting { setting_of self.new ≡ FuseSetting.Set calls pick }
         ensures time { Elapses (behind D.state self.old) (behind D.state self.new) (D.images (inner_of self.old)) (D.images (inner_of self.new)) }

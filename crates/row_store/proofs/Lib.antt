@@ -5,5 +5,5 @@ mod Above
 mod Found
 mod Shapes
 mod Notes
-mod Maps
+mod Faults
 mod Finds

@@ -7,7 +7,7 @@ use Rattle.std.specs.List.{Contains}
 use Rattle.std.specs.List.Sorted.{IsStrictlySortedBy}
 use Rattle.std.specs.Ordering.{nat_cmp}
 use Rattle.std.specs.Vec.{vec_capacity}
-use Rattle.vault.specs.declared.record.TheConstants.{PAYLOAD_MAX}
+use Rattle.vault.specs.Limit.{payload_most}
 use Rattle.spare_map.specs.Late.{entries_of, spare_of}
 use Rattle.spare_map.specs.Values.{AllValues, with_values}
 use Rattle.row_value.specs.declared.schema.Schema.{Schema}
@@ -68,7 +68,7 @@ pub record HasSpare (memory : RowMemory) (payloads bytes : ℕ) : Type 0 where
   pub places : payloads ≤ spare_of memory.places
   -- one change takes the old version out, and one puts the new one in
   pub versions : 2 * payloads ≤ spare_of memory.versions
-  pub table : min bytes PAYLOAD_MAX ≤ vec_capacity memory.table
+  pub table : min bytes payload_most ≤ vec_capacity memory.table
   pub subs : payloads ≤ spare_of memory.subs
 
 -- what is to be noted of a payload

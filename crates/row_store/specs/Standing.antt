@@ -1,13 +1,17 @@
 -- A device of rows between calls, as what it holds of its table. How its disk stands is said of its vault.
-use Rattle.std.specs.Prelude.{◌≡◌, ◌⊎◌, ◌+◌, ◌-◌, ◌^◌, min, ℕ, List, Result, Ok, Err}
+use Rattle.std.specs.Prelude.{ℕ, List, Result, Ok, Err}
 use Rattle.disk_trait.specs.Calls.{DiskState}
+use Rattle.disk_trait.specs.declared.fuse.FuseDisk.{FuseDisk}
 use Rattle.vault.specs.declared.vault.Vault.{Vault}
-use Rattle.vault.specs.Standing.{payloads}
+use Rattle.vault.specs.Standing.{payloads, one_more}
 use Rattle.vault.specs.Standing as vaults
-use Rattle.folded_vault.specs.Standing as folded
+use Rattle.vault.specs.Folded as folded
+use Rattle.vault.specs.Calls as calls
+use Rattle.vault.specs.Stops as stops
 use Rattle.row_store.specs.declared.device.RowDev.{RowDev}
 use Rattle.row_store.specs.declared.fault.RowFault.{RowFault}
 use Rattle.row_store.specs.declared.fault.RowFault.TheVariants.{NoRow, Disk, Down, Memory}
+use Rattle.row_store.specs.Fault.{fault_of}
 use Rattle.row_store.specs.Data.{TableData, data_of}
 use Rattle.row_store.specs.Memory.{Fits, HasSpare}
 
@@ -21,10 +25,6 @@ held state dev = data_of (payloads state (vault_of dev))
 -- how often a row was read from the disk
 abbrev pub row_reads : {D : Type 0} → RowDev D → ℕ
 row_reads dev = dev.reads
-
--- one more, where the count isn't at its end
-abbrev pub one_more : ℕ → ℕ
-one_more count = min (count + 1) (2 ^ 64 - 1)
 
 -- each look-up that goes to the disk is one read of a row
 abbrev pub reads_after : {T : Type 0} → ℕ → Result T RowFault → ℕ
@@ -54,6 +54,49 @@ Stays state old new = folded.Stays state Fits HasSpare old.inner new.inner
 abbrev pub Leaves : {D : Type 0} → (D → DiskState) → (D → ℕ → List ℕ → Type 0) → RowDev D → RowDev D → (TableData → Type 0) → Type 0
 Leaves state images old new R = vaults.Leaves state images (vault_of old) (vault_of new) (λ list. R (data_of list))
 
--- one of the two
-abbrev pub IsEither : {X : Type 0} → X → X → X → Type 0
-IsEither before after here = (here ≡ before) ⊎ (here ≡ after)
+-- ---- what the calls of a device promise of what it holds
+
+abbrev pub Formats :
+    {D : Type 0} → (D → DiskState) → (D → ℕ → List ℕ → Type 0) → RowDev D → RowDev D →
+    Result (Unit {0}) RowFault → Type 0
+Formats state images old new result =
+    calls.Formats state images Fits HasSpare data_of fault_of old.inner new.inner old new result
+
+abbrev pub Looks :
+    {D : Type 0} → (D → DiskState) → (D → ℕ → List ℕ → Type 0) → RowDev D → RowDev D →
+    Result (Unit {0}) RowFault → Type 0
+Looks state images old new result =
+    calls.Looks state images Fits HasSpare data_of fault_of old.inner new.inner old new result
+
+abbrev pub Restarts : {D : Type 0} → (D → DiskState) → (D → ℕ → List ℕ → Type 0) → RowDev D → RowDev D → Type 0
+Restarts state images old new = calls.Restarts state images data_of old.inner new.inner
+
+abbrev pub OpensWrite :
+    {D : Type 0} → (D → DiskState) → (D → ℕ → List ℕ → Type 0) → RowDev D → RowDev D →
+    Result (Unit {0}) RowFault → Type 0
+OpensWrite state images old new result =
+    calls.OpensWrite state images Fits HasSpare data_of fault_of old.inner new.inner old new result
+
+abbrev pub Reserves :
+    {D : Type 0} → (D → DiskState) → (D → ℕ → List ℕ → Type 0) → ℕ → ℕ → RowDev D → RowDev D →
+    Result (Unit {0}) RowFault → Type 0
+Reserves state images puts bytes old new result =
+    calls.Reserves state images Fits HasSpare data_of fault_of puts bytes old.inner new.inner old new result
+
+-- the put of a payload of so many bytes, after which this is what it holds
+abbrev pub Puts :
+    {D : Type 0} → (D → DiskState) → (D → ℕ → List ℕ → Type 0) → ℕ → TableData → RowDev D → RowDev D →
+    Result (Unit {0}) RowFault → Type 0
+Puts state images bytes here old new result =
+    calls.Appends state images Fits HasSpare data_of fault_of bytes here old.inner new.inner old new result
+
+abbrev pub Gets :
+    {D T : Type 0} → (D → DiskState) → (D → ℕ → List ℕ → Type 0) → RowDev D → RowDev D →
+    Result T RowFault → Type 0
+Gets state images old new result =
+    calls.Reads state images Fits HasSpare data_of fault_of old.inner new.inner old new result
+
+abbrev pub Stops :
+    {D : Type 0} → (D → DiskState) → (D → ℕ → List ℕ → Type 0) → ℕ → ℕ → RowDev (FuseDisk D) → RowDev (FuseDisk D) →
+    Type 0
+Stops state images count pick old new = stops.Stops state images Fits HasSpare data_of count pick old.inner new.inner

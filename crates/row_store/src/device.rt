@@ -3,30 +3,28 @@ ghost use Rattle.std.specs.Prelude.{◌≡◌, ◌↔◌, ◌+◌, ◌*◌, ◌<
 ghost use Rattle.std.specs.Bool.{MatchBool};
 ghost use Rattle.std.specs.List.Sorted.{IsStrictlySortedBy};
 ghost use Rattle.std.specs.Ordering.{nat_cmp};
-ghost use Rattle.disk_trait.specs.Calls.{Elapses};
-ghost use Rattle.vault.specs.declared.record.TheConstants.{PAYLOAD_MAX};
-ghost use Rattle.vault.specs.Standing.{payloads, faults, stops, disk_of, IsDown, IsUp, IsSound, IsSynced, IsRestarted, SameFuse, StopsWithin};
-ghost use Rattle.folded_vault.specs.Outcome.{IsCountedAs, Burns};
+ghost use Rattle.vault.specs.Limit.{payload_most};
+ghost use Rattle.vault.specs.Standing.{payloads, gets, disk_of, IsDown, IsUp, IsSynced};
 ghost use Rattle.value_codec.specs.SchemaSpelling.{HasSchemaSpelling};
 ghost use Rattle.row_store.specs.Spelling.{HasStoredSpelling, row_payload, IsState, table_payload, IsClient};
 ghost use Rattle.row_store.specs.declared.stored.StoredRow.{StoredRow};
 ghost use Rattle.row_store.specs.Reading.{row_in, terms_if};
 ghost use Rattle.row_store.specs.Data.{nothing_held, with_row, with_table, with_sub, row_of, version_of, IsTableVersion, AreChangedSince, subs_of};
 ghost use Rattle.row_store.specs.Memory.{IsPlace, row_at};
-ghost use Rattle.row_store.specs.Standing.{vault_of, held, row_reads, reads_after, IsLookedAt, IsOpened, HasRoom, Stays, Leaves, IsEither};
+ghost use Rattle.row_store.specs.Standing.{vault_of, held, row_reads, reads_after, IsLookedAt, IsOpened, HasRoom, Stays, Formats, Looks, Restarts, OpensWrite, Reserves, Puts, Gets};
 
 use crate::change::Change;
-use crate::fault::RowFault;
+use crate::fault::{RowFault, told};
 use crate::memory::{Place, RowMemory};
 use crate::reader::{row_in, table_in, terms_if};
 use crate::stored::{StoredRow, Sub, SubChange, Subs, Terms};
 use crate::writer::{write_row, write_sub, write_table};
 use disk_trait::Disk;
-use folded_vault::Folded;
 use row_value::Schema;
 use stab_base::{ClientNo, GateNo, RowId, RowVersion, Rows, Version};
 use std::alloc::{AllocError, Global};
 use value_codec::SpellFault;
+use vault::Folded;
 
 /// The rows of a table by their ids, its schema and state, and its subscriptions by their clients, on a disk of its
 /// own.
@@ -91,61 +89,25 @@ impl<D: Disk + Drop> RowDev<D> {
 
     /// Makes the disk that of no table. The device is then opened.
     pub fn format(&mut self) -> Result<(), RowFault>
-        ensures opened { OnOk result (IsOpened D.state self.new) }
-        ensures empty { OnOk result (held D.state self.new ≡ nothing_held) }
-        ensures durable { OnOk result (Leaves D.state D.images self.new self.new (λ here. here ≡ nothing_held)) }
-        ensures room { OnOk result (HasRoom D.state self.new 1 0 0) }
-        ensures memory { IsErrOf result RowFault.Memory → Stays D.state self.old self.new }
-        ensures not_no_row { IsErrOf result RowFault.NoRow → ⊥ }
-        ensures down { IsErrOf result RowFault.Down ↔ IsDown (vault_of self.old) }
-        ensures unchanged { IsErrOf result RowFault.Down → self.new ≡ self.old }
-        ensures disk { IsErrOf result RowFault.Disk → IsDown (vault_of self.new) }
-        ensures cause { IsCountedAs RowFault.Disk (faults D.state (vault_of self.old)) (faults D.state (vault_of self.new)) result }
-        ensures fuse { IsUp (vault_of self.old) → Burns D.state 3 (vault_of self.old) (vault_of self.new) result }
+        ensures formats { Formats D.state D.images self.old self.new result }
         ensures reads { row_reads self.new ≡ row_reads self.old }
     {
-        self.inner.format()?;
-        Ok(())
+        told(self.inner.format())
     }
 
     /// Finds the table on the disk, whatever its bytes are. It reads each payload once and writes nothing. The
-    /// device is then unopened, also where memory was refused.
+    /// device is then unopened.
     pub fn look(&mut self) -> Result<(), RowFault>
         requires synced { IsSynced D.state (vault_of self.old) }
-        ensures looked { OnOk result (IsLookedAt D.state self.new) }
-        ensures same { OnOk result (held D.state self.new ≡ held D.state self.old) }
-        ensures sound { OnOk result (IsSound D.state (vault_of self.old) → IsSound D.state (vault_of self.new)) }
-        ensures room { OnOk result (HasRoom D.state self.new 1 0 0) }
-        ensures any_moment { IsUp (vault_of self.old) → IsSound D.state (vault_of self.old)
-            → Leaves D.state D.images self.old self.new (λ here. here ≡ held D.state self.old) }
-        ensures memory { IsErrOf result RowFault.Memory → held D.state self.new ≡ held D.state self.old }
-        ensures memory_synced { IsErrOf result RowFault.Memory → IsSynced D.state (vault_of self.new) }
-        ensures memory_up { IsErrOf result RowFault.Memory → IsUp (vault_of self.new) }
-        ensures memory_sound { IsErrOf result RowFault.Memory → IsSound D.state (vault_of self.old) → IsSound D.state (vault_of self.new) }
-        ensures memory_looked { IsErrOf result RowFault.Memory → IsLookedAt D.state self.old → IsLookedAt D.state self.new }
-        ensures not_no_row { IsErrOf result RowFault.NoRow → ⊥ }
-        ensures down { IsErrOf result RowFault.Down ↔ IsDown (vault_of self.old) }
-        ensures unchanged { IsErrOf result RowFault.Down → self.new ≡ self.old }
-        ensures disk { IsErrOf result RowFault.Disk → IsDown (vault_of self.new) }
-        ensures cause { IsCountedAs RowFault.Disk (faults D.state (vault_of self.old)) (faults D.state (vault_of self.new)) result }
-        ensures fuse { SameFuse D.state (vault_of self.old) (vault_of self.new) }
+        ensures looks { Looks D.state D.images self.old self.new result }
         ensures reads { row_reads self.new ≡ row_reads self.old }
     {
-        self.inner.look()?;
-        Ok(())
+        told(self.inner.look())
     }
 
     /// Crashes the disk and starts it again. What the device holds is known once it is looked at.
     pub fn restart(&mut self, pick: u64)
-        ensures image { IsRestarted D.state (vault_of self.old) (vault_of self.new) }
-        ensures up { IsUp (vault_of self.new) }
-        ensures synced { IsSynced D.state (vault_of self.new) }
-        ensures same { IsUp (vault_of self.old) → IsSynced D.state (vault_of self.old) → held D.state self.new ≡ held D.state self.old }
-        ensures faults { faults D.state (vault_of self.new) ≡ faults D.state (vault_of self.old) }
-        ensures stops { stops D.state (vault_of self.new) ≡ stops D.state (vault_of self.old) }
-        ensures unset { (D.state (disk_of (vault_of self.new))).is_armed ≡ false }
-        ensures time { Elapses (D.state (disk_of (vault_of self.old))) (D.state (disk_of (vault_of self.new)))
-            (D.images (disk_of (vault_of self.old))) (D.images (disk_of (vault_of self.new))) }
+        ensures restarts { Restarts D.state D.images self.old self.new }
         ensures reads { row_reads self.new ≡ row_reads self.old }
     {
         self.inner.restart(pick);
@@ -155,24 +117,10 @@ impl<D: Disk + Drop> RowDev<D> {
     pub fn open_write(&mut self) -> Result<(), RowFault>
         requires ready { IsUp (vault_of self.old) → IsLookedAt D.state self.old }
         requires room { IsUp (vault_of self.old) → HasRoom D.state self.old 1 0 0 }
-        ensures opened { OnOk result (IsOpened D.state self.new) }
-        ensures same { OnOk result (held D.state self.new ≡ held D.state self.old) }
-        ensures durable { OnOk result (Leaves D.state D.images self.new self.new (λ here. here ≡ held D.state self.old)) }
-        ensures room { OnOk result ((openings puts bytes : ℕ) → HasRoom D.state self.old (openings + 1) puts bytes
-            → HasRoom D.state self.new openings puts bytes) }
-        ensures any_moment { IsUp (vault_of self.old) → IsSound D.state (vault_of self.old)
-            → Leaves D.state D.images self.old self.new (λ here. here ≡ held D.state self.old) }
-        ensures not_no_row { IsErrOf result RowFault.NoRow → ⊥ }
-        ensures down { IsErrOf result RowFault.Down ↔ IsDown (vault_of self.old) }
-        ensures unchanged { IsErrOf result RowFault.Down → self.new ≡ self.old }
-        ensures disk { OnErr result (IsDown (vault_of self.new)) }
-        ensures no_memory { IsErrOf result RowFault.Memory → ⊥ }
-        ensures cause { IsCountedAs RowFault.Disk (faults D.state (vault_of self.old)) (faults D.state (vault_of self.new)) result }
-        ensures fuse { IsUp (vault_of self.old) → Burns D.state 4 (vault_of self.old) (vault_of self.new) result }
+        ensures opens { OpensWrite D.state D.images self.old self.new result }
         ensures reads { row_reads self.new ≡ row_reads self.old }
     {
-        self.inner.open_write()?;
-        Ok(())
+        told(self.inner.open_write())
     }
 
     /// Makes room for so many puts, whose payloads have so many bytes in all, and for one opening: they take no
@@ -181,48 +129,19 @@ impl<D: Disk + Drop> RowDev<D> {
         requires ready { IsUp (vault_of self.old) → IsLookedAt D.state self.old }
         requires puts { puts ≤ 16777216 }
         requires bytes { bytes ≤ 8388608 * puts }
-        ensures room { OnOk result (HasRoom D.state self.new 1 puts bytes) }
-        ensures stays { OnOk result (Stays D.state self.old self.new) }
-        ensures any_moment { IsUp (vault_of self.old) → IsSound D.state (vault_of self.old)
-            → Leaves D.state D.images self.old self.new (λ here. here ≡ held D.state self.old) }
-        ensures memory { IsErrOf result RowFault.Memory → Stays D.state self.old self.new }
-        ensures not_no_row { IsErrOf result RowFault.NoRow → ⊥ }
-        ensures down { IsErrOf result RowFault.Down ↔ IsDown (vault_of self.old) }
-        ensures unchanged { IsErrOf result RowFault.Down → self.new ≡ self.old }
-        ensures disk { IsErrOf result RowFault.Disk → IsDown (vault_of self.new) }
-        ensures cause { IsCountedAs RowFault.Disk (faults D.state (vault_of self.old)) (faults D.state (vault_of self.new)) result }
-        ensures fuse { SameFuse D.state (vault_of self.old) (vault_of self.new) }
+        ensures reserves { Reserves D.state D.images puts bytes self.old self.new result }
         ensures reads { row_reads self.new ≡ row_reads self.old }
     {
-        self.inner.reserve(puts, bytes)?;
-        Ok(())
+        told(self.inner.reserve(puts, bytes))
     }
 
     /// Puts a row, in place of the one of its id. It is on the disk before `Ok`.
     pub fn put_row(&mut self, stored: StoredRow) -> Result<(), RowFault>
         requires ready { IsUp (vault_of self.old) → IsOpened D.state self.old }
         requires spelled { HasStoredSpelling stored }
-        requires short { length (row_payload stored) ≤ PAYLOAD_MAX }
+        requires short { length (row_payload stored) ≤ payload_most }
         requires room { IsUp (vault_of self.old) → HasRoom D.state self.old 0 1 (length (row_payload stored)) }
-        ensures opened { OnOk result (IsOpened D.state self.new) }
-        ensures put { OnOk result (held D.state self.new ≡ with_row (held D.state self.old) stored) }
-        ensures durable { OnOk result (Leaves D.state D.images self.new self.new (λ here. here ≡ with_row (held D.state self.old) stored)) }
-        ensures room { OnOk result ((openings puts bytes : ℕ)
-            → HasRoom D.state self.old openings (puts + 1) (bytes + (length (row_payload stored)))
-            → HasRoom D.state self.new openings puts bytes) }
-        // A crash at any moment of the call leaves the table from before it, or that after it.
-        ensures any_moment { IsUp (vault_of self.old) → Leaves D.state D.images self.old self.new
-            (IsEither (held D.state self.old) (with_row (held D.state self.old) stored)) }
-        // Where a fuse stops one of the first two of its four calls, that from before it.
-        ensures early { IsUp (vault_of self.old) → StopsWithin D.state (vault_of self.old) 2
-            → Leaves D.state D.images self.old self.new (λ here. here ≡ held D.state self.old) }
-        ensures not_no_row { IsErrOf result RowFault.NoRow → ⊥ }
-        ensures down { IsErrOf result RowFault.Down ↔ IsDown (vault_of self.old) }
-        ensures unchanged { IsErrOf result RowFault.Down → self.new ≡ self.old }
-        ensures disk { OnErr result (IsDown (vault_of self.new)) }
-        ensures no_memory { IsErrOf result RowFault.Memory → ⊥ }
-        ensures cause { IsCountedAs RowFault.Disk (faults D.state (vault_of self.old)) (faults D.state (vault_of self.new)) result }
-        ensures fuse { IsUp (vault_of self.old) → Burns D.state 4 (vault_of self.old) (vault_of self.new) result }
+        ensures puts { Puts D.state D.images (length (row_payload stored)) (with_row (held D.state self.old) stored) self.old self.new result }
         ensures reads { row_reads self.new ≡ row_reads self.old }
     {
         if self.inner.is_down() {
@@ -233,8 +152,7 @@ impl<D: Disk + Drop> RowDev<D> {
             version: stored.version,
             row: stored.row,
         };
-        self.inner.append(Change::Row(row))?;
-        Ok(())
+        told(self.inner.append(Change::Row(row)))
     }
 
     /// Puts the table's schema and its state: 1 draft, 2 live, 3 dropped. It is on the disk before `Ok`.
@@ -242,36 +160,17 @@ impl<D: Disk + Drop> RowDev<D> {
         requires ready { IsUp (vault_of self.old) → IsOpened D.state self.old }
         requires spelled { HasSchemaSpelling schema.now }
         requires state { IsState state }
-        requires short { length (table_payload schema.now state) ≤ PAYLOAD_MAX }
+        requires short { length (table_payload schema.now state) ≤ payload_most }
         requires room { IsUp (vault_of self.old) → HasRoom D.state self.old 0 1 (length (table_payload schema.now state)) }
-        ensures opened { OnOk result (IsOpened D.state self.new) }
-        ensures put { OnOk result (held D.state self.new ≡ with_table (held D.state self.old) schema.now state) }
-        ensures durable { OnOk result (Leaves D.state D.images self.new self.new
-            (λ here. here ≡ with_table (held D.state self.old) schema.now state)) }
-        ensures room { OnOk result ((openings puts bytes : ℕ)
-            → HasRoom D.state self.old openings (puts + 1) (bytes + (length (table_payload schema.now state)))
-            → HasRoom D.state self.new openings puts bytes) }
-        // A crash at any moment of the call leaves the table from before it, or that after it.
-        ensures any_moment { IsUp (vault_of self.old) → Leaves D.state D.images self.old self.new
-            (IsEither (held D.state self.old) (with_table (held D.state self.old) schema.now state)) }
-        // Where a fuse stops one of the first two of its four calls, that from before it.
-        ensures early { IsUp (vault_of self.old) → StopsWithin D.state (vault_of self.old) 2
-            → Leaves D.state D.images self.old self.new (λ here. here ≡ held D.state self.old) }
-        ensures not_no_row { IsErrOf result RowFault.NoRow → ⊥ }
-        ensures down { IsErrOf result RowFault.Down ↔ IsDown (vault_of self.old) }
-        ensures unchanged { IsErrOf result RowFault.Down → self.new ≡ self.old }
-        ensures disk { OnErr result (IsDown (vault_of self.new)) }
-        ensures no_memory { IsErrOf result RowFault.Memory → ⊥ }
-        ensures cause { IsCountedAs RowFault.Disk (faults D.state (vault_of self.old)) (faults D.state (vault_of self.new)) result }
-        ensures fuse { IsUp (vault_of self.old) → Burns D.state 4 (vault_of self.old) (vault_of self.new) result }
+        ensures puts { Puts D.state D.images (length (table_payload schema.now state))
+            (with_table (held D.state self.old) schema.now state) self.old self.new result }
         ensures reads { row_reads self.new ≡ row_reads self.old }
     {
         if self.inner.is_down() {
             return Err(RowFault::Down);
         }
         write_table(&mut self.inner.payload, schema, state);
-        self.inner.append(Change::Table)?;
-        Ok(())
+        told(self.inner.append(Change::Table))
     }
 
     /// Puts a client's subscription, or takes it away where `on` is false; period and tolerance are in
@@ -287,27 +186,9 @@ impl<D: Disk + Drop> RowDev<D> {
         requires ready { IsUp (vault_of self.old) → IsOpened D.state self.old }
         requires client { IsClient client }
         requires room { IsUp (vault_of self.old) → HasRoom D.state self.old 0 1 18 }
-        ensures opened { OnOk result (IsOpened D.state self.new) }
-        ensures put { OnOk result (held D.state self.new
-            ≡ with_sub (held D.state self.old) client (terms_if on (record { gate = gate; period = period; tolerance = tolerance }))) }
-        ensures durable { OnOk result (Leaves D.state D.images self.new self.new (λ here. here
-            ≡ with_sub (held D.state self.old) client (terms_if on (record { gate = gate; period = period; tolerance = tolerance })))) }
-        ensures room { OnOk result ((openings puts bytes : ℕ) → HasRoom D.state self.old openings (puts + 1) (bytes + 18)
-            → HasRoom D.state self.new openings puts bytes) }
-        // A crash at any moment of the call leaves the table from before it, or that after it.
-        ensures any_moment { IsUp (vault_of self.old) → Leaves D.state D.images self.old self.new
-            (IsEither (held D.state self.old)
-            (with_sub (held D.state self.old) client (terms_if on (record { gate = gate; period = period; tolerance = tolerance })))) }
-        // Where a fuse stops one of the first two of its four calls, that from before it.
-        ensures early { IsUp (vault_of self.old) → StopsWithin D.state (vault_of self.old) 2
-            → Leaves D.state D.images self.old self.new (λ here. here ≡ held D.state self.old) }
-        ensures not_no_row { IsErrOf result RowFault.NoRow → ⊥ }
-        ensures down { IsErrOf result RowFault.Down ↔ IsDown (vault_of self.old) }
-        ensures unchanged { IsErrOf result RowFault.Down → self.new ≡ self.old }
-        ensures disk { OnErr result (IsDown (vault_of self.new)) }
-        ensures no_memory { IsErrOf result RowFault.Memory → ⊥ }
-        ensures cause { IsCountedAs RowFault.Disk (faults D.state (vault_of self.old)) (faults D.state (vault_of self.new)) result }
-        ensures fuse { IsUp (vault_of self.old) → Burns D.state 4 (vault_of self.old) (vault_of self.new) result }
+        ensures puts { Puts D.state D.images 18
+            (with_sub (held D.state self.old) client (terms_if on (record { gate = gate; period = period; tolerance = tolerance })))
+            self.old self.new result }
         ensures reads { row_reads self.new ≡ row_reads self.old }
     {
         if self.inner.is_down() {
@@ -323,8 +204,7 @@ impl<D: Disk + Drop> RowDev<D> {
             client,
             terms: terms_if(on, terms),
         };
-        self.inner.append(Change::Sub(change))?;
-        Ok(())
+        told(self.inner.append(Change::Sub(change)))
     }
 
     // Where a row stands.
@@ -345,16 +225,10 @@ impl<D: Disk + Drop> RowDev<D> {
         ensures spelled { IfOk result HasStoredSpelling }
         ensures no_row { IsErrOf result RowFault.NoRow ↔ (IsUp (vault_of self.old) × (row_of (held D.state self.old) row.now ≡ None)) }
         ensures no_row_unchanged { IsErrOf result RowFault.NoRow → self.new ≡ self.old }
-        ensures stays { OnOk result (Stays D.state self.old self.new) }
-        ensures any_moment { IsUp (vault_of self.old) → IsSound D.state (vault_of self.old)
-            → Leaves D.state D.images self.old self.new (λ here. here ≡ held D.state self.old) }
-        ensures memory { IsErrOf result RowFault.Memory → Stays D.state self.old self.new }
-        ensures down { IsErrOf result RowFault.Down ↔ IsDown (vault_of self.old) }
-        ensures unchanged { IsErrOf result RowFault.Down → self.new ≡ self.old }
-        ensures disk { IsErrOf result RowFault.Disk → IsDown (vault_of self.new) }
-        ensures cause { IsCountedAs RowFault.Disk (faults D.state (vault_of self.old)) (faults D.state (vault_of self.new)) result }
-        ensures fuse { SameFuse D.state (vault_of self.old) (vault_of self.new) }
-        ensures reads { row_reads self.new ≡ reads_after (row_reads self.old) result }
+        ensures reads { Gets D.state D.images self.old self.new result }
+        // The count is that of the payloads that it reads.
+        ensures counted { row_reads self.new ≡ reads_after (row_reads self.old) result }
+        ensures read { gets (vault_of self.new) ≡ reads_after (gets (vault_of self.old)) result }
     {
         if self.inner.is_down() {
             return Err(RowFault::Down);

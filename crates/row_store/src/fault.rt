@@ -1,6 +1,7 @@
 //! Why a device of rows didn't do what it was asked for.
 ghost use Rattle.std.specs.Prelude.{◌≡◌};
 ghost use Rattle.row_store.specs.declared.fault.RowFault.TheVariants.{Memory};
+ghost use Rattle.vault.specs.Calls.{answer_as};
 ghost use Rattle.row_store.specs.Fault.{fault_of};
 
 use std::alloc::AllocError;
@@ -39,5 +40,15 @@ impl From<VaultFault> for RowFault {
             VaultFault::Down => RowFault::Down,
             VaultFault::Memory => RowFault::Memory,
         }
+    }
+}
+
+/// A vault's answer as the device's.
+pub(crate) fn told(answer: Result<(), VaultFault>) -> Result<(), RowFault>
+    ensures { result ≡ answer_as fault_of answer }
+{
+    match answer {
+        Ok(()) => Ok(()),
+        Err(fault) => Err(RowFault::from(fault)),
     }
 }

@@ -5,11 +5,10 @@ ghost use Rattle.row_store.specs.Data.{sub_of};
 
 use crate::change::{Change, change_in};
 use crate::stored::{Sub, SubChange, Subs, Terms};
-use folded_vault::Fold;
 use spare_map::SpareMap;
 use stab_base::{ClientNo, RowId, RowVersion, Rows, Version};
 use std::alloc::{AllocError, Global};
-use vault::PAYLOAD_MAX;
+use vault::{Fold, PAYLOAD_MAX};
 
 /// Where a row stands: its version, and the index of its payload.
 #[derive(Clone, Copy)]

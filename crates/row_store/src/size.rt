@@ -1,7 +1,7 @@
 //! How long payloads are.
 ghost use Rattle.std.specs.Prelude.{◌≡◌, ◌+◌, ◌*◌, ◌<◌, ◌≤◌, true, length, Some};
 ghost use Rattle.std.specs.List.{flat_map, list_all};
-ghost use Rattle.vault.specs.declared.record.TheConstants.{PAYLOAD_MAX};
+ghost use Rattle.vault.specs.Limit.{payload_most};
 ghost use Rattle.value_codec.specs.Spelling.{cell_spelling, object_spelling, content_spelling};
 ghost use Rattle.row_store.specs.Spelling.{is_keep, all_keep, HasStoredSpelling, row_payload};
 ghost use Rattle.row_store.specs.Size.{IsSum};
@@ -12,7 +12,7 @@ use vault::PAYLOAD_MAX;
 
 // So many bytes more, up to the longest payload.
 fn add(len: usize, more: usize) -> Option<usize>
-    requires { len ≤ PAYLOAD_MAX }
+    requires { len ≤ payload_most }
     ensures { IsSum (len + more) result }
 {
     if more <= PAYLOAD_MAX as usize - len {
@@ -23,7 +23,7 @@ fn add(len: usize, more: usize) -> Option<usize>
 }
 
 fn add_cell(len: usize, cell: &Cell) -> Option<usize>
-    requires { len ≤ PAYLOAD_MAX }
+    requires { len ≤ payload_most }
     ensures { IsSum (len + length (cell_spelling cell.now)) result }
 {
     match cell {
@@ -34,7 +34,7 @@ fn add_cell(len: usize, cell: &Cell) -> Option<usize>
 }
 
 fn add_cells(len: usize, cells: &[Cell]) -> Option<usize>
-    requires { len ≤ PAYLOAD_MAX }
+    requires { len ≤ payload_most }
     ensures { IsSum (len + length (flat_map cell_spelling cells.now)) result }
 {
     let mut sum = len;
@@ -46,7 +46,7 @@ fn add_cells(len: usize, cells: &[Cell]) -> Option<usize>
 
 // Each of the object's pieces names a chunk.
 fn add_object(len: usize, object: &PieceObject) -> Option<usize>
-    requires within { len ≤ PAYLOAD_MAX }
+    requires within { len ≤ payload_most }
     requires keeps { list_all is_keep object.now.pieces ≡ true }
     ensures { IsSum (len + length (object_spelling object.now)) result }
 {
@@ -58,7 +58,7 @@ fn add_object(len: usize, object: &PieceObject) -> Option<usize>
 }
 
 fn add_objects(len: usize, objects: &[PieceObject]) -> Option<usize>
-    requires within { len ≤ PAYLOAD_MAX }
+    requires within { len ≤ payload_most }
     requires keeps { list_all (λ object. list_all is_keep object.pieces) objects.now ≡ true }
     ensures { IsSum (len + length (flat_map object_spelling objects.now)) result }
 {
@@ -70,7 +70,7 @@ fn add_objects(len: usize, objects: &[PieceObject]) -> Option<usize>
 }
 
 fn add_content(len: usize, content: &PieceContent) -> Option<usize>
-    requires within { len ≤ PAYLOAD_MAX }
+    requires within { len ≤ payload_most }
     requires keeps { all_keep content.now ≡ true }
     ensures { IsSum (len + length (content_spelling content.now)) result }
 {

@@ -2,5 +2,5 @@ mod Twelves
 mod Fields
 mod Again
 mod Steps
-mod Maps
+mod Faults
 mod Held

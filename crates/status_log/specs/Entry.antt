@@ -1,7 +1,7 @@
 -- An entry, with its names as a list.
 use Rattle.std.specs.Prelude.{◌≡◌, ℕ, ◌+◌, ◌*◌, ◌<◌, ◌≤◌, ◌^◌, List, length}
 use Rattle.std.specs.List.{AllByRecursion}
-use Rattle.vault.specs.declared.record.TheConstants.{PAYLOAD_MAX}
+use Rattle.vault.specs.Limit.{payload_most}
 use Rattle.stab_base.specs.declared.chunk_name.ChunkName.{ChunkName}
 use Rattle.stab_base.specs.declared.limits.TheConstants.{NUMBER_MAX}
 use Rattle.value_codec.specs.Spelling.{HasNameSpelling}
@@ -41,4 +41,4 @@ pub record HasSpelling (entry : Entry) : Type 0 where
   pub base : entry.base < 2 ^ 64
   pub fresh : entry.fresh < 2 ^ 32
   pub old : AllByRecursion HasNameSpelling entry.old
-  pub size : size_of entry ≤ PAYLOAD_MAX
+  pub size : size_of entry ≤ payload_most

@@ -1,7 +1,7 @@
 -- What a log keeps in memory.
 use Rattle.std.specs.Prelude.{◌≡◌, ℕ, ◌+◌, ◌*◌, ◌≤◌, min, if◌then◌else◌, List, length, drop, Option, Some, None}
 use Rattle.std.specs.Vec.{vec_capacity}
-use Rattle.vault.specs.declared.record.TheConstants.{PAYLOAD_MAX}
+use Rattle.vault.specs.Limit.{payload_most}
 use Rattle.status_log.specs.declared.memory.LogMemory.{LogMemory}
 use Rattle.status_log.specs.declared.payload.Opening.{Opening}
 use Rattle.status_log.specs.declared.payload.Change.{Change}
@@ -18,7 +18,7 @@ pub record Fits (memory : LogMemory) (payloads : List (List ℕ)) : Type 0 where
 
 -- there is room for the names of one payload
 abbrev pub HasSpare : LogMemory → ℕ → ℕ → Type 0
-HasSpare memory payloads bytes = min bytes PAYLOAD_MAX ≤ 12 * vec_capacity memory.entry.old
+HasSpare memory payloads bytes = min bytes payload_most ≤ 12 * vec_capacity memory.entry.old
 
 -- the payload opens this entry, whose names are behind its first 53 bytes
 pub record IsOpening (payload : List ℕ) (opening : Opening) : Type 0 where

@@ -1,11 +1,16 @@
 -- A status log between calls, as its open entry. How its disk stands is said of its vault.
-use Rattle.std.specs.Prelude.{◌≡◌, ◌⊎◌, ℕ, List, Option}
+use Rattle.std.specs.Prelude.{ℕ, List, Option, Result}
 use Rattle.disk_trait.specs.Calls.{DiskState}
+use Rattle.disk_trait.specs.declared.fuse.FuseDisk.{FuseDisk}
 use Rattle.vault.specs.declared.vault.Vault.{Vault}
 use Rattle.vault.specs.Standing.{payloads}
 use Rattle.vault.specs.Standing as vaults
-use Rattle.folded_vault.specs.Standing as folded
+use Rattle.vault.specs.Folded as folded
+use Rattle.vault.specs.Calls as calls
+use Rattle.vault.specs.Stops as stops
 use Rattle.status_log.specs.declared.device.StatusLog.{StatusLog}
+use Rattle.status_log.specs.declared.fault.LogFault.{LogFault}
+use Rattle.status_log.specs.Fault.{fault_of}
 use Rattle.status_log.specs.Entry.{Entry}
 use Rattle.status_log.specs.Payload.{pending_of}
 use Rattle.status_log.specs.Memory.{Fits, HasSpare}
@@ -37,6 +42,52 @@ Stays state old new = folded.Stays state Fits HasSpare old.inner new.inner
 abbrev pub Leaves : {D : Type 0} → (D → DiskState) → (D → ℕ → List ℕ → Type 0) → StatusLog D → StatusLog D → (Option Entry → Type 0) → Type 0
 Leaves state images old new R = vaults.Leaves state images (vault_of old) (vault_of new) (λ list. R (pending_of list))
 
--- one of the two
-abbrev pub IsEither : {X : Type 0} → X → X → X → Type 0
-IsEither before after entry = (entry ≡ before) ⊎ (entry ≡ after)
+-- ---- what the calls of a device promise of what it holds
+
+abbrev pub Formats :
+    {D : Type 0} → (D → DiskState) → (D → ℕ → List ℕ → Type 0) → StatusLog D → StatusLog D →
+    Result (Unit {0}) LogFault → Type 0
+Formats state images old new result =
+    calls.Formats state images Fits HasSpare pending_of fault_of old.inner new.inner old new result
+
+abbrev pub Looks :
+    {D : Type 0} → (D → DiskState) → (D → ℕ → List ℕ → Type 0) → StatusLog D → StatusLog D →
+    Result (Unit {0}) LogFault → Type 0
+Looks state images old new result =
+    calls.Looks state images Fits HasSpare pending_of fault_of old.inner new.inner old new result
+
+abbrev pub Restarts : {D : Type 0} → (D → DiskState) → (D → ℕ → List ℕ → Type 0) → StatusLog D → StatusLog D → Type 0
+Restarts state images old new = calls.Restarts state images pending_of old.inner new.inner
+
+abbrev pub OpensWrite :
+    {D : Type 0} → (D → DiskState) → (D → ℕ → List ℕ → Type 0) → StatusLog D → StatusLog D →
+    Result (Unit {0}) LogFault → Type 0
+OpensWrite state images old new result =
+    calls.OpensWrite state images Fits HasSpare pending_of fault_of old.inner new.inner old new result
+
+abbrev pub Reserves :
+    {D : Type 0} → (D → DiskState) → (D → ℕ → List ℕ → Type 0) → ℕ → ℕ → StatusLog D → StatusLog D →
+    Result (Unit {0}) LogFault → Type 0
+Reserves state images puts bytes old new result =
+    calls.Reserves state images Fits HasSpare pending_of fault_of puts bytes old.inner new.inner old new result
+
+-- the put of a payload of so many bytes, after which this is what it holds
+abbrev pub Puts :
+    {D : Type 0} → (D → DiskState) → (D → ℕ → List ℕ → Type 0) → ℕ → Option Entry → StatusLog D → StatusLog D →
+    Result (Unit {0}) LogFault → Type 0
+Puts state images bytes entry old new result =
+    calls.Appends state images Fits HasSpare pending_of fault_of bytes entry old.inner new.inner old new result
+
+abbrev pub Gets :
+    {D T : Type 0} → (D → DiskState) → (D → ℕ → List ℕ → Type 0) → StatusLog D → StatusLog D →
+    Result T LogFault → Type 0
+Gets state images old new result =
+    calls.Reads state images Fits HasSpare pending_of fault_of old.inner new.inner old new result
+
+abbrev pub Stops :
+    {D : Type 0} → (D → DiskState) → (D → ℕ → List ℕ → Type 0) → ℕ → ℕ → StatusLog (FuseDisk D) → StatusLog (FuseDisk D) →
+    Type 0
+Stops state images count pick old new = stops.Stops state images Fits HasSpare pending_of count pick old.inner new.inner
+
+abbrev pub Refuses : {D T : Type 0} → (D → DiskState) → StatusLog D → StatusLog D → Result T LogFault → Type 0
+Refuses state old new result = calls.Refuses state fault_of (vault_of old) (vault_of new) old new result

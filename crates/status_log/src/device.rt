@@ -1,19 +1,17 @@
 //! The log: what its calls promise of its open entry.
 ghost use Rattle.std.specs.Prelude.{◌≡◌, ◌↔◌, ◌+◌, ◌*◌, ◌<◌, ◌≤◌, false, [], ℕ, List, length, None, Some, option_map, OnOk, OnErr, IsErrOf, IsTrue, IsSome};
 ghost use Rattle.std.specs.Bool.{MatchBool};
-ghost use Rattle.disk_trait.specs.Calls.{Elapses};
-ghost use Rattle.vault.specs.Standing.{payloads, faults, stops, disk_of, IsDown, IsUp, IsSound, IsSynced, IsRestarted, SameFuse, StopsWithin};
-ghost use Rattle.folded_vault.specs.Outcome.{IsCountedAs, Burns};
+ghost use Rattle.vault.specs.Standing.{disk_of, IsDown, IsUp, IsSynced};
 ghost use Rattle.status_log.specs.Entry.{entry_of, size_of, HasSpelling};
-ghost use Rattle.status_log.specs.Standing.{vault_of, entry_open, IsLookedAt, IsOpened, HasRoom, Stays, Leaves, IsEither};
+ghost use Rattle.status_log.specs.Standing.{vault_of, entry_open, IsLookedAt, IsOpened, HasRoom, Formats, Looks, Restarts, OpensWrite, Reserves, Puts, Refuses};
 
 use crate::entry::LogEntry;
-use crate::fault::LogFault;
+use crate::fault::{LogFault, told};
 use crate::memory::LogMemory;
 use crate::payload::{Change, opening_of, write_close, write_open};
 use disk_trait::Disk;
-use folded_vault::Folded;
 use std::alloc::Global;
+use vault::Folded;
 
 /// The entry that is open, if one is, on a disk of its own.
 ///
@@ -58,59 +56,23 @@ impl<D: Disk + Drop> StatusLog<D> {
 
     /// Makes the disk that of no entry. The log is then ready for writes.
     pub fn format(&mut self) -> Result<(), LogFault>
-        ensures opened { OnOk result (IsOpened D.state self.new) }
-        ensures empty { OnOk result (entry_open D.state self.new ≡ None) }
-        ensures durable { OnOk result (Leaves D.state D.images self.new self.new (λ entry. entry ≡ None)) }
-        ensures room { OnOk result (HasRoom D.state self.new 1 0 0) }
-        ensures memory { IsErrOf result LogFault.Memory → Stays D.state self.old self.new }
-        ensures not_pending { (version : ℕ) → IsErrOf result (LogFault.Pending version) → ⊥ }
-        ensures down { IsErrOf result LogFault.Down ↔ IsDown (vault_of self.old) }
-        ensures unchanged { IsErrOf result LogFault.Down → self.new ≡ self.old }
-        ensures disk { IsErrOf result LogFault.Disk → IsDown (vault_of self.new) }
-        ensures cause { IsCountedAs LogFault.Disk (faults D.state (vault_of self.old)) (faults D.state (vault_of self.new)) result }
-        ensures fuse { IsUp (vault_of self.old) → Burns D.state 3 (vault_of self.old) (vault_of self.new) result }
+        ensures { Formats D.state D.images self.old self.new result }
     {
-        self.inner.format()?;
-        Ok(())
+        told(self.inner.format())
     }
 
     /// Finds the open entry on the disk, whatever its bytes are. It reads each payload once and writes nothing. The
-    /// log is then not ready for writes, also where memory was refused.
+    /// log is then not ready for writes.
     pub fn look(&mut self) -> Result<(), LogFault>
         requires synced { IsSynced D.state (vault_of self.old) }
-        ensures looked { OnOk result (IsLookedAt D.state self.new) }
-        ensures same { OnOk result (entry_open D.state self.new ≡ entry_open D.state self.old) }
-        ensures sound { OnOk result (IsSound D.state (vault_of self.old) → IsSound D.state (vault_of self.new)) }
-        ensures room { OnOk result (HasRoom D.state self.new 1 0 0) }
-        ensures any_moment { IsUp (vault_of self.old) → IsSound D.state (vault_of self.old)
-            → Leaves D.state D.images self.old self.new (λ entry. entry ≡ entry_open D.state self.old) }
-        ensures memory { IsErrOf result LogFault.Memory → entry_open D.state self.new ≡ entry_open D.state self.old }
-        ensures memory_synced { IsErrOf result LogFault.Memory → IsSynced D.state (vault_of self.new) }
-        ensures memory_up { IsErrOf result LogFault.Memory → IsUp (vault_of self.new) }
-        ensures memory_sound { IsErrOf result LogFault.Memory → IsSound D.state (vault_of self.old) → IsSound D.state (vault_of self.new) }
-        ensures memory_looked { IsErrOf result LogFault.Memory → IsLookedAt D.state self.old → IsLookedAt D.state self.new }
-        ensures not_pending { (version : ℕ) → IsErrOf result (LogFault.Pending version) → ⊥ }
-        ensures down { IsErrOf result LogFault.Down ↔ IsDown (vault_of self.old) }
-        ensures unchanged { IsErrOf result LogFault.Down → self.new ≡ self.old }
-        ensures disk { IsErrOf result LogFault.Disk → IsDown (vault_of self.new) }
-        ensures cause { IsCountedAs LogFault.Disk (faults D.state (vault_of self.old)) (faults D.state (vault_of self.new)) result }
-        ensures fuse { SameFuse D.state (vault_of self.old) (vault_of self.new) }
+        ensures { Looks D.state D.images self.old self.new result }
     {
-        self.inner.look()?;
-        Ok(())
+        told(self.inner.look())
     }
 
     /// Crashes the disk and starts it again. What the log holds is known once it is looked at.
     pub fn restart(&mut self, pick: u64)
-        ensures image { IsRestarted D.state (vault_of self.old) (vault_of self.new) }
-        ensures up { IsUp (vault_of self.new) }
-        ensures synced { IsSynced D.state (vault_of self.new) }
-        ensures same { IsUp (vault_of self.old) → IsSynced D.state (vault_of self.old) → entry_open D.state self.new ≡ entry_open D.state self.old }
-        ensures faults { faults D.state (vault_of self.new) ≡ faults D.state (vault_of self.old) }
-        ensures stops { stops D.state (vault_of self.new) ≡ stops D.state (vault_of self.old) }
-        ensures unset { (D.state (disk_of (vault_of self.new))).is_armed ≡ false }
-        ensures time { Elapses (D.state (disk_of (vault_of self.old))) (D.state (disk_of (vault_of self.new)))
-            (D.images (disk_of (vault_of self.old))) (D.images (disk_of (vault_of self.new))) }
+        ensures { Restarts D.state D.images self.old self.new }
     {
         self.inner.restart(pick);
     }
@@ -119,23 +81,9 @@ impl<D: Disk + Drop> StatusLog<D> {
     pub fn open_write(&mut self) -> Result<(), LogFault>
         requires ready { IsUp (vault_of self.old) → IsLookedAt D.state self.old }
         requires room { IsUp (vault_of self.old) → HasRoom D.state self.old 1 0 0 }
-        ensures opened { OnOk result (IsOpened D.state self.new) }
-        ensures same { OnOk result (entry_open D.state self.new ≡ entry_open D.state self.old) }
-        ensures durable { OnOk result (Leaves D.state D.images self.new self.new (λ entry. entry ≡ entry_open D.state self.old)) }
-        ensures room { OnOk result ((openings puts bytes : ℕ) → HasRoom D.state self.old (openings + 1) puts bytes
-            → HasRoom D.state self.new openings puts bytes) }
-        ensures any_moment { IsUp (vault_of self.old) → IsSound D.state (vault_of self.old)
-            → Leaves D.state D.images self.old self.new (λ entry. entry ≡ entry_open D.state self.old) }
-        ensures not_pending { (version : ℕ) → IsErrOf result (LogFault.Pending version) → ⊥ }
-        ensures down { IsErrOf result LogFault.Down ↔ IsDown (vault_of self.old) }
-        ensures unchanged { IsErrOf result LogFault.Down → self.new ≡ self.old }
-        ensures disk { OnErr result (IsDown (vault_of self.new)) }
-        ensures no_memory { IsErrOf result LogFault.Memory → ⊥ }
-        ensures cause { IsCountedAs LogFault.Disk (faults D.state (vault_of self.old)) (faults D.state (vault_of self.new)) result }
-        ensures fuse { IsUp (vault_of self.old) → Burns D.state 4 (vault_of self.old) (vault_of self.new) result }
+        ensures { OpensWrite D.state D.images self.old self.new result }
     {
-        self.inner.open_write()?;
-        Ok(())
+        told(self.inner.open_write())
     }
 
     /// Makes room for so many writes, whose payloads have so many bytes in all, and for one opening of the log: they
@@ -144,20 +92,9 @@ impl<D: Disk + Drop> StatusLog<D> {
         requires ready { IsUp (vault_of self.old) → IsLookedAt D.state self.old }
         requires puts { puts ≤ 16777216 }
         requires bytes { bytes ≤ 8388608 * puts }
-        ensures room { OnOk result (HasRoom D.state self.new 1 puts bytes) }
-        ensures stays { OnOk result (Stays D.state self.old self.new) }
-        ensures any_moment { IsUp (vault_of self.old) → IsSound D.state (vault_of self.old)
-            → Leaves D.state D.images self.old self.new (λ entry. entry ≡ entry_open D.state self.old) }
-        ensures memory { IsErrOf result LogFault.Memory → Stays D.state self.old self.new }
-        ensures not_pending { (version : ℕ) → IsErrOf result (LogFault.Pending version) → ⊥ }
-        ensures down { IsErrOf result LogFault.Down ↔ IsDown (vault_of self.old) }
-        ensures unchanged { IsErrOf result LogFault.Down → self.new ≡ self.old }
-        ensures disk { IsErrOf result LogFault.Disk → IsDown (vault_of self.new) }
-        ensures cause { IsCountedAs LogFault.Disk (faults D.state (vault_of self.old)) (faults D.state (vault_of self.new)) result }
-        ensures fuse { SameFuse D.state (vault_of self.old) (vault_of self.new) }
+        ensures { Reserves D.state D.images puts bytes self.old self.new result }
     {
-        self.inner.reserve(puts, bytes)?;
-        Ok(())
+        told(self.inner.reserve(puts, bytes))
     }
 
     /// Opens an entry. It is on the disk before `Ok`.
@@ -165,26 +102,12 @@ impl<D: Disk + Drop> StatusLog<D> {
         requires ready { IsUp (vault_of self.old) → IsOpened D.state self.old }
         requires spelled { HasSpelling (entry_of entry.now) }
         requires room { IsUp (vault_of self.old) → HasRoom D.state self.old 0 1 (size_of (entry_of entry.now)) }
-        ensures opened { OnOk result (IsOpened D.state self.new) }
-        ensures entry { OnOk result (entry_open D.state self.new ≡ Some (entry_of entry.now)) }
-        ensures durable { OnOk result (Leaves D.state D.images self.new self.new (λ open_. open_ ≡ Some (entry_of entry.now))) }
-        ensures room { OnOk result ((openings puts bytes : ℕ)
-            → HasRoom D.state self.old openings (puts + 1) (bytes + size_of (entry_of entry.now)) → HasRoom D.state self.new openings puts bytes) }
-        // A crash at any moment of the call leaves what was open before it, or the entry.
-        ensures any_moment { IsUp (vault_of self.old)
-            → Leaves D.state D.images self.old self.new (IsEither (entry_open D.state self.old) (Some (entry_of entry.now))) }
-        // Where a fuse stops one of the first two of its four calls, what was open before it.
-        ensures early { IsUp (vault_of self.old) → StopsWithin D.state (vault_of self.old) 2
-            → Leaves D.state D.images self.old self.new (λ open_. open_ ≡ entry_open D.state self.old) }
+        ensures opens { entry_open D.state self.old ≡ None
+            → Puts D.state D.images (size_of (entry_of entry.now)) (Some (entry_of entry.now)) self.old self.new result }
+        ensures refuses { Refuses D.state self.old self.new result }
         ensures pending { (version : ℕ) → IsErrOf result (LogFault.Pending version)
             ↔ (IsUp (vault_of self.old) × (option_map (λ e. e.version) (entry_open D.state self.old) ≡ Some version)) }
         ensures pending_unchanged { (version : ℕ) → IsErrOf result (LogFault.Pending version) → self.new ≡ self.old }
-        ensures down { IsErrOf result LogFault.Down ↔ IsDown (vault_of self.old) }
-        ensures unchanged { IsErrOf result LogFault.Down → self.new ≡ self.old }
-        ensures disk { IsErrOf result LogFault.Disk → IsDown (vault_of self.new) }
-        ensures no_memory { IsErrOf result LogFault.Memory → ⊥ }
-        ensures cause { IsCountedAs LogFault.Disk (faults D.state (vault_of self.old)) (faults D.state (vault_of self.new)) result }
-        ensures fuse { IsUp (vault_of self.old) → entry_open D.state self.old ≡ None → Burns D.state 4 (vault_of self.old) (vault_of self.new) result }
     {
         if self.inner.is_down() {
             return Err(LogFault::Down);
@@ -194,8 +117,7 @@ impl<D: Disk + Drop> StatusLog<D> {
             return Err(LogFault::Pending { version });
         }
         write_open(&mut self.inner.payload, entry);
-        self.inner.append(Change::Open(opening_of(entry)))?;
-        Ok(())
+        told(self.inner.append(Change::Open(opening_of(entry))))
     }
 
     /// Closes the open entry. It is closed on the disk before `Ok`.
@@ -203,31 +125,14 @@ impl<D: Disk + Drop> StatusLog<D> {
         requires ready { IsUp (vault_of self.old) → IsOpened D.state self.old }
         requires pending { IsUp (vault_of self.old) → IsSome (entry_open D.state self.old) }
         requires room { IsUp (vault_of self.old) → HasRoom D.state self.old 0 1 9 }
-        ensures opened { OnOk result (IsOpened D.state self.new) }
-        ensures closed { OnOk result (entry_open D.state self.new ≡ None) }
-        ensures durable { OnOk result (Leaves D.state D.images self.new self.new (λ entry. entry ≡ None)) }
-        ensures room { OnOk result ((openings puts bytes : ℕ) → HasRoom D.state self.old openings (puts + 1) (bytes + 9)
-            → HasRoom D.state self.new openings puts bytes) }
-        // A crash at any moment of the call leaves the entry open, or none.
-        ensures any_moment { IsUp (vault_of self.old) → Leaves D.state D.images self.old self.new (IsEither (entry_open D.state self.old) None) }
-        // Where a fuse stops one of the first two of its four calls, it is open.
-        ensures early { IsUp (vault_of self.old) → StopsWithin D.state (vault_of self.old) 2
-            → Leaves D.state D.images self.old self.new (λ entry. entry ≡ entry_open D.state self.old) }
-        ensures not_pending { (version : ℕ) → IsErrOf result (LogFault.Pending version) → ⊥ }
-        ensures down { IsErrOf result LogFault.Down ↔ IsDown (vault_of self.old) }
-        ensures unchanged { IsErrOf result LogFault.Down → self.new ≡ self.old }
-        ensures disk { OnErr result (IsDown (vault_of self.new)) }
-        ensures no_memory { IsErrOf result LogFault.Memory → ⊥ }
-        ensures cause { IsCountedAs LogFault.Disk (faults D.state (vault_of self.old)) (faults D.state (vault_of self.new)) result }
-        ensures fuse { IsUp (vault_of self.old) → Burns D.state 4 (vault_of self.old) (vault_of self.new) result }
+        ensures { Puts D.state D.images 9 None self.old self.new result }
     {
         if self.inner.is_down() {
             return Err(LogFault::Down);
         }
         let version = self.inner.memory.entry.version;
         write_close(&mut self.inner.payload, version);
-        self.inner.append(Change::Close(version))?;
-        Ok(())
+        told(self.inner.append(Change::Close(version)))
     }
 
     /// The open entry.

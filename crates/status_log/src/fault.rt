@@ -1,6 +1,7 @@
 //! Why a status log didn't do what it was asked for.
 ghost use Rattle.std.specs.Prelude.{◌≡◌};
 ghost use Rattle.status_log.specs.declared.fault.LogFault.TheVariants.{Memory};
+ghost use Rattle.vault.specs.Calls.{answer_as};
 ghost use Rattle.status_log.specs.Fault.{fault_of};
 
 use stab_base::Version;
@@ -40,5 +41,15 @@ impl From<VaultFault> for LogFault {
             VaultFault::Down => LogFault::Down,
             VaultFault::Memory => LogFault::Memory,
         }
+    }
+}
+
+/// A vault's answer as the device's.
+pub(crate) fn told(answer: Result<(), VaultFault>) -> Result<(), LogFault>
+    ensures { result ≡ answer_as fault_of answer }
+{
+    match answer {
+        Ok(()) => Ok(()),
+        Err(fault) => Err(LogFault::from(fault)),
     }
 }

@@ -1,8 +1,5 @@
 //! A log whose disk can be stopped in mid-stream.
-ghost use Rattle.std.specs.Prelude.{◌≡◌};
-ghost use Rattle.disk_trait.specs.Fuse.{behind, inner_of, IsArmed};
-ghost use Rattle.vault.specs.Standing.{disk_of, IsUp, IsSynced, IsSound};
-ghost use Rattle.status_log.specs.Standing.{vault_of, entry_open, Stays, Leaves};
+ghost use Rattle.status_log.specs.Standing.{Stops};
 
 use crate::StatusLog;
 use disk_trait::{Disk, FuseDisk};
@@ -12,10 +9,7 @@ impl<D: Disk + Drop> StatusLog<FuseDisk<D>> {
     /// `pick` bytes, or all where it has fewer; a cut or sync that follows does nothing. Each later one fails, until
     /// the restart.
     pub fn stop_after(&mut self, calls: u32, pick: u64)
-        ensures armed { IsArmed calls (behind D.state (disk_of (vault_of self.old))) (behind D.state (disk_of (vault_of self.new))) }
-        ensures stays { Stays (behind D.state) self.old self.new }
-        ensures any_moment { IsUp (vault_of self.old) → IsSynced (behind D.state) (vault_of self.old) → IsSound (behind D.state) (vault_of self.old)
-            → Leaves (behind D.state) (λ f. D.images (inner_of f)) self.old self.new (λ entry. entry ≡ entry_open (behind D.state) self.old) }
+        ensures { Stops D.state D.images calls pick self.old self.new }
     {
         self.inner.stop_after(calls, pick);
     }

@@ -4,10 +4,9 @@ ghost use Rattle.std.specs.Prelude.{◌≡◌};
 use crate::LogEntry;
 use crate::names::read_names;
 use crate::payload::{Change, Opening, change_in};
-use folded_vault::Fold;
 use stab_base::{RowId, Version};
 use std::alloc::{AllocError, Global};
-use vault::PAYLOAD_MAX;
+use vault::{Fold, PAYLOAD_MAX};
 
 // How many bytes go before the names of an opening.
 const HEAD_LEN: usize = 53;

@@ -36,7 +36,7 @@ module _ (g : Scheme) (table : ℕ) (K L : Known) (more : (c : ℕ) (row : List 
     rises = k.rises;
   }
 
-  lawful_knows : (h : List Stored) → IsLawful g K h → IsLawful g L h
+  pub lawful_knows : (h : List Stored) → IsLawful g K h → IsLawful g L h
   lawful_knows h l = record {
     counted = l.counted;
     known = λ i a. more i.entry.client i.entry.row i.entry.number i.entry.base i.content (l.known i a);

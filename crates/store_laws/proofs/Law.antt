@@ -22,7 +22,7 @@ use Rattle.store_laws.proofs.Items.{Counts-push, counted_up, one_version, item_a
 module _ (g : Scheme) (table : ℕ) (K : Known) where
   -- ---- an item more
 
-  base_grows : (h : List Stored) (i : Stored) (row : List ℕ) (base : ℕ) → IsBase h row base → IsBase (h ++ i ∷ []) row base
+  pub base_grows : (h : List Stored) (i : Stored) (row : List ℕ) (base : ℕ) → IsBase h row base → IsBase (h ++ i ∷ []) row base
   base_grows h i row base (inl zero) = inl zero
   base_grows h i row base (inr k) = inr (k.0, record { stands = among_left h (i ∷ []) k.0 k.1.stands; row_is = k.1.row_is; version_is = k.1.version_is })
 

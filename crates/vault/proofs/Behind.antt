@@ -5,7 +5,7 @@ use Rattle.std.proofs.lemmas.Bool.{cases_eq}
 use Rattle.std.specs.Int.{w32, to_be_bytes}
 use Rattle.disk_trait.specs.Image.{IsImage, settled, touched, overwritten}
 use Rattle.disk_trait.proofs.Images.{touched_front, touched_back, length_touched}
-use Rattle.vault.specs.declared.record.TheConstants.{PAYLOAD_MAX}
+use Rattle.vault.specs.Limit.{payload_most}
 use Rattle.vault.specs.File.{IsShut, StandsFor, records, frame_of, AllShort, HasFront, IsBehindGate, IsBeforeOrAfter, StandsForOne}
 use Rattle.vault.proofs.Lists.{same_front, stands_at, records-push, AllShort-push}
 use Rattle.vault.proofs.Repairs.{closed_front, closed_stands}
@@ -29,7 +29,7 @@ module _ (file : List ℕ) (gate : ℕ) (frame : List ℕ) (long : length file �
       let back : drop (gate + 1) image ≡ frame = touched_back seen image gate 1 (omega arith) at_seen ∙ (ap (λ (l : List ℕ). drop (gate + 1) l) whole ∙ drop_at file frame (gate + 1) long) in
       inr (front, back, omega (arith, length_touched seen image gate 1 (omega arith) at_seen))
 
-module _ (ps : List (List ℕ)) (file payload : List ℕ) (gate : ℕ) (is : file ≡ records ps ++ 0 ∷ []) (size : length (records ps) ≡ gate) (short : AllShort ps) (fits : length payload ≤ PAYLOAD_MAX) where
+module _ (ps : List (List ℕ)) (file payload : List ℕ) (gate : ℕ) (is : file ≡ records ps ++ 0 ∷ []) (size : length (records ps) ≡ gate) (short : AllShort ps) (fits : length payload ≤ payload_most) where
   pub length_is : length file ≡ gate + 1
   length_is = omega (arith, ap length is, length-append (records ps) (0 ∷ []), size)
 

@@ -5,7 +5,7 @@ use Rattle.std.proofs.lemmas.Bool.Decides.{nat_tests}
 use Rattle.std.specs.Int.{w32, to_be_bytes}
 use Rattle.disk_trait.specs.Image.{IsImage}
 use Rattle.disk_trait.specs.Calls.{DiskState, SameFile, Elapses}
-use Rattle.vault.specs.declared.record.TheConstants.{PAYLOAD_MAX}
+use Rattle.vault.specs.Limit.{payload_most}
 use Rattle.vault.specs.File.{length_in, begins_record, payloads_of, records, places_from, HasFront, EndsAt}
 use Rattle.vault.specs.Scan.{BeginsRecord, HasFound}
 use Rattle.vault.proofs.Lists.{front_grows, places-push, ends_list}
@@ -13,7 +13,7 @@ use Rattle.vault.proofs.Lists.{front_grows, places-push, ends_list}
 -- what the test of a record says
 record IsThere (rest : List ℕ) : Type 0 where
   pub gate : slice_index rest 0 ≡ 165
-  pub small : length_in rest ≤ PAYLOAD_MAX
+  pub small : length_in rest ≤ payload_most
   pub within : 5 + length_in rest < length rest
 
 there : (rest : List ℕ) → begins_record rest ≡ true → IsThere rest
@@ -48,7 +48,7 @@ module _ (rest : List ℕ) (size : ℕ) (b : BeginsRecord rest size) where
 
   pub one_more : (file : List ℕ) (gate : ℕ) (places : List ℕ) → rest ≡ drop gate file → HasFound file gate places → HasFound file (gate + size) (places ++ gate ∷ [])
   one_more file gate places is h =
-      let fits : length payload ≤ PAYLOAD_MAX = omega (arith, payload_len, t.small) in
+      let fits : length payload ≤ payload_most = omega (arith, payload_len, t.small) in
       let some : 0 < length (drop size rest) = omega (arith, size_within, length-drop size rest) in
       let grown = front_grows file gate h.payloads payload (drop size rest) h.front fits (sym is ∙ parts) some in
       let size_is : gate + (5 + length payload) ≡ gate + size = omega (arith, payload_len, b.size_is) in
@@ -88,6 +88,7 @@ same_then a b c f s = record {
   stops = s.stops ∙ f.stops;
   is_armed = s.is_armed ∙ f.is_armed;
   passes = s.passes ∙ f.passes;
+  pick = s.pick ∙ f.pick;
 }
 
 -- time goes on while nothing is written

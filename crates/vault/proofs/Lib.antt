@@ -6,3 +6,8 @@ mod Quiet
 mod Openings
 mod Spots
 pub mod Uppers
+mod Blanks
+mod Noting
+pub mod Stayings
+pub mod Rooms
+pub mod Devices

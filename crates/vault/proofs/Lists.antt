@@ -5,7 +5,7 @@ use Rattle.std.proofs.lemmas.Bool.{cases_eq}
 use Rattle.std.proofs.lemmas.Bool.Decides.{nat_tests}
 use Rattle.std.proofs.lemmas.Nat.{from_be_bytes-to_be_bytes_4}
 use Rattle.std.specs.Int.{w32, to_be_bytes, from_be_bytes}
-use Rattle.vault.specs.declared.record.TheConstants.{PAYLOAD_MAX}
+use Rattle.vault.specs.Limit.{payload_most}
 use Rattle.vault.specs.File.{length_in, begins_record, decode, behind, payloads_of, rest_of, IsShut, StandsFor, records, places_from, AllShort, HasFront, EndsAt}
 
 pub length-records : (ps : List (List ℕ)) → length ps ≤ length (records ps)
@@ -31,7 +31,7 @@ shut_last rest shut =
     ]
 
 -- a file that begins with a whole record
-module _ (be p rest : List ℕ) (four : length be ≡ 4) (is : from_be_bytes w32 be ≡ length p) (short : length p ≤ PAYLOAD_MAX) (more : 0 < length rest) where
+module _ (be p rest : List ℕ) (four : length be ≡ 4) (is : from_be_bytes w32 be ≡ length p) (short : length p ≤ payload_most) (more : 0 < length rest) where
   abbrev pub one : List ℕ
   one = 165 ∷ (be ++ (p ++ rest))
 
@@ -45,7 +45,7 @@ module _ (be p rest : List ℕ) (four : length be ≡ 4) (is : from_be_bytes w32
   opens =
       let long : length one ≡ 5 + (length p + length rest) = omega (arith, length-append be (p ++ rest), length-append p rest, four) in
       let fits : 5 + length_in one < length one = omega (arith, long, length_is) in
-      let small : length_in one ≤ PAYLOAD_MAX = omega (arith, length_is) in
+      let small : length_in one ≤ payload_most = omega (arith, length_is) in
       grind (arith, nat_tests)
 
   payload_is : take (length_in one) (drop 5 one) ≡ p
@@ -141,7 +141,7 @@ records-push (q ∷ ps) p rest =
     ∙ (ap (λ (l : List ℕ). 165 ∷ (to_be_bytes w32 (length q) ++ (q ++ l))) (records-push ps p rest)
     ∙ sym (joined q ps (165 ∷ (to_be_bytes w32 (length p) ++ (p ++ rest)))))
 
-pub AllShort-push : (ps : List (List ℕ)) (p : List ℕ) → AllShort ps → length p ≤ PAYLOAD_MAX → AllShort (ps ++ p ∷ [])
+pub AllShort-push : (ps : List (List ℕ)) (p : List ℕ) → AllShort ps → length p ≤ payload_most → AllShort (ps ++ p ∷ [])
 AllShort-push [] p short fits = (fits, tt)
 AllShort-push (q ∷ ps) p short fits = (short.0, AllShort-push ps p short.1 fits)
 
@@ -156,7 +156,7 @@ length-places at [] = refl
 length-places at (p ∷ ps) = ap suc (length-places (at + (5 + length p)) ps)
 
 -- the front grows by the record that begins at the gate
-pub front_grows : (file : List ℕ) (gate : ℕ) (ps : List (List ℕ)) (p rest : List ℕ) → HasFront file gate ps → length p ≤ PAYLOAD_MAX → drop gate file ≡ 165 ∷ (to_be_bytes w32 (length p) ++ (p ++ rest)) → 0 < length rest
+pub front_grows : (file : List ℕ) (gate : ℕ) (ps : List (List ℕ)) (p rest : List ℕ) → HasFront file gate ps → length p ≤ payload_most → drop gate file ≡ 165 ∷ (to_be_bytes w32 (length p) ++ (p ++ rest)) → 0 < length rest
     → HasFront file (gate + (5 + length p)) (ps ++ p ∷ [])
 front_grows file gate ps p rest f short is more =
     let all : file ≡ records (ps ++ p ∷ []) ++ rest = whole file gate ps f ∙ (ap (λ (l : List ℕ). records ps ++ l) is ∙ sym (records-push ps p rest)) in

@@ -25,3 +25,7 @@ pub places_grow : (places : List ℕ) (gate : ℕ) (ps : List (List ℕ)) (p : L
 places_grow places gate ps p is size =
     let gate_is : gate ≡ 0 + length (records ps) = omega (arith, size) in
     ap (λ (l : List ℕ). l ++ gate ∷ []) is ∙ (ap (λ (n : ℕ). places_from 0 ps ++ n ∷ []) gate_is ∙ sym (places-push 0 ps p))
+
+-- the records of one list end at one gate
+pub one_gate : (file : List ℕ) (gate gate' : ℕ) (ps : List (List ℕ)) → EndsAt file gate ps → EndsAt file gate' ps → gate ≡ gate'
+one_gate file gate gate' ps e e' = sym e.front.size ∙ e'.front.size

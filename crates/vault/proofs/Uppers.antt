@@ -1,8 +1,9 @@
 -- What layers above a vault need of it, in lists of payloads.
 use Rattle.std.proofs.Common.{◌≡◌, ◌≤◌, ℕ, List, refl, sym, subst, arith}
-use Rattle.disk_trait.specs.Image.{IsImage}
-use Rattle.disk_trait.specs.Calls.{DiskState}
-use Rattle.disk_trait.proofs.Moments.{leaves_then, leaves_weaker}
+use Rattle.disk_trait.specs.Image.{IsImage, settled}
+use Rattle.disk_trait.specs.Calls.{DiskState, Elapses}
+use Rattle.disk_trait.proofs.Images.{settled_only}
+use Rattle.disk_trait.proofs.Moments.{goes_on, leaves_then, leaves_weaker}
 use Rattle.vault.specs.File.{StandsFor, StandsForOne}
 use Rattle.vault.specs.Standing.{payloads, IsSound, IsOpened, IsRestarted, HasRoom, Leaves}
 use Rattle.vault.specs.declared.vault.Vault.{Vault}
@@ -47,3 +48,11 @@ module _ {D : Type 0} (state : D → DiskState) where
         let left : StandsForOne R (state new.disk).seen = run.each (state new.disk).seen (counts_now mid.disk (state old.disk).moment (state new.disk).seen run.later image) in
         let list : payloads state new ≡ left.0 = left.1.records in
         (subst R (sym list) left.2, subst (StandsFor (state new.disk).seen) (sym list) left.1)
+
+    -- and of each crash from then on
+    pub restarted_leaves : ((disk : D) (t : ℕ) (image : List ℕ) → t ≤ (state disk).moment → IsImage (state disk).pending image → images disk t image) → (old mid new : Vault D) (R : List (List ℕ) → Type 0) → Leaves state images old mid R → IsRestarted state mid new → (state new.disk).pending ≡ settled (state new.disk).seen
+        → Elapses (state mid.disk) (state new.disk) (images mid.disk) (images new.disk) → Leaves state images old new R
+    restarted_leaves counts_now old mid new R run image synced time =
+        let left : StandsForOne R (state new.disk).seen = run.each (state new.disk).seen (counts_now mid.disk (state old.disk).moment (state new.disk).seen run.later image) in
+        goes_on state images old.disk mid.disk new.disk (StandsForOne R) run time
+        (λ image is. subst (StandsForOne R) (sym (settled_only (state new.disk).seen image (subst (λ p. IsImage p image) synced is))) left)

@@ -1,7 +1,7 @@
 -- What the bytes of a vault's file stand for.
 use Rattle.std.specs.Prelude.{◌≡◌, ◌⊎◌, ℕ, zero, suc, ◌+◌, ◌<◌, ◌≤◌, Bool, false, ◌==◌, ◌&&◌, nat_le, nat_lt, if◌then◌else◌, List, [], ◌∷◌, ◌++◌, length, take, drop, slice_index}
 use Rattle.std.specs.Int.{w32, to_be_bytes, from_be_bytes}
-use Rattle.vault.specs.declared.record.TheConstants.{PAYLOAD_MAX}
+use Rattle.vault.specs.Limit.{payload_most}
 
 -- the length in the record that the file begins with
 abbrev pub length_in : List ℕ → ℕ
@@ -10,7 +10,7 @@ length_in file = from_be_bytes w32 (take 4 (drop 1 file))
 -- A record is there where its gate is open (165), its length is within the limit, and its length, its payload
 -- and a byte behind it are in the file.
 abbrev pub begins_record : List ℕ → Bool
-begins_record file = (slice_index file 0 == 165) && (nat_le (length_in file) PAYLOAD_MAX && nat_lt (5 + length_in file) (length file))
+begins_record file = (slice_index file 0 == 165) && (nat_le (length_in file) payload_most && nat_lt (5 + length_in file) (length file))
 
 -- the payloads of the records up to the first that isn't there, at most so many
 abbrev pub decode : ℕ → List ℕ → List (List ℕ)
@@ -55,7 +55,7 @@ frame_of payload = to_be_bytes w32 (length payload) ++ (payload ++ 0 ∷ [])
 
 abbrev pub AllShort : List (List ℕ) → Type 0
 AllShort [] = Unit {0}
-AllShort (payload ∷ payloads) = (length payload ≤ PAYLOAD_MAX) × AllShort payloads
+AllShort (payload ∷ payloads) = (length payload ≤ payload_most) × AllShort payloads
 
 -- the records of these payloads stand in front of this place, where a gate begins
 pub record HasFront (file : List ℕ) (gate : ℕ) (payloads : List (List ℕ)) : Type 0 where

@@ -1,5 +1,9 @@
+pub mod Limit
 pub mod File
 pub mod Head
 pub mod Scan
 pub mod Cause
 pub mod Standing
+pub mod Folded
+pub mod Calls
+pub mod Stops

@@ -1,12 +1,11 @@
 -- A vault between calls, in lists of payloads. Nothing above a vault needs more than these words.
-use Rattle.std.specs.Prelude.{◌≡◌, ℕ, ◌+◌, ◌*◌, ◌^◌, ◌<◌, ◌≤◌, min, false, true, List, [], ◌∷◌, ◌++◌, length, Result}
+use Rattle.std.specs.Prelude.{◌≡◌, ℕ, ◌+◌, ◌-◌, ◌*◌, ◌^◌, ◌<◌, ◌≤◌, min, false, true, List, [], ◌∷◌, ◌++◌, length, Result}
 use Rattle.std.specs.Vec.{vec_capacity, vec_len}
 use Rattle.disk_trait.specs.Image.{IsImage, settled}
 use Rattle.disk_trait.specs.Calls.{DiskState, LeavesOnly}
-use Rattle.vault.specs.declared.record.TheConstants.{PAYLOAD_MAX}
-use Rattle.vault.specs.declared.fault.VaultFault.{VaultFault}
+use Rattle.disk_trait.specs.Calls as calls
 use Rattle.vault.specs.declared.vault.Vault.{Vault}
-use Rattle.vault.specs.Cause.{BurnsFuse}
+use Rattle.vault.specs.Limit.{payload_most}
 use Rattle.vault.specs.File.{payloads_of, records, places_from, EndsAt, StandsFor, StandsForOne, FindsFirst}
 
 -- The payloads of a vault, in the order in which they were appended. While a vault is down they are those that
@@ -21,6 +20,14 @@ faults state vault = (state vault.disk).faults
 -- how many of these were stops of a fuse
 abbrev pub stops : {D : Type 0} → (D → DiskState) → Vault D → ℕ
 stops state vault = (state vault.disk).stops
+
+-- how often a payload was read
+abbrev pub gets : {D : Type 0} → Vault D → ℕ
+gets vault = vault.gets
+
+-- one more, where the count isn't at its end
+abbrev pub one_more : ℕ → ℕ
+one_more count = min (count + 1) (2 ^ 64 - 1)
 
 abbrev pub disk_of : {D : Type 0} → Vault D → D
 disk_of vault = vault.disk
@@ -39,6 +46,11 @@ IsSound state vault = StandsFor (state vault.disk).seen (payloads_of (state vaul
 -- Unless it is down, a crash leaves the file as it is.
 abbrev pub IsSynced : {D : Type 0} → (D → DiskState) → Vault D → Type 0
 IsSynced state vault = vault.is_down ≡ false → (state vault.disk).pending ≡ settled (state vault.disk).seen
+
+-- Its file is empty, or a gate and nothing more, and all on the disk.
+pub record IsBlank {D : Type 0} (state : D → DiskState) (vault : Vault D) : Type 0 where
+  pub synced : (state vault.disk).pending ≡ settled (state vault.disk).seen
+  pub short : length (state vault.disk).seen ≤ 1
 
 -- formatted, or looked at since the last restart
 pub record IsLookedAt {D : Type 0} (state : D → DiskState) (vault : Vault D) : Type 0 where
@@ -61,7 +73,7 @@ pub record HasRoom {D : Type 0} (state : D → DiskState) (vault : Vault D) (ope
   pub fits : vault.gate + 1 + 5 * appends + bytes ≤ 2 ^ 62
   pub calls_left : 4 * (openings + appends) ≤ (state vault.disk).calls
   pub bytes_left : openings + 6 * appends + bytes ≤ (state vault.disk).bytes
-  pub frame : 0 < appends → 5 + min bytes PAYLOAD_MAX ≤ vec_capacity vault.frame
+  pub frame : 0 < appends → 5 + min bytes payload_most ≤ vec_capacity vault.frame
   pub index : vec_len vault.places + appends ≤ vec_capacity vault.places
 
 -- At every moment since the old state a crash leaves a file that stands for a list with R.
@@ -81,6 +93,7 @@ pub record SameFuse {D : Type 0} (state : D → DiskState) (old new : Vault D) :
   pub stops : (state new.disk).stops ≡ (state old.disk).stops
   pub is_armed : (state new.disk).is_armed ≡ (state old.disk).is_armed
   pub passes : (state new.disk).passes ≡ (state old.disk).passes
+  pub pick : (state new.disk).pick ≡ (state old.disk).pick
 
 -- Nothing has changed but room that was added.
 pub record Stays {D : Type 0} (state : D → DiskState) (old new : Vault D) : Type 0 where
@@ -93,8 +106,8 @@ pub record Stays {D : Type 0} (state : D → DiskState) (old new : Vault D) : Ty
   pub room : (openings appends bytes : ℕ) → HasRoom state old openings appends bytes → HasRoom state new openings appends bytes
 
 -- What a fuse does to a run of so many calls.
-abbrev pub Burns : {D T : Type 0} → (D → DiskState) → ℕ → Vault D → Vault D → Result T VaultFault → Type 0
-Burns state calls old new result = BurnsFuse calls (state old.disk) (state new.disk) result
+abbrev pub Burns : {D T E : Type 0} → (D → DiskState) → ℕ → Vault D → Vault D → Result T E → Type 0
+Burns state count old new result = calls.Burns count (state old.disk) (state new.disk) result
 
 -- A set fuse lets fewer calls pass, and then stops the next.
 abbrev pub StopsWithin : {D : Type 0} → (D → DiskState) → Vault D → ℕ → Type 0

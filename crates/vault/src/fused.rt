@@ -1,7 +1,6 @@
 //! A vault whose disk can be stopped in mid-stream.
 ghost use Rattle.std.specs.Prelude.{◌≡◌};
-ghost use Rattle.disk_trait.specs.Fuse.{behind, inner_of, setting_of, IsArmed};
-ghost use Rattle.disk_trait.specs.declared.fuse.FuseSetting.TheVariants.{Set};
+ghost use Rattle.disk_trait.specs.Fuse.{behind, inner_of, IsArmed};
 ghost use Rattle.vault.specs.Standing.{payloads, disk_of, IsUp, IsSynced, IsSound, Leaves, Stays};
 
 use crate::Vault;
@@ -12,11 +11,11 @@ impl<D: Disk + Drop> Vault<FuseDisk<D>> {
     /// `pick` bytes, or all where it has fewer; a cut or sync that follows does nothing. Each later one fails, until
     /// the restart.
     pub fn stop_after(&mut self, calls: u32, pick: u64)
-        ensures armed { IsArmed calls (behind D.state (disk_of self.old)) (behind D.state (disk_of self.new)) }
-        ensures setting { setting_of (disk_of self.new) ≡ Set calls pick }
+        ensures armed { IsArmed calls pick (behind D.state (disk_of self.old)) (behind D.state (disk_of self.new)) }
         ensures stays { Stays (behind D.state) self.old self.new }
         ensures any_moment { IsUp self.old → IsSynced (behind D.state) self.old → IsSound (behind D.state) self.old
-            → Leaves (behind D.state) (λ f. D.images (inner_of f)) self.old self.new (λ list. list ≡ payloads (behind D.state) self.old) }
+            → Leaves (behind D.state) (λ f. D.images (inner_of f)) self.old self.new
+            (λ list. list ≡ payloads (behind D.state) self.old) }
     {
         self.disk.stop_after(calls, pick);
     }

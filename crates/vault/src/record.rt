@@ -2,12 +2,13 @@
 ghost use Rattle.std.specs.Prelude.{◌≡◌, ◌+◌, ◌<◌, ◌≤◌, true, false, length, take, drop, IfNone, IfSome};
 ghost use Rattle.std.specs.Int.{w32, to_be_bytes, from_be_bytes};
 ghost use Rattle.std.specs.Vec.{vec_capacity};
+ghost use Rattle.vault.specs.Limit.{payload_most};
 ghost use Rattle.vault.specs.Head.{head_opens};
 ghost use Rattle.vault.specs.File.{frame_of};
 
 use stab_base::{put_bytes, put_u8, take_u32};
 
-/// The longest payload, in bytes.
+/// The longest payload, in bytes. It is `payload_most` of the definitions.
 pub const PAYLOAD_MAX: u32 = 8_388_608;
 
 /// Only this byte is an open gate.
@@ -18,7 +19,7 @@ pub(crate) const CLOSED: u8 = 0;
 
 /// Length, payload and a closed gate, in a buffer that has room for them.
 pub(crate) fn write_frame(frame: &mut Vec<u8>, payload: &[u8])
-    requires short { length payload.now ≤ PAYLOAD_MAX }
+    requires short { length payload.now ≤ payload_most }
     requires room { length payload.now + 5 ≤ vec_capacity frame.old }
     ensures items { frame.new.items ≡ frame_of payload.now }
     ensures capacity { vec_capacity frame.old ≤ vec_capacity frame.new }

@@ -1,9 +1,9 @@
 //! Reading a file from front to back: where its records are. Only the head of each record is read.
 ghost use Rattle.std.specs.Prelude.{◌≡◌, ◌+◌, ◌^◌, ◌<◌, ◌≤◌, ℕ, List, [], length, take, drop, slice_index, slice_index_or, OnOk, IfOk, IsErrOf};
-ghost use Rattle.disk_trait.specs.Calls.{HasCause, SameFile, Elapses};
+ghost use Rattle.std.specs.Vec.{vec_capacity};
+ghost use Rattle.disk_trait.specs.Calls.{HasCause, IsCounted, SameFile, Elapses};
 ghost use Rattle.vault.specs.File.{payloads_of, places_from, EndsAt};
 ghost use Rattle.vault.specs.Scan.{Finds};
-ghost use Rattle.vault.specs.Cause.{IsCounted};
 
 use crate::VaultFault;
 use crate::record::record_len;
@@ -34,7 +34,7 @@ pub(crate) fn find_records<D: Disk>(disk: &mut D, places: &mut Vec<u64>) -> Resu
     ensures places { OnOk result (places.new.items ≡ places_from 0 (payloads_of (D.state disk.old).seen)) }
     ensures same { SameFile (D.state disk.old) (D.state disk.new) }
     ensures time { Elapses (D.state disk.old) (D.state disk.new) (D.images disk.old) (D.images disk.new) }
-    ensures cause { IsCounted (D.state disk.old).faults (D.state disk.new).faults result }
+    ensures cause { IsCounted VaultFault.Disk (D.state disk.old).faults (D.state disk.new).faults result }
     ensures up { IsErrOf result VaultFault.Down → ⊥ }
 {
     let mut gate = 0;
@@ -59,12 +59,25 @@ pub(crate) fn look_through<D: Disk>(disk: &mut D, places: &mut Vec<u64>) -> Resu
     ensures bytes { OnOk result (1 ≤ (D.state disk.new).bytes) }
     ensures same { SameFile (D.state disk.old) (D.state disk.new) }
     ensures time { Elapses (D.state disk.old) (D.state disk.new) (D.images disk.old) (D.images disk.new) }
-    ensures cause { IsCounted (D.state disk.old).faults (D.state disk.new).faults result }
+    ensures cause { IsCounted VaultFault.Disk (D.state disk.old).faults (D.state disk.new).faults result }
     ensures up { IsErrOf result VaultFault.Down → ⊥ }
 {
     let len = disk.len();
     disk.room(len + 1, 4, 1)?;
     find_records(disk, places)
+}
+
+/// Keeps the places that were found, and the room that was there.
+pub(crate) fn keep_places(kept: &mut Vec<u64>, found: Vec<u64>)
+    ensures items { kept.new.items ≡ found.items }
+    ensures capacity { vec_capacity kept.old ≤ vec_capacity kept.new }
+{
+    if found.len() <= kept.capacity() {
+        kept.clear();
+        kept.extend_from_slice(&found).unwrap();
+    } else {
+        *kept = found;
+    }
 }
 
 /// Where the payload of this index begins, and its length.
@@ -98,7 +111,7 @@ pub(crate) fn read_payload<D: Disk>(
     ensures emptied { IsErrOf result VaultFault.Disk → out.new.items ≡ [] }
     ensures same { SameFile (D.state disk.old) (D.state disk.new) }
     ensures time { Elapses (D.state disk.old) (D.state disk.new) (D.images disk.old) (D.images disk.new) }
-    ensures cause { IsCounted (D.state disk.old).faults (D.state disk.new).faults result }
+    ensures cause { IsCounted VaultFault.Disk (D.state disk.old).faults (D.state disk.new).faults result }
     ensures up { IsErrOf result VaultFault.Down → ⊥ }
 {
     let len = len as usize;

@@ -2,8 +2,7 @@
 //! again.
 ghost use Rattle.std.specs.Prelude.{◌≡◌, ◌+◌, ◌<◌, ◌≤◌, ◌++◌, ◌∷◌, [], true, List, ℕ, length, take, drop, OnOk, IsErrOf};
 ghost use Rattle.disk_trait.specs.Image.{settled};
-ghost use Rattle.disk_trait.specs.Calls.{HasCause, Spends, Burns, LeavesOnly, SameFile};
-ghost use Rattle.vault.specs.Cause.{IsCounted, BurnsFuse};
+ghost use Rattle.disk_trait.specs.Calls.{HasCause, IsCounted, Spends, Burns, LeavesOnly, SameFile};
 ghost use Rattle.vault.specs.File.{payloads_of, records, StandsFor, IsShut, EndsAt, IsBehindGate, FindsFirst};
 
 use crate::VaultFault;
@@ -63,6 +62,9 @@ pub(crate) fn wipe<D: Disk>(disk: &mut D) -> Result<(), DiskFault>
     requires bytes { 1 ≤ (D.state disk.old).bytes }
     ensures written { OnOk result ((D.state disk.new).seen ≡ 0 ∷ []) }
     ensures durable { OnOk result ((D.state disk.new).pending ≡ settled (D.state disk.new).seen) }
+    // Of a blank file a crash leaves at most the gate.
+    ensures blank { (D.state disk.old).pending ≡ settled (D.state disk.old).seen → length (D.state disk.old).seen ≤ 1
+        → LeavesOnly D.state D.images disk.old disk.new (λ image. length image ≤ 1) }
     ensures cause { HasCause (D.state disk.old) (D.state disk.new) result }
     ensures spent { Spends 3 1 (D.state disk.old) (D.state disk.new) }
     ensures fuse { Burns 3 (D.state disk.old) (D.state disk.new) result }
@@ -80,9 +82,11 @@ pub(crate) fn format_disk<D: Disk>(disk: &mut D) -> Result<(), VaultFault>
     ensures calls { OnOk result (4 ≤ (D.state disk.new).calls) }
     ensures bytes { OnOk result (1 ≤ (D.state disk.new).bytes) }
     ensures memory { IsErrOf result VaultFault.Memory → SameFile (D.state disk.old) (D.state disk.new) }
+    ensures blank { (D.state disk.old).pending ≡ settled (D.state disk.old).seen → length (D.state disk.old).seen ≤ 1
+        → LeavesOnly D.state D.images disk.old disk.new (λ image. length image ≤ 1) }
     ensures up { IsErrOf result VaultFault.Down → ⊥ }
-    ensures fuse { BurnsFuse 3 (D.state disk.old) (D.state disk.new) result }
-    ensures cause { IsCounted (D.state disk.old).faults (D.state disk.new).faults result }
+    ensures fuse { Burns 3 (D.state disk.old) (D.state disk.new) result }
+    ensures cause { IsCounted VaultFault.Disk (D.state disk.old).faults (D.state disk.new).faults result }
 {
     disk.room(1, 7, 2)?;
     wipe(disk)?;

@@ -1,14 +1,14 @@
 //! The vault: what its calls promise in lists of payloads.
 ghost use Rattle.std.specs.Prelude.{◌≡◌, ◌↔◌, ◌+◌, ◌*◌, ◌<◌, ◌≤◌, ◌++◌, ◌∷◌, [], false, ℕ, length, OnOk, OnErr, IsErrOf, slice_get, Some};
 ghost use Rattle.std.specs.Bool.{MatchBool};
-ghost use Rattle.disk_trait.specs.Calls.{Elapses};
-ghost use Rattle.vault.specs.Cause.{IsCounted};
+ghost use Rattle.disk_trait.specs.Calls.{Elapses, IsCounted};
+ghost use Rattle.vault.specs.Limit.{payload_most};
 ghost use Rattle.vault.specs.File.{IsBeforeOrAfter};
-ghost use Rattle.vault.specs.Standing.{payloads, faults, stops, disk_of, IsDown, IsUp, IsSound, IsSynced, IsLookedAt, IsOpened, HasRoom, Leaves, LeavesFound, IsRestarted, SameFuse, Stays, Burns, StopsWithin};
+ghost use Rattle.vault.specs.Standing.{payloads, faults, stops, gets, one_more, disk_of, IsDown, IsUp, IsSound, IsSynced, IsBlank, IsLookedAt, IsOpened, HasRoom, Leaves, LeavesFound, IsRestarted, SameFuse, Stays, Burns, StopsWithin};
 
 use crate::fault::VaultFault;
 use crate::record::{PAYLOAD_MAX, write_frame};
-use crate::scan::{look_through, read_payload, span};
+use crate::scan::{keep_places, look_through, read_payload, span};
 use crate::steps::{close_gate, format_disk, put_behind};
 use disk_trait::{Disk, RoomFault};
 use std::alloc::Global;
@@ -27,6 +27,8 @@ pub struct Vault<D: Disk> {
     // what an append writes behind the standing gate
     frame: Vec<u8>,
     is_down: bool,
+    // how often a payload was read; at its end it stands still
+    gets: u64,
     alloc: Global,
 }
 
@@ -42,6 +44,7 @@ impl<D: Disk + Drop> Vault<D> {
             gate: 0,
             frame: Vec::new(alloc),
             is_down: false,
+            gets: 0,
             alloc,
         }
     }
@@ -59,12 +62,14 @@ impl<D: Disk + Drop> Vault<D> {
         ensures opened { OnOk result (IsOpened D.state self.new) }
         ensures empty { OnOk result (payloads D.state self.new ≡ []) }
         ensures durable { OnOk result (Leaves D.state D.images self.new self.new (λ list. list ≡ [])) }
+        // A crash inside the format of a blank file leaves no payload.
+        ensures blank { IsUp self.old → IsBlank D.state self.old → Leaves D.state D.images self.old self.new (λ list. list ≡ []) }
         ensures room { OnOk result (HasRoom D.state self.new 1 0 0) }
         ensures memory { IsErrOf result VaultFault.Memory → Stays D.state self.old self.new }
         ensures down { IsErrOf result VaultFault.Down ↔ IsDown self.old }
         ensures unchanged { IsErrOf result VaultFault.Down → self.new ≡ self.old }
         ensures disk { IsErrOf result VaultFault.Disk → IsDown self.new }
-        ensures cause { IsCounted (faults D.state self.old) (faults D.state self.new) result }
+        ensures cause { IsCounted VaultFault.Disk (faults D.state self.old) (faults D.state self.new) result }
         ensures fuse { IsUp self.old → Burns D.state 3 self.old self.new result }
     {
         if self.is_down {
@@ -91,13 +96,15 @@ impl<D: Disk + Drop> Vault<D> {
         ensures same { OnOk result (payloads D.state self.new ≡ payloads D.state self.old) }
         ensures sound { OnOk result (IsSound D.state self.old → IsSound D.state self.new) }
         ensures room { OnOk result (HasRoom D.state self.new 1 0 0) }
+        // What was looked at before stays, with what was opened and reserved.
+        ensures stays { OnOk result (IsLookedAt D.state self.old → Stays D.state self.old self.new) }
         ensures any_moment { IsUp self.old → IsSound D.state self.old
             → Leaves D.state D.images self.old self.new (λ list. list ≡ payloads D.state self.old) }
         ensures memory { IsErrOf result VaultFault.Memory → Stays D.state self.old self.new }
         ensures down { IsErrOf result VaultFault.Down ↔ IsDown self.old }
         ensures unchanged { IsErrOf result VaultFault.Down → self.new ≡ self.old }
         ensures disk { IsErrOf result VaultFault.Disk → IsDown self.new }
-        ensures cause { IsCounted (faults D.state self.old) (faults D.state self.new) result }
+        ensures cause { IsCounted VaultFault.Disk (faults D.state self.old) (faults D.state self.new) result }
         ensures fuse { SameFuse D.state self.old self.new }
     {
         if self.is_down {
@@ -106,7 +113,7 @@ impl<D: Disk + Drop> Vault<D> {
         let mut places = Vec::new(self.alloc);
         match look_through(&mut self.disk, &mut places) {
             Ok(gate) => {
-                self.places = places;
+                keep_places(&mut self.places, places);
                 self.gate = gate;
                 Ok(())
             }
@@ -149,7 +156,7 @@ impl<D: Disk + Drop> Vault<D> {
         ensures unchanged { IsErrOf result VaultFault.Down → self.new ≡ self.old }
         ensures disk { OnErr result (IsDown self.new) }
         ensures no_memory { IsErrOf result VaultFault.Memory → ⊥ }
-        ensures cause { IsCounted (faults D.state self.old) (faults D.state self.new) result }
+        ensures cause { IsCounted VaultFault.Disk (faults D.state self.old) (faults D.state self.new) result }
         ensures fuse { IsUp self.old → Burns D.state 4 self.old self.new result }
     {
         if self.is_down {
@@ -178,7 +185,7 @@ impl<D: Disk + Drop> Vault<D> {
         ensures down { IsErrOf result VaultFault.Down ↔ IsDown self.old }
         ensures unchanged { IsErrOf result VaultFault.Down → self.new ≡ self.old }
         ensures disk { IsErrOf result VaultFault.Disk → IsDown self.new }
-        ensures cause { IsCounted (faults D.state self.old) (faults D.state self.new) result }
+        ensures cause { IsCounted VaultFault.Disk (faults D.state self.old) (faults D.state self.new) result }
         ensures fuse { SameFuse D.state self.old self.new }
     {
         if self.is_down {
@@ -205,7 +212,7 @@ impl<D: Disk + Drop> Vault<D> {
     /// Adds a payload of at most `PAYLOAD_MAX` bytes at the end. It is on the disk before `Ok`.
     pub fn append(&mut self, payload: &[u8]) -> Result<(), VaultFault>
         requires ready { IsUp self.old → IsOpened D.state self.old }
-        requires short { length payload.now ≤ PAYLOAD_MAX }
+        requires short { length payload.now ≤ payload_most }
         requires room { IsUp self.old → HasRoom D.state self.old 0 1 (length payload.now) }
         ensures opened { OnOk result (IsOpened D.state self.new) }
         ensures added { OnOk result (payloads D.state self.new ≡ payloads D.state self.old ++ payload.now ∷ []) }
@@ -223,7 +230,7 @@ impl<D: Disk + Drop> Vault<D> {
         ensures unchanged { IsErrOf result VaultFault.Down → self.new ≡ self.old }
         ensures disk { OnErr result (IsDown self.new) }
         ensures no_memory { IsErrOf result VaultFault.Memory → ⊥ }
-        ensures cause { IsCounted (faults D.state self.old) (faults D.state self.new) result }
+        ensures cause { IsCounted VaultFault.Disk (faults D.state self.old) (faults D.state self.new) result }
         ensures fuse { IsUp self.old → Burns D.state 4 self.old self.new result }
     {
         if self.is_down {
@@ -271,15 +278,17 @@ impl<D: Disk + Drop> Vault<D> {
         ensures out_kept { IsErrOf result VaultFault.Memory → out.new.items ≡ out.old.items }
         ensures out_down { IsErrOf result VaultFault.Down → out.new.items ≡ out.old.items }
         ensures out_emptied { IsErrOf result VaultFault.Disk → out.new.items ≡ [] }
+        ensures counted { IsUp self.old → gets self.new ≡ one_more (gets self.old) }
         ensures down { IsErrOf result VaultFault.Down ↔ IsDown self.old }
         ensures unchanged { IsErrOf result VaultFault.Down → self.new ≡ self.old }
         ensures disk { IsErrOf result VaultFault.Disk → IsDown self.new }
-        ensures cause { IsCounted (faults D.state self.old) (faults D.state self.new) result }
+        ensures cause { IsCounted VaultFault.Disk (faults D.state self.old) (faults D.state self.new) result }
         ensures fuse { SameFuse D.state self.old self.new }
     {
         if self.is_down {
             return Err(VaultFault::Down);
         }
+        self.gets = self.gets.saturating_add(1);
         let (at, len) = span(&self.places, self.gate, index);
         match read_payload(&mut self.disk, at, len, out) {
             Ok(()) => Ok(()),

@@ -17,4 +17,4 @@ put_table-requires-clause-room g c up =
     let state : List ℕ = c.args.state ∷ [] in
     let n = 2 + length c.args.schema.now in
     let same : n ≡ length (table_payload c.in_ok-table.table c.args.state) = omega (arith, ap length c.in_ok-table.ensures.found.1, length-append spelled state) in
-    subst (HasRoom (behind g.D.Disk.state) c.stop_after.new.self 0 1) same (c.stop_after.ensures.stays.room 0 1 n (c.in_ok-open_write.ensures.room 0 1 n c.in_ok-reserve.ensures.room))
+    subst (HasRoom (behind g.D.Disk.state) c.stop_after.new.self 0 1) same (c.stop_after.ensures.stops.stays.room 0 1 n (c.in_ok-open_write.ensures.opens.room 0 1 n c.in_ok-reserve.ensures.reserves.room))

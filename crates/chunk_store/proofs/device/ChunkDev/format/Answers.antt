@@ -1,12 +1,12 @@
-use Rattle.std.proofs.Common.{[], refl, ap}
+use Rattle.std.proofs.Common.{ap}
 use Rattle.chunk_store.specs.Payload.{chunks_of}
-use Rattle.chunk_store.proofs.Maps.{same_map}
+use Rattle.chunk_store.specs.Index.{IsIndex, HasSpare}
+use Rattle.chunk_store.specs.Fault.{fault_of}
+use Rattle.chunk_store.proofs.Faults.{apart}
+use Rattle.vault.proofs.Devices.{formats_as}
 use Rattle.chunk_store.proofs.device.ChunkDev.format.Goals as goal
 
-pub returns-clause-empty : goal.returns-clause-empty
-unfolding chunks_of
-returns-clause-empty g c = ap chunks_of c.in_ok-format.ensures.empty
-
-pub returns-clause-durable : goal.returns-clause-durable
-unfolding chunks_of
-returns-clause-durable g c = same_map g.D.Disk.state g.D.Disk.images c.format.new.self.vault c.format.new.self.vault [] [] refl c.in_ok-format.ensures.durable
+pub returns : goal.returns
+returns g c =
+    let old = c.args.self.now in
+    rw c.told.ensures (formats_as g.D.Disk.state g.D.Disk.images IsIndex HasSpare chunks_of fault_of apart old.inner c.format.new.self old _ (λ same. ap (λ inner. record old { inner = inner }) same) c.format.result c.format.ensures)

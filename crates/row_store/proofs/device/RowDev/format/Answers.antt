@@ -1,12 +1,12 @@
-use Rattle.std.proofs.Common.{[], refl, ap}
-use Rattle.row_store.specs.Data.{data_of, nothing_held}
-use Rattle.row_store.proofs.Maps.{same_map}
+use Rattle.std.proofs.Common.{ap}
+use Rattle.row_store.specs.Data.{data_of}
+use Rattle.row_store.specs.Memory.{Fits, HasSpare}
+use Rattle.row_store.specs.Fault.{fault_of}
+use Rattle.row_store.proofs.Faults.{apart}
+use Rattle.vault.proofs.Devices.{formats_as}
 use Rattle.row_store.proofs.device.RowDev.format.Goals as goal
 
-pub returns-clause-empty : goal.returns-clause-empty
-unfolding data_of
-returns-clause-empty g c = ap data_of c.in_ok-format.ensures.empty
-
-pub returns-clause-durable : goal.returns-clause-durable
-unfolding data_of
-returns-clause-durable g c = same_map g.D.Disk.state g.D.Disk.images c.format.new.self.vault c.format.new.self.vault [] nothing_held refl c.in_ok-format.ensures.durable
+pub returns-clause-formats : goal.returns-clause-formats
+returns-clause-formats g c =
+    let old = c.args.self.now in
+    rw c.told.ensures (formats_as g.D.Disk.state g.D.Disk.images Fits HasSpare data_of fault_of apart old.inner c.format.new.self old _ (λ same. ap (λ inner. record old { inner = inner }) same) c.format.result c.format.ensures)

@@ -1,12 +1,12 @@
-use Rattle.std.proofs.Common.{[], None, refl, ap}
+use Rattle.std.proofs.Common.{ap}
 use Rattle.status_log.specs.Payload.{pending_of}
-use Rattle.status_log.proofs.Maps.{same_map}
+use Rattle.status_log.specs.Memory.{Fits, HasSpare}
+use Rattle.status_log.specs.Fault.{fault_of}
+use Rattle.status_log.proofs.Faults.{apart}
+use Rattle.vault.proofs.Devices.{formats_as}
 use Rattle.status_log.proofs.device.StatusLog.format.Goals as goal
 
-pub returns-clause-empty : goal.returns-clause-empty
-unfolding pending_of
-returns-clause-empty g c = ap pending_of c.in_ok-format.ensures.empty
-
-pub returns-clause-durable : goal.returns-clause-durable
-unfolding pending_of
-returns-clause-durable g c = same_map g.D.Disk.state g.D.Disk.images c.format.new.self.vault c.format.new.self.vault [] None refl c.in_ok-format.ensures.durable
+pub returns : goal.returns
+returns g c =
+    let old = c.args.self.now in
+    rw c.told.ensures (formats_as g.D.Disk.state g.D.Disk.images Fits HasSpare pending_of fault_of apart old.inner c.format.new.self old _ (λ same. ap (λ inner. record old { inner = inner }) same) c.format.result c.format.ensures)

@@ -1,3 +1,0 @@
-pub mod Stayings
-mod Lists
-pub mod Rooms

@@ -33,8 +33,10 @@ HasContentText Gone = Unit {0}
 HasContentText (Row some objects) = AllByRecursion IsNumberCell some × (objects ≡ [])
 
 abbrev pub HasRefusalText : Refusal → Type 0
+HasRefusalText (refusals.TooManyChunks count) = count < 2 ^ 64
 HasRefusalText (refusals.BadCell column) = column < 2 ^ 64
 HasRefusalText (refusals.BadObject column len) = (column < 2 ^ 64) × (len < 2 ^ 64)
+HasRefusalText (refusals.RowTooLarge len) = len < 2 ^ 64
 HasRefusalText refusals.NoTable = Unit {0}
 HasRefusalText refusals.NoRow = Unit {0}
 HasRefusalText (refusals.NoPacket sent) = sent < 2 ^ 64

@@ -1,8 +1,23 @@
 ghost use Rattle.std.specs.Prelude.{◌≡◌, ◌≤◌, ℕ, List};
 ghost use Rattle.table_model.specs.declared.event.Event.{Event as AnEvent};
 ghost use Rattle.script_text.specs.declared.fault.BadLine.{BadLine as ABadLine};
+ghost use Rattle.simba_top.specs.Limits.{input_most, lines_most, line_most, rows_most, number_most};
 ghost use Rattle.simba_top.specs.Script.{IsWhole};
 ghost use Rattle.simba_top.specs.Ends.{IsBadAt, IsLimitAt, IsCutOff};
+
+use crate::row_names::MOST_ROWS;
+use crate::run::MOST_LINES;
+use stab_base::NUMBER_MAX;
+use stab_io::{INPUT_LIMIT, LINE_LIMIT};
+
+/// The program's limits are those of the definition. It has no code: its clauses are the law.
+pub fn limits_are_as_defined()
+    ensures input { INPUT_LIMIT ≡ input_most }
+    ensures lines { MOST_LINES ≡ lines_most }
+    ensures line { LINE_LIMIT ≡ line_most }
+    ensures rows { MOST_ROWS ≡ rows_most }
+    ensures number { NUMBER_MAX ≡ number_most }
+{}
 
 /// An input spells one script at most. It has no code: its clause is the law.
 pub fn one_script()

@@ -140,10 +140,11 @@ fn put_node(out: &mut String, node: Node) -> Result<(), AllocError>
     }
 }
 
-fn put_message(out: &mut String, name: MessageName) -> Result<(), AllocError>
-    ensures { OnOk result (string_bytes out.new ≡ string_bytes out.old ++ message_text name) }
+// The name of a kind of message, with a space before it.
+fn message_word(name: MessageName) -> &'static str
+    ensures { result.now ≡ message_text name }
 {
-    out.push_str(match name {
+    match name {
         MessageName::RegisterDevice => " registerDevice",
         MessageName::CreateTable => " createTable",
         MessageName::DropTable => " dropTable",
@@ -161,7 +162,13 @@ fn put_message(out: &mut String, name: MessageName) -> Result<(), AllocError>
         MessageName::SaveClientSubscription => " saveClientSubscription",
         MessageName::RestoreClientSubscriptions => " restoreClientSubscriptions",
         MessageName::TableVersionUpdateNotification => " tableVersionUpdateNotification",
-    })
+    }
+}
+
+fn put_message(out: &mut String, name: MessageName) -> Result<(), AllocError>
+    ensures { OnOk result (string_bytes out.new ≡ string_bytes out.old ++ message_text name) }
+{
+    out.push_str(message_word(name))
 }
 
 fn put_sent(

@@ -70,14 +70,14 @@ module _ (grammar : Grammar) (input : List ℕ) (script whole : List Event) (cou
 pub record Same (a b : List Event) (n m : Names) (left right : List ℕ) : Type 0 where
   pub script : a ≡ b
   pub names : n ≡ m
-  pub left : left ≡ right
+  pub rest : left ≡ right
 
 no_lines_more : (total : ℕ) (n m : Names) (a b events : List Event) (left right : List ℕ) (lines : List (List ℕ))
     → length lines ≡ 0 → Behind total left lines right → Spelled n lines events m → b ≡ a ++ events → Same a b n m left right
 no_lines_more total n m a b events left right [] none behind spelled grows = record {
   script = sym (grows ∙ ap (λ (es : List Event). a ++ es) spelled.0 ∙ append-nil a);
   names = sym spelled.1;
-  left = sym behind;
+  rest = sym behind;
 }
 no_lines_more total n m a b events left right (line ∷ lines) none behind spelled grows = absurd (omega (arith, none))
 
@@ -202,7 +202,7 @@ module _ (grammar : Grammar) (input : List ℕ) where
       let last = bad_is_last grammar input script whole count all.0 all.1 [] all.2 fault bad in
       let fits = front_fits input script whole count all.0 bad.names all.1 bad.rest bad.front all.2 in
       let same = same_front grammar input script whole count all.0 bad.names all.1 bad.rest [] bad.front all.2 (omega (arith, last, fits)) in
-      not_end (length input) bad.line bad.left (subst (λ (b : List ℕ). next_in (length input) b ≡ Line bad.line bad.left) same.left bad.next)
+      not_end (length input) bad.line bad.left (subst (λ (b : List ℕ). next_in (length input) b ≡ Line bad.line bad.left) same.rest bad.next)
 
   none_passes : (script : List Event) (count : ℕ) (names : Names) (limit : ℕ) → Passes input script count names [] limit → ⊥
   none_passes script count names limit passes =
@@ -221,7 +221,7 @@ module _ (grammar : Grammar) (input : List ℕ) where
       let last = limit_is_last grammar input script whole count all.0 all.1 [] all.2 limit at in
       let fits = front_fits input script whole count all.0 at.names all.1 at.rest at.front all.2 in
       let same = same_front grammar input script whole count all.0 at.names all.1 at.rest [] at.front all.2 (omega (arith, last, fits)) in
-      none_passes script count at.names limit (subst (λ (b : List ℕ). Passes input script count at.names b limit) same.left at.passes)
+      none_passes script count at.names limit (subst (λ (b : List ℕ). Passes input script count at.names b limit) same.rest at.passes)
 
   pub bad_limit_apart : (a b : List Event) (n m : ℕ) (fault : BadLine) (limit : ℕ) → IsBadAt input a n fault → IsLimitAt input b m limit → ⊥
   bad_limit_apart a b n m fault limit bad at =
@@ -229,7 +229,7 @@ module _ (grammar : Grammar) (input : List ℕ) where
       let before = limit_is_last grammar input b a m n bad.names bad.rest bad.front limit at in
       let same = same_front grammar input b a m n at.names bad.names at.rest bad.rest at.front bad.front (omega (arith, after, before)) in
       let here : next_in (length input) at.rest ≡ Line bad.line bad.left =
-      subst (λ (r : List ℕ). next_in (length input) r ≡ Line bad.line bad.left) (sym same.left) bad.next in
+      subst (λ (r : List ℕ). next_in (length input) r ≡ Line bad.line bad.left) (sym same.rest) bad.next in
       bad_passes grammar input b m at.names at.rest fault bad.line bad.left (let few = bad.few in omega (arith, few, after, before)) here
       (subst (λ (x : Names). IsFault x bad.line fault) (sym same.names) bad.bad) limit (causes grammar input b m at.names at.rest limit at.passes)
 
@@ -239,7 +239,7 @@ module _ (grammar : Grammar) (input : List ℕ) where
       let before = bad_is_last grammar input b a m n bad.names bad.rest bad.front g other in
       let same = same_front grammar input a b n m bad.names other.names bad.rest other.rest bad.front other.front (omega (arith, after, before)) in
       let here : next_in (length input) bad.rest ≡ Line other.line other.left =
-      subst (λ (r : List ℕ). next_in (length input) r ≡ Line other.line other.left) (sym same.left) other.next in
+      subst (λ (r : List ℕ). next_in (length input) r ≡ Line other.line other.left) (sym same.rest) other.next in
       let line : bad.line ≡ other.line = next_line bad.line bad.left other.line other.left (next_in (length input) bad.rest) bad.next here in (
         same.script,
         omega (arith, after, before),
@@ -265,5 +265,5 @@ module _ (grammar : Grammar) (input : List ℕ) where
         same.script,
         count,
         one_passes grammar input a n at.names at.rest l k at.passes
-            (moved a b n m at.names other.names at.rest other.rest k same.script count same.names same.left other.passes),
+            (moved a b n m at.names other.names at.rest other.rest k same.script count same.names same.rest other.passes),
       )

@@ -16,7 +16,7 @@ def paths(text):
 
 
 def is_there(name, document, folder):
-    if "NAME" in name or "MODULE" in name or "FUNCTION" in name:
+    if "NAME" in name or "MODULE" in name or "FUNCTION" in name or name in ("specs/", "proofs/"):
         return True
     tries = [Path(name), Path(document).parent / name, Path("crates") / name]
     if folder:
@@ -47,12 +47,5 @@ for crate in sorted(CRATES):
     if not re.search(rf"\b{crate}\b", drawn):
         faults.append(f"docs/ARCHITECTURE.md: the crate {crate} isn't on the map")
 
-for pattern, most in (("src/*.rt", 120), ("specs/*.antt", 120), ("proofs/**/*.antt", 200)):
-    for crate in sorted(CRATES):
-        for path in sorted(Path("crates", crate).glob(pattern)):
-            for number, line in enumerate(path.read_text().splitlines(), 1):
-                if len(line) > most:
-                    faults.append(f"{path}:{number}: {len(line)} columns, and at most {most} are read")
-
-print("\n".join(faults) if faults else "documents: what they name is there, and all lines can be read")
+print("\n".join(faults) if faults else "documents: what they name is there")
 sys.exit(1 if faults else 0)

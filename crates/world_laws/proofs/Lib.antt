@@ -9,3 +9,4 @@ pub mod StoreMoves
 pub mod Showings
 pub mod Forms
 pub mod Runs
+pub mod Fresh

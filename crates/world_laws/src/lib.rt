@@ -1,12 +1,22 @@
 //! What every run of the world keeps, whatever is delivered, lost or repeated, and wherever device writes fail.
 #![tactic(auto)]
 
-ghost use Rattle.std.specs.Prelude.{◌≡◌};
+ghost use Rattle.std.specs.Prelude.{◌≡◌, List};
 ghost use Rattle.row_value.specs.declared.schema.Scheme.TheVariants.{Strong, Causal, Eventual};
 ghost use Rattle.world_tables.specs.Sound.{IsSound};
 ghost use Rattle.world_laws.specs.Bad.{back, blind, doubled, early, fallen, groundless, lost, misplaced, outdated, over, past, renamed, revived, selfish, settled, silent, skipped_number, skipped_version, stale, twice, unearned, unread, unseen, unwritten};
-ghost use Rattle.world_tables.specs.Turns.{turns};
+ghost use Rattle.world_tables.specs.Turns.{Happening, turns};
 ghost use Rattle.world_laws.specs.Worked.{late_repeat, late_repeat_written, read_before_write_is_no_conflict, read_before_write_is_no_conflict_written, causal_conflict, causal_conflict_written, strong_write_refused, strong_write_refused_written};
+
+/// Every run's transcript is sound, whatever is delivered, lost, repeated or overtaken, wherever a device write fails and
+/// takes its node down, and for tables of all three schemes: each event has one answer in a form of its command; the
+/// versions of each table's history are 1, 2, 3; the writes of each client are numbered 1, 2, 3, and each entry is one
+/// of them, accepted once, by the rule of its table's scheme; a write in a conflict or refused is never accepted; each
+/// `show` gives what the client's lines make it show, and each `sshow` and `history` what was accepted; what a client
+/// has read never falls, and what its position covers it has read; and no write is lost from sight.
+pub fn every_run_is_sound()
+    ensures { (happenings : List Happening) → IsSound (turns happenings) }
+{}
 
 /// The tables, computed: an eventual table, whose first request comes again behind a later write.
 pub fn a_late_repeat()

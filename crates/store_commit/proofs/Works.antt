@@ -139,7 +139,7 @@ module _ {D : Type 0} (state : D → DiskState) (images : D → ℕ → List ℕ
             log_is_opened = ready.log_is_opened;
             log_room = ready.log_room;
           };
-          up = record { chunks = k.opened.vault.looked.up; rows = up.rows; log = up.log; };
+          up = record { chunks = k.opened.vault.looked.up; rows = up.rows; log = up.log };
           counted = omega (arith, k.refuses.cause);
           any_moment = open_chunks_moment (Ok x) k;
           disk = λ e is. absurd cc;
@@ -182,7 +182,7 @@ module _ {D : Type 0} (state : D → DiskState) (images : D → ℕ → List ℕ
             log_is_opened = ready.log_is_opened;
             log_room = ready.log_room;
           };
-          up = record { chunks = up.chunks; rows = k.opened.vault.looked.up; log = up.log; };
+          up = record { chunks = up.chunks; rows = k.opened.vault.looked.up; log = up.log };
           counted = omega (arith, k.refuses.cause);
           any_moment = open_rows_moment (Ok x) k;
           disk = λ e is. absurd cc;
@@ -225,7 +225,7 @@ module _ {D : Type 0} (state : D → DiskState) (images : D → ℕ → List ℕ
             row_is_opened = ready.row_is_opened;
             row_room = ready.row_room;
           };
-          up = record { chunks = up.chunks; rows = up.rows; log = k.opened.vault.looked.up; };
+          up = record { chunks = up.chunks; rows = up.rows; log = k.opened.vault.looked.up };
           counted = omega (arith, k.refuses.cause);
           any_moment = open_log_moment (Ok x) k;
           disk = λ e is. absurd cc;
@@ -268,7 +268,7 @@ module _ {D : Type 0} (state : D → DiskState) (images : D → ℕ → List ℕ
             row_is_opened = ready.row_is_opened;
             row_room = ready.row_room;
           };
-          up = record { chunks = up.chunks; rows = up.rows; log = k.opened.vault.looked.up; };
+          up = record { chunks = up.chunks; rows = up.rows; log = k.opened.vault.looked.up };
           counted = omega (arith, k.refuses.cause);
           any_moment = open_entry_moment (Ok x) k;
           disk = λ e is. absurd cc;
@@ -311,7 +311,7 @@ module _ {D : Type 0} (state : D → DiskState) (images : D → ℕ → List ℕ
             log_is_opened = ready.log_is_opened;
             log_room = ready.log_room;
           };
-          up = record { chunks = k.opened.vault.looked.up; rows = up.rows; log = up.log; };
+          up = record { chunks = k.opened.vault.looked.up; rows = up.rows; log = up.log };
           counted = omega (arith, k.refuses.cause);
           any_moment = put_chunk_moment (Ok x) k;
           disk = λ e is. absurd cc;
@@ -354,7 +354,7 @@ module _ {D : Type 0} (state : D → DiskState) (images : D → ℕ → List ℕ
             log_is_opened = ready.log_is_opened;
             log_room = ready.log_room;
           };
-          up = record { chunks = up.chunks; rows = k.opened.vault.looked.up; log = up.log; };
+          up = record { chunks = up.chunks; rows = k.opened.vault.looked.up; log = up.log };
           counted = omega (arith, k.refuses.cause);
           any_moment = put_row_moment (Ok x) k;
           disk = λ e is. absurd cc;
@@ -397,7 +397,7 @@ module _ {D : Type 0} (state : D → DiskState) (images : D → ℕ → List ℕ
             log_is_opened = ready.log_is_opened;
             log_room = ready.log_room;
           };
-          up = record { chunks = k.opened.vault.looked.up; rows = up.rows; log = up.log; };
+          up = record { chunks = k.opened.vault.looked.up; rows = up.rows; log = up.log };
           counted = omega (arith, k.refuses.cause);
           any_moment = drop_chunk_moment (Ok x) k;
           disk = λ e is. absurd cc;
@@ -440,7 +440,7 @@ module _ {D : Type 0} (state : D → DiskState) (images : D → ℕ → List ℕ
             row_is_opened = ready.row_is_opened;
             row_room = ready.row_room;
           };
-          up = record { chunks = up.chunks; rows = up.rows; log = k.opened.vault.looked.up; };
+          up = record { chunks = up.chunks; rows = up.rows; log = k.opened.vault.looked.up };
           counted = omega (arith, k.refuses.cause);
           any_moment = close_entry_moment (Ok x) k;
           disk = λ e is. absurd cc;
@@ -483,7 +483,7 @@ module _ {D : Type 0} (state : D → DiskState) (images : D → ℕ → List ℕ
             log_is_opened = ready.log_is_opened;
             log_room = ready.log_room;
           };
-          up = record { chunks = up.chunks; rows = k.opened.vault.looked.up; log = up.log; };
+          up = record { chunks = up.chunks; rows = k.opened.vault.looked.up; log = up.log };
           counted = omega (arith, k.refuses.cause);
           any_moment = put_table_moment (Ok x) k;
           disk = λ e is. absurd cc;
@@ -526,7 +526,7 @@ module _ {D : Type 0} (state : D → DiskState) (images : D → ℕ → List ℕ
             log_is_opened = ready.log_is_opened;
             log_room = ready.log_room;
           };
-          up = record { chunks = up.chunks; rows = k.opened.vault.looked.up; log = up.log; };
+          up = record { chunks = up.chunks; rows = k.opened.vault.looked.up; log = up.log };
           counted = omega (arith, k.refuses.cause);
           any_moment = put_sub_moment (Ok x) k;
           disk = λ e is. absurd cc;
@@ -541,4 +541,3 @@ module _ {D : Type 0} (state : D → DiskState) (images : D → ℕ → List ℕ
           any_moment = put_sub_moment (Err x) k;
           disk = λ e is. (cc, omega (arith, failed.1), inr (inl failed.0));
         }
-

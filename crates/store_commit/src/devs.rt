@@ -59,7 +59,10 @@ impl<D: Disk + Drop> TableDevs<D> {
         ensures log { result.2 ≡ disk_of (logs.vault_of self.log) }
     {
         let TableDevs {
-            chunks, rows, log, ..
+            chunks,
+            rows,
+            log,
+            ..
         } = self;
         (chunks.into_disk(), rows.into_disk(), log.into_disk())
     }

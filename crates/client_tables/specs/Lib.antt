@@ -3,3 +3,4 @@ pub mod Shown
 pub mod Names
 pub mod Transitions
 pub mod Kept
+pub mod Drops

@@ -1,5 +1,5 @@
 -- The slots of a row behind an event, what is told and what is sent.
-use Rattle.std.specs.Prelude.{ℕ, ◌==◌, ◌+◌, nat_le, Bool, true, false, ◌&&◌, ◌||◌, is_some, is_none, List, [], ◌∷◌, ◌++◌, Option, Some, None, if◌then◌else◌}
+use Rattle.std.specs.Prelude.{ℕ, ◌==◌, nat_le, Bool, true, false, ◌&&◌, ◌||◌, is_some, is_none, List, [], ◌∷◌, ◌++◌, Option, Some, None, if◌then◌else◌}
 use Rattle.row_value.specs.declared.pieces.Piece.{Piece}
 use Rattle.row_value.specs.declared.schema.Scheme.{Scheme}
 use Rattle.row_value.specs.declared.schema.Scheme.TheVariants.{Strong, Causal, Eventual}
@@ -14,7 +14,6 @@ use Rattle.held_value.specs.declared.slots.Slots.{Slots}
 use Rattle.held_value.specs.declared.tell.Tell.{Tell}
 use Rattle.held_value.specs.declared.tell.Tell.TheVariants as tell
 use Rattle.client_tables.specs.declared.change.Change.{Change}
-use Rattle.client_tables.specs.declared.change.Sending.{Sending}
 use Rattle.client_tables.specs.declared.change.Sending.TheVariants as send
 use Rattle.client_tables.specs.declared.resolving.HeldChoice.{HeldChoice}
 use Rattle.client_tables.specs.declared.resolving.HeldChoice.TheVariants as choices

@@ -2,6 +2,7 @@
 #![tactic(auto)]
 
 mod change;
+mod drops;
 mod header;
 mod laws;
 mod names;
@@ -11,9 +12,13 @@ mod shown;
 mod writes;
 
 pub use change::{Change, Sending};
+pub use drops::dropped;
 pub use header::take_header;
 pub use laws::{open_writes_stay_shown, slots_stay_in_order, what_was_read_never_falls};
 pub use resolving::{HeldChoice, resolve};
-pub use response::take_response;
+pub use response::{is_countable, take_response};
 pub use shown::{ShownAs, shown_as, shown_content};
 pub use writes::{can_send, send, write, write_strong};
+
+#[cfg(test)]
+mod tests;

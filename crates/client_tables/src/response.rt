@@ -1,4 +1,4 @@
-ghost use Rattle.std.specs.Prelude.{◌≡◌, IfOk};
+ghost use Rattle.std.specs.Prelude.{◌≡◌, ◌↔◌, IsTrue, IfOk};
 ghost use Rattle.client_tables.specs.Transitions.{without, accepted, refused, sent_whole, by_outcome, answered};
 ghost use Rattle.client_tables.specs.Change.{IsCountable, AreCountable};
 
@@ -106,6 +106,16 @@ fn by_outcome(
         Outcome::Stale { latest } => refused(alloc, slots, out, latest),
         Outcome::Conflict { latest: _ } => Ok(unchanged(alloc, Sending::Pull)),
         Outcome::NeedWhole => sent_whole(alloc, slots, out),
+    }
+}
+
+/// Whether the chunks of the write that waits, if there is one, can be numbered: a row has far fewer than 2^32.
+pub fn is_countable(slots: &Slots) -> bool
+    ensures { IsTrue result ↔ AreCountable slots.now }
+{
+    match &slots.out {
+        None => true,
+        Some(out) => out.pieces.len() < 1 << 32,
     }
 }
 

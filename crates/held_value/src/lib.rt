@@ -8,6 +8,6 @@ mod slots;
 mod tell;
 
 pub use content::{HeldContent, HeldObject, HeldObjects, HeldPiece, HeldPieces};
-pub use local_name::LocalName;
+pub use local_name::{LocalName, LocalNames};
 pub use slots::{Main, Out, Shadow, Slots, copy_main, copy_out, copy_shadow};
 pub use tell::{Tell, Tells};

@@ -1,4 +1,4 @@
-use Rattle.std.proofs.Common.{rules, ◌≡◌, ◌≤◌, ℕ, arith, true}
+use Rattle.std.proofs.Common.{◌≡◌, arith, true}
 use Rattle.std.proofs.lemmas.Grind.{common_steps}
 use Rattle.std.specs.Prelude.{None}
 use Rattle.row_value.specs.declared.schema.Scheme.{Scheme}

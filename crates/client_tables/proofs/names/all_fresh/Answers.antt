@@ -1,4 +1,4 @@
-use Rattle.std.proofs.Common.{◌≡◌, ◌+◌, ◌++◌, ◌∷◌, [], take, sym, ap, ◌∙◌, arith}
+use Rattle.std.proofs.Common.{◌++◌, ◌∷◌, [], take, sym, ap, ◌∙◌, arith}
 use Rattle.row_value.specs.declared.pieces.Piece.TheVariants.{Fresh}
 use Rattle.client_tables.specs.Names.{fresh_from}
 use Rattle.client_tables.proofs.Numbering.{fresh_from-take}

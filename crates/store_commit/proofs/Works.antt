@@ -36,8 +36,10 @@ use Rattle.status_log.specs.Payload.{pending_of}
 use Rattle.status_log.specs.Standing as logs
 use Rattle.store_commit.specs.declared.devs.TableDevs.{TableDevs}
 use Rattle.store_commit.specs.Fault.{disk_or}
+use Rattle.store_commit.specs.declared.fault.CommitFault.{CommitFault}
+use Rattle.store_commit.specs.declared.fault.CommitFault.TheVariants.{Disk, Down}
 use Rattle.store_commit.specs.Devs.{Devs, Write, OpenChunks, OpenRows, OpenLog, OpenEntry, PutChunk, PutRow, DropChunk, CloseEntry, PutTable, PutSub, changed_by, IsBeforeOrAfter}
-use Rattle.store_commit.specs.Standing.{devs, AreUp, all_faults, chunk_opens, chunk_puts, chunk_bytes, row_opens, row_puts, row_bytes, log_opens, log_puts, log_bytes, chunk_opened, row_opened, log_opened, MayDoAll, IsReady, DevsLeave, Works}
+use Rattle.store_commit.specs.Standing.{devs, AreUp, IsOneDown, all_faults, chunk_opens, chunk_puts, chunk_bytes, row_opens, row_puts, row_bytes, log_opens, log_puts, log_bytes, chunk_opened, row_opened, log_opened, MayDoAll, IsReady, DevsLeave, Works}
 
 -- a device that is up and takes no memory fails by its disk alone
 must_be_disk : {D X T E : Type 0} (state : D → DiskState) (fault : VaultFault → E) (old new : Vault D) (before after : X) (x : E) → Refuses {T = T} state fault old new before after (Err x) → RefusesOnly {T = T} fault (Err x) → (IsErrOf {T = T} (Err x) (fault causes.Memory) → ⊥) → IsUp old
@@ -139,7 +141,7 @@ module _ {D : Type 0} (state : D → DiskState) (images : D → ℕ → List ℕ
             log_is_opened = ready.log_is_opened;
             log_room = ready.log_room;
           };
-          up = record { chunks = k.opened.vault.looked.up; rows = up.rows; log = up.log; };
+          up = record { chunks = k.opened.vault.looked.up; rows = up.rows; log = up.log };
           counted = omega (arith, k.refuses.cause);
           any_moment = open_chunks_moment (Ok x) k;
           disk = λ e is. absurd cc;
@@ -182,7 +184,7 @@ module _ {D : Type 0} (state : D → DiskState) (images : D → ℕ → List ℕ
             log_is_opened = ready.log_is_opened;
             log_room = ready.log_room;
           };
-          up = record { chunks = up.chunks; rows = k.opened.vault.looked.up; log = up.log; };
+          up = record { chunks = up.chunks; rows = k.opened.vault.looked.up; log = up.log };
           counted = omega (arith, k.refuses.cause);
           any_moment = open_rows_moment (Ok x) k;
           disk = λ e is. absurd cc;
@@ -225,7 +227,7 @@ module _ {D : Type 0} (state : D → DiskState) (images : D → ℕ → List ℕ
             row_is_opened = ready.row_is_opened;
             row_room = ready.row_room;
           };
-          up = record { chunks = up.chunks; rows = up.rows; log = k.opened.vault.looked.up; };
+          up = record { chunks = up.chunks; rows = up.rows; log = k.opened.vault.looked.up };
           counted = omega (arith, k.refuses.cause);
           any_moment = open_log_moment (Ok x) k;
           disk = λ e is. absurd cc;
@@ -268,7 +270,7 @@ module _ {D : Type 0} (state : D → DiskState) (images : D → ℕ → List ℕ
             row_is_opened = ready.row_is_opened;
             row_room = ready.row_room;
           };
-          up = record { chunks = up.chunks; rows = up.rows; log = k.opened.vault.looked.up; };
+          up = record { chunks = up.chunks; rows = up.rows; log = k.opened.vault.looked.up };
           counted = omega (arith, k.refuses.cause);
           any_moment = open_entry_moment (Ok x) k;
           disk = λ e is. absurd cc;
@@ -311,7 +313,7 @@ module _ {D : Type 0} (state : D → DiskState) (images : D → ℕ → List ℕ
             log_is_opened = ready.log_is_opened;
             log_room = ready.log_room;
           };
-          up = record { chunks = k.opened.vault.looked.up; rows = up.rows; log = up.log; };
+          up = record { chunks = k.opened.vault.looked.up; rows = up.rows; log = up.log };
           counted = omega (arith, k.refuses.cause);
           any_moment = put_chunk_moment (Ok x) k;
           disk = λ e is. absurd cc;
@@ -354,7 +356,7 @@ module _ {D : Type 0} (state : D → DiskState) (images : D → ℕ → List ℕ
             log_is_opened = ready.log_is_opened;
             log_room = ready.log_room;
           };
-          up = record { chunks = up.chunks; rows = k.opened.vault.looked.up; log = up.log; };
+          up = record { chunks = up.chunks; rows = k.opened.vault.looked.up; log = up.log };
           counted = omega (arith, k.refuses.cause);
           any_moment = put_row_moment (Ok x) k;
           disk = λ e is. absurd cc;
@@ -397,7 +399,7 @@ module _ {D : Type 0} (state : D → DiskState) (images : D → ℕ → List ℕ
             log_is_opened = ready.log_is_opened;
             log_room = ready.log_room;
           };
-          up = record { chunks = k.opened.vault.looked.up; rows = up.rows; log = up.log; };
+          up = record { chunks = k.opened.vault.looked.up; rows = up.rows; log = up.log };
           counted = omega (arith, k.refuses.cause);
           any_moment = drop_chunk_moment (Ok x) k;
           disk = λ e is. absurd cc;
@@ -440,7 +442,7 @@ module _ {D : Type 0} (state : D → DiskState) (images : D → ℕ → List ℕ
             row_is_opened = ready.row_is_opened;
             row_room = ready.row_room;
           };
-          up = record { chunks = up.chunks; rows = up.rows; log = k.opened.vault.looked.up; };
+          up = record { chunks = up.chunks; rows = up.rows; log = k.opened.vault.looked.up };
           counted = omega (arith, k.refuses.cause);
           any_moment = close_entry_moment (Ok x) k;
           disk = λ e is. absurd cc;
@@ -483,7 +485,7 @@ module _ {D : Type 0} (state : D → DiskState) (images : D → ℕ → List ℕ
             log_is_opened = ready.log_is_opened;
             log_room = ready.log_room;
           };
-          up = record { chunks = up.chunks; rows = k.opened.vault.looked.up; log = up.log; };
+          up = record { chunks = up.chunks; rows = k.opened.vault.looked.up; log = up.log };
           counted = omega (arith, k.refuses.cause);
           any_moment = put_table_moment (Ok x) k;
           disk = λ e is. absurd cc;
@@ -526,7 +528,7 @@ module _ {D : Type 0} (state : D → DiskState) (images : D → ℕ → List ℕ
             log_is_opened = ready.log_is_opened;
             log_room = ready.log_room;
           };
-          up = record { chunks = up.chunks; rows = k.opened.vault.looked.up; log = up.log; };
+          up = record { chunks = up.chunks; rows = k.opened.vault.looked.up; log = up.log };
           counted = omega (arith, k.refuses.cause);
           any_moment = put_sub_moment (Ok x) k;
           disk = λ e is. absurd cc;
@@ -542,3 +544,49 @@ module _ {D : Type 0} (state : D → DiskState) (images : D → ℕ → List ℕ
           disk = λ e is. (cc, omega (arith, failed.1), inr (inl failed.0));
         }
 
+-- the same, where the write's name is answered
+pub works_named : {D S : Type 0} (state : D → DiskState) (images : D → ℕ → List ℕ → Type 0) (w : Write) (ws : List Write) (old new : TableDevs D) (s : S) → Works {T = Unit {0}} state images w ws old new (Ok tt) → Works {T = S} state images w ws old new (Ok s)
+works_named state images w ws old new s k = record { devs_are = k.devs_are; ready = k.ready; up = k.up; counted = k.counted; any_moment = k.any_moment; disk = λ e is. absurd cc }
+
+pub works_failed : {D S : Type 0} (state : D → DiskState) (images : D → ℕ → List ℕ → Type 0) (w : Write) (ws : List Write) (old new : TableDevs D) (x : CommitFault) → Works {T = Unit {0}} state images w ws old new (Err x) → Works {T = S} state images w ws old new (Err x)
+works_failed state images w ws old new x k = record { devs_are = tt; ready = tt; up = tt; counted = tt; any_moment = k.any_moment; disk = λ e is. let same : x ≡ e = cc in k.disk e (ap (λ (y : CommitFault). Err y) same) }
+
+-- what has failed wasn't down before
+pub not_down : {D : Type 0} (state : D → DiskState) (images : D → ℕ → List ℕ → Type 0) (w : Write) (ws : List Write) (old new : TableDevs D) (x : CommitFault) → Works {T = Unit {0}} state images w ws old new (Err x) → x ≡ Down → ⊥
+not_down state images w ws old new x k is = let disk : x ≡ Disk = (k.disk x refl).0 in absurd cc
+
+pub up_or_down : {D : Type 0} (table : TableDevs D) → AreUp table → IsOneDown table → ⊥
+up_or_down table up down =
+    let a = up.chunks in
+    let b = up.rows in
+    let c = up.log in
+    ⊎_elim (λ x. absurd cc) (λ y. ⊎_elim (λ x. absurd cc) (λ x. absurd cc) y) down
+
+-- what is said of the devices doesn't speak of the writes to come
+module _ {D : Type 0} (state : D → DiskState) (images : D → ℕ → List ℕ → Type 0) (old mid : TableDevs D) (chunk_same : mid.chunks ≡ old.chunks) (row_same : mid.rows ≡ old.rows) (log_same : mid.log ≡ old.log) where
+  pub same_ready : (ws : List Write) → IsReady state old ws → IsReady state mid ws
+  same_ready ws r = record {
+    may = rw (chunk_same, row_same, log_same) r.may;
+    chunk_looked = rw chunk_same r.chunk_looked;
+    chunk_sound = rw chunk_same r.chunk_sound;
+    chunk_is_opened = rw chunk_same r.chunk_is_opened;
+    chunk_room = rw chunk_same r.chunk_room;
+    row_looked = rw row_same r.row_looked;
+    row_sound = rw row_same r.row_sound;
+    row_is_opened = rw row_same r.row_is_opened;
+    row_room = rw row_same r.row_room;
+    log_looked = rw log_same r.log_looked;
+    log_sound = rw log_same r.log_sound;
+    log_is_opened = rw log_same r.log_is_opened;
+    log_room = rw log_same r.log_room;
+  }
+
+  pub same_works : {T : Type 0} (w : Write) (ws : List Write) (new : TableDevs D) (r : Result T CommitFault) → Works state images w ws mid new r → Works state images w ws old new r
+  same_works w ws new r k = record {
+    devs_are = rw (← chunk_same, ← row_same, ← log_same) k.devs_are;
+    ready = k.ready;
+    up = k.up;
+    counted = rw (← chunk_same, ← row_same, ← log_same) k.counted;
+    any_moment = record { each = rw (← chunk_same, ← row_same, ← log_same) k.any_moment.each };
+    disk = rw (← chunk_same, ← row_same, ← log_same) k.disk;
+  }

@@ -1,5 +1,5 @@
 -- A table's devices between calls, as what they hold and the writes that are still to come.
-use Rattle.std.specs.Prelude.{◌≡◌, ◌⊎◌, ℕ, ◌+◌, ◌<◌, ◌≤◌, true, false, List, [], ◌∷◌, length, map, Option, Some, None, IsSome, Result, Ok, Err, OnOk, OnErr}
+use Rattle.std.specs.Prelude.{◌≡◌, ◌⊎◌, ℕ, ◌+◌, ◌<◌, ◌≤◌, true, false, List, [], ◌∷◌, length, map, Option, Some, None, IsSome, Result, Ok, Err, OnOk, IfOk}
 use Rattle.disk_trait.specs.Calls.{DiskState}
 use Rattle.vault.specs.Limit.{payload_most}
 use Rattle.vault.specs.File.{StandsFor}
@@ -201,3 +201,26 @@ pub record Works {D T : Type 0} (state : D → DiskState) (images : D → ℕ �
   -- a crash at any moment of the call leaves what was there before the write or what is there after it
   pub any_moment : DevsLeave state images old new (IsBeforeOrAfter (devs state old) w)
   pub disk : (e : CommitFault) → result ≡ Err e → (e ≡ faults_of.Disk) × (all_faults state old < all_faults state new) × IsOneDown new
+
+-- What the next of these writes is answered by: nothing where there is none.
+abbrev pub WorksOn : {D : Type 0} → (D → DiskState) → (D → ℕ → List ℕ → Type 0) → TableDevs D → TableDevs D → Result Step CommitFault → List Write → Type 0
+WorksOn state images old new result [] = (result ≡ Ok steps.Idle) × (new ≡ old)
+WorksOn state images old new result (w ∷ ws) = Works state images w ws old new result × (writes_of new ≡ ws) × IfOk result (λ step. step ≡ step_of w)
+
+-- each device was formatted, or looked at since the last restart, and its file stands for what it holds
+pub record AreLookedAt {D : Type 0} (state : D → DiskState) (table : TableDevs D) : Type 0 where
+  pub chunks : chunks.IsLookedAt state table.chunks
+  pub rows : rows.IsLookedAt state table.rows
+  pub log : logs.IsLookedAt state table.log
+
+-- each file stands for what is held, and not by chance
+pub record AreSound {D : Type 0} (state : D → DiskState) (table : TableDevs D) : Type 0 where
+  pub chunks : IsSound state (chunks.vault_of table.chunks)
+  pub rows : IsSound state (rows.vault_of table.rows)
+  pub log : IsSound state (logs.vault_of table.log)
+
+-- ready for the writes of an update
+pub record AreOpened {D : Type 0} (state : D → DiskState) (table : TableDevs D) : Type 0 where
+  pub chunks : chunks.IsOpened state table.chunks
+  pub rows : rows.IsOpened state table.rows
+  pub log : logs.IsOpened state table.log

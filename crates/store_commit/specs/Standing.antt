@@ -3,7 +3,7 @@ use Rattle.std.specs.Prelude.{◌≡◌, ◌⊎◌, ℕ, ◌+◌, ◌<◌, ◌�
 use Rattle.disk_trait.specs.Calls.{DiskState}
 use Rattle.vault.specs.Limit.{payload_most}
 use Rattle.vault.specs.File.{StandsFor}
-use Rattle.vault.specs.Standing.{faults, disk_of, IsUp, IsDown, IsSound}
+use Rattle.vault.specs.Standing.{faults, disk_of, IsUp, IsDown, IsSound, IsSynced, IsBlank}
 use Rattle.stab_base.specs.declared.chunk_name.ChunkName.{ChunkName}
 use Rattle.stab_base.specs.declared.limits.TheConstants.{NUMBER_MAX}
 use Rattle.value_codec.specs.SchemaSpelling.{HasSchemaSpelling}
@@ -11,7 +11,7 @@ use Rattle.chunk_store.specs.Payload.{chunks_of}
 use Rattle.chunk_store.specs.Standing.{chunk_in}
 use Rattle.chunk_store.specs.Standing as chunks
 use Rattle.row_store.specs.Spelling.{HasStoredSpelling, row_payload, IsState, table_payload, IsClient}
-use Rattle.row_store.specs.Data.{data_of}
+use Rattle.row_store.specs.Data.{data_of, nothing_held}
 use Rattle.row_store.specs.Standing as rows
 use Rattle.status_log.specs.Entry.{Entry, entry_of, size_of, HasSpelling}
 use Rattle.status_log.specs.Payload.{pending_of}
@@ -224,3 +224,25 @@ pub record AreOpened {D : Type 0} (state : D → DiskState) (table : TableDevs D
   pub chunks : chunks.IsOpened state table.chunks
   pub rows : rows.IsOpened state table.rows
   pub log : logs.IsOpened state table.log
+
+-- all that is seen is on the disks, where they are up
+pub record AreSynced {D : Type 0} (state : D → DiskState) (table : TableDevs D) : Type 0 where
+  pub chunks : IsSynced state (chunks.vault_of table.chunks)
+  pub rows : IsSynced state (rows.vault_of table.rows)
+  pub log : IsSynced state (logs.vault_of table.log)
+
+-- each disk's file is empty, or a gate and nothing more, and all on the disk
+pub record AreBlank {D : Type 0} (state : D → DiskState) (table : TableDevs D) : Type 0 where
+  pub chunks : IsBlank state (chunks.vault_of table.chunks)
+  pub rows : IsBlank state (rows.vault_of table.rows)
+  pub log : IsBlank state (logs.vault_of table.log)
+
+-- there is room for one opening of each vault
+pub record HaveOpenings {D : Type 0} (state : D → DiskState) (table : TableDevs D) : Type 0 where
+  pub chunks : chunks.HasRoom state table.chunks 1 0 0
+  pub rows : rows.HasRoom state table.rows 1 0 0
+  pub log : logs.HasRoom state table.log 1 0 0
+
+-- no chunk, no row and no open entry
+abbrev pub nothing : Devs
+nothing = record { chunks = []; held = nothing_held; pending = None }

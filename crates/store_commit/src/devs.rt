@@ -1,5 +1,5 @@
 //! The three devices of a table.
-ghost use Rattle.std.specs.Prelude.{◌≡◌, ◌↔◌, [], ◌∷◌, IsErrOf};
+ghost use Rattle.std.specs.Prelude.{◌≡◌, ◌↔◌, [], ◌∷◌, IsErrOf, OnOk};
 ghost use Rattle.std.specs.Bool.{MatchBool};
 ghost use Rattle.vault.specs.Standing.{disk_of};
 ghost use Rattle.chunk_store.specs.Standing as chunks;
@@ -8,7 +8,7 @@ ghost use Rattle.row_store.specs.Standing as rows;
 ghost use Rattle.status_log.specs.Entry.{entry_of};
 ghost use Rattle.status_log.specs.Standing as logs;
 ghost use Rattle.store_commit.specs.Devs.{Write, OpenChunks, OpenRows, OpenLog, OpenEntry, PutChunk, PutRow, DropChunk, CloseEntry, PutTable, PutSub};
-ghost use Rattle.store_commit.specs.Standing.{write_of, writes_of, AreUp, IsOneDown, IsReady, Works, WorksOn};
+ghost use Rattle.store_commit.specs.Standing.{write_of, writes_of, AreUp, IsOneDown, IsReady, Works, WorksOn, devs, DevsLeave, AreLookedAt, AreSound, AreSynced, HaveOpenings};
 
 use crate::fault::{CommitFault, told};
 use crate::task::Task;
@@ -242,5 +242,24 @@ impl<D: Disk + Drop> TableDevs<D> {
         self.chunks.restart(pick);
         self.rows.restart(pick);
         self.log.restart(pick);
+    }
+
+    /// Finds what the three disks hold, whatever their bytes are. It reads each payload once and writes nothing. The
+    /// vaults are then unopened.
+    pub fn look(&mut self) -> Result<(), CommitFault>
+        requires synced { AreSynced D.state self.old }
+        ensures looked { OnOk result (AreLookedAt D.state self.new) }
+        ensures same { OnOk result (devs D.state self.new ≡ devs D.state self.old) }
+        ensures sound { OnOk result (AreSound D.state self.old → AreSound D.state self.new) }
+        ensures room { OnOk result (HaveOpenings D.state self.new) }
+        // Where the files stand for what is held, each crash at any moment leaves it.
+        ensures any_moment { AreUp self.old → AreSound D.state self.old
+            → DevsLeave D.state D.images self.old self.new (λ d. d ≡ devs D.state self.old) }
+        ensures agenda { self.new.agenda ≡ self.old.agenda }
+    {
+        self.chunks.look()?;
+        self.rows.look()?;
+        self.log.look()?;
+        Ok(())
     }
 }

@@ -2,12 +2,15 @@
 use Rattle.std.proofs.Common.{◌≡◌, inl, inr, ⊎_elim, ◌⊎◌, ℕ, ◌+◌, ◌<◌, ◌≤◌, true, false, List, [], ◌∷◌, length, Option, Some, None, Result, Ok, Err, refl, sym, ◌∙◌, ap, subst, arith}
 use Rattle.std.specs.Prelude.{IsErrOf}
 use Rattle.std.specs.BTreeMap.{insert_entry}
-use Rattle.disk_trait.specs.Image.{IsImage}
+use Rattle.disk_trait.specs.Image.{IsImage, settled}
+use Rattle.disk_trait.proofs.Images.{settled_only}
+use Rattle.disk_trait.proofs.Moments.{started}
+use Rattle.vault.specs.File.{StandsForOne}
 use Rattle.disk_trait.specs.Calls.{DiskState}
 use Rattle.vault.specs.declared.fault.VaultFault.{VaultFault}
 use Rattle.vault.specs.declared.fault.VaultFault.TheVariants as causes
 use Rattle.vault.specs.declared.vault.Vault.{Vault}
-use Rattle.vault.specs.Standing.{payloads, faults, IsUp, IsDown, IsSound}
+use Rattle.vault.specs.Standing.{payloads, faults, disk_of, IsUp, IsDown, IsSound, IsSynced}
 use Rattle.vault.specs.Standing as vaults
 use Rattle.vault.specs.Calls.{IsEither, Refuses, RefusesOnly}
 use Rattle.vault.proofs.Uppers.{opened_sound, runs_weaker}
@@ -36,8 +39,10 @@ use Rattle.status_log.specs.Payload.{pending_of}
 use Rattle.status_log.specs.Standing as logs
 use Rattle.store_commit.specs.declared.devs.TableDevs.{TableDevs}
 use Rattle.store_commit.specs.Fault.{disk_or}
+use Rattle.store_commit.specs.declared.fault.CommitFault.{CommitFault}
+use Rattle.store_commit.specs.declared.fault.CommitFault.TheVariants.{Disk, Down}
 use Rattle.store_commit.specs.Devs.{Devs, Write, OpenChunks, OpenRows, OpenLog, OpenEntry, PutChunk, PutRow, DropChunk, CloseEntry, PutTable, PutSub, changed_by, IsBeforeOrAfter}
-use Rattle.store_commit.specs.Standing.{devs, AreUp, all_faults, chunk_opens, chunk_puts, chunk_bytes, row_opens, row_puts, row_bytes, log_opens, log_puts, log_bytes, chunk_opened, row_opened, log_opened, MayDoAll, IsReady, DevsLeave, Works}
+use Rattle.store_commit.specs.Standing.{devs, AreUp, IsOneDown, all_faults, chunk_opens, chunk_puts, chunk_bytes, row_opens, row_puts, row_bytes, log_opens, log_puts, log_bytes, chunk_opened, row_opened, log_opened, MayDoAll, IsReady, DevsLeave, Works, AreSound, AreSynced}
 
 -- a device that is up and takes no memory fails by its disk alone
 must_be_disk : {D X T E : Type 0} (state : D → DiskState) (fault : VaultFault → E) (old new : Vault D) (before after : X) (x : E) → Refuses {T = T} state fault old new before after (Err x) → RefusesOnly {T = T} fault (Err x) → (IsErrOf {T = T} (Err x) (fault causes.Memory) → ⊥) → IsUp old
@@ -139,7 +144,7 @@ module _ {D : Type 0} (state : D → DiskState) (images : D → ℕ → List ℕ
             log_is_opened = ready.log_is_opened;
             log_room = ready.log_room;
           };
-          up = record { chunks = k.opened.vault.looked.up; rows = up.rows; log = up.log };
+          up = record { chunks = k.opened.vault.looked.up; rows = up.rows; log = up.log; };
           counted = omega (arith, k.refuses.cause);
           any_moment = open_chunks_moment (Ok x) k;
           disk = λ e is. absurd cc;
@@ -182,7 +187,7 @@ module _ {D : Type 0} (state : D → DiskState) (images : D → ℕ → List ℕ
             log_is_opened = ready.log_is_opened;
             log_room = ready.log_room;
           };
-          up = record { chunks = up.chunks; rows = k.opened.vault.looked.up; log = up.log };
+          up = record { chunks = up.chunks; rows = k.opened.vault.looked.up; log = up.log; };
           counted = omega (arith, k.refuses.cause);
           any_moment = open_rows_moment (Ok x) k;
           disk = λ e is. absurd cc;
@@ -225,7 +230,7 @@ module _ {D : Type 0} (state : D → DiskState) (images : D → ℕ → List ℕ
             row_is_opened = ready.row_is_opened;
             row_room = ready.row_room;
           };
-          up = record { chunks = up.chunks; rows = up.rows; log = k.opened.vault.looked.up };
+          up = record { chunks = up.chunks; rows = up.rows; log = k.opened.vault.looked.up; };
           counted = omega (arith, k.refuses.cause);
           any_moment = open_log_moment (Ok x) k;
           disk = λ e is. absurd cc;
@@ -268,7 +273,7 @@ module _ {D : Type 0} (state : D → DiskState) (images : D → ℕ → List ℕ
             row_is_opened = ready.row_is_opened;
             row_room = ready.row_room;
           };
-          up = record { chunks = up.chunks; rows = up.rows; log = k.opened.vault.looked.up };
+          up = record { chunks = up.chunks; rows = up.rows; log = k.opened.vault.looked.up; };
           counted = omega (arith, k.refuses.cause);
           any_moment = open_entry_moment (Ok x) k;
           disk = λ e is. absurd cc;
@@ -311,7 +316,7 @@ module _ {D : Type 0} (state : D → DiskState) (images : D → ℕ → List ℕ
             log_is_opened = ready.log_is_opened;
             log_room = ready.log_room;
           };
-          up = record { chunks = k.opened.vault.looked.up; rows = up.rows; log = up.log };
+          up = record { chunks = k.opened.vault.looked.up; rows = up.rows; log = up.log; };
           counted = omega (arith, k.refuses.cause);
           any_moment = put_chunk_moment (Ok x) k;
           disk = λ e is. absurd cc;
@@ -354,7 +359,7 @@ module _ {D : Type 0} (state : D → DiskState) (images : D → ℕ → List ℕ
             log_is_opened = ready.log_is_opened;
             log_room = ready.log_room;
           };
-          up = record { chunks = up.chunks; rows = k.opened.vault.looked.up; log = up.log };
+          up = record { chunks = up.chunks; rows = k.opened.vault.looked.up; log = up.log; };
           counted = omega (arith, k.refuses.cause);
           any_moment = put_row_moment (Ok x) k;
           disk = λ e is. absurd cc;
@@ -397,7 +402,7 @@ module _ {D : Type 0} (state : D → DiskState) (images : D → ℕ → List ℕ
             log_is_opened = ready.log_is_opened;
             log_room = ready.log_room;
           };
-          up = record { chunks = k.opened.vault.looked.up; rows = up.rows; log = up.log };
+          up = record { chunks = k.opened.vault.looked.up; rows = up.rows; log = up.log; };
           counted = omega (arith, k.refuses.cause);
           any_moment = drop_chunk_moment (Ok x) k;
           disk = λ e is. absurd cc;
@@ -440,7 +445,7 @@ module _ {D : Type 0} (state : D → DiskState) (images : D → ℕ → List ℕ
             row_is_opened = ready.row_is_opened;
             row_room = ready.row_room;
           };
-          up = record { chunks = up.chunks; rows = up.rows; log = k.opened.vault.looked.up };
+          up = record { chunks = up.chunks; rows = up.rows; log = k.opened.vault.looked.up; };
           counted = omega (arith, k.refuses.cause);
           any_moment = close_entry_moment (Ok x) k;
           disk = λ e is. absurd cc;
@@ -483,7 +488,7 @@ module _ {D : Type 0} (state : D → DiskState) (images : D → ℕ → List ℕ
             log_is_opened = ready.log_is_opened;
             log_room = ready.log_room;
           };
-          up = record { chunks = up.chunks; rows = k.opened.vault.looked.up; log = up.log };
+          up = record { chunks = up.chunks; rows = k.opened.vault.looked.up; log = up.log; };
           counted = omega (arith, k.refuses.cause);
           any_moment = put_table_moment (Ok x) k;
           disk = λ e is. absurd cc;
@@ -526,7 +531,7 @@ module _ {D : Type 0} (state : D → DiskState) (images : D → ℕ → List ℕ
             log_is_opened = ready.log_is_opened;
             log_room = ready.log_room;
           };
-          up = record { chunks = up.chunks; rows = k.opened.vault.looked.up; log = up.log };
+          up = record { chunks = up.chunks; rows = k.opened.vault.looked.up; log = up.log; };
           counted = omega (arith, k.refuses.cause);
           any_moment = put_sub_moment (Ok x) k;
           disk = λ e is. absurd cc;
@@ -541,3 +546,81 @@ module _ {D : Type 0} (state : D → DiskState) (images : D → ℕ → List ℕ
           any_moment = put_sub_moment (Err x) k;
           disk = λ e is. (cc, omega (arith, failed.1), inr (inl failed.0));
         }
+
+
+-- the same, where the write's name is answered
+pub works_named : {D S : Type 0} (state : D → DiskState) (images : D → ℕ → List ℕ → Type 0) (w : Write) (ws : List Write) (old new : TableDevs D) (s : S) → Works {T = Unit {0}} state images w ws old new (Ok tt) → Works {T = S} state images w ws old new (Ok s)
+works_named state images w ws old new s k = record { devs_are = k.devs_are; ready = k.ready; up = k.up; counted = k.counted; any_moment = k.any_moment; disk = λ e is. absurd cc }
+
+pub works_failed : {D S : Type 0} (state : D → DiskState) (images : D → ℕ → List ℕ → Type 0) (w : Write) (ws : List Write) (old new : TableDevs D) (x : CommitFault) → Works {T = Unit {0}} state images w ws old new (Err x) → Works {T = S} state images w ws old new (Err x)
+works_failed state images w ws old new x k = record { devs_are = tt; ready = tt; up = tt; counted = tt; any_moment = k.any_moment; disk = λ e is. let same : x ≡ e = cc in k.disk e (ap (λ (y : CommitFault). Err y) same) }
+
+-- what has failed wasn't down before
+pub not_down : {D : Type 0} (state : D → DiskState) (images : D → ℕ → List ℕ → Type 0) (w : Write) (ws : List Write) (old new : TableDevs D) (x : CommitFault) → Works {T = Unit {0}} state images w ws old new (Err x) → x ≡ Down → ⊥
+not_down state images w ws old new x k is = let disk : x ≡ Disk = (k.disk x refl).0 in absurd cc
+
+pub up_or_down : {D : Type 0} (table : TableDevs D) → AreUp table → IsOneDown table → ⊥
+up_or_down table up down =
+    let a = up.chunks in
+    let b = up.rows in
+    let c = up.log in
+    ⊎_elim (λ x. absurd cc) (λ y. ⊎_elim (λ x. absurd cc) (λ x. absurd cc) y) down
+
+-- what is said of the devices doesn't speak of the writes to come
+module _ {D : Type 0} (state : D → DiskState) (images : D → ℕ → List ℕ → Type 0) (old mid : TableDevs D) (chunk_same : mid.chunks ≡ old.chunks) (row_same : mid.rows ≡ old.rows) (log_same : mid.log ≡ old.log) where
+  pub same_ready : (ws : List Write) → IsReady state old ws → IsReady state mid ws
+  same_ready ws r = record {
+    may = rw (chunk_same, row_same, log_same) r.may;
+    chunk_looked = rw chunk_same r.chunk_looked;
+    chunk_sound = rw chunk_same r.chunk_sound;
+    chunk_is_opened = rw chunk_same r.chunk_is_opened;
+    chunk_room = rw chunk_same r.chunk_room;
+    row_looked = rw row_same r.row_looked;
+    row_sound = rw row_same r.row_sound;
+    row_is_opened = rw row_same r.row_is_opened;
+    row_room = rw row_same r.row_room;
+    log_looked = rw log_same r.log_looked;
+    log_sound = rw log_same r.log_sound;
+    log_is_opened = rw log_same r.log_is_opened;
+    log_room = rw log_same r.log_room;
+  }
+
+  pub same_works : {T : Type 0} (w : Write) (ws : List Write) (new : TableDevs D) (r : Result T CommitFault) → Works state images w ws mid new r → Works state images w ws old new r
+  same_works w ws new r k = record {
+    devs_are = rw (← chunk_same, ← row_same, ← log_same) k.devs_are;
+    ready = k.ready;
+    up = k.up;
+    counted = rw (← chunk_same, ← row_same, ← log_same) k.counted;
+    any_moment = record { each = rw (← chunk_same, ← row_same, ← log_same) k.any_moment.each };
+    disk = rw (← chunk_same, ← row_same, ← log_same) k.disk;
+  }
+
+-- ---- a look
+
+module _ {D : Type 0} (state : D → DiskState) (images : D → ℕ → List ℕ → Type 0) (only_now : (disk : D) (image : List ℕ) → images disk (state disk).moment image → IsImage (state disk).pending image) where
+  -- while nothing is done, a crash of what is synced and sound leaves it
+  synced_leaves : (vault : Vault D) → (state (disk_of vault)).pending ≡ settled (state (disk_of vault)).seen → IsSound state vault → vaults.Leaves state images vault vault (λ list. list ≡ payloads state vault)
+  synced_leaves vault synced sound =
+      let file = (state (disk_of vault)).seen in
+      let P : List ℕ → Type 0 = StandsForOne (λ list. list ≡ payloads state vault) in
+      let here : P file = (payloads state vault, sound, refl) in
+      started state images (disk_of vault) P (λ image left. subst P (sym (settled_only file image (subst (λ q. IsImage q image) synced (only_now (disk_of vault) image left)))) here)
+
+  synced_rows : (dev : RowDev D) → IsUp (rows.vault_of dev) → IsSynced state (rows.vault_of dev) → IsSound state (rows.vault_of dev) → vaults.Leaves state images (rows.vault_of dev) (rows.vault_of dev) (λ l. data_of l ≡ rows.held state dev)
+  synced_rows dev up synced sound = runs_weaker state images (rows.vault_of dev) (rows.vault_of dev) (λ l. l ≡ payloads state (rows.vault_of dev)) (λ l. data_of l ≡ rows.held state dev) (synced_leaves (rows.vault_of dev) (synced up) sound) (λ l is. ap data_of is)
+
+  synced_log : (dev : StatusLog D) → IsUp (logs.vault_of dev) → IsSynced state (logs.vault_of dev) → IsSound state (logs.vault_of dev) → vaults.Leaves state images (logs.vault_of dev) (logs.vault_of dev) (λ l. pending_of l ≡ logs.entry_open state dev)
+  synced_log dev up synced sound = runs_weaker state images (logs.vault_of dev) (logs.vault_of dev) (λ l. l ≡ payloads state (logs.vault_of dev)) (λ l. pending_of l ≡ logs.entry_open state dev) (synced_leaves (logs.vault_of dev) (synced up) sound) (λ l is. ap pending_of is)
+
+  pub all_same : (old new : TableDevs D) → vaults.Leaves state images (chunks.vault_of old.chunks) (chunks.vault_of new.chunks) (λ l. chunks_of l ≡ chunks.chunks state old.chunks) → vaults.Leaves state images (rows.vault_of old.rows) (rows.vault_of new.rows) (λ l. data_of l ≡ rows.held state old.rows) → vaults.Leaves state images (logs.vault_of old.log) (logs.vault_of new.log) (λ l. pending_of l ≡ logs.entry_open state old.log)
+      → DevsLeave state images old new (λ d. d ≡ devs state old)
+  all_same old new a b c = leave state images only_now old new (λ here. here ≡ chunks.chunks state old.chunks) (λ here. here ≡ rows.held state old.rows) (λ here. here ≡ logs.entry_open state old.log) (λ d. d ≡ devs state old) a b c (λ x y z px py pz. cc)
+
+  -- where the look at the chunks alone was tried
+  pub one_looked : (old : TableDevs D) (cs : ChunkDev D) → AreUp old → AreSynced state old → AreSound state old → vaults.Leaves state images (chunks.vault_of old.chunks) (chunks.vault_of cs) (λ l. chunks_of l ≡ chunks.chunks state old.chunks) → DevsLeave state images old (record old { chunks = cs }) (λ d. d ≡ devs state old)
+  one_looked old cs up synced sound a = let new : TableDevs D = record old { chunks = cs } in all_same old new a (synced_rows old.rows up.rows synced.rows sound.rows) (synced_log old.log up.log synced.log sound.log)
+
+  -- where that at the rows was tried too
+  pub two_looked : (old : TableDevs D) (cs : ChunkDev D) (rs : RowDev D) → AreUp old → AreSynced state old → AreSound state old → vaults.Leaves state images (chunks.vault_of old.chunks) (chunks.vault_of cs) (λ l. chunks_of l ≡ chunks.chunks state old.chunks) → vaults.Leaves state images (rows.vault_of old.rows) (rows.vault_of rs) (λ l. data_of l ≡ rows.held state old.rows)
+      → DevsLeave state images old (record old { chunks = cs; rows = rs }) (λ d. d ≡ devs state old)
+  two_looked old cs rs up synced sound a b = let new : TableDevs D = record old { chunks = cs; rows = rs } in all_same old new a b (synced_log old.log up.log synced.log sound.log)

@@ -1,9 +1,9 @@
 -- A table's devices between calls, as what they hold and the writes that are still to come.
-use Rattle.std.specs.Prelude.{◌≡◌, ◌⊎◌, ℕ, ◌+◌, ◌<◌, ◌≤◌, true, false, List, [], ◌∷◌, length, map, Option, Some, None, IsSome, Result, Ok, Err, OnOk, OnErr}
+use Rattle.std.specs.Prelude.{◌≡◌, ◌⊎◌, ℕ, ◌+◌, ◌<◌, ◌≤◌, true, false, List, [], ◌∷◌, length, map, Option, Some, None, IsSome, Result, Ok, Err, OnOk, IfOk}
 use Rattle.disk_trait.specs.Calls.{DiskState}
 use Rattle.vault.specs.Limit.{payload_most}
 use Rattle.vault.specs.File.{StandsFor}
-use Rattle.vault.specs.Standing.{faults, disk_of, IsUp, IsDown, IsSound}
+use Rattle.vault.specs.Standing.{faults, disk_of, IsUp, IsDown, IsSound, IsSynced, IsBlank}
 use Rattle.stab_base.specs.declared.chunk_name.ChunkName.{ChunkName}
 use Rattle.stab_base.specs.declared.limits.TheConstants.{NUMBER_MAX}
 use Rattle.value_codec.specs.SchemaSpelling.{HasSchemaSpelling}
@@ -11,7 +11,7 @@ use Rattle.chunk_store.specs.Payload.{chunks_of}
 use Rattle.chunk_store.specs.Standing.{chunk_in}
 use Rattle.chunk_store.specs.Standing as chunks
 use Rattle.row_store.specs.Spelling.{HasStoredSpelling, row_payload, IsState, table_payload, IsClient}
-use Rattle.row_store.specs.Data.{data_of}
+use Rattle.row_store.specs.Data.{data_of, nothing_held}
 use Rattle.row_store.specs.Standing as rows
 use Rattle.status_log.specs.Entry.{Entry, entry_of, size_of, HasSpelling}
 use Rattle.status_log.specs.Payload.{pending_of}
@@ -201,3 +201,48 @@ pub record Works {D T : Type 0} (state : D → DiskState) (images : D → ℕ �
   -- a crash at any moment of the call leaves what was there before the write or what is there after it
   pub any_moment : DevsLeave state images old new (IsBeforeOrAfter (devs state old) w)
   pub disk : (e : CommitFault) → result ≡ Err e → (e ≡ faults_of.Disk) × (all_faults state old < all_faults state new) × IsOneDown new
+
+-- What the next of these writes is answered by: nothing where there is none.
+abbrev pub WorksOn : {D : Type 0} → (D → DiskState) → (D → ℕ → List ℕ → Type 0) → TableDevs D → TableDevs D → Result Step CommitFault → List Write → Type 0
+WorksOn state images old new result [] = (result ≡ Ok steps.Idle) × (new ≡ old)
+WorksOn state images old new result (w ∷ ws) = Works state images w ws old new result × (writes_of new ≡ ws) × IfOk result (λ step. step ≡ step_of w)
+
+-- each device was formatted, or looked at since the last restart, and its file stands for what it holds
+pub record AreLookedAt {D : Type 0} (state : D → DiskState) (table : TableDevs D) : Type 0 where
+  pub chunks : chunks.IsLookedAt state table.chunks
+  pub rows : rows.IsLookedAt state table.rows
+  pub log : logs.IsLookedAt state table.log
+
+-- each file stands for what is held, and not by chance
+pub record AreSound {D : Type 0} (state : D → DiskState) (table : TableDevs D) : Type 0 where
+  pub chunks : IsSound state (chunks.vault_of table.chunks)
+  pub rows : IsSound state (rows.vault_of table.rows)
+  pub log : IsSound state (logs.vault_of table.log)
+
+-- ready for the writes of an update
+pub record AreOpened {D : Type 0} (state : D → DiskState) (table : TableDevs D) : Type 0 where
+  pub chunks : chunks.IsOpened state table.chunks
+  pub rows : rows.IsOpened state table.rows
+  pub log : logs.IsOpened state table.log
+
+-- all that is seen is on the disks, where they are up
+pub record AreSynced {D : Type 0} (state : D → DiskState) (table : TableDevs D) : Type 0 where
+  pub chunks : IsSynced state (chunks.vault_of table.chunks)
+  pub rows : IsSynced state (rows.vault_of table.rows)
+  pub log : IsSynced state (logs.vault_of table.log)
+
+-- each disk's file is empty, or a gate and nothing more, and all on the disk
+pub record AreBlank {D : Type 0} (state : D → DiskState) (table : TableDevs D) : Type 0 where
+  pub chunks : IsBlank state (chunks.vault_of table.chunks)
+  pub rows : IsBlank state (rows.vault_of table.rows)
+  pub log : IsBlank state (logs.vault_of table.log)
+
+-- there is room for one opening of each vault
+pub record HaveOpenings {D : Type 0} (state : D → DiskState) (table : TableDevs D) : Type 0 where
+  pub chunks : chunks.HasRoom state table.chunks 1 0 0
+  pub rows : rows.HasRoom state table.rows 1 0 0
+  pub log : logs.HasRoom state table.log 1 0 0
+
+-- no chunk, no row and no open entry
+abbrev pub nothing : Devs
+nothing = record { chunks = []; held = nothing_held; pending = None }

@@ -1,5 +1,5 @@
 //! The three devices of a table.
-ghost use Rattle.std.specs.Prelude.{◌≡◌, [], ◌∷◌};
+ghost use Rattle.std.specs.Prelude.{◌≡◌, ◌↔◌, [], ◌∷◌, IsErrOf, OnOk};
 ghost use Rattle.std.specs.Bool.{MatchBool};
 ghost use Rattle.vault.specs.Standing.{disk_of};
 ghost use Rattle.chunk_store.specs.Standing as chunks;
@@ -8,7 +8,7 @@ ghost use Rattle.row_store.specs.Standing as rows;
 ghost use Rattle.status_log.specs.Entry.{entry_of};
 ghost use Rattle.status_log.specs.Standing as logs;
 ghost use Rattle.store_commit.specs.Devs.{Write, OpenChunks, OpenRows, OpenLog, OpenEntry, PutChunk, PutRow, DropChunk, CloseEntry, PutTable, PutSub};
-ghost use Rattle.store_commit.specs.Standing.{write_of, writes_of, AreUp, IsOneDown, IsReady, Works};
+ghost use Rattle.store_commit.specs.Standing.{write_of, writes_of, AreUp, IsOneDown, IsReady, Works, WorksOn, devs, DevsLeave, AreLookedAt, AreSound, AreSynced, HaveOpenings};
 
 use crate::fault::{CommitFault, told};
 use crate::task::Task;
@@ -206,5 +206,60 @@ impl<D: Disk + Drop> TableDevs<D> {
                 tolerance,
             } => self.put_sub(client, on, gate, period, tolerance),
         }
+    }
+
+    /// Does the next write, if there is one. It takes no memory.
+    pub fn work(&mut self) -> Result<Step, CommitFault>
+        requires ready { AreUp self.old → IsReady D.state self.old (writes_of self.old) }
+        ensures works { AreUp self.old → WorksOn D.state D.images self.old self.new result (writes_of self.old) }
+        ensures down { IsErrOf result CommitFault.Down ↔ IsOneDown self.old }
+        ensures unchanged { IsErrOf result CommitFault.Down → self.new ≡ self.old }
+    {
+        if self.is_down() {
+            return Err(CommitFault::Down);
+        }
+        if self.agenda.is_empty() {
+            return Ok(Step::Idle);
+        }
+        let task = self.agenda.pop_front().unwrap();
+        let step = task.step();
+        match self.perform(task) {
+            Ok(()) => Ok(step),
+            Err(fault) => Err(fault),
+        }
+    }
+
+    /// Crashes the three disks and starts them again. What the devices hold is known once they are looked at, and no
+    /// write is to be done.
+    pub fn restart(&mut self, pick: u64)
+        ensures chunks { chunks.Restarts D.state D.images self.old.chunks self.new.chunks }
+        ensures rows { rows.Restarts D.state D.images self.old.rows self.new.rows }
+        ensures log { logs.Restarts D.state D.images self.old.log self.new.log }
+        ensures up { AreUp self.new }
+        ensures idle { writes_of self.new ≡ [] }
+    {
+        self.agenda.clear();
+        self.chunks.restart(pick);
+        self.rows.restart(pick);
+        self.log.restart(pick);
+    }
+
+    /// Finds what the three disks hold, whatever their bytes are. It reads each payload once and writes nothing. The
+    /// vaults are then unopened.
+    pub fn look(&mut self) -> Result<(), CommitFault>
+        requires synced { AreSynced D.state self.old }
+        ensures looked { OnOk result (AreLookedAt D.state self.new) }
+        ensures same { OnOk result (devs D.state self.new ≡ devs D.state self.old) }
+        ensures sound { OnOk result (AreSound D.state self.old → AreSound D.state self.new) }
+        ensures room { OnOk result (HaveOpenings D.state self.new) }
+        // Where the files stand for what is held, each crash at any moment leaves it.
+        ensures any_moment { AreUp self.old → AreSound D.state self.old
+            → DevsLeave D.state D.images self.old self.new (λ d. d ≡ devs D.state self.old) }
+        ensures agenda { self.new.agenda ≡ self.old.agenda }
+    {
+        self.chunks.look()?;
+        self.rows.look()?;
+        self.log.look()?;
+        Ok(())
     }
 }

@@ -1,8 +1,11 @@
 //! Why a table's devices didn't do what they were asked for.
 ghost use Rattle.std.specs.Prelude.{◌≡◌};
-ghost use Rattle.store_commit.specs.Fault.{disk_or};
+ghost use Rattle.store_commit.specs.Fault.{disk_or, chunk_cause, row_cause, log_cause};
 
+use chunk_store::ChunkFault;
+use row_store::RowFault;
 use stab_base::Version;
+use status_log::LogFault;
 use thiserror::Error;
 
 #[derive(Debug, Drop, Clone, Copy, PartialEq, Eq, Error)]
@@ -30,5 +33,41 @@ pub(crate) fn told<E: Drop>(answer: Result<(), E>) -> Result<(), CommitFault>
     match answer {
         Ok(()) => Ok(()),
         Err(_) => Err(CommitFault::Disk),
+    }
+}
+
+impl From<ChunkFault> for CommitFault {
+    ghost from_gives = { λ f e. e ≡ chunk_cause f };
+
+    fn from(fault: ChunkFault) -> Self {
+        match fault {
+            ChunkFault::Absent | ChunkFault::Disk => CommitFault::Disk,
+            ChunkFault::Down => CommitFault::Down,
+            ChunkFault::Memory => CommitFault::Memory,
+        }
+    }
+}
+
+impl From<RowFault> for CommitFault {
+    ghost from_gives = { λ f e. e ≡ row_cause f };
+
+    fn from(fault: RowFault) -> Self {
+        match fault {
+            RowFault::NoRow | RowFault::Disk => CommitFault::Disk,
+            RowFault::Down => CommitFault::Down,
+            RowFault::Memory => CommitFault::Memory,
+        }
+    }
+}
+
+impl From<LogFault> for CommitFault {
+    ghost from_gives = { λ f e. e ≡ log_cause f };
+
+    fn from(fault: LogFault) -> Self {
+        match fault {
+            LogFault::Pending { .. } | LogFault::Disk => CommitFault::Disk,
+            LogFault::Down => CommitFault::Down,
+            LogFault::Memory => CommitFault::Memory,
+        }
     }
 }

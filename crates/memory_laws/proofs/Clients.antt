@@ -1,5 +1,5 @@
 -- Each call and message of a client in memory is a move with its work.
-use Rattle.std.proofs.Common.{◌≡◌, ◌≢◌, ◌⊎◌, inl, inr, ℕ, ◌+◌, ◌<◌, ◌≤◌, Bool, true, false, cond, List, [], ◌∷◌, ◌++◌, length, Option, Some, None, Result, Ok, Err, refl, sym, ap, ◌∙◌, subst, arith, append-nil, append_assoc, true≢false}
+use Rattle.std.proofs.Common.{◌≡◌, ◌≢◌, ◌⊎◌, inl, inr, ℕ, suc, ◌+◌, ◌<◌, ◌≤◌, Bool, true, false, cond, List, [], ◌∷◌, ◌++◌, length, Option, Some, None, Result, Ok, Err, refl, sym, ap, ◌∙◌, subst, arith, append-nil, append_assoc, true≢false}
 use Rattle.std.specs.Prelude.{map, option_map, option_to_list, nat_lt, nat_le, ◌==◌, if◌then◌else◌}
 use Rattle.std.specs.Map.{lookup}
 use Rattle.std.specs.declared.cmp.Ordering.{Ordering}
@@ -36,6 +36,9 @@ use Rattle.step_tables.specs.declared.slots.Slots.{Slots}
 use Rattle.step_tables.specs.Client as old
 use Rattle.step_tables.specs.Client.{row_cmp, ClientTable, slots_at, version_in}
 use Rattle.step_tables.specs.Facts as facts
+use Rattle.step_tables.proofs.Lists.{among_here, among_next, among_map}
+use Rattle.run_laws.specs.World as memory
+use Rattle.client_laws.proofs.Sends.{rising_found}
 use Rattle.step_tables.specs.Members.{Among}
 use Rattle.step_tables.specs.Messages.{Send}
 use Rattle.step_tables.specs.Messages as messages
@@ -46,7 +49,7 @@ use Rattle.world_tables.specs.World.{Packet, packets_from}
 use Rattle.memory_laws.specs.Lift.{message_of, header_of, packet_of, slots_of, row_of, opened_of, table_of, disk_of, client_of, answer_of, fact_of, shown_of}
 use Rattle.memory_laws.specs.Lift as lift
 use Rattle.memory_laws.proofs.Maps.{look_map}
-use Rattle.memory_laws.proofs.Once.{AtOnce, sent_by, quiet_once, send_once, row_once, both_once, position_once, opened_at, slots_there}
+use Rattle.memory_laws.proofs.Once.{AtOnce, sent_by, quiet_once, send_once, row_once, both_once, position_once, sync_once, opened_at, slots_there}
 
 -- ---- what is there stays where it is put again
 
@@ -342,3 +345,101 @@ module _ (node : old.Client) where
       go : (o : Option ClientTable) → old.table_at node q.table ≡ o → AtOnce node.number (old.pulled_in node q o) (client.pulled_in node.number (disk_of node) (lift.pulled_of q) (option_map opened_of o))
       go None at = quiet_once node.number node answers.Done
       go (Some opened) at = header_once q opened at ready q.header f
+
+  -- ---- sync
+
+  resent_same : (table : ℕ) (rows : List (List ℕ × Slots)) → packets_from (nodes.Client node.number) (client.resent node.number table (map row_of rows)) ≡ map packet_of (sent_by node.number (old.resent node.number table rows))
+  resent_same table [] = refl
+  resent_same table (e ∷ rows) = go e.1.out (resent_same table rows)
+    where
+      go : (o : Option InFlight) → packets_from (nodes.Client node.number) (client.resent node.number table (map row_of rows)) ≡ map packet_of (sent_by node.number (old.resent node.number table rows))
+          → packets_from (nodes.Client node.number) (option_to_list (option_map (client.request_for node.number table e.0) o) ++ client.resent node.number table (map row_of rows))
+          ≡ map packet_of (sent_by node.number (option_to_list (option_map (old.request_for node.number table e.0) o) ++ old.resent node.number table rows))
+      go None same = same
+      go (Some out) same = ap (λ (xs : List Packet). packet_of (record { from = nodes.Client node.number; to = memory.the_store; message = old.request_for node.number table e.0 out }) ∷ xs) same
+
+  resent_length : (table : ℕ) (rows : List (List ℕ × Slots)) → length (client.resent node.number table (map row_of rows)) ≡ length (old.resent node.number table rows)
+  resent_length table [] = refl
+  resent_length table (e ∷ rows) = go e.1.out (resent_length table rows)
+    where
+      go : (o : Option InFlight) → length (client.resent node.number table (map row_of rows)) ≡ length (old.resent node.number table rows)
+          → length (option_to_list (option_map (client.request_for node.number table e.0) o) ++ client.resent node.number table (map row_of rows))
+          ≡ length (option_to_list (option_map (old.request_for node.number table e.0) o) ++ old.resent node.number table rows)
+      go None same = same
+      go (Some out) same = ap (λ (n : ℕ). suc n) same
+
+  -- the first row that has something to send, in both
+  record SameFirst (rows : List (List ℕ × Slots)) (x : List ℕ × InFlight) (y : client.RowOut) : Type 0 where
+    slots : Slots
+    there : Among rows (x.0, slots)
+    same : y ≡ record { row = x.0; slots = slots_of slots; out = x.1 }
+
+  abbrev Firsts : List (List ℕ × Slots) → Option (List ℕ × InFlight) → Option client.RowOut → Type 0
+  Firsts rows None None = Unit {0}
+  Firsts rows None (Some y) = ⊥
+  Firsts rows (Some x) None = ⊥
+  Firsts rows (Some x) (Some y) = SameFirst rows x y
+
+  later_firsts : (e : List ℕ × Slots) (rows : List (List ℕ × Slots)) (x : Option (List ℕ × InFlight)) (y : Option client.RowOut) → Firsts rows x y → Firsts (e ∷ rows) x y
+  later_firsts e rows None None f = tt
+  later_firsts e rows None (Some y) f = absurd f
+  later_firsts e rows (Some x) None f = absurd f
+  later_firsts e rows (Some x) (Some y) f = record { slots = f.slots; there = among_next e rows (x.0, f.slots) f.there; same = f.same }
+
+  firsts : (rows : List (List ℕ × Slots)) → Firsts rows (old.first_to_send rows) (client.first_to_send (map row_of rows))
+  firsts [] = tt
+  firsts (e ∷ rows) = go e.1.out e.1.main (firsts rows)
+    where
+      go : (out : Option InFlight) (main : Option Main) → Firsts rows (old.first_to_send rows) (client.first_to_send (map row_of rows))
+          → Firsts (e ∷ rows) (old.or_later e.0 (old.to_send out main e.1.shadow) (old.first_to_send rows))
+          (client.or_later e.0 (slots_of e.1) (client.to_send (slots_of e.1) out main None) (client.first_to_send (map row_of rows)))
+      go (Some out) main f = later_firsts e rows (old.first_to_send rows) (client.first_to_send (map row_of rows)) f
+      go None None f = later_firsts e rows (old.first_to_send rows) (client.first_to_send (map row_of rows)) f
+      go None (Some main) f = record { slots = e.1; there = among_here e rows; same = refl }
+
+  slots_found : (opened : ClientTable) (row : List ℕ) (s : Slots) → Rising (map row_of opened.rows) → Among opened.rows (row, s) → slots_of (slots_at opened row) ≡ slots_of s
+  slots_found opened row s rising a =
+      let found_is : lookup (is_at (row_cmp row)) (map row_of opened.rows) ≡ Some (slots_of s) =
+          rising_found (map row_of opened.rows) (row, slots_of s) rising (among_map row_of opened.rows (row, s) a) in
+      go (lookup (is_at (row_cmp row)) opened.rows) refl (sym (look_map row_cmp slots_of opened.rows row) ∙ found_is)
+    where
+      go : (o : Option Slots) → lookup (is_at (row_cmp row)) opened.rows ≡ o → option_map slots_of (lookup (is_at (row_cmp row)) opened.rows) ≡ Some (slots_of s) → slots_of (slots_at opened row) ≡ slots_of s
+      go None at e = absurd (let both : None ≡ Some (slots_of s) = sym (ap (option_map slots_of) at) ∙ e in cc)
+      go (Some x) at e = ap (λ (o : Option Slots). slots_of (old.or_none o)) at ∙ ap client.or_none (sym (ap (option_map slots_of) at) ∙ e)
+
+  first_once : (table : ℕ) (opened : ClientTable) → old.table_at node table ≡ Some opened → Rising (map row_of opened.rows)
+      → (x : Option (List ℕ × InFlight)) (y : Option client.RowOut) → Firsts opened.rows x y
+      → AtOnce node.number (old.sync_first node table opened (old.resent node.number table opened.rows) x)
+      (client.sync_first node.number (disk_of node) table (client.resent node.number table (map row_of opened.rows)) y)
+  first_once table opened at rising None None f =
+      rw (resent_length table opened.rows)
+      (send_once node.number node (answers.Number (length (old.resent node.number table opened.rows))) (old.resent node.number table opened.rows) (client.resent node.number table (map row_of opened.rows)) (resent_same table opened.rows))
+  first_once table opened at rising None (Some y) f = absurd f
+  first_once table opened at rising (Some x) None f = absurd f
+  first_once table opened at rising (Some x) (Some y) f =
+      subst (λ (z : client.RowOut). AtOnce node.number (old.sync_first node table opened (old.resent node.number table opened.rows) (Some x))
+          (client.sync_first node.number (disk_of node) table (client.resent node.number table (map row_of opened.rows)) (Some z))) (sym f.same)
+      (subst (λ (sl : client.Slots). AtOnce node.number (old.sync_first node table opened (old.resent node.number table opened.rows) (Some x))
+          (client.sync_first node.number (disk_of node) table (client.resent node.number table (map row_of opened.rows)) (Some (record { row = x.0; slots = sl; out = x.1 }))))
+          (slots_found opened x.0 f.slots rising f.there)
+      (rw (resent_length table opened.rows)
+      (sync_once node.number node table opened at (answers.Number (length (old.resent node.number table opened.rows) + 1)) x.0 (record (slots_at opened x.0) { out = Some x.1 })
+      (old.resent node.number table opened.rows ++ old.request_for node.number table x.0 x.1 ∷ []) (client.resent node.number table (map row_of opened.rows)) (client.request_for node.number table x.0 x.1 ∷ [])
+      (joined (old.resent node.number table opened.rows) (old.request_for node.number table x.0 x.1) (resent_same table opened.rows)))))
+    where
+      joined : (ms : List Message) (m : Message) → packets_from (nodes.Client node.number) (client.resent node.number table (map row_of opened.rows)) ≡ map packet_of (sent_by node.number ms)
+          → packets_from (nodes.Client node.number) (client.resent node.number table (map row_of opened.rows)) ++ packet_of (record { from = nodes.Client node.number; to = memory.the_store; message = m }) ∷ []
+          ≡ map packet_of (sent_by node.number (ms ++ m ∷ []))
+      joined ms m e = ap (λ (xs : List Packet). xs ++ packet_of (record { from = nodes.Client node.number; to = memory.the_store; message = m }) ∷ []) e ∙ pushed ms
+        where
+          pushed : (xs : List Message) → map packet_of (sent_by node.number xs) ++ packet_of (record { from = nodes.Client node.number; to = memory.the_store; message = m }) ∷ [] ≡ map packet_of (sent_by node.number (xs ++ m ∷ []))
+          pushed [] = refl
+          pushed (y2 ∷ ys) = ap (λ (zs : List Packet). packet_of (record { from = nodes.Client node.number; to = memory.the_store; message = y2 }) ∷ zs) (pushed ys)
+
+  pub sync_is_once : (table : ℕ) → IsReady table → AtOnce node.number (old.sync_step node table) (client.client_step node.number (client_of node) (client.Sync table))
+  sync_is_once table ready =
+      subst (λ (o : Option TableDisk). AtOnce node.number (old.sync_step node table) (client.sync_in node.number (disk_of node) [] table o)) (sym (found table)) (go (old.table_at node table) refl)
+    where
+      go : (o : Option ClientTable) → old.table_at node table ≡ o → AtOnce node.number (old.sync_in node table o) (client.sync_in node.number (disk_of node) [] table (option_map opened_of o))
+      go None at = quiet_once node.number node (answers.Refused refusals.NoTable)
+      go (Some opened) at = first_once table opened at (ready.rising opened at) (old.first_to_send opened.rows) (client.first_to_send (map row_of opened.rows)) (firsts opened.rows)

@@ -2,3 +2,4 @@ pub mod Maps
 pub mod Settles
 pub mod Once
 pub mod Clients
+pub mod Stores

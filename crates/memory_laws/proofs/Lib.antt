@@ -3,3 +3,4 @@ pub mod Settles
 pub mod Once
 pub mod Clients
 pub mod Stores
+pub mod Worlds

@@ -4,3 +4,5 @@ pub mod Once
 pub mod Clients
 pub mod Stores
 pub mod Worlds
+pub mod Steps
+pub mod Runs

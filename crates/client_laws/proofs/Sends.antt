@@ -115,7 +115,7 @@ ours_sent g c h sent t s w written in_table here k = record {
 
 -- ---- all requests that wait
 
-rising_found : (rows : List (List ℕ × Slots)) (x : List ℕ × Slots) → Rising rows → Among rows x → lookup (is_at (row_cmp x.0)) rows ≡ Some x.1
+pub rising_found : (rows : List (List ℕ × Slots)) (x : List ℕ × Slots) → Rising rows → Among rows x → lookup (is_at (row_cmp x.0)) rows ≡ Some x.1
 unfolding Rising Among
 rising_found [] x r a = absurd a
 rising_found (e ∷ es) x r (inl s) =

@@ -48,6 +48,13 @@ pub lines_told : (n : ℕ) (some : List Fact) (packets : List memory.Packet)
 lines_told n [] packets = sent_told n packets
 lines_told n (fact ∷ more) packets = ap (λ (ls : List Line). FactLine (fact_of fact) ∷ ls) (lines_told n more packets)
 
+pub sent_join : (n : ℕ) (xs ys : List Packet) → sent_lines n (xs ++ ys) ≡ sent_lines n xs ++ sent_lines (n + length xs) ys
+sent_join n [] ys = ap (λ (m : ℕ). sent_lines m ys) (omega arith)
+sent_join n (x ∷ xs) ys =
+    let more : n + 1 + length xs ≡ n + length (x ∷ xs) = omega arith in
+    ap (λ (ls : List Line). FactLine (facts.Sent n x.from x.to (name_of x.message)) ∷ ls)
+    (sent_join (n + 1) xs ys ∙ ap (λ (m : ℕ). sent_lines (n + 1) xs ++ sent_lines m ys) more)
+
 -- ---- one step
 
 abbrev pub sent_by : ℕ → List Message → List memory.Packet
@@ -228,3 +235,28 @@ module _ (c : ℕ) (node : old.Client) (table : ℕ) (opened : ClientTable) (at 
         ∙ (ap (λ (fs : List facts.Fact). map FactLine fs ++ sent_lines n (packets_from (nodes.Client c) sends)) same_facts
         ∙ (ap (λ (xs : List Packet). map FactLine (map fact_of some) ++ sent_lines n xs) same ∙ sym (lines_told n some (sent_by c messages))));
   }
+
+  -- messages are sent at once, and a plan of one row sends more
+  pub sync_once : (a : Answer) (row : List ℕ) (slots : Slots) (messages : List Message) (again sends : List Send)
+      → packets_from (nodes.Client c) again ++ packets_from (nodes.Client c) sends ≡ map packet_of (sent_by c messages)
+      → AtOnce c (record { client = with_table node table (with_slots opened row slots); answer = a; messages = messages; facts = [] })
+      (record (client.begun (disk_of node) (answer_of a) (record { last = node.last; table = table; row = Some (put_for row slots); position = None; facts = [] }) sends) { sends = again })
+  sync_once a row slots messages again sends same =
+      record {
+        tasks = _;
+        agenda = refl;
+        disk = ap (λ (o : Option TableDisk). record (client.with_table (record {
+          last = node.last;
+          tables = map table_of node.tables;
+          plan = Some (record { last = node.last; table = table; row = Some (put_for row slots); position = None; facts = [] });
+        }) table o (client.put_row (put_for row slots))) { plan = None }) opened_at ∙ row_disk node.last row slots;
+        answer = refl;
+        packets = λ ps. simp (append-nil, append_assoc) (ap (λ (xs : List Packet). ps ++ xs) same);
+        lines = λ n. ap (λ (ls : List Line). sent_lines n (packets_from (nodes.Client c) again) ++ ls) (last_lines (n + length (packets_from (nodes.Client c) again)))
+            ∙ (sym (sent_join n (packets_from (nodes.Client c) again) (packets_from (nodes.Client c) sends))
+            ∙ (ap (λ (xs : List Packet). sent_lines n xs) same ∙ sym (sent_told n (sent_by c messages))));
+      }
+    where
+      last_lines : (m : ℕ) → lines_from m (telling [] ∷ telling [] ∷ sending (packets_from (nodes.Client c) sends) ∷ []) ≡ sent_lines m (packets_from (nodes.Client c) sends)
+      last_lines m = lines_tell m [] (telling [] ∷ sending (packets_from (nodes.Client c) sends) ∷ [])
+          ∙ (lines_tell m [] (sending (packets_from (nodes.Client c) sends) ∷ []) ∙ end_lines m (packets_from (nodes.Client c) sends))

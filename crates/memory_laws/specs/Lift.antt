@@ -19,6 +19,7 @@ use Rattle.step_tables.specs.declared.message.Message.{Message}
 use Rattle.step_tables.specs.declared.message.Message.TheVariants as kinds
 use Rattle.step_tables.specs.declared.message.Outcome.{Outcome}
 use Rattle.step_tables.specs.declared.message.Outcome.TheVariants as outcomes
+use Rattle.step_tables.specs.declared.message.PullResponse.{PullResponse}
 use Rattle.step_tables.specs.declared.message.RowHeader.{RowHeader}
 use Rattle.step_tables.specs.declared.slots.Slots.{Slots}
 use Rattle.step_tables.specs.Store.{Stored, entries_of}
@@ -47,6 +48,16 @@ header_of h = record {
   content = h.content;
 }
 
+abbrev pub pulled_of : PullResponse → messages.Pulled
+pulled_of q = record {
+  client = q.client;
+  table = q.table;
+  from = q.from;
+  to = q.to;
+  latest = q.latest;
+  header = option_map header_of q.header;
+}
+
 abbrev pub message_of : Message → messages.Message
 message_of (kinds.SyncRequest q) = messages.SyncRequest (record {
   client = q.client;
@@ -64,14 +75,7 @@ message_of (kinds.SyncResponse r) = messages.SyncResponse (record {
   outcome = outcome_of r.outcome;
 })
 message_of (kinds.PullRequest q) = messages.PullRequest (record { client = q.client; table = q.table; position = q.position })
-message_of (kinds.PullResponse q) = messages.PullResponse (record {
-  client = q.client;
-  table = q.table;
-  from = q.from;
-  to = q.to;
-  latest = q.latest;
-  header = option_map header_of q.header;
-})
+message_of (kinds.PullResponse q) = messages.PullResponse (pulled_of q)
 
 abbrev pub packet_of : memory.Packet → world.Packet
 packet_of p = record { from = p.from; to = p.to; message = message_of p.message }

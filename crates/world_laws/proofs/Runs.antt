@@ -77,7 +77,7 @@ module _ (client_law : ClientLaws) (client_grows : ClientGrows) (lapsed_grows : 
       }
 
   module _ (w : World) (s : Said) (k : Kept g w s) where
-    scheme_is : (table : ℕ) (hosted : Hosted) → hosted_at w table ≡ Some hosted → scheme_in (schema_at w table) ≡ g table
+    pub scheme_is : (table : ℕ) (hosted : Hosted) → hosted_at w table ≡ Some hosted → scheme_in (schema_at w table) ≡ g table
     scheme_is table hosted at = let f = k.declared table hosted at in ap scheme_in f.1 ∙ k.schemes table f.0 f.1
 
     table_law : (table : ℕ) (hosted : Hosted) → hosted_at w table ≡ Some hosted → (move : StoreMove) → store_part.IsFair table (KnownIn s.heard k.sent table) (k.items table) move
@@ -123,11 +123,11 @@ module _ (client_law : ClientLaws) (client_grows : ClientGrows) (lapsed_grows : 
 
   -- ---- events
 
-  record StepSound (s : Said) (w : World) (event : Event) (x : WorldStep) : Type 0 where
-    turn : IsTurn g s (record { event = event; lines = lines_of w x })
-    lines : AreSaid g s (lines_of w x)
-    kept : Kept g x.world (hear_lines s (lines_of w x))
-    there : (table : ℕ) → hosted_at x.world table ≡ None → hosted_at w table ≡ None
+  pub record StepSound (s : Said) (w : World) (event : Event) (x : WorldStep) : Type 0 where
+    pub turn : IsTurn g s (record { event = event; lines = lines_of w x })
+    pub lines : AreSaid g s (lines_of w x)
+    pub kept : Kept g x.world (hear_lines s (lines_of w x))
+    pub there : (table : ℕ) → hosted_at x.world table ≡ None → hosted_at w table ≡ None
 
   -- lines of moves are facts
   facts_in : (number : ℕ) (outs : List Outbox) → (told : List Fact) × (lines_from number outs ≡ map FactLine told)
@@ -464,7 +464,7 @@ module _ (client_law : ClientLaws) (client_grows : ClientGrows) (lapsed_grows : 
     IsFirst (events.Table table schema) = hosted_at w table ≡ None → schema.scheme ≡ g table
     IsFirst other = Unit {0}
 
-    step_sound : (event : Event) (lucks : List Luck) → IsFirst event → StepSound s w event (step w event lucks)
+    pub step_sound : (event : Event) (lucks : List Luck) → IsFirst event → StepSound s w event (step w event lucks)
     step_sound (events.Store number) lucks first = record { turn = refl; lines = tt; kept = k; there = λ q none. none }
     step_sound (events.Table table schema) lucks first = declare_sound table schema first (hosted_at w table) refl
     step_sound (events.Client c gate tables) lucks first = join_sound c gate tables (client_at w c) refl
@@ -534,7 +534,7 @@ module _ (client_law : ClientLaws) (client_grows : ClientGrows) (lapsed_grows : 
         run_sound hs (step w h.event h.lucks).world (hear_lines s (lines_of w (step w h.event h.lucks))) first.kept then_awaits,
       )
 
-  start_kept : Kept g start nothing_said
+  pub start_kept : Kept g start nothing_said
   start_kept = record {
     items = λ table. [];
     sent = λ c. [];

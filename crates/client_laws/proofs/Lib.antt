@@ -7,3 +7,4 @@ pub mod Plans
 pub mod Headers
 pub mod Sends
 pub mod Law
+pub mod Start

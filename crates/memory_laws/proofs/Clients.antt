@@ -102,7 +102,7 @@ module _ (node : old.Client) where
       let s : Slots = slots_at opened row in
       let main : Main = record { number = node.last + 1; read = version_in s.shadow; content = x } in
       subst (λ (sl : client.Slots). AtOnce node.number (old.write_fitting node table opened row x (Ok fits))
-          (client.write_free Eventual node.number (disk_of node) table row (opened_of opened) sl x sl.conflict)) (sym (slots_there node.number node table opened at row))
+      (client.write_free Eventual node.number (disk_of node) table row (opened_of opened) sl x sl.conflict)) (sym (slots_there node.number node table opened at row))
       (row_once node.number node table opened at (answers.Number (node.last + 1)) (node.last + 1) row (record s { main = Some main })
       (client.wrote node.number table row main ∷ []) (told.Wrote (record {
         client = node.number;
@@ -163,13 +163,13 @@ module _ (node : old.Client) where
   accepted_once table row opened at out v =
       let s : Slots = slots_at opened row in
       subst (λ (m : Option Main → Option Main). AtOnce node.number (old.take_accepted node table opened row s out v)
-          (client.begun (disk_of node) facts.Done (record {
-            last = node.last;
-            table = table;
-            row = Some (record { row = row; slots = record { main = m s.main; shadow = Some (record { version = v; content = out.content }); out = None; conflict = None } });
-            position = None;
-            facts = facts.Acked node.number out.number table row v ∷ [];
-          }) [])) (without_same out.number)
+      (client.begun (disk_of node) facts.Done (record {
+        last = node.last;
+        table = table;
+        row = Some (record { row = row; slots = record { main = m s.main; shadow = Some (record { version = v; content = out.content }); out = None; conflict = None } });
+        position = None;
+        facts = facts.Acked node.number out.number table row v ∷ [];
+      }) [])) (without_same out.number)
       (row_once node.number node table opened at answers.Done node.last row (record { main = old.without out.number s.main; shadow = Some (record { version = v; content = out.content }); out = None })
       (facts.Acked node.number out.number table row v ∷ []) (old.acked node.number table row out.number v ∷ []) [] [] refl refl)
     where

@@ -182,17 +182,17 @@ module _ (c : ℕ) (node : old.Client) (table : ℕ) (opened : ClientTable) (at 
     tasks = _;
     agenda = refl;
     disk = ap (λ (o : Option TableDisk). record (client.with_table (client.with_table (record {
-        last = last;
-        tables = map table_of node.tables;
-        plan = Some plan;
-      }) table o (client.put_row (put_for row slots))) table (client.table_at (client.with_table (record {
-        last = last;
-        tables = map table_of node.tables;
-        plan = Some plan;
-      }) table o (client.put_row (put_for row slots))) table) (client.put_position to)) { plan = None }) opened_at
-      ∙ (ap (λ (o : Option TableDisk). record (client.with_table behind table o (client.put_position to)) { plan = None }) (look_put nat_cmp nat_cmp_total (map table_of node.tables) table row_opened)
-      ∙ (ap (λ (ts : List (ℕ × TableDisk)). record { last = last; tables = ts; plan = None }) (put_put nat_cmp nat_cmp_total (map table_of node.tables) table row_opened (client.put_position to row_opened))
-      ∙ both_disk last row slots to));
+      last = last;
+      tables = map table_of node.tables;
+      plan = Some plan;
+    }) table o (client.put_row (put_for row slots))) table (client.table_at (client.with_table (record {
+      last = last;
+      tables = map table_of node.tables;
+      plan = Some plan;
+    }) table o (client.put_row (put_for row slots))) table) (client.put_position to)) { plan = None }) opened_at
+        ∙ (ap (λ (o : Option TableDisk). record (client.with_table behind table o (client.put_position to)) { plan = None }) (look_put nat_cmp nat_cmp_total (map table_of node.tables) table row_opened)
+        ∙ (ap (λ (ts : List (ℕ × TableDisk)). record { last = last; tables = ts; plan = None }) (put_put nat_cmp nat_cmp_total (map table_of node.tables) table row_opened (client.put_position to row_opened))
+        ∙ both_disk last row slots to));
     answer = refl;
     packets = λ ps. ap (λ (xs : List Packet). xs ++ packets_from (nodes.Client c) sends) (simp append-nil) ∙ ap (λ (xs : List Packet). ps ++ xs) same;
     lines = λ n. both_lines n (map facts.Client told) (packets_from (nodes.Client c) sends)
@@ -219,16 +219,16 @@ module _ (c : ℕ) (node : old.Client) (table : ℕ) (opened : ClientTable) (at 
     tasks = _;
     agenda = refl;
     disk = ap (λ (o : Option TableDisk). record (client.with_table (record {
-        last = node.last;
-        tables = map table_of node.tables;
-        plan = Some (record { last = node.last; table = table; row = None; position = Some to; facts = told });
-      }) table o (client.put_position to)) { plan = None }) opened_at
-      ∙ (ap (λ (rs : List (List ℕ × client.Slots)). record {
-        last = node.last;
-        tables = insert_entry nat_cmp (map table_of node.tables) table (record { schema = opened.schema; position = to; rows = rs });
-        plan = None;
-      }) (sym stays ∙ rows_same row (slots_at opened row))
-      ∙ ap (λ (ts : List (ℕ × TableDisk)). record { last = node.last; tables = ts; plan = None }) (tables_same (record (with_slots opened row (slots_at opened row)) { position = to })));
+      last = node.last;
+      tables = map table_of node.tables;
+      plan = Some (record { last = node.last; table = table; row = None; position = Some to; facts = told });
+    }) table o (client.put_position to)) { plan = None }) opened_at
+        ∙ (ap (λ (rs : List (List ℕ × client.Slots)). record {
+          last = node.last;
+          tables = insert_entry nat_cmp (map table_of node.tables) table (record { schema = opened.schema; position = to; rows = rs });
+          plan = None;
+        }) (sym stays ∙ rows_same row (slots_at opened row))
+        ∙ ap (λ (ts : List (ℕ × TableDisk)). record { last = node.last; tables = ts; plan = None }) (tables_same (record (with_slots opened row (slots_at opened row)) { position = to })));
     answer = refl;
     packets = λ ps. ap (λ (xs : List Packet). xs ++ packets_from (nodes.Client c) sends) (simp append-nil) ∙ ap (λ (xs : List Packet). ps ++ xs) same;
     lines = λ n. row_lines n (map facts.Client told) (packets_from (nodes.Client c) sends)

@@ -425,7 +425,7 @@ abbrev pub over_plan : ℕ → ClientDisk → ℕ → List ℕ → Slots → Mai
 over_plan c d table row slots main x content =
     let next : Main = main_of (d.last + 1) x.version content in
     record (slots_plan d table row (record slots { main = Some next; shadow = Some x; conflict = None })
-        (facts.Resolved c main.number table row x.version ∷ wrote c table row next ∷ [])) { last = next.number }
+    (facts.Resolved c main.number table row x.version ∷ wrote c table row next ∷ [])) { last = next.number }
 
 abbrev pub theirs_plan : ℕ → ClientDisk → ℕ → List ℕ → Slots → Main → Shadow → Plan
 theirs_plan c d table row slots main x =

@@ -236,8 +236,8 @@ module _ (g : Scheme) (table : ℕ) (K : Known) where
       judged_law : Above → StoreLaw g table K h (judged g table d from q (version_of (current_of d.items q.row)))
       judged_law above =
           subst (λ (xs : List Stored). StoreLaw g table K h (if takes g q.base (version_of (current_of xs q.row))
-              then quiet d (Some (accepting table from q (item_for xs q))) facts.Done
-              else sending d (responded from q (outdated g (version_of (current_of xs q.row))) ∷ [])))
+          then quiet d (Some (accepting table from q (item_for xs q))) facts.Done
+          else sending d (responded from q (outdated g (version_of (current_of xs q.row))) ∷ [])))
           (sym p.0.items) (go (takes g q.base (latest h q.row)) refl)
         where
           next : takes g q.base (latest h q.row) ≡ true → IsNext g K h (item_for h q)
@@ -326,7 +326,7 @@ module _ (g : Scheme) (table : ℕ) (K : Known) where
     answered_law : (d : StoreDisk) (from : Node) (pull : Pull) → (pull.table ≡ table) × IsWayTo pull.client from → Runs g table K h d [] → StoreLaw g table K h (answered d from pull)
     answered_law d from pull fair p =
         let answer : Answers g table K h (record { to = Some from; message = PullResponse (pulled_for h pull (next_changed pull.position h)) } ∷ []) =
-            ((fair.0, fair.1, header_is pull (next_changed pull.position h) refl), tt) in
+        ((fair.0, fair.1, header_is pull (next_changed pull.position h) refl), tt) in
         sends_law d _ p (rw p.0.items answer)
 
     take_law : (d : StoreDisk) (agenda : Option (List StoreTask)) (from : Node) (message : Message) → IsFair table K h (Take from message) → IsAt g table K h d agenda
@@ -338,7 +338,7 @@ module _ (g : Scheme) (table : ℕ) (K : Known) where
     take_law d (Some []) from (PullRequest pull) f p = answered_law d from pull f p
     take_law d (Some []) from (SyncRequest request) f p =
         let k : StoreLaw g table K h (decided g table d from request (yours_in h request.client request.row)) =
-            decided_law d p from request f (last_where (is_by request.client request.row) h) refl in
+        decided_law d p from request f (last_where (is_by request.client request.row) h) refl in
         subst (λ (xs : List Stored). StoreLaw g table K h (decided g table d from request (yours_in xs request.client request.row))) (sym p.0.items) k
 
   pub store_law : (store : ℕ) (h : List Stored) (s : TableStore) (move : StoreMove) → IsFair table K h move → StorePart g table K h s → StoreLaw g table K h (store_step store g table s move)

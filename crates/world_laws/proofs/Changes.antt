@@ -6,7 +6,7 @@ use Rattle.row_value.specs.declared.schema.Scheme.{Scheme}
 use Rattle.row_value.specs.declared.schema.Scheme.TheVariants.{Strong, Causal, Eventual}
 use Rattle.table_model.specs.declared.entry.Entry.{Entry}
 use Rattle.table_model.specs.declared.line.Write.{Write}
-use Rattle.table_model.specs.History.{current} 
+use Rattle.table_model.specs.History.{current}
 use Rattle.table_model.specs.History as history
 use Rattle.step_tables.specs.Store.{Stored, entries_of, current_of, is_of_row}
 use Rattle.step_tables.specs.Facts.{Fact}
@@ -48,9 +48,9 @@ pub own_writes : (t : Heard) (x : Saying) (n : ℕ) (w : Write) → write_of n t
 own_writes t (SaysWrite v) n w at = go (nat_lt (length t.writes) v.number)
   where
     go : (b : Bool) → write_of n (if b then record t {
-        writes = t.writes ++ v ∷ [];
-        at = put_at t.at v.table v.row (row_wrote v (t.at v.table v.row));
-      } else t).writes ≡ Some w
+      writes = t.writes ++ v ∷ [];
+      at = put_at t.at v.table v.row (row_wrote v (t.at v.table v.row));
+    } else t).writes ≡ Some w
     go true = write_of-left n t.writes (v ∷ []) w at
     go false = at
 own_writes t SaysNothing n w at = at
@@ -248,9 +248,9 @@ module _ (g : ℕ → Scheme) (c : ℕ) (h : Items) (sent : List Sending) where
   gone_fact t (SaysWrite w) k f = go (nat_lt (length t.writes) w.number)
     where
       go : (b : Bool) → AreGone (if b then record t {
-          writes = t.writes ++ w ∷ [];
-          at = put_at t.at w.table w.row (row_wrote w (t.at w.table w.row));
-        } else t)
+        writes = t.writes ++ w ∷ [];
+        at = put_at t.at w.table w.row (row_wrote w (t.at w.table w.row));
+      } else t)
       go false = f
       go true = λ table row n lost.
           let z = row_gone t w.table w.row (row_wrote w (t.at w.table w.row)) (λ m v. f w.table w.row m v) f table row n lost in

@@ -67,14 +67,17 @@ module _ (g : ℕ → Scheme) where
     outcome_more r (messages.Again v) f = f
     outcome_more r (messages.Late v) f = f
     outcome_more r (messages.Conflict v) f = f
-    outcome_more r (messages.Stale v) f = (f.0, record {
-      base = f.1.base;
-      was_sent = sends r.client _ f.1.was_sent;
-      below = f.1.below;
-      item = f.1.item;
-      stands = f.1.stands;
-      none = f.1.none;
-    })
+    outcome_more r (messages.Stale v) f = (
+      f.0,
+      record {
+        base = f.1.base;
+        was_sent = sends r.client _ f.1.was_sent;
+        below = f.1.below;
+        item = f.1.item;
+        stands = f.1.stands;
+        none = f.1.none;
+      },
+    )
 
     pub packet_more : (p : Packet) → IsFairPacket g heard h sent p → IsFairPacket g next h later p
     packet_more p = go p.message
@@ -109,9 +112,9 @@ module _ (g : ℕ → Scheme) where
       good : (q : ℕ) (r : Sending) → Among (Sent q) r → IsGood g q k.items (s'.heard q) r
       good q r a = ⊎_elim
           (λ e. subst (λ (x : ℕ). IsGood g x k.items (s'.heard x) r) (sym e.0) (subst (λ (x : Heard). IsGood g c k.items x r) (sym here)
-              (⊎_elim (λ b. good_all g c k.items (k.sent c) (s.heard c) step.facts r (k.lawful.good c r b))
-              (λ b. good_sends g c k.items (k.sent c) (own_all (s.heard c) step.facts) step.sends law.sends r b)
-              (among_either (k.sent c) (sendings step.sends) r (subst (λ (xs : List Sending). Among xs r) e.1 a)))))
+          (⊎_elim (λ b. good_all g c k.items (k.sent c) (s.heard c) step.facts r (k.lawful.good c r b))
+          (λ b. good_sends g c k.items (k.sent c) (own_all (s.heard c) step.facts) step.sends law.sends r b)
+          (among_either (k.sent c) (sendings step.sends) r (subst (λ (xs : List Sending). Among xs r) e.1 a)))))
           (λ e. subst (λ (x : Heard). IsGood g q k.items x r) (sym (elsewhere q e.0)) (k.lawful.good q r (subst (λ (xs : List Sending). Among xs r) e.1 a)))
           (put_cases k.sent c New q)
 
@@ -158,26 +161,26 @@ module _ (g : ℕ → Scheme) where
       gone : (q table : ℕ) (row : List ℕ) (n : ℕ) → IsLost (s'.heard q) table row n → IsGone g q k.items (Sent q) (s'.heard q) table row n
       gone q table row n = ⊎_elim
           (λ e. subst (λ (x : ℕ). IsLost (s'.heard x) table row n → IsGone g x k.items (Sent x) (s'.heard x) table row n) (sym e.0)
-              (subst (λ (xs : List Sending). IsLost (s'.heard c) table row n → IsGone g c k.items xs (s'.heard c) table row n) (sym (put_here k.sent c New))
-              (subst (λ (x : Heard). IsLost x table row n → IsGone g c k.items New x table row n) (sym here) (gone_here table row n))))
+          (subst (λ (xs : List Sending). IsLost (s'.heard c) table row n → IsGone g c k.items xs (s'.heard c) table row n) (sym (put_here k.sent c New))
+          (subst (λ (x : Heard). IsLost x table row n → IsGone g c k.items New x table row n) (sym here) (gone_here table row n))))
           (λ e. subst (λ (xs : List Sending). IsLost (s'.heard q) table row n → IsGone g q k.items xs (s'.heard q) table row n) (sym e.1)
-              (subst (λ (x : Heard). IsLost x table row n → IsGone g q k.items (k.sent q) x table row n) (sym (elsewhere q e.0)) (k.lawful.gone q table row n)))
+          (subst (λ (x : Heard). IsLost x table row n → IsGone g q k.items (k.sent q) x table row n) (sym (elsewhere q e.0)) (k.lawful.gone q table row n)))
           (put_cases k.sent c New q)
 
       -- the client's part, and the others'
       client : (q : ℕ) (x : Client) → client_at (after_client w c step).world q ≡ Some x → ClientPart g q k.items (Sent q) (s'.heard q) x
       client q x at = ⊎_elim
           (λ e.
-              let same : Some step.client ≡ Some x = sym e.1 ∙ at in
-              let is : step.client ≡ x = cc in
-              subst (λ (z : ℕ). ClientPart g z k.items (Sent z) (s'.heard z) x) (sym e.0)
-              (subst (λ (xs : List Sending). ClientPart g c k.items xs (s'.heard c) x) (sym (put_here k.sent c New))
-              (subst (λ (z : Heard). ClientPart g c k.items New z x) (sym here)
-              (subst (λ (z : Client). ClientPart g c k.items New (own_all (s.heard c) step.facts) z) is law.part))))
+          let same : Some step.client ≡ Some x = sym e.1 ∙ at in
+          let is : step.client ≡ x = cc in
+          subst (λ (z : ℕ). ClientPart g z k.items (Sent z) (s'.heard z) x) (sym e.0)
+          (subst (λ (xs : List Sending). ClientPart g c k.items xs (s'.heard c) x) (sym (put_here k.sent c New))
+          (subst (λ (z : Heard). ClientPart g c k.items New z x) (sym here)
+          (subst (λ (z : Client). ClientPart g c k.items New (own_all (s.heard c) step.facts) z) is law.part))))
           (λ e.
-              let old : client_at w q ≡ Some x = sym e.1 ∙ at in
-              subst (λ (xs : List Sending). ClientPart g q k.items xs (s'.heard q) x) (sym (put_apart k.sent c New q e.0))
-              (subst (λ (z : Heard). ClientPart g q k.items (k.sent q) z x) (sym (elsewhere q e.0)) (k.clients q x old)))
+          let old : client_at w q ≡ Some x = sym e.1 ∙ at in
+          subst (λ (xs : List Sending). ClientPart g q k.items xs (s'.heard q) x) (sym (put_apart k.sent c New q e.0))
+          (subst (λ (z : Heard). ClientPart g q k.items (k.sent q) z x) (sym (elsewhere q e.0)) (k.clients q x old)))
           (look_cases w.clients c step.client q)
 
       no_client : (q : ℕ) → client_at (after_client w c step).world q ≡ None → (s'.heard q ≡ nothing_heard) × (Sent q ≡ [])
@@ -203,7 +206,7 @@ module _ (g : ℕ → Scheme) where
               let m = f.1 in
               let r : Sending = record { table = y.table; row = y.row; number = y.number; base = y.base } in
               let known : KnownIn s'.heard Sent y.table c y.row y.number y.base y.content =
-                  (m.write, more y.number m.write m.written, m.table_is, m.row_is, m.content_is, there_2 r (among_here r [])) in
+              (m.write, more y.number m.write m.written, m.table_is, m.row_is, m.content_is, there_2 r (among_here r [])) in
               (sym m.client_is, subst (λ (q : ℕ). KnownIn s'.heard Sent y.table q y.row y.number y.base y.content) (sym m.client_is) known, m.base)
 
       client_kept : Kept g (after_client w c step).world s'
@@ -216,15 +219,16 @@ module _ (g : ℕ → Scheme) where
         schemes = k.schemes;
         declared = k.declared;
         tables = λ table. lawful_knows (g table) table (KnownIn s.heard k.sent table) (KnownIn s'.heard Sent table) (known_more s.heard s'.heard k.items k.sent Sent writes sends table) (k.items table) (k.tables table);
-        stores = λ table hosted at. let f = k.stores table hosted at in
-            (store_knows (g table) table (KnownIn s.heard k.sent table) (KnownIn s'.heard Sent table) (known_more s.heard s'.heard k.items k.sent Sent writes sends table) (k.items table) hosted.store f.0,
-             f.1 ∙ sym (ap (λ (m : ℕ → List Entry). m table) history));
+        stores = λ table hosted at. let f = k.stores table hosted at in (
+          store_knows (g table) table (KnownIn s.heard k.sent table) (KnownIn s'.heard Sent table) (known_more s.heard s'.heard k.items k.sent Sent writes sends table) (k.items table) hosted.store f.0,
+          f.1 ∙ sym (ap (λ (m : ℕ → List Entry). m table) history),
+        );
         no_store = k.no_store;
         clients = client;
         no_client = no_client;
         packets = λ p a. ⊎_elim (λ b. packet_more s.heard s'.heard k.items k.sent Sent writes sends p (k.packets p b))
             (λ b. fair_sends (own_all (s.heard c) step.facts) step.sends (λ n x at. rw here at)
-                (λ r d. subst (λ (xs : List Sending). Among xs r) (sym (put_here k.sent c New)) (among_right (k.sent c) (sendings step.sends) r d)) law.sends p b)
+            (λ r d. subst (λ (xs : List Sending). Among xs r) (sym (put_here k.sent c New)) (among_right (k.sent c) (sendings step.sends) r d)) law.sends p b)
             (among_either w.packets (packets_from (nodes.Client c) step.sends) p a);
       }
 

@@ -134,11 +134,10 @@ module _ (client_law : ClientLaws) (client_grows : ClientGrows) (lapsed_grows : 
   facts_in number [] = ([], refl)
   facts_in number (out ∷ outs) =
       let rest = facts_in (number + length out.packets) outs in
-      let sent = sents number out.packets in
-      (
+      let sent = sents number out.packets in (
         out.facts ++ (sent.0 ++ rest.0),
         ap (λ (ls : List Line). map FactLine out.facts ++ ls) (ap (λ (ls : List Line). ls ++ lines_from (number + length out.packets) outs) sent.1 ∙ (ap (λ (ls : List Line). map FactLine sent.0 ++ ls) rest.1 ∙ sym (joined_map sent.0 rest.0)))
-        ∙ sym (joined_map out.facts (sent.0 ++ rest.0)),
+            ∙ sym (joined_map out.facts (sent.0 ++ rest.0)),
       )
     where
       joined_map : (xs ys : List Fact) → map FactLine (xs ++ ys) ≡ map FactLine xs ++ map FactLine ys
@@ -216,7 +215,7 @@ module _ (client_law : ClientLaws) (client_grows : ClientGrows) (lapsed_grows : 
     show_sound c table row lucks =
         there_sound (events.Show c table row) c (client.Show table row) lucks (λ lines a. a) (record { form = tt; counts = refl; is = tt }) (record { form = tt; counts = refl; is = tt }) tt
         (λ node at. good (client_step c node (client.Show table row)).answer (show_form c node.disk node.agenda table row)
-            (answer_shows g w s k c table row (client_step c node (client.Show table row)).answer (law_of w s k c node at (client.Show table row) tt).answer)) (client_at w c) refl
+        (answer_shows g w s k c table row (client_step c node (client.Show table row)).answer (law_of w s k c node at (client.Show table row) tt).answer)) (client_at w c) refl
       where
         good : (a : Answer) → IsShow a → IsAnswer g s (events.Show c table row) a [] → IsGoodAnswer s (events.Show c table row) a
         good (facts.Shows y) f is = record { form = tt; counts = refl; is = is }
@@ -388,7 +387,7 @@ module _ (client_law : ClientLaws) (client_grows : ClientGrows) (lapsed_grows : 
       tables = k.tables;
       stores = λ q x at. ⊎_elim
           (λ e. let both : Some new ≡ Some x = sym e.1 ∙ at in let same : new ≡ x = cc in
-              subst (λ (y : Hosted). StorePart (g q) q (KnownIn s.heard k.sent q) (k.items q) y.store × (y.history ≡ s.history q)) same (new_part q (k.no_store q (ap (hosted_at w) e.0 ∙ none))))
+          subst (λ (y : Hosted). StorePart (g q) q (KnownIn s.heard k.sent q) (k.items q) y.store × (y.history ≡ s.history q)) same (new_part q (k.no_store q (ap (hosted_at w) e.0 ∙ none))))
           (λ e. k.stores q x (sym e.1 ∙ at)) (look_cases w.tables table new q);
       no_store = λ q at. ⊎_elim (λ e. absurd (let both : Some new ≡ None = sym e.1 ∙ at in cc)) (λ e. k.no_store q (sym e.1 ∙ at)) (look_cases w.tables table new q);
       clients = k.clients;
@@ -413,7 +412,7 @@ module _ (client_law : ClientLaws) (client_grows : ClientGrows) (lapsed_grows : 
         one None at = f
         one (Some schema) at = λ q x is. ⊎_elim
             (λ e. let both : Some (opened schema) ≡ Some x = sym e.1 ∙ is in let same : opened schema ≡ x = cc in
-                (ap (λ (y : TableDisk). y.schema.scheme) (sym same) ∙ (k.schemes table schema at ∙ ap g (sym e.0)), ap (λ (y : TableDisk). y.position) (sym same), ap (λ (y : TableDisk). y.rows) (sym same)))
+            (ap (λ (y : TableDisk). y.schema.scheme) (sym same) ∙ (k.schemes table schema at ∙ ap g (sym e.0)), ap (λ (y : TableDisk). y.position) (sym same), ap (λ (y : TableDisk). y.rows) (sym same)))
             (λ e. f q x (sym e.1 ∙ is)) (look_cases some table (opened schema) q)
 
     pub joined_kept : (c : ℕ) (tables : List ℕ) → client_at w c ≡ None → Kept g (joined w c tables None) s
@@ -430,7 +429,7 @@ module _ (client_law : ClientLaws) (client_grows : ClientGrows) (lapsed_grows : 
       no_store = k.no_store;
       clients = λ q x at. ⊎_elim
           (λ e. let both : Some new ≡ Some x = sym e.1 ∙ at in let same : new ≡ x = cc in
-              subst (λ (y : Client). ClientPart g q k.items (k.sent q) (s.heard q) y) same (new_part q (ap (client_at w) e.0 ∙ none)))
+          subst (λ (y : Client). ClientPart g q k.items (k.sent q) (s.heard q) y) same (new_part q (ap (client_at w) e.0 ∙ none)))
           (λ e. k.clients q x (sym e.1 ∙ at)) (look_cases w.clients c new q);
       no_client = λ q at. ⊎_elim (λ e. absurd (let both : Some new ≡ None = sym e.1 ∙ at in cc)) (λ e. k.no_client q (sym e.1 ∙ at)) (look_cases w.clients c new q);
       packets = k.packets;
@@ -528,8 +527,7 @@ module _ (client_law : ClientLaws) (client_grows : ClientGrows) (lapsed_grows : 
   run_sound (h ∷ hs) w s k f =
       let first : StepSound s w h.event (step w h.event h.lucks) = step_sound w s k h.event h.lucks (first_is w s k h.event (events_in hs) f) in
       let then_awaits : Awaits (step w h.event h.lucks).world (events_in hs) =
-          λ table none. f table (first.there table none) ∙ scheme_on w h.event h.lucks (events_in hs) table none in
-      (
+      λ table none. f table (first.there table none) ∙ scheme_on w h.event h.lucks (events_in hs) table none in (
         in_sight g s k.told,
         first.turn,
         first.lines,

@@ -43,7 +43,7 @@ module _ (g : ℕ → Scheme) (w : World) (s : Said) (k : Kept g w s) where
   content_is table i a =
       let l = k.tables table in
       let found : entry_at i.entry.version (s.history table) ≡ Some i.entry =
-          ap (λ (es : List Entry). entry_at i.entry.version es) (k.history table) ∙ entry_stands 0 (k.items table) i l.counted a in
+      ap (λ (es : List Entry). entry_at i.entry.version es) (k.history table) ∙ entry_stands 0 (k.items table) i l.counted a in
       let f = l.known i a in
       ap (content_of s) found ∙ (ap (option_map (λ (x : Write). x.content)) f.1 ∙ ap Some f.4)
 
@@ -86,7 +86,7 @@ module _ (g : ℕ → Scheme) (w : World) (s : Said) (k : Kept g w s) where
           let i = tied.fit.shadow y at in
           let level : x.shadow ≡ y.version = sym (tied.level free) ∙ rw at refl in
           let content : content_at s table y.version ≡ Some y.content =
-              subst (λ (v : ℕ). content_at s table v ≡ Some y.content) i.1.version_is (content_is table i.0 i.1.stands ∙ ap Some i.2) in
+          subst (λ (v : ℕ). content_at s table v ≡ Some y.content) i.1.version_is (content_is table i.0 i.1.stands ∙ ap Some i.2) in
           ap (λ (v : ℕ). clean v (content_at s table v)) level ∙ ap (clean y.version) content
 
   shows : (c table : ℕ) (row : List ℕ) (what : Option Shown) → ShowsRow g c k.items (k.sent c) (s.heard c) table row what → shown_of g s c table row ≡ what

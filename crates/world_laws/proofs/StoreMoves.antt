@@ -61,18 +61,17 @@ module _ (client_grows : ClientGrows) (lapsed_grows : LapsedGrows) (g : ℕ → 
           → StorePart (g q) q (KnownIn s'.heard k.sent q) (items q) x.store × (x.history ≡ s'.history q)
       stores q x is = ⊎_elim
           (λ e.
-              let new : Hosted = record { store = step.store; history = history_on hosted.history step.facts } in
-              let both : Some new ≡ Some x = sym e.1 ∙ is in
-              let same : new ≡ x = cc in
-              subst (λ (y : Hosted). StorePart (g q) q (KnownIn s'.heard k.sent q) (items q) y.store × (y.history ≡ s'.history q)) same
-              (subst (λ (z : ℕ). StorePart (g z) z (KnownIn s'.heard k.sent z) (items z) step.store × (history_on hosted.history step.facts ≡ s'.history z)) (sym e.0) (part_here, history)))
+          let new : Hosted = record { store = step.store; history = history_on hosted.history step.facts } in
+          let both : Some new ≡ Some x = sym e.1 ∙ is in
+          let same : new ≡ x = cc in
+          subst (λ (y : Hosted). StorePart (g q) q (KnownIn s'.heard k.sent q) (items q) y.store × (y.history ≡ s'.history q)) same
+          (subst (λ (z : ℕ). StorePart (g z) z (KnownIn s'.heard k.sent z) (items z) step.store × (history_on hosted.history step.facts ≡ s'.history z)) (sym e.0) (part_here, history)))
           (λ e.
-              let f = k.stores q x (sym e.1 ∙ is) in
-              (
-                subst (λ (xs : List Stored). StorePart (g q) q (KnownIn s'.heard k.sent q) xs x.store) (sym (elsewhere q e.0))
+          let f = k.stores q x (sym e.1 ∙ is) in (
+            subst (λ (xs : List Stored). StorePart (g q) q (KnownIn s'.heard k.sent q) xs x.store) (sym (elsewhere q e.0))
                 (subst (λ (m : ℕ → Heard). StorePart (g q) q (KnownIn m k.sent q) (k.items q) x.store) (sym heard) f.0),
-                f.1 ∙ (k.history q ∙ (ap entries_of (sym (elsewhere q e.0)) ∙ sym (at.history q))),
-              ))
+            f.1 ∙ (k.history q ∙ (ap entries_of (sym (elsewhere q e.0)) ∙ sym (at.history q))),
+          ))
           (look_cases w.tables table (record { store = step.store; history = history_on hosted.history step.facts }) q)
 
       declared : (q : ℕ) (x : Hosted) → hosted_at (after_table w table hosted step).world q ≡ Some x → (schema : Schema) × (schema_at w q ≡ Some schema)
@@ -101,8 +100,8 @@ module _ (client_grows : ClientGrows) (lapsed_grows : LapsedGrows) (g : ℕ → 
         none = λ q i a client number.
             let m = at.told.entries q i.entry (subst (λ (es : List Entry). Among es i.entry) (sym (at.history q)) (stands (items q) i a)) in
             let found : write_of n (s.heard c).writes ≡ Some m.0 =
-                subst (λ (x : ℕ). write_of n (s.heard x).writes ≡ Some m.0) client (subst (λ (x : ℕ). write_of x (s.heard i.entry.client).writes ≡ Some m.0) number
-                (subst (λ (y : ℕ → Heard). write_of i.entry.number (y i.entry.client).writes ≡ Some m.0) heard m.1.told)) in
+            subst (λ (x : ℕ). write_of n (s.heard x).writes ≡ Some m.0) client (subst (λ (x : ℕ). write_of x (s.heard i.entry.client).writes ≡ Some m.0) number
+            (subst (λ (y : ℕ → Heard). write_of i.entry.number (y i.entry.client).writes ≡ Some m.0) heard m.1.told)) in
             let both : Some m.0 ≡ Some f.known.0 = sym found ∙ f.known.1 in
             let same : m.0 ≡ f.known.0 = cc in
             let in_table : q ≡ table = sym m.1.table_is ∙ (ap (λ (y : Write). y.table) same ∙ f.known.2) in

@@ -111,7 +111,7 @@ module _ (client_grows : ClientGrows) (lapsed_grows : LapsedGrows) (g : ℕ → 
     once q o a client_is number_is =
         let m = k.told.entries q o a in
         let found : write_of i.entry.number (s.heard i.entry.client).writes ≡ Some m.0 =
-            subst (λ (x : ℕ). write_of x (s.heard i.entry.client).writes ≡ Some m.0) number_is (subst (λ (x : ℕ). write_of o.number (s.heard x).writes ≡ Some m.0) client_is m.1.told) in
+        subst (λ (x : ℕ). write_of x (s.heard i.entry.client).writes ≡ Some m.0) number_is (subst (λ (x : ℕ). write_of o.number (s.heard x).writes ≡ Some m.0) client_is m.1.told) in
         let both : Some m.0 ≡ Some n.known.0 = sym found ∙ n.known.1 in
         let same : m.0 ≡ n.known.0 = cc in
         let in_table : q ≡ table = sym m.1.table_is ∙ (ap (λ (y : Write). y.table) same ∙ n.known.2) in
@@ -135,8 +135,7 @@ module _ (client_grows : ClientGrows) (lapsed_grows : LapsedGrows) (g : ℕ → 
         let base : i.entry.base ≡ current (entries_of (h table)) i.entry.row = exact ∙ sym (current_is (h table) i.entry.row) in
         (base, spans ∙ base)
     over_is Causal is read spans =
-        let exact : i.entry.base ≡ latest (h table) i.entry.row = n.over (λ e. absurd (let no : Causal ≡ Eventual = sym is ∙ e in cc)) in
-        (
+        let exact : i.entry.base ≡ latest (h table) i.entry.row = n.over (λ e. absurd (let no : Causal ≡ Eventual = sym is ∙ e in cc)) in (
           exact ∙ sym (current_is (h table) i.entry.row),
           λ o a row_is less.
               let m = item_of (h table) o a in
@@ -244,13 +243,13 @@ module _ (client_grows : ClientGrows) (lapsed_grows : LapsedGrows) (g : ℕ → 
             let in_row : i.entry.row ≡ row = sym x.row_is ∙ (ap (λ (z : Write). z.row) e ∙ y.row_is) in
             let x_strong : g table ≡ Strong = ap g in_table ∙ strong in
             let x_spans : Spans Strong c i.entry.number (h table) i.entry.row x.write.read i.entry.base =
-                subst (λ (z : Scheme). Spans z c i.entry.number (h table) i.entry.row x.write.read i.entry.base) x_strong x.spans in
+            subst (λ (z : Scheme). Spans z c i.entry.number (h table) i.entry.row x.write.read i.entry.base) x_strong x.spans in
             let y_spans : Spans Strong c m (h q) row y.write.read f.base = subst (λ (z : Scheme). Spans z c m (h q) row y.write.read f.base) strong y.spans in
             let read = ap (λ (z : Write). z.read) e in
             let exact : i.entry.base ≡ latest (h table) i.entry.row = n.over (λ no. absurd (let both_2 : Strong ≡ Eventual = sym x_strong ∙ no in cc)) in
             let most : f.item.entry.version ≤ latest (h q) f.item.entry.row = latest_most (h q) f.item (k.tables q).counted f.stands.stands in
             let up : f.item.entry.version ≤ latest (h table) i.entry.row = subst (λ (z : List ℕ). f.item.entry.version ≤ latest (h table) z) (f.stands.row_is ∙ sym in_row)
-                (subst (λ (z : ℕ). f.item.entry.version ≤ latest (h z) f.item.entry.row) (sym in_table) most) in
+            (subst (λ (z : ℕ). f.item.entry.version ≤ latest (h z) f.item.entry.row) (sym in_table) most) in
             let version = f.stands.version_is in
             let less : f.base < v = f.below in
             absurd (omega arith)
@@ -266,13 +265,17 @@ module _ (client_grows : ClientGrows) (lapsed_grows : LapsedGrows) (g : ℕ → 
     yours_at c row v y low f = record {
       all = λ o a client_is row_is le. ⊎_elim (λ b. f.all o b client_is row_is le)
           (λ e. absurd (let next = n.next in let v_2 = ap (λ (z : Stored). z.entry.version) e in omega arith)) (among_cases (h table) i o a);
-      is = ⊎_elim (λ z. inl z) (λ j. inr (j.0, record {
-        stands = among_left (h table) (i ∷ []) j.0 j.1.stands;
-        client_is = j.1.client_is;
-        number_is = j.1.number_is;
-        row_is = j.1.row_is;
-        version_is = j.1.version_is;
-      }, j.2)) f.is;
+      is = ⊎_elim (λ z. inl z) (λ j. inr (
+        j.0,
+        record {
+          stands = among_left (h table) (i ∷ []) j.0 j.1.stands;
+          client_is = j.1.client_is;
+          number_is = j.1.number_is;
+          row_is = j.1.row_is;
+          version_is = j.1.version_is;
+        },
+        j.2,
+      )) f.is;
     }
 
     change_at : (c q from to : ℕ) (hd : Header) → IsChange c (h q) from to hd → IsChange c (Later q) from to hd
@@ -325,8 +328,8 @@ module _ (client_grows : ClientGrows) (lapsed_grows : LapsedGrows) (g : ℕ → 
       lawful = record { good = λ c r a. good_at c r (k.lawful.good c r a); gone = λ c q row m lost. gone_at c q row m (k.lawful.gone c q row m lost) };
       tables = λ q. ⊎_elim
           (λ e. subst (λ (x : ℕ). IsLawful (g x) (KnownIn s.heard sent x) (Later x)) (sym e.0)
-              (subst (λ (xs : List Stored). IsLawful (g table) (KnownIn s.heard sent table) xs) (sym (put_here h table (h table ++ i ∷ [])))
-              (grown (g table) table (KnownIn s.heard sent table) (h table) i (k.tables table) n)))
+          (subst (λ (xs : List Stored). IsLawful (g table) (KnownIn s.heard sent table) xs) (sym (put_here h table (h table ++ i ∷ [])))
+          (grown (g table) table (KnownIn s.heard sent table) (h table) i (k.tables table) n)))
           (λ e. subst (λ (xs : List Stored). IsLawful (g q) (KnownIn s.heard sent q) xs) (sym e.1) (k.tables q))
           (put_cases h table (h table ++ i ∷ []) q);
       clients = λ c node at. client_grows g c h (sent c) (s.heard c) node table i (fits c) (k.clients c node at);
@@ -381,11 +384,11 @@ module _ (client_grows : ClientGrows) (lapsed_grows : LapsedGrows) (g : ℕ → 
           go : (b : Bool) → nat_lt (length (s.history table)) e.version ≡ b → (if b then s.history table ++ e ∷ [] else s.history table) ≡ s.history table
           go false is = refl
           go true is = absurd (
-            let up = counted_up 0 (h table) f.0 (k.tables table).counted f.1 in
-            let v : f.0.entry.version ≡ e.version = ap (λ (y : Entry). y.version) f.2 in
-            let l : length (s.history table) ≡ length (h table) = ap length (k.history table) ∙ entries_length (h table) in
-            grind (arith, nat_tests, is, up, v, l)
-          )
+              let up = counted_up 0 (h table) f.0 (k.tables table).counted f.1 in
+              let v : f.0.entry.version ≡ e.version = ap (λ (y : Entry). y.version) f.2 in
+              let l : length (s.history table) ≡ length (h table) = ap length (k.history table) ∙ entries_length (h table) in
+              grind (arith, nat_tests, is, up, v, l)
+              )
 
   one : (s : Said) (h : Items) → Inv s h → (table : ℕ) (x : Saying) (later : List Stored) → Tells (g table) table (KnownIn s.heard sent table) (h table) x later → One s h table x later
   one s h k table SaysNothing later f = record { items = h; here = sym f; elsewhere = λ q apart. refl; is = tt; heard = refl; inv = k }
@@ -426,8 +429,8 @@ module _ (client_grows : ClientGrows) (lapsed_grows : LapsedGrows) (g : ℕ → 
   all s h k table (fact ∷ more) later f =
       let first : One s h table (saying fact) f.0 = one s h k table (saying fact) f.0 f.1 in
       let then_tells : TellsAll (g table) table (KnownIn (hear s (saying fact)).heard sent table) (first.items table) more later =
-          subst (λ (xs : List Stored). TellsAll (g table) table (KnownIn (hear s (saying fact)).heard sent table) xs more later) (sym first.here)
-          (subst (λ (m : ℕ → Heard). TellsAll (g table) table (KnownIn m sent table) f.0 more later) (sym first.heard) f.2) in
+      subst (λ (xs : List Stored). TellsAll (g table) table (KnownIn (hear s (saying fact)).heard sent table) xs more later) (sym first.here)
+      (subst (λ (m : ℕ → Heard). TellsAll (g table) table (KnownIn m sent table) f.0 more later) (sym first.heard) f.2) in
       let rest : Result (hear s (saying fact)) first.items table more later = all (hear s (saying fact)) first.items first.inv table more later then_tells in
       record {
         items = rest.items;

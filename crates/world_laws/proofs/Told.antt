@@ -223,12 +223,14 @@ told_write : (g : ℕ → Scheme) (s : Said) (w : Write) → SaidTold s → IsSa
 told_write g s w k (inl new) = go (nat_lt (length (s.heard w.client).writes) w.number) refl
   where
     go : (b : Bool) → nat_lt (length (s.heard w.client).writes) w.number ≡ b
-        → SaidTold (record s { heard = put s.heard w.client (if b
-            then record (s.heard w.client) {
-              writes = (s.heard w.client).writes ++ w ∷ [];
-              at = put_at (s.heard w.client).at w.table w.row (row_wrote w ((s.heard w.client).at w.table w.row));
-            }
-            else s.heard w.client) })
+        → SaidTold (record s {
+          heard = put s.heard w.client (if b
+              then record (s.heard w.client) {
+                writes = (s.heard w.client).writes ++ w ∷ [];
+                at = put_at (s.heard w.client).at w.table w.row (row_wrote w ((s.heard w.client).at w.table w.row));
+              }
+              else s.heard w.client);
+        })
     go true is = follow s w.client _ k (record {
       told = wrote_told w.client (s.heard w.client) w refl new.0 (k.clients w.client);
       writes = λ n x at. write_of-left n (s.heard w.client).writes (w ∷ []) x at;
@@ -248,12 +250,14 @@ told_write g s w k (inl new) = go (nat_lt (length (s.heard w.client).writes) w.n
 told_write g s w k (inr old) = go (nat_lt (length (s.heard w.client).writes) w.number) refl
   where
     go : (b : Bool) → nat_lt (length (s.heard w.client).writes) w.number ≡ b
-        → SaidTold (record s { heard = put s.heard w.client (if b
-            then record (s.heard w.client) {
-              writes = (s.heard w.client).writes ++ w ∷ [];
-              at = put_at (s.heard w.client).at w.table w.row (row_wrote w ((s.heard w.client).at w.table w.row));
-            }
-            else s.heard w.client) })
+        → SaidTold (record s {
+          heard = put s.heard w.client (if b
+              then record (s.heard w.client) {
+                writes = (s.heard w.client).writes ++ w ∷ [];
+                at = put_at (s.heard w.client).at w.table w.row (row_wrote w ((s.heard w.client).at w.table w.row));
+              }
+              else s.heard w.client);
+        })
     go true is = absurd (let low = ((k.clients w.client).numbered w.number w old).3 in grind (arith, nat_tests, is, low))
     go false is = follow s w.client (s.heard w.client) k (record { told = k.clients w.client; writes = λ n x at. at; acks = λ n table row at. k.acks w.client n table row at })
 
@@ -306,7 +310,7 @@ told_step g s (SaysAck c n table row v) k is =
     let number : e.number ≡ n = is.0.3 in
     let low : n ≤ length (s.heard c).writes = rw (client, number) at (entry_low s k table e stands) in
     follow s c _ k (row_follows s k c table row n (row_acked n v ((s.heard c).at table row)) low (acked_keeps n v ((s.heard c).at table row))
-        (λ m at. acks m (put_cases ((s.heard c).at table row).acked n true m) at))
+    (λ m at. acks m (put_cases ((s.heard c).at table row).acked n true m) at))
   where
     acks : (m : ℕ) → ((m ≡ n) × (put ((s.heard c).at table row).acked n true m ≡ true)) ⊎ ((m ≢ n) × (put ((s.heard c).at table row).acked n true m ≡ ((s.heard c).at table row).acked m))
         → put ((s.heard c).at table row).acked n true m ≡ true
@@ -315,13 +319,13 @@ told_step g s (SaysAck c n table row v) k is =
     acks m (inr e) at = inl (sym e.1 ∙ at)
 told_step g s (SaysLoss c n table row v) k is =
     follow s c _ k (row_follows s k c table row n (row_lost n ((s.heard c).at table row)) (written_low s k c n table row is.1.write is.1.written) (lost_keeps n ((s.heard c).at table row))
-        (same_acks s c table row ((s.heard c).at table row) (row_lost n ((s.heard c).at table row)) refl))
+    (same_acks s c table row ((s.heard c).at table row) (row_lost n ((s.heard c).at table row)) refl))
 told_step g s (SaysConflict c n table row v) k is =
     follow s c _ k (row_follows s k c table row n (row_met n v ((s.heard c).at table row)) (written_low s k c n table row is.passed.write is.passed.written) (met_keeps n v ((s.heard c).at table row))
-        (same_acks s c table row ((s.heard c).at table row) (row_met n v ((s.heard c).at table row)) refl))
+    (same_acks s c table row ((s.heard c).at table row) (row_met n v ((s.heard c).at table row)) refl))
 told_step g s (SaysResolved c n table row v) k is =
     follow s c _ k (row_follows s k c table row n (row_resolved n v ((s.heard c).at table row)) low (resolved_keeps n v ((s.heard c).at table row))
-        (same_acks s c table row ((s.heard c).at table row) (row_resolved n v ((s.heard c).at table row)) refl))
+    (same_acks s c table row ((s.heard c).at table row) (row_resolved n v ((s.heard c).at table row)) refl))
   where
     low : n ≤ length (s.heard c).writes
     low = go (nat_lt (length (s.heard c).writes) n) refl
@@ -333,7 +337,7 @@ told_step g s (SaysResolved c n table row v) k is =
             absurd (let both : None ≡ Some v = sym f.conflict ∙ is.0 in cc)
 told_step g s (SaysRead c table row v) k is =
     follow s c _ k (row_follows s k c table row 0 (row_saw v ((s.heard c).at table row)) (omega arith) (saw_keeps v ((s.heard c).at table row))
-        (same_acks s c table row ((s.heard c).at table row) (row_saw v ((s.heard c).at table row)) refl))
+    (same_acks s c table row ((s.heard c).at table row) (row_saw v ((s.heard c).at table row)) refl))
 told_step g s (SaysPosition c table p) k is =
     follow s c _ k (record {
       told = (let t = k.clients c in record { numbered = t.numbered; found = t.found; fresh = t.fresh; last = t.last; newest = t.newest });

@@ -207,4 +207,3 @@ strong_write_refused_written =
     ∷ turn (events.Deliver 3) (AnswerLine facts.Done ∷ told (facts.Refused 2 1 1 the_row 1) ∷ sent 4 (nodes.Client 2) the_store names.PullRequest ∷ [])
     ∷ turn (events.Show 2 1 the_row) (AnswerLine (facts.Refuses facts.NoRow) ∷ [])
     ∷ []
-

@@ -1,6 +1,6 @@
-use Rattle.std.proofs.Common.{◌≡◌, Bool, true, subst, sym}
+use Rattle.std.proofs.Common.{Bool, subst, sym}
 use Rattle.std.specs.Prelude.{◌↔◌, IsTrue}
-use Rattle.table_model.specs.Allowed.{entry_allowed, IsAllowed}
+use Rattle.table_model.specs.Allowed.{IsAllowed}
 use Rattle.table_model.proofs.AllowedEntries.{allowed}
 use Rattle.table_model.proofs.allowed.entry_allowed.Goals as goal
 

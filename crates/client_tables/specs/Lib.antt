@@ -1,0 +1,5 @@
+pub mod Change
+pub mod Shown
+pub mod Names
+pub mod Transitions
+pub mod Kept

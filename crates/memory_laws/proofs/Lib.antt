@@ -1,0 +1,4 @@
+pub mod Maps
+pub mod Settles
+pub mod Once
+pub mod Clients

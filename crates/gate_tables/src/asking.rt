@@ -25,7 +25,16 @@ pub fn asked_of(message: &Message) -> Option<Asked>
         Message::RegisterDevice(_) => None,
         Message::CreateTable(m) => ask_of(m.client, m.token, m.table, 2, Wish::Pass),
         Message::DropTable(m) => ask_of(m.client, m.token, m.table, 3, Wish::Pass),
-        Message::SubscribeTable(m) => ask_of(m.client, m.token, m.table, 4, Wish::Subscribe { period: m.period, tolerance: m.tolerance }),
+        Message::SubscribeTable(m) => ask_of(
+            m.client,
+            m.token,
+            m.table,
+            4,
+            Wish::Subscribe {
+                period: m.period,
+                tolerance: m.tolerance,
+            },
+        ),
         Message::UnsubscribeTable(m) => ask_of(m.client, m.token, m.table, 5, Wish::Unsubscribe),
         Message::Notify(_) => None,
         Message::ObjectFragment(m) => {
@@ -59,13 +68,7 @@ pub fn client_of(message: &Message) -> Option<ClientNo>
         Message::SubscribeTable(_) => None,
         Message::UnsubscribeTable(_) => None,
         Message::Notify(_) => None,
-        Message::ObjectFragment(m) => {
-            if m.down {
-                Some(m.client)
-            } else {
-                None
-            }
-        }
+        Message::ObjectFragment(m) => { if m.down { Some(m.client) } else { None } }
         Message::PullRequest(_) => None,
         Message::PullResponse(m) => Some(m.client),
         Message::SyncRequest(_) => None,

@@ -420,8 +420,12 @@ impl Message {
             Message::TornRowResponse(m) => Ok(Message::TornRowResponse(m.copy()?)),
             Message::OperationResponse(m) => Ok(Message::OperationResponse(m.copy()?)),
             Message::SaveClientSubscription(m) => Ok(Message::SaveClientSubscription(*m)),
-            Message::RestoreClientSubscriptions(m) => Ok(Message::RestoreClientSubscriptions(m.copy()?)),
-            Message::TableVersionUpdateNotification(m) => Ok(Message::TableVersionUpdateNotification(*m)),
+            Message::RestoreClientSubscriptions(m) => Ok(Message::RestoreClientSubscriptions(
+                m.copy()?,
+            )),
+            Message::TableVersionUpdateNotification(m) => Ok(
+                Message::TableVersionUpdateNotification(*m),
+            ),
         }
     }
 

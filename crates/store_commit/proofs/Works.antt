@@ -145,7 +145,7 @@ module _ {D : Type 0} (state : D → DiskState) (images : D → ℕ → List ℕ
             log_is_opened = ready.log_is_opened;
             log_room = ready.log_room;
           };
-          up = record { chunks = k.opened.vault.looked.up; rows = up.rows; log = up.log; };
+          up = record { chunks = k.opened.vault.looked.up; rows = up.rows; log = up.log };
           counted = omega (arith, k.refuses.cause);
           any_moment = open_chunks_moment (Ok x) k;
           disk = λ e is. absurd cc;
@@ -188,7 +188,7 @@ module _ {D : Type 0} (state : D → DiskState) (images : D → ℕ → List ℕ
             log_is_opened = ready.log_is_opened;
             log_room = ready.log_room;
           };
-          up = record { chunks = up.chunks; rows = k.opened.vault.looked.up; log = up.log; };
+          up = record { chunks = up.chunks; rows = k.opened.vault.looked.up; log = up.log };
           counted = omega (arith, k.refuses.cause);
           any_moment = open_rows_moment (Ok x) k;
           disk = λ e is. absurd cc;
@@ -231,7 +231,7 @@ module _ {D : Type 0} (state : D → DiskState) (images : D → ℕ → List ℕ
             row_is_opened = ready.row_is_opened;
             row_room = ready.row_room;
           };
-          up = record { chunks = up.chunks; rows = up.rows; log = k.opened.vault.looked.up; };
+          up = record { chunks = up.chunks; rows = up.rows; log = k.opened.vault.looked.up };
           counted = omega (arith, k.refuses.cause);
           any_moment = open_log_moment (Ok x) k;
           disk = λ e is. absurd cc;
@@ -274,7 +274,7 @@ module _ {D : Type 0} (state : D → DiskState) (images : D → ℕ → List ℕ
             row_is_opened = ready.row_is_opened;
             row_room = ready.row_room;
           };
-          up = record { chunks = up.chunks; rows = up.rows; log = k.opened.vault.looked.up; };
+          up = record { chunks = up.chunks; rows = up.rows; log = k.opened.vault.looked.up };
           counted = omega (arith, k.refuses.cause);
           any_moment = open_entry_moment (Ok x) k;
           disk = λ e is. absurd cc;
@@ -317,7 +317,7 @@ module _ {D : Type 0} (state : D → DiskState) (images : D → ℕ → List ℕ
             log_is_opened = ready.log_is_opened;
             log_room = ready.log_room;
           };
-          up = record { chunks = k.opened.vault.looked.up; rows = up.rows; log = up.log; };
+          up = record { chunks = k.opened.vault.looked.up; rows = up.rows; log = up.log };
           counted = omega (arith, k.refuses.cause);
           any_moment = put_chunk_moment (Ok x) k;
           disk = λ e is. absurd cc;
@@ -360,7 +360,7 @@ module _ {D : Type 0} (state : D → DiskState) (images : D → ℕ → List ℕ
             log_is_opened = ready.log_is_opened;
             log_room = ready.log_room;
           };
-          up = record { chunks = up.chunks; rows = k.opened.vault.looked.up; log = up.log; };
+          up = record { chunks = up.chunks; rows = k.opened.vault.looked.up; log = up.log };
           counted = omega (arith, k.refuses.cause);
           any_moment = put_row_moment (Ok x) k;
           disk = λ e is. absurd cc;
@@ -403,7 +403,7 @@ module _ {D : Type 0} (state : D → DiskState) (images : D → ℕ → List ℕ
             log_is_opened = ready.log_is_opened;
             log_room = ready.log_room;
           };
-          up = record { chunks = k.opened.vault.looked.up; rows = up.rows; log = up.log; };
+          up = record { chunks = k.opened.vault.looked.up; rows = up.rows; log = up.log };
           counted = omega (arith, k.refuses.cause);
           any_moment = drop_chunk_moment (Ok x) k;
           disk = λ e is. absurd cc;
@@ -446,7 +446,7 @@ module _ {D : Type 0} (state : D → DiskState) (images : D → ℕ → List ℕ
             row_is_opened = ready.row_is_opened;
             row_room = ready.row_room;
           };
-          up = record { chunks = up.chunks; rows = up.rows; log = k.opened.vault.looked.up; };
+          up = record { chunks = up.chunks; rows = up.rows; log = k.opened.vault.looked.up };
           counted = omega (arith, k.refuses.cause);
           any_moment = close_entry_moment (Ok x) k;
           disk = λ e is. absurd cc;
@@ -489,7 +489,7 @@ module _ {D : Type 0} (state : D → DiskState) (images : D → ℕ → List ℕ
             log_is_opened = ready.log_is_opened;
             log_room = ready.log_room;
           };
-          up = record { chunks = up.chunks; rows = k.opened.vault.looked.up; log = up.log; };
+          up = record { chunks = up.chunks; rows = k.opened.vault.looked.up; log = up.log };
           counted = omega (arith, k.refuses.cause);
           any_moment = put_table_moment (Ok x) k;
           disk = λ e is. absurd cc;
@@ -532,7 +532,7 @@ module _ {D : Type 0} (state : D → DiskState) (images : D → ℕ → List ℕ
             log_is_opened = ready.log_is_opened;
             log_room = ready.log_room;
           };
-          up = record { chunks = up.chunks; rows = k.opened.vault.looked.up; log = up.log; };
+          up = record { chunks = up.chunks; rows = k.opened.vault.looked.up; log = up.log };
           counted = omega (arith, k.refuses.cause);
           any_moment = put_sub_moment (Ok x) k;
           disk = λ e is. absurd cc;
@@ -547,7 +547,6 @@ module _ {D : Type 0} (state : D → DiskState) (images : D → ℕ → List ℕ
           any_moment = put_sub_moment (Err x) k;
           disk = λ e is. (cc, omega (arith, failed.1), inr (inl failed.0));
         }
-
 
 -- the same, where the write's name is answered
 pub works_named : {D S : Type 0} (state : D → DiskState) (images : D → ℕ → List ℕ → Type 0) (w : Write) (ws : List Write) (old new : TableDevs D) (s : S) → Works {T = Unit {0}} state images w ws old new (Ok tt) → Works {T = S} state images w ws old new (Ok s)
@@ -626,7 +625,7 @@ module _ {D : Type 0} (state : D → DiskState) (images : D → ℕ → List ℕ
       → DevsLeave state images old (record old { chunks = cs; rows = rs }) (λ d. d ≡ devs state old)
   two_looked old cs rs up synced sound a b = let new : TableDevs D = record old { chunks = cs; rows = rs } in all_same old new a b (synced_log old.log up.log synced.log sound.log)
 
--- ---- a format
+  -- ---- a format
 
   abbrev made : List (ChunkName × List ℕ) → TableData → Option Entry → Devs
   made c h p = record { chunks = c; held = h; pending = p }
@@ -640,8 +639,8 @@ module _ {D : Type 0} (state : D → DiskState) (images : D → ℕ → List ℕ
       let file = (state (disk_of vault)).seen in
       started state images (disk_of vault) (StandsForOne (λ list. list ≡ []))
       (λ image left.
-          let same = settled_only file image (subst (λ q. IsImage q image) blank.synced (only_now (disk_of vault) image left)) in
-          short_stands image (rw same blank.short))
+      let same = settled_only file image (subst (λ q. IsImage q image) blank.synced (only_now (disk_of vault) image left)) in
+      short_stands image (rw same blank.short))
 
   no_rows : data_of [] ≡ nothing_held
   unfolding data_of

@@ -1,7 +1,7 @@
-use Rattle.std.proofs.Common.{◌≡◌, ◌∷◌, [], List, map, refl, rules, arith}
+use Rattle.std.proofs.Common.{◌≡◌, ◌∷◌, [], map, refl, rules, arith}
 use Rattle.std.proofs.lemmas.Grind.{common_steps}
 use Rattle.row_store.specs.Reading.{terms_if}
-use Rattle.store_commit.specs.Devs.{Write, PutSub}
+use Rattle.store_commit.specs.Devs.{PutSub}
 use Rattle.store_commit.specs.Standing.{write_of, writes_of}
 use Rattle.store_commit.proofs.Works.{ready_sub}
 use Rattle.store_commit.proofs.devs.TableDevs.begin_sub.Goals as goal

@@ -10,3 +10,4 @@ pub mod Showings
 pub mod Forms
 pub mod Runs
 pub mod Fresh
+pub mod Whole

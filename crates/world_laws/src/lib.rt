@@ -1,12 +1,29 @@
 //! What every run of the world keeps, whatever is delivered, lost or repeated, and wherever device writes fail.
 #![tactic(auto)]
 
-ghost use Rattle.std.specs.Prelude.{◌≡◌, List};
+ghost use Rattle.std.specs.Prelude.{◌≡◌, ℕ, List};
 ghost use Rattle.row_value.specs.declared.schema.Scheme.TheVariants.{Strong, Causal, Eventual};
+ghost use Rattle.step_tables.specs.Facts.{Line};
+ghost use Rattle.step_tables.specs.Sayings.{nothing_said, hear_lines};
 ghost use Rattle.world_tables.specs.Sound.{IsSound};
+ghost use Rattle.world_tables.specs.Whole.{read_by, shadow_by, position_by, greatest, last_conflict};
 ghost use Rattle.world_laws.specs.Bad.{back, blind, doubled, early, fallen, groundless, lost, misplaced, outdated, over, past, renamed, revived, selfish, settled, silent, skipped_number, skipped_version, stale, twice, unearned, unread, unseen, unwritten};
 ghost use Rattle.world_tables.specs.Turns.{Happening, turns};
 ghost use Rattle.world_laws.specs.Worked.{late_repeat, late_repeat_written, read_before_write_is_no_conflict, read_before_write_is_no_conflict_written, causal_conflict, causal_conflict_written, strong_write_refused, strong_write_refused_written};
+
+/// What the fold of the lines has of a client is what the whole list of lines says: the versions read are the greatest
+/// that lines name, with conflicts and without, a position is the greatest, and a number's conflict is the last that
+/// names it.
+pub fn the_fold_is_the_whole_list()
+    ensures read { (client table : ℕ) (row : List ℕ) (lines : List Line)
+        → (((hear_lines nothing_said lines).heard client).at table row).read ≡ greatest (read_by client table row) lines }
+    ensures shadow { (client table : ℕ) (row : List ℕ) (lines : List Line)
+        → (((hear_lines nothing_said lines).heard client).at table row).shadow ≡ greatest (shadow_by client table row) lines }
+    ensures position { (client table : ℕ) (lines : List Line)
+        → ((hear_lines nothing_said lines).heard client).position table ≡ greatest (position_by client table) lines }
+    ensures conflict { (client table : ℕ) (row : List ℕ) (number : ℕ) (lines : List Line)
+        → (((hear_lines nothing_said lines).heard client).at table row).conflict number ≡ last_conflict client table row number lines }
+{}
 
 /// Every run's transcript is sound, whatever is delivered, lost, repeated or overtaken, wherever a device write fails and
 /// takes its node down, and for tables of all three schemes: each event has one answer in a form of its command; the

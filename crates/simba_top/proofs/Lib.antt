@@ -4,6 +4,7 @@ pub mod Grammars
 pub mod Complete
 pub mod OneEnd
 pub mod Puts
+pub mod Sounds
 pub mod Turns
 pub mod Endings
 pub mod Statuses

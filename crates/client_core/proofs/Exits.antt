@@ -50,6 +50,8 @@ module _ (client : Client) (number : ℕ) (row : List ℕ) (content : Content) (
   misfit table (Ok fitting) is = spent is table
   misfit table (Err (fits.BadCell column)) is = let same : fault ≡ fault_of (fits.BadCell column) = cc in rw same refl
   misfit table (Err (fits.BadObject column len)) is = let same : fault ≡ fault_of (fits.BadObject column len) = cc in rw same refl
+  misfit table (Err (fits.RowTooLarge len)) is = let same : fault ≡ fault_of (fits.RowTooLarge len) = cc in rw same refl
+  misfit table (Err (fits.TooManyChunks count)) is = let same : fault ≡ fault_of (fits.TooManyChunks count) = cc in rw same refl
 
   not_opened : (table : Option ClientTable) → Err fault ≡ number_in client.last content table
       → IsWriteCause client (write_to client number row content table) fault

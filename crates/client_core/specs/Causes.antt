@@ -21,6 +21,8 @@ abbrev pub IsCause : Client → ClientStep → CallFault → Type 0
 IsCause client step call.NoTable = step ≡ refused client refusals.NoTable
 IsCause client step (call.BadCell column) = step ≡ refused client (refusals.BadCell column)
 IsCause client step (call.BadObject column len) = step ≡ refused client (refusals.BadObject column len)
+IsCause client step (call.RowTooLarge len) = step ≡ refused client (refusals.RowTooLarge len)
+IsCause client step (call.TooManyChunks count) = step ≡ refused client (refusals.TooManyChunks count)
 IsCause client step call.NoRow = step ≡ refused client refusals.NoRow
 IsCause client step (call.Spent last) = ⊥
 IsCause client step call.Memory = IsTaken step.answer
@@ -30,6 +32,8 @@ abbrev pub IsWriteCause : Client → ClientStep → CallFault → Type 0
 IsWriteCause client step call.NoTable = IsCause client step call.NoTable
 IsWriteCause client step (call.BadCell column) = IsCause client step (call.BadCell column)
 IsWriteCause client step (call.BadObject column len) = IsCause client step (call.BadObject column len)
+IsWriteCause client step (call.RowTooLarge len) = IsCause client step (call.RowTooLarge len)
+IsWriteCause client step (call.TooManyChunks count) = IsCause client step (call.TooManyChunks count)
 IsWriteCause client step call.NoRow = ⊥
 IsWriteCause client step (call.Spent last) = IsTaken step.answer × (client.last ≡ NUMBER_MAX) × (last ≡ NUMBER_MAX)
 IsWriteCause client step call.Memory = IsTaken step.answer × (client.last < NUMBER_MAX)

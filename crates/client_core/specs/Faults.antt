@@ -7,3 +7,5 @@ use Rattle.client_core.specs.declared.call_fault.CallFault.TheVariants as call
 abbrev pub fault_of : FitFault → CallFault
 fault_of (fits.BadCell column) = call.BadCell column
 fault_of (fits.BadObject column len) = call.BadObject column len
+fault_of (fits.RowTooLarge len) = call.RowTooLarge len
+fault_of (fits.TooManyChunks count) = call.TooManyChunks count

@@ -18,6 +18,12 @@ pub enum CallFault {
     /// The first object column that the content doesn't fit, and the object's length in bytes.
     #[error("column {column} is not one for an object of {len} bytes")]
     BadObject { column: usize, len: usize },
+    /// The cells and objects have more bytes than a row may have.
+    #[error("a row of {len} bytes is too large")]
+    RowTooLarge { len: usize },
+    /// The objects have more chunks than a row may have.
+    #[error("{count} chunks are too many")]
+    TooManyChunks { count: usize },
     /// Nothing is shown of the row.
     #[error("the row shows nothing")]
     NoRow,
@@ -54,6 +60,8 @@ impl From<FitFault> for CallFault {
         match fault {
             FitFault::BadCell { column } => CallFault::BadCell { column },
             FitFault::BadObject { column, len } => CallFault::BadObject { column, len },
+            FitFault::RowTooLarge { len } => CallFault::RowTooLarge { len },
+            FitFault::TooManyChunks { count } => CallFault::TooManyChunks { count },
         }
     }
 }

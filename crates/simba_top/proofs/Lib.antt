@@ -2,6 +2,7 @@ pub mod RowNames
 pub mod Fronts
 pub mod Grammars
 pub mod Complete
+pub mod OneEnd
 pub mod Puts
 pub mod Turns
 pub mod Endings

@@ -14,7 +14,7 @@ use Rattle.simba_top.specs.Ends.{IsBadAt, IsLimitAt, IsCutOff, Tells, TellsStop}
 use Rattle.simba_top.specs.Stops.{status_of}
 use Rattle.simba_top.specs.Stands.{Stopped, IsDone, CountsReads, CountsPuts}
 use Rattle.simba_top.proofs.Fronts.{Grammar}
-use Rattle.simba_top.proofs.Complete.{not_bad, not_limit}
+use Rattle.simba_top.proofs.OneEnd.{not_bad, not_limit}
 
 if_some_map : {X : Type 0} (P Q : X → Type 0) (o : Option X) → ((x : X) → P x → Q x) → IfSome o P → IfSome o Q
 if_some_map P Q None f h = tt

@@ -12,7 +12,7 @@ use Rattle.script_text.specs.Grammar.{Spells, IsFault, PassesLimit}
 use Rattle.transcript_text.specs.Text.{stop_text, transcript_text}
 use Rattle.simba_top.specs.declared.run.TheConstants.{MOST_LINES}
 use Rattle.world_steps.specs.Holds.{Spends}
-use Rattle.simba_top.specs.RowNames.{NamesTooMany}
+use Rattle.simba_top.specs.RowNames.{FewRows, NamesTooMany}
 use Rattle.simba_top.specs.Script.{next_in, IsFront}
 
 -- the transcript of a script, as bytes
@@ -39,16 +39,17 @@ abbrev pub IsFull : List ℕ → List ℕ → Type 0
 IsFull input rest = length input - length rest ≡ INPUT_LIMIT
 
 -- the line behind these is the first that passes a limit: 1 the input's bytes, 2 its lines, 3 the bytes of a line,
--- 9 the rows that a script names in a table, 11 versions and the numbers of a client's writes, or one on what the line
--- declares. The first byte past a limit decides, so behind
--- the most lines any byte does, whatever is behind it
+-- 9 the rows that a script names in a table, 11 versions and the numbers of a client's writes, where the event passes no
+-- limit on rows, or one on what the line declares. The first byte past a limit decides, so behind the most lines any byte
+-- does, whatever is behind it
 abbrev pub Passes : List ℕ → List Event → ℕ → Names → List ℕ → ℕ → Type 0
 Passes input script count names rest limit =
     ((limit ≡ 1) × (next_in (length input) rest ≡ InputTooLong) × ((count < MOST_LINES) ⊎ IsFull input rest))
     ⊎ (((limit ≡ 2) × (count ≡ MOST_LINES) × (0 < length rest) × (length input - length rest < INPUT_LIMIT))
     ⊎ (((limit ≡ 3) × (count < MOST_LINES) × (next_in (length input) rest ≡ LineTooLong))
     ⊎ (((limit ≡ 11) × (count < MOST_LINES) × ((line : List ℕ) × (left : List ℕ) × (event : Event)
-    × (next_in (length input) rest ≡ Line line left) × Spells names line event × Spends (world_after script) event))
+    × (next_in (length input) rest ≡ Line line left) × Spells names line event × FewRows (script ++ event ∷ [])
+    × Spends (world_after script) event))
     ⊎ (((limit ≡ 9) × (count < MOST_LINES) × ((line : List ℕ) × (left : List ℕ) × (event : Event)
     × (next_in (length input) rest ≡ Line line left) × Spells names line event × NamesTooMany script event))
     ⊎ ((count < MOST_LINES) × ((line : List ℕ) × (left : List ℕ)

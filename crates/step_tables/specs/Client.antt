@@ -95,6 +95,8 @@ ignored client = answered client answers.Done
 abbrev pub refusal_of : FitFault → Refusal
 refusal_of (faults.BadCell column) = refusals.BadCell column
 refusal_of (faults.BadObject column len) = refusals.BadObject column len
+refusal_of (faults.RowTooLarge len) = refusals.RowTooLarge len
+refusal_of (faults.TooManyChunks count) = refusals.TooManyChunks count
 
 -- the write of this number is the row's Main
 abbrev pub main_for : ℕ → Slots → Content → Main

@@ -39,10 +39,14 @@ impl Shown {
 /// Why a line of the script isn't done. Each has a number, which its text begins with.
 #[derive(Debug, Clone, Copy, PartialEq, Eq)]
 pub enum Refusal {
+    /// 9: the values' objects have so many chunks, more than a row may have.
+    TooManyChunks { count: usize },
     /// 10: the first cell column that the values don't fit.
     BadCell { column: usize },
     /// 11: the first object column that the values don't fit, and the object's length in bytes.
     BadObject { column: usize, len: usize },
+    /// 12: the values have so many bytes, more than a row may have.
+    RowTooLarge { len: usize },
     /// 18: the client hasn't opened the table.
     NoTable,
     /// 27: nothing is shown of the row.

@@ -32,25 +32,19 @@ use Rattle.table_model.specs.declared.line.Fact.TheVariants as facts
 use Rattle.table_model.specs.declared.line.TextLine.{TextLine}
 use Rattle.table_model.specs.declared.line.TextLine.TheVariants as lines
 use Rattle.transcript_text.specs.Text.{cell_text, content_text, refusal_text, shown_text, answer_text, node_text, message_text, entry_text, fact_text, text_of}
-use Rattle.transcript_text.specs.OneForm.{IsNumberCell, HasContentText, HasRefusalText, HasValue, HasShownText, HasAnswerText, HasRowText, HasWriteText, HasEntryText, HasNodeText, HasFactText, HasText}
-use Rattle.transcript_text.proofs.Above.{IsAbove, led, led_same, led_above, decimal_above, signed_above, row_above, decimal_first, signed_first}
-
-abbrev pub cell_word : Cell → List ℕ
-cell_word (cells.Int n) = signed_decimal n
-cell_word (cells.Bool true) = codes "true"
-cell_word (cells.Bool false) = codes "false"
-cell_word (cells.Text text) = codes "t:" ++ percent_encode ESCAPED text
-
-abbrev pub object_word : List ℕ → List ℕ
-object_word object = codes "h:" ++ encode_lower object
+use Rattle.transcript_text.specs.OneForm.{HasContentText, HasRefusalText, HasValue, HasShownText, HasAnswerText, HasRowText, HasWriteText, HasEntryText, HasNodeText, HasFactText, HasText}
+use Rattle.transcript_text.proofs.Above.{IsAbove, led, led_same, led_above, decimal_above, row_above, decimal_first}
+use Rattle.transcript_text.proofs.Values.{cell_word, object_word, cells_above, objects_above, all_words, values_same, not_gone}
 
 abbrev pub content_words : Content → List (List ℕ)
 content_words Gone = codes "gone" ∷ []
 content_words (Row some objects) = map cell_word some ++ map object_word objects
 
 abbrev pub refusal_words : Refusal → List (List ℕ)
+refusal_words (refusals.TooManyChunks count) = codes "no" ∷ codes "9" ∷ decimal count ∷ []
 refusal_words (refusals.BadCell column) = codes "no" ∷ codes "10" ∷ decimal column ∷ []
 refusal_words (refusals.BadObject column len) = codes "no" ∷ codes "11" ∷ decimal column ∷ decimal len ∷ []
+refusal_words (refusals.RowTooLarge len) = codes "no" ∷ codes "12" ∷ decimal len ∷ []
 refusal_words refusals.NoTable = codes "no" ∷ codes "18" ∷ []
 refusal_words refusals.NoRow = codes "no" ∷ codes "27" ∷ []
 refusal_words (refusals.NoPacket sent) = codes "no" ∷ codes "29" ∷ decimal sent ∷ []
@@ -82,10 +76,23 @@ node_word (nodes.Gate gate) = codes "G" ++ decimal gate
 node_word (nodes.Store store) = codes "S" ++ decimal store
 
 abbrev pub message_word : MessageName → List ℕ
+message_word kinds.RegisterDevice = codes "registerDevice"
+message_word kinds.CreateTable = codes "createTable"
+message_word kinds.DropTable = codes "dropTable"
+message_word kinds.SubscribeTable = codes "subscribeTable"
+message_word kinds.UnsubscribeTable = codes "unsubscribeTable"
+message_word kinds.Notify = codes "notify"
+message_word kinds.ObjectFragment = codes "objectFragment"
 message_word kinds.PullRequest = codes "pullRequest"
 message_word kinds.PullResponse = codes "pullResponse"
 message_word kinds.SyncRequest = codes "syncRequest"
 message_word kinds.SyncResponse = codes "syncResponse"
+message_word kinds.TornRowRequest = codes "tornRowRequest"
+message_word kinds.TornRowResponse = codes "tornRowResponse"
+message_word kinds.OperationResponse = codes "operationResponse"
+message_word kinds.SaveClientSubscription = codes "saveClientSubscription"
+message_word kinds.RestoreClientSubscriptions = codes "restoreClientSubscriptions"
+message_word kinds.TableVersionUpdateNotification = codes "tableVersionUpdateNotification"
 
 abbrev pub entry_words : ℕ → Entry → List (List ℕ)
 entry_words table entry =
@@ -126,8 +133,10 @@ content_led (Row some objects) =
     rw (flat_map-append, cells_led some, flat_map-map (λ (word : List ℕ). 32 ∷ word) object_word objects) refl
 
 refusal_led : (refusal : Refusal) → 32 ∷ refusal_text refusal ≡ led 32 (refusal_words refusal)
+refusal_led (refusals.TooManyChunks count) = simp append-nil
 refusal_led (refusals.BadCell column) = simp append-nil
 refusal_led (refusals.BadObject column len) = simp append-nil
+refusal_led (refusals.RowTooLarge len) = simp append-nil
 refusal_led refusals.NoTable = refl
 refusal_led refusals.NoRow = refl
 refusal_led (refusals.NoPacket sent) = simp append-nil
@@ -149,10 +158,23 @@ node_led (nodes.Gate gate) = refl
 node_led (nodes.Store store) = refl
 
 message_led : (name : MessageName) → message_text name ≡ 32 ∷ message_word name
+message_led kinds.RegisterDevice = refl
+message_led kinds.CreateTable = refl
+message_led kinds.DropTable = refl
+message_led kinds.SubscribeTable = refl
+message_led kinds.UnsubscribeTable = refl
+message_led kinds.Notify = refl
+message_led kinds.ObjectFragment = refl
 message_led kinds.PullRequest = refl
 message_led kinds.PullResponse = refl
 message_led kinds.SyncRequest = refl
 message_led kinds.SyncResponse = refl
+message_led kinds.TornRowRequest = refl
+message_led kinds.TornRowResponse = refl
+message_led kinds.OperationResponse = refl
+message_led kinds.SaveClientSubscription = refl
+message_led kinds.RestoreClientSubscriptions = refl
+message_led kinds.TableVersionUpdateNotification = refl
 
 entry_led : (table : ℕ) (entry : Entry) → entry_text table entry ≡ led 32 (entry_words table entry)
 entry_led table entry = simp append-nil
@@ -171,19 +193,15 @@ text_led (lines.Answer answer) = answer_led answer
 text_led (lines.Entry table entry) = rw entry_led refl
 text_led (lines.Fact fact) = fact_led fact
 
-cells_above : (some : List Cell) → AllByRecursion IsNumberCell some → AllByRecursion (IsAbove 32) (map cell_word some)
-cells_above [] h = tt
-cells_above (cells.Int n ∷ some) h = (signed_above n h.0, cells_above some h.1)
-cells_above (cells.Bool b ∷ some) h = absurd h.0
-cells_above (cells.Text t ∷ some) h = absurd h.0
-
 content_above : (content : Content) → HasContentText content → AllByRecursion (IsAbove 32) (content_words content)
 content_above Gone h = search rules
-content_above (Row some objects) h = rw (h.1, append-nil) (cells_above some h.0)
+content_above (Row some objects) h = all_words (IsAbove 32) (map cell_word some) (map object_word objects) (cells_above some h.0) (objects_above objects h.1)
 
 refusal_above : (refusal : Refusal) → HasRefusalText refusal → AllByRecursion (IsAbove 32) (refusal_words refusal)
+refusal_above (refusals.TooManyChunks count) h = search (rules, decimal_above)
 refusal_above (refusals.BadCell column) h = search (rules, decimal_above)
 refusal_above (refusals.BadObject column len) h = search (rules, decimal_above)
+refusal_above (refusals.RowTooLarge len) h = search (rules, decimal_above)
 refusal_above refusals.NoTable h = search rules
 refusal_above refusals.NoRow h = search rules
 refusal_above (refusals.NoPacket sent) h = search (rules, decimal_above)
@@ -205,10 +223,23 @@ node_above (nodes.Gate gate) h = search (rules, decimal_above)
 node_above (nodes.Store store) h = search (rules, decimal_above)
 
 message_above : (name : MessageName) → IsAbove 32 (message_word name)
+message_above kinds.RegisterDevice = search rules
+message_above kinds.CreateTable = search rules
+message_above kinds.DropTable = search rules
+message_above kinds.SubscribeTable = search rules
+message_above kinds.UnsubscribeTable = search rules
+message_above kinds.Notify = search rules
+message_above kinds.ObjectFragment = search rules
 message_above kinds.PullRequest = search rules
 message_above kinds.PullResponse = search rules
 message_above kinds.SyncRequest = search rules
 message_above kinds.SyncResponse = search rules
+message_above kinds.TornRowRequest = search rules
+message_above kinds.TornRowResponse = search rules
+message_above kinds.OperationResponse = search rules
+message_above kinds.SaveClientSubscription = search rules
+message_above kinds.RestoreClientSubscriptions = search rules
+message_above kinds.TableVersionUpdateNotification = search rules
 
 entry_above : (table : ℕ) (entry : Entry) → HasEntryText table entry → AllByRecursion (IsAbove 32) (entry_words table entry)
 entry_above table entry h = search (rules, decimal_above, row_above)
@@ -226,27 +257,11 @@ words_above (lines.Answer answer) h = answer_above answer h
 words_above (lines.Entry table entry) h = search (rules, entry_above)
 words_above (lines.Fact fact) h = fact_above fact h
 
-cells_same : (xs ys : List Cell) → AllByRecursion IsNumberCell xs → AllByRecursion IsNumberCell ys → map cell_word xs ≡ map cell_word ys → xs ≡ ys
-cells_same [] [] p q e = refl
-cells_same [] (y ∷ ys) p q e = absurd cc
-cells_same (x ∷ xs) [] p q e = absurd cc
-cells_same (cells.Int m ∷ xs) (cells.Int n ∷ ys) p q e = cc (signed_decimal_injective m n (omega (arith, p.0)) (omega (arith, q.0)) (cc), cells_same xs ys p.1 q.1 (cc))
-cells_same (cells.Bool b ∷ xs) ys p q e = absurd p.0
-cells_same (cells.Text t ∷ xs) ys p q e = absurd p.0
-cells_same xs (cells.Bool b ∷ ys) p q e = absurd q.0
-cells_same xs (cells.Text t ∷ ys) p q e = absurd q.0
-
-not_gone : (some : List Cell) → AllByRecursion IsNumberCell some → map cell_word some ≡ codes "gone" ∷ [] → ⊥
-not_gone [] h e = cc
-not_gone (cells.Int n ∷ some) h e = omega (arith, signed_first n 103 (codes "one") h.0 (cc))
-not_gone (cells.Bool b ∷ some) h e = absurd h.0
-not_gone (cells.Text t ∷ some) h e = absurd h.0
-
 content_same : (a b : Content) → HasContentText a → HasContentText b → content_words a ≡ content_words b → a ≡ b
 content_same Gone Gone p q e = refl
-content_same Gone (Row some objects) p q e = absurd (not_gone some q.0 (sym (rw (q.1, append-nil) at e)))
-content_same (Row some objects) Gone p q e = absurd (not_gone some p.0 (rw (p.1, append-nil) at e))
-content_same (Row some objects) (Row more others) p q e = cc (cells_same some more p.0 q.0 (simp (p.1, q.1, append-nil) at e))
+content_same Gone (Row some objects) p q e = absurd (not_gone some objects q.0 (sym e))
+content_same (Row some objects) Gone p q e = absurd (not_gone some objects p.0 e)
+content_same (Row some objects) (Row more others) p q e = let same = values_same some more objects others p.0 q.0 p.1 q.1 e in cc (same.0, same.1)
 
 bytes_same : (xs ys : List ℕ) → length xs ≡ 16 → length ys ≡ 16 → All (λ b. b < 256) xs → All (λ b. b < 256) ys
     → hyphenated_text lower xs ≡ hyphenated_text lower ys → xs ≡ ys
@@ -289,16 +304,42 @@ node_same a b p q e =
 
 message_in : List ℕ → MessageName
 message_in word =
-    cond (bytes_eq word (codes "pullRequest")) kinds.PullRequest
+    cond (bytes_eq word (codes "registerDevice")) kinds.RegisterDevice
+    (cond (bytes_eq word (codes "createTable")) kinds.CreateTable
+    (cond (bytes_eq word (codes "dropTable")) kinds.DropTable
+    (cond (bytes_eq word (codes "subscribeTable")) kinds.SubscribeTable
+    (cond (bytes_eq word (codes "unsubscribeTable")) kinds.UnsubscribeTable
+    (cond (bytes_eq word (codes "notify")) kinds.Notify
+    (cond (bytes_eq word (codes "objectFragment")) kinds.ObjectFragment
+    (cond (bytes_eq word (codes "pullRequest")) kinds.PullRequest
     (cond (bytes_eq word (codes "pullResponse")) kinds.PullResponse
-    (cond (bytes_eq word (codes "syncRequest")) kinds.SyncRequest kinds.SyncResponse))
+    (cond (bytes_eq word (codes "syncRequest")) kinds.SyncRequest
+    (cond (bytes_eq word (codes "syncResponse")) kinds.SyncResponse
+    (cond (bytes_eq word (codes "tornRowRequest")) kinds.TornRowRequest
+    (cond (bytes_eq word (codes "tornRowResponse")) kinds.TornRowResponse
+    (cond (bytes_eq word (codes "operationResponse")) kinds.OperationResponse
+    (cond (bytes_eq word (codes "saveClientSubscription")) kinds.SaveClientSubscription
+    (cond (bytes_eq word (codes "restoreClientSubscriptions")) kinds.RestoreClientSubscriptions kinds.TableVersionUpdateNotification)))))))))))))))
 
 message_read : (name : MessageName) → message_in (message_word name) ≡ name
 unfolding message_in
+message_read kinds.RegisterDevice = refl
+message_read kinds.CreateTable = refl
+message_read kinds.DropTable = refl
+message_read kinds.SubscribeTable = refl
+message_read kinds.UnsubscribeTable = refl
+message_read kinds.Notify = refl
+message_read kinds.ObjectFragment = refl
 message_read kinds.PullRequest = refl
 message_read kinds.PullResponse = refl
 message_read kinds.SyncRequest = refl
 message_read kinds.SyncResponse = refl
+message_read kinds.TornRowRequest = refl
+message_read kinds.TornRowResponse = refl
+message_read kinds.OperationResponse = refl
+message_read kinds.SaveClientSubscription = refl
+message_read kinds.RestoreClientSubscriptions = refl
+message_read kinds.TableVersionUpdateNotification = refl
 
 message_same : (a b : MessageName) → message_word a ≡ message_word b → a ≡ b
 message_same a b e = sym (message_read a) ∙ ap message_in e ∙ message_read b
@@ -388,7 +429,8 @@ number_shown n (Mine number content) rest h e = no_letter n 109 (codes "ine") h 
 
 some_word : (content : Content) → HasValue content → content_words content ≡ [] → ⊥
 some_word Gone h e = cc
-some_word (Row [] objects) h e = h
+some_word (Row [] []) h e = h
+some_word (Row [] (object ∷ objects)) h e = cc
 some_word (Row (cell ∷ some) objects) h e = cc
 
 abbrev is_refused : Answer → Bool
@@ -404,8 +446,10 @@ refused_word (answers.Number number) = refl
 refused_word (answers.Shown (Clean version content)) = refl
 refused_word (answers.Shown (Mine number content)) = refl
 refused_word (answers.Stored version content) = refl
+refused_word (answers.Refused (refusals.TooManyChunks count)) = refl
 refused_word (answers.Refused (refusals.BadCell column)) = refl
 refused_word (answers.Refused (refusals.BadObject column len)) = refl
+refused_word (answers.Refused (refusals.RowTooLarge len)) = refl
 refused_word (answers.Refused refusals.NoTable) = refl
 refused_word (answers.Refused refusals.NoRow) = refl
 refused_word (answers.Refused (refusals.NoPacket sent)) = refl
@@ -449,8 +493,10 @@ answer_kind (answers.Number number) = refl
 answer_kind (answers.Shown (Clean version content)) = refl
 answer_kind (answers.Shown (Mine number content)) = refl
 answer_kind (answers.Stored version content) = refl
+answer_kind (answers.Refused (refusals.TooManyChunks count)) = refl
 answer_kind (answers.Refused (refusals.BadCell column)) = refl
 answer_kind (answers.Refused (refusals.BadObject column len)) = refl
+answer_kind (answers.Refused (refusals.RowTooLarge len)) = refl
 answer_kind (answers.Refused refusals.NoTable) = refl
 answer_kind (answers.Refused refusals.NoRow) = refl
 answer_kind (answers.Refused (refusals.NoPacket sent)) = refl

@@ -42,8 +42,10 @@ content_text Gone = codes " gone"
 content_text (Row some objects) = flat_map cell_text some ++ flat_map object_text objects
 
 abbrev pub refusal_text : Refusal → List ℕ
+refusal_text (refusals.TooManyChunks count) = codes "no 9 " ++ decimal count
 refusal_text (refusals.BadCell column) = codes "no 10 " ++ decimal column
 refusal_text (refusals.BadObject column len) = codes "no 11 " ++ (decimal column ++ (codes " " ++ decimal len))
+refusal_text (refusals.RowTooLarge len) = codes "no 12 " ++ decimal len
 refusal_text refusals.NoTable = codes "no 18"
 refusal_text refusals.NoRow = codes "no 27"
 refusal_text (refusals.NoPacket sent) = codes "no 29 " ++ decimal sent
@@ -71,10 +73,23 @@ node_text (nodes.Gate gate) = codes " G" ++ decimal gate
 node_text (nodes.Store store) = codes " S" ++ decimal store
 
 abbrev pub message_text : MessageName → List ℕ
+message_text kinds.RegisterDevice = codes " registerDevice"
+message_text kinds.CreateTable = codes " createTable"
+message_text kinds.DropTable = codes " dropTable"
+message_text kinds.SubscribeTable = codes " subscribeTable"
+message_text kinds.UnsubscribeTable = codes " unsubscribeTable"
+message_text kinds.Notify = codes " notify"
+message_text kinds.ObjectFragment = codes " objectFragment"
 message_text kinds.PullRequest = codes " pullRequest"
 message_text kinds.PullResponse = codes " pullResponse"
 message_text kinds.SyncRequest = codes " syncRequest"
 message_text kinds.SyncResponse = codes " syncResponse"
+message_text kinds.TornRowRequest = codes " tornRowRequest"
+message_text kinds.TornRowResponse = codes " tornRowResponse"
+message_text kinds.OperationResponse = codes " operationResponse"
+message_text kinds.SaveClientSubscription = codes " saveClientSubscription"
+message_text kinds.RestoreClientSubscriptions = codes " restoreClientSubscriptions"
+message_text kinds.TableVersionUpdateNotification = codes " tableVersionUpdateNotification"
 
 -- an entry of a table, behind the word that a line begins with
 abbrev pub entry_text : ℕ → Entry → List ℕ

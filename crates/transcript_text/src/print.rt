@@ -75,8 +75,10 @@ fn put_refusal(out: &mut String, refusal: Refusal) -> Result<(), AllocError>
     ensures { OnOk result (string_bytes out.new ≡ string_bytes out.old ++ refusal_text refusal) }
 {
     match refusal {
+        Refusal::TooManyChunks { count } => write!(out, "no 9 {count}"),
         Refusal::BadCell { column } => write!(out, "no 10 {column}"),
         Refusal::BadObject { column, len } => write!(out, "no 11 {column} {len}"),
+        Refusal::RowTooLarge { len } => write!(out, "no 12 {len}"),
         Refusal::NoTable => out.push_str("no 18"),
         Refusal::NoRow => out.push_str("no 27"),
         Refusal::NoPacket { sent } => write!(out, "no 29 {sent}"),
@@ -138,15 +140,35 @@ fn put_node(out: &mut String, node: Node) -> Result<(), AllocError>
     }
 }
 
-fn put_message(out: &mut String, name: MessageName) -> Result<(), AllocError>
-    ensures { OnOk result (string_bytes out.new ≡ string_bytes out.old ++ message_text name) }
+// The name of a kind of message, with a space before it.
+fn message_word(name: MessageName) -> &'static str
+    ensures { result.now ≡ message_text name }
 {
-    out.push_str(match name {
+    match name {
+        MessageName::RegisterDevice => " registerDevice",
+        MessageName::CreateTable => " createTable",
+        MessageName::DropTable => " dropTable",
+        MessageName::SubscribeTable => " subscribeTable",
+        MessageName::UnsubscribeTable => " unsubscribeTable",
+        MessageName::Notify => " notify",
+        MessageName::ObjectFragment => " objectFragment",
         MessageName::PullRequest => " pullRequest",
         MessageName::PullResponse => " pullResponse",
         MessageName::SyncRequest => " syncRequest",
         MessageName::SyncResponse => " syncResponse",
-    })
+        MessageName::TornRowRequest => " tornRowRequest",
+        MessageName::TornRowResponse => " tornRowResponse",
+        MessageName::OperationResponse => " operationResponse",
+        MessageName::SaveClientSubscription => " saveClientSubscription",
+        MessageName::RestoreClientSubscriptions => " restoreClientSubscriptions",
+        MessageName::TableVersionUpdateNotification => " tableVersionUpdateNotification",
+    }
+}
+
+fn put_message(out: &mut String, name: MessageName) -> Result<(), AllocError>
+    ensures { OnOk result (string_bytes out.new ≡ string_bytes out.old ++ message_text name) }
+{
+    out.push_str(message_word(name))
 }
 
 fn put_sent(

@@ -203,7 +203,8 @@ fn answers_show_rows(rt: HostRuntime) -> Result<(), Fail> {
     Ok(())
 }
 
-const REFUSED: [(Refusal, &str); 5] = [
+const REFUSED: [(Refusal, &str); 7] = [
+    (Refusal::TooManyChunks { count: 32769 }, "no 9 32769"),
     (Refusal::BadCell { column: 1 }, "no 10 1"),
     (
         Refusal::BadObject {
@@ -212,6 +213,7 @@ const REFUSED: [(Refusal, &str); 5] = [
         },
         "no 11 0 4194305",
     ),
+    (Refusal::RowTooLarge { len: 16777217 }, "no 12 16777217"),
     (Refusal::NoTable, "no 18"),
     (Refusal::NoRow, "no 27"),
     (Refusal::NoPacket { sent: 3 }, "no 29 3"),

@@ -11,9 +11,9 @@ use Rattle.row_value.specs.declared.pieces.Piece.TheVariants.{Keep, Fresh}
 use Rattle.row_value.specs.declared.pieces.PieceObject.{PieceObject}
 use Rattle.row_value.specs.declared.pieces.PieceContent.{PieceContent}
 use Rattle.row_value.specs.declared.pieces.PieceContent.TheVariants.{Gone, Row}
-use Rattle.value_codec.specs.Spelling.{list_spelling, cell_spelling, HasCellSpelling, piece_spelling, HasPieceSpelling, fresh_in, object_spelling, HasObjectSpelling, pieces_of, CountsFrom, content_spelling, HasContentSpelling}
-use Rattle.value_codec.specs.Reading.{byte_at, number_at, list_at, after_cell, cell_in, piece_in, after_piece, object_in, after_object, row_at, content_at}
-use Rattle.value_codec.proofs.FieldReads.{bind_ok, ok_is, branch, no_fault, gives, Reads, rest_fits, two_take, two_again, byte_reads, four_reads}
+use Rattle.value_codec.specs.Spelling.{list_spelling, cell_spelling, HasCellSpelling, piece_spelling, HasPieceSpelling, fresh_in, object_spelling, HasObjectSpelling, pieces_of, CountsFrom, content_spelling, HasContentSpelling, HasKeptSpelling}
+use Rattle.value_codec.specs.Reading.{byte_at, number_at, list_at, after_cell, cell_in, piece_in, after_piece, object_in, after_object, row_from, content_from, content_at, kept_content_at}
+use Rattle.value_codec.proofs.FieldReads.{bind_ok, ok_is, branch, no_fault, gives, Reads, retold, rest_fits, two_take, two_again, byte_reads, four_reads}
 use Rattle.value_codec.proofs.ListReads.{EachFrom, list_reads, each_of, each_from}
 use Rattle.value_codec.proofs.CellReads.{cell_reads}
 use Rattle.value_codec.proofs.PieceReads.{IsNext, next_reads}
@@ -92,47 +92,102 @@ are_objects fresh (o ∷ os) h k =
 abbrev pub AreCells : List Cell → Type 0
 AreCells cells = (length cells < 2 ^ 32) × EachFrom after_cell (λ s. HasCellSpelling) tt cells
 
-abbrev pub AreObjects : List PieceObject → Type 0
-AreObjects objects = (length objects < 2 ^ 32) × EachFrom after_object IsObjectNext 0 objects
+abbrev pub AreObjectsFrom : ℕ → List PieceObject → Type 0
+AreObjectsFrom fresh objects = (length objects < 2 ^ 32) × EachFrom after_object IsObjectNext fresh objects
 
 pub cells_read : Reads AreCells (list_spelling cell_spelling) (list_at after_cell cell_in tt)
 cells_read = list_reads after_cell (λ s. HasCellSpelling) cell_spelling cell_in (λ s. cell_reads) tt
 
-pub objects_read : Reads AreObjects (list_spelling object_spelling) (list_at after_object object_in 0)
-objects_read = list_reads after_object IsObjectNext object_spelling object_in object_reads 0
+pub objects_read : (fresh : ℕ) → Reads (AreObjectsFrom fresh) (list_spelling object_spelling) (list_at after_object object_in fresh)
+objects_read fresh = list_reads after_object IsObjectNext object_spelling object_in object_reads fresh
+
+-- a content behind so many new chunks
+abbrev pub IsContentFrom : ℕ → PieceContent → Type 0
+IsContentFrom fresh Gone = Unit {0}
+IsContentFrom fresh (Row some objects) = AreCells some × AreObjectsFrom fresh objects
 
 abbrev row_of : List Cell → List PieceObject → PieceContent
 row_of cells objects = Row cells objects
 
-row_takes : (bytes : List ℕ) (x : PieceContent) (rest : List ℕ) → IsBytes bytes → row_at bytes ≡ Ok (x, rest) → HasContentSpelling x × (1 ∷ bytes ≡ content_spelling x ++ rest)
-unfolding row_at
-row_takes bytes x rest fits e =
-    let t = two_take AreCells (list_spelling cell_spelling) (list_at after_cell cell_in tt) (λ (cs : List Cell). AreObjects) (λ (cs : List Cell). list_spelling object_spelling) (λ (cs : List Cell). list_at after_object object_in 0) row_of cells_read (λ cs. objects_read) bytes x rest fits e in
-    let each = objects_are 0 t.1 t.4.1 in
-    subst (λ (c : PieceContent). HasContentSpelling c × (1 ∷ bytes ≡ content_spelling c ++ rest)) t.2
-    (record { cell_count = t.3.0; each_cell = each_of after_cell HasCellSpelling tt t.0 t.3.1; object_count = t.4.0; each_object = each.0; fresh = each.1 }, ap (λ (l : List ℕ). 1 ∷ l) t.5)
+row_takes : (fresh : ℕ) (bytes : List ℕ) (x : PieceContent) (rest : List ℕ) → IsBytes bytes → row_from fresh bytes ≡ Ok (x, rest) → IsContentFrom fresh x × (1 ∷ bytes ≡ content_spelling x ++ rest)
+unfolding row_from
+row_takes fresh bytes x rest fits e =
+    let t = two_take AreCells (list_spelling cell_spelling) (list_at after_cell cell_in tt) (λ (cs : List Cell). AreObjectsFrom fresh) (λ (cs : List Cell). list_spelling object_spelling) (λ (cs : List Cell). list_at after_object object_in fresh) row_of cells_read (λ cs. objects_read fresh) bytes x rest fits e in
+    subst (λ (c : PieceContent). IsContentFrom fresh c × (1 ∷ bytes ≡ content_spelling c ++ rest)) t.2 ((t.3, t.4), ap (λ (l : List ℕ). 1 ∷ l) t.5)
 
-content_takes : (bytes : List ℕ) (x : PieceContent) (rest : List ℕ) → IsBytes bytes → content_at bytes ≡ Ok (x, rest) → HasContentSpelling x × (bytes ≡ content_spelling x ++ rest)
-unfolding content_at
-content_takes bytes x rest fits e =
-    let a = bind_ok (byte_at bytes) (λ tag. cond (eqb tag.0 0) (gives Gone tag.1) (cond (eqb tag.0 1) (row_at tag.1) (Err (length bytes)))) (x, rest) e in
+content_takes : (fresh : ℕ) (bytes : List ℕ) (x : PieceContent) (rest : List ℕ) → IsBytes bytes → content_from fresh bytes ≡ Ok (x, rest) → IsContentFrom fresh x × (bytes ≡ content_spelling x ++ rest)
+unfolding content_from
+content_takes fresh bytes x rest fits e =
+    let a = bind_ok (byte_at bytes) (λ tag. cond (eqb tag.0 0) (gives Gone tag.1) (cond (eqb tag.0 1) (row_from fresh tag.1) (Err (length bytes)))) (x, rest) e in
     let t = byte_reads.takes bytes a.0.0 a.0.1 fits a.1 in
     let behind : IsBytes a.0.1 = rest_fits (a.0.0 ∷ []) a.0.1 bytes t.1 fits in
     let tagged : (n : ℕ) → a.0.0 ≡ n → bytes ≡ n ∷ a.0.1 = λ n is. t.1 ∙ ap (λ (m : ℕ). m ∷ a.0.1) is in
-    elim (branch (eqb a.0.0 0) (gives Gone a.0.1) (cond (eqb a.0.0 1) (row_at a.0.1) (Err (length bytes))) (x, rest) a.2) [
-      | inl y ↦ subst (λ (p : PieceContent × List ℕ). HasContentSpelling p.0 × (bytes ≡ content_spelling p.0 ++ p.1)) (ok_is (Gone, a.0.1) (x, rest) y.1) (tt, tagged 0 (eqb-true _ _ y.0))
-      | inr n ↦ elim (branch (eqb a.0.0 1) (row_at a.0.1) (Err (length bytes)) (x, rest) n.1) [
-        | inl y ↦ let o = row_takes a.0.1 x rest behind y.1 in (o.0, tagged 1 (eqb-true _ _ y.0) ∙ o.1)
+    elim (branch (eqb a.0.0 0) (gives Gone a.0.1) (cond (eqb a.0.0 1) (row_from fresh a.0.1) (Err (length bytes))) (x, rest) a.2) [
+      | inl y ↦ subst (λ (p : PieceContent × List ℕ). IsContentFrom fresh p.0 × (bytes ≡ content_spelling p.0 ++ p.1)) (ok_is (Gone, a.0.1) (x, rest) y.1) (tt, tagged 0 (eqb-true _ _ y.0))
+      | inr n ↦ elim (branch (eqb a.0.0 1) (row_from fresh a.0.1) (Err (length bytes)) (x, rest) n.1) [
+        | inl y ↦ let o = row_takes fresh a.0.1 x rest behind y.1 in (o.0, tagged 1 (eqb-true _ _ y.0) ∙ o.1)
         | inr m ↦ absurd (no_fault (length bytes) (x, rest) m.1)
       ]
     ]
 
-content_again : (x : PieceContent) (rest : List ℕ) → HasContentSpelling x → content_at (content_spelling x ++ rest) ≡ Ok (x, rest)
-unfolding content_at byte_at row_at
-content_again Gone rest h = refl
-content_again (Row cells objects) rest h =
-    two_again AreCells (list_spelling cell_spelling) (list_at after_cell cell_in tt) (λ (cs : List Cell). AreObjects) (λ (cs : List Cell). list_spelling object_spelling) (λ (cs : List Cell). list_at after_object object_in 0) row_of cells_read (λ cs. objects_read) cells objects rest
-    (h.cell_count, each_from after_cell HasCellSpelling tt cells h.each_cell) (h.object_count, are_objects 0 objects h.each_object h.fresh)
+content_again : (fresh : ℕ) (x : PieceContent) (rest : List ℕ) → IsContentFrom fresh x → content_from fresh (content_spelling x ++ rest) ≡ Ok (x, rest)
+unfolding content_from byte_at row_from
+content_again fresh Gone rest h = refl
+content_again fresh (Row cells objects) rest h =
+    two_again AreCells (list_spelling cell_spelling) (list_at after_cell cell_in tt) (λ (cs : List Cell). AreObjectsFrom fresh) (λ (cs : List Cell). list_spelling object_spelling) (λ (cs : List Cell). list_at after_object object_in fresh) row_of cells_read (λ cs. objects_read fresh) cells objects rest h.0 h.1
+
+pub content_from_reads : (fresh : ℕ) → Reads (IsContentFrom fresh) content_spelling (content_from fresh)
+content_from_reads fresh = record { takes = content_takes fresh; again = content_again fresh }
+
+-- ---- from the first new chunk on
+
+pub content_is : (x : PieceContent) → IsContentFrom 0 x → HasContentSpelling x
+content_is Gone h = tt
+content_is (Row some objects) h =
+    let each = objects_are 0 objects h.1.1 in
+    record { cell_count = h.0.0; each_cell = each_of after_cell HasCellSpelling tt some h.0.1; object_count = h.1.0; each_object = each.0; fresh = each.1 }
+
+pub is_content : (x : PieceContent) → HasContentSpelling x → IsContentFrom 0 x
+is_content Gone h = tt
+is_content (Row some objects) h = ((h.cell_count, each_from after_cell HasCellSpelling tt some h.each_cell), (h.object_count, are_objects 0 objects h.each_object h.fresh))
 
 pub content_reads : Reads HasContentSpelling content_spelling content_at
-content_reads = record { takes = content_takes; again = content_again }
+content_reads = retold (IsContentFrom 0) HasContentSpelling content_spelling content_at (content_from_reads 0) content_is is_content
+
+-- ---- without new chunks
+
+keeps : (ps : List Piece) → EachFrom after_piece IsNext (2 ^ 32) ps → fresh_in ps ≡ []
+keeps [] h = refl
+keeps (Keep name ∷ ps) h = keeps ps h.1
+keeps (Fresh n ∷ ps) h = absurd (omega (arith, h.0.1))
+
+keep_objects : (os : List PieceObject) → EachFrom after_object IsObjectNext (2 ^ 32) os → fresh_in (pieces_of os) ≡ []
+keep_objects [] h = refl
+keep_objects (o ∷ os) h =
+    let none = keeps o.pieces h.0.1.1 in
+    let later : EachFrom after_object IsObjectNext (2 ^ 32) os = subst (λ (ns : List ℕ). EachFrom after_object IsObjectNext (2 ^ 32 + length ns) os) none h.1 in
+    fresh_of_objects o os ∙ ap (λ (ns : List ℕ). ns ++ fresh_in (pieces_of os)) none ∙ keep_objects os later
+
+pub kept_is : (x : PieceContent) → IsContentFrom (2 ^ 32) x → HasKeptSpelling x
+kept_is Gone h = record { spelled = tt; kept = tt }
+kept_is (Row some objects) h =
+    let none = keep_objects objects h.1.1 in
+    record {
+      spelled = record {
+        cell_count = h.0.0;
+        each_cell = each_of after_cell HasCellSpelling tt some h.0.1;
+        object_count = h.1.0;
+        each_object = (objects_are (2 ^ 32) objects h.1.1).0;
+        fresh = subst (CountsFrom 0) (sym none) tt;
+      };
+      kept = none;
+    }
+
+pub is_kept : (x : PieceContent) → HasKeptSpelling x → IsContentFrom (2 ^ 32) x
+is_kept Gone h = tt
+is_kept (Row some objects) h =
+    let s = h.spelled in
+    ((s.cell_count, each_from after_cell HasCellSpelling tt some s.each_cell), (s.object_count, are_objects (2 ^ 32) objects s.each_object (subst (CountsFrom (2 ^ 32)) (sym h.kept) tt)))
+
+pub kept_reads : Reads HasKeptSpelling content_spelling kept_content_at
+kept_reads = retold (IsContentFrom (2 ^ 32)) HasKeptSpelling content_spelling kept_content_at (content_from_reads (2 ^ 32)) kept_is is_kept

@@ -1,9 +1,9 @@
 -- A field that is read is the field that was written, and what was written is read again.
-use Rattle.std.proofs.Common.{◌≡◌, ℕ, ◌^◌, ◌<◌, Bool, true, false, cond, eqb, ltb, List, [], ◌∷◌, ◌++◌, length, take, drop, Result, Ok, Err, refl, sym, ap, subst, ◌∙◌, append_assoc, arith, ◌⊎◌, inl, inr}
+use Rattle.std.proofs.Common.{◌≡◌, ℕ, ◌+◌, ◌-◌, ◌^◌, ◌<◌, ◌≤◌, length-drop, Bool, true, false, cond, eqb, ltb, List, [], ◌∷◌, ◌++◌, length, take, drop, Result, Ok, Err, refl, sym, ap, subst, ◌∙◌, append_assoc, arith, ◌⊎◌, inl, inr}
 use Rattle.std.specs.Int.{Width, w32, w64, byte_len, from_be_bytes, to_be_bytes}
 use Rattle.std.specs.Str.{IsUtf8}
-use Rattle.std.proofs.lemmas.Bool.{le-ltb, eqb-true}
-use Rattle.std.proofs.lemmas.List.{take_at, drop_at, length-append}
+use Rattle.std.proofs.lemmas.Bool.{le-ltb, ltb-false, eqb-true}
+use Rattle.std.proofs.lemmas.List.{take_at, drop_at, length-append, length-take-le, take-append-drop, take_all, drop-drop}
 use Rattle.stab_base.specs.declared.codec.TakeFault.{TakeFault}
 use Rattle.stab_base.specs.declared.codec.TakeFault.TheVariants.{Short}
 use Rattle.stab_base.specs.Codec.{IsBytes, counted}
@@ -11,7 +11,7 @@ use Rattle.stab_base.proofs.Fields.{IsWide, wide32, wide64, IsBytes-drop, number
 use Rattle.value_codec.specs.Spelling.{flag_spelling}
 use Rattle.value_codec.specs.Utf8.{between, utf8_rest}
 use Rattle.value_codec.proofs.Utf8Reads.{rest_takes, rest_again}
-use Rattle.value_codec.specs.Reading.{◌>>=◌, byte_at, number_at, flag_at, utf8_at, text_at}
+use Rattle.value_codec.specs.Reading.{◌>>=◌, byte_at, number_at, flag_at, id_at, utf8_at, text_at}
 
 -- the value of a step that did not fail
 pub bind_ok : {A B : Type 0} (r : Result A ℕ) (f : A → Result B ℕ) (y : B) → (r >>= f) ≡ Ok y → (x : A) × (r ≡ Ok x) × (f x ≡ Ok y)
@@ -112,6 +112,36 @@ four_reads = number_reads w32 (2 ^ 32) wide32
 
 pub eight_reads : Reads (λ n. n < 2 ^ 64) (to_be_bytes w64) (number_at w64)
 eight_reads = number_reads w64 (2 ^ 64) wide64
+
+-- ---- ids
+
+id_takes : (bytes id rest : List ℕ) → IsBytes bytes → id_at bytes ≡ Ok (id, rest) → (length id ≡ 16) × (bytes ≡ id ++ rest)
+unfolding id_at
+id_takes bytes id rest fits e =
+    elim (branch (ltb (length bytes) 16) (Err 0) (gives (take 16 bytes) (drop 16 bytes)) (id, rest) e) [
+      | inl y ↦ absurd (no_fault 0 (id, rest) y.1)
+      | inr n ↦
+          let long : 16 ≤ length bytes = ltb-false _ _ n.0 in
+          subst (λ (p : List ℕ × List ℕ). (length p.0 ≡ 16) × (bytes ≡ p.0 ++ p.1)) (ok_is (take 16 bytes, drop 16 bytes) (id, rest) n.1) (length-take-le 16 bytes long, sym (take-append-drop 16 bytes))
+    ]
+
+id_again : (id rest : List ℕ) → length id ≡ 16 → id_at (id ++ rest) ≡ Ok (id, rest)
+unfolding id_at
+id_again id rest len =
+    let long : ltb (length (id ++ rest)) 16 ≡ false = le-ltb _ _ (omega (arith, length-append id rest, len)) in
+    rw (long, take_at id rest 16 len, drop_at id rest 16 len) refl
+
+pub id_reads : Reads (λ id. length id ≡ 16) (λ id. id) id_at
+id_reads = record { takes = id_takes; again = id_again }
+
+pub id_read : (bytes : List ℕ) (at : ℕ) (id : List ℕ) → at ≤ length bytes → id ≡ take 16 (take (length bytes - at) (drop at bytes)) → 16 ≤ length (take (length bytes - at) (drop at bytes)) → id_at (drop at bytes) ≡ gives id (drop (at + 16) bytes)
+unfolding id_at
+id_read bytes at id within is long =
+    let rest = drop at bytes in
+    let whole : take (length bytes - at) rest ≡ rest = take_all (length bytes - at) rest (omega (arith, length-drop at bytes)) in
+    let enough : 16 ≤ length rest = subst (λ (l : List ℕ). 16 ≤ length l) whole long in
+    let front : take 16 rest ≡ id = sym (is ∙ ap (take 16) whole) in
+    rw (le-ltb (length rest) 16 enough, front, drop-drop 16 at bytes) refl
 
 -- ---- flags and texts
 

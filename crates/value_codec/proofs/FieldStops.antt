@@ -15,7 +15,7 @@ use Rattle.value_codec.specs.declared.utf8.Inside.{Inside}
 use Rattle.value_codec.specs.FirstBad.{IsFirstBad}
 use Rattle.value_codec.specs.Spelling.{flag_spelling, list_spelling}
 use Rattle.value_codec.specs.Utf8.{between, step, utf8_rest}
-use Rattle.value_codec.specs.Reading.{byte_at, number_at, flag_at, utf8_at, text_at, items_at, list_at, exactly_at}
+use Rattle.value_codec.specs.Reading.{byte_at, number_at, flag_at, id_at, utf8_at, text_at, items_at, list_at, exactly_at}
 use Rattle.value_codec.proofs.FieldReads.{gives, Reads, four_reads, utf8_reads}
 use Rattle.value_codec.proofs.ListReads.{EachFrom, IsList, items_reads}
 use Rattle.value_codec.proofs.Utf8Places.{goes, steps}
@@ -77,6 +77,33 @@ four_stop = number_stop w32 (2 ^ 32) wide32 (omega arith)
 
 pub eight_stop : Stops (λ n. n < 2 ^ 64) (to_be_bytes w64) (number_at w64)
 eight_stop = number_stop w64 (2 ^ 64) wide64 (omega arith)
+
+-- ---- ids
+
+id_fails : (bytes : List ℕ) (left : ℕ) → IsBytes bytes → id_at bytes ≡ Err left → IsFirstBad (λ id. length id ≡ 16) (λ id. id) bytes left
+unfolding id_at
+id_fails bytes left fits e =
+    elim (branch_err (ltb (length bytes) 16) (Err 0) (gives (take 16 bytes) (drop 16 bytes)) left e) [
+      | inr h ↦ absurd (not_ok (take 16 bytes, drop 16 bytes) left h.1)
+      | inl h ↦
+          let short : length bytes < 16 = ltb-true _ _ h.0 in
+          let missing : List ℕ = zeros (16 - length bytes) in
+          let nothing : List ℕ = [] in
+          record {
+            front = bytes;
+            rest = nothing;
+            parts = sym (append-nil bytes);
+            place = err_is {A = List ℕ × List ℕ} 0 left h.1;
+            value = bytes ++ missing;
+            more = missing;
+            fits = length-append bytes missing ∙ omega (arith, zeros-length (16 - length bytes));
+            goes_on = refl;
+            stops = λ b later is x others k f. absurd cc;
+          }
+    ]
+
+pub id_stop : Stops (λ id. length id ≡ 16) (λ id. id) id_at
+id_stop = record { some = zeros 16; has = zeros-length 16; fails = id_fails }
 
 -- ---- flags, and bytes that are given
 

@@ -60,6 +60,13 @@ moved P spell Q tell bytes left there back bad =
       stops = λ b behind is x others h e. let w = back x h in bad.stops b behind is w.0 others w.1 (w.2 ∙ e);
     }
 
+pub retold_stop : {X : Type 0} (P Q : X → Type 0) (spell : X → List ℕ) (read : List ℕ → Result (X × List ℕ) ℕ) → Stops P spell read → ((x : X) → P x → Q x) → ((x : X) → Q x → P x) → Stops Q spell read
+retold_stop P Q spell read s there back = record {
+  some = s.some;
+  has = there s.some s.has;
+  fails = λ bytes left fits e. moved P spell Q spell bytes left (λ w h. (w, there w h, refl)) (λ z h. (z, back z h, refl)) (s.fails bytes left fits e);
+}
+
 -- behind a first byte
 pub behind : {W Z : Type 0} (tag : ℕ) (P : W → Type 0) (spell : W → List ℕ) (Q : Z → Type 0) (tell : Z → List ℕ) (bytes : List ℕ) (left : ℕ)
     → ((w : W) → P w → (z : Z) × Q z × (tell z ≡ tag ∷ spell w)) → ((z : Z) (others : List ℕ) → Q z → tell z ≡ tag ∷ others → (w : W) × P w × (spell w ≡ others))

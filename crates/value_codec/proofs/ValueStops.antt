@@ -14,14 +14,13 @@ use Rattle.row_value.specs.declared.pieces.PieceObject.{PieceObject}
 use Rattle.row_value.specs.declared.pieces.PieceContent.{PieceContent}
 use Rattle.row_value.specs.declared.pieces.PieceContent.TheVariants.{Gone, Row}
 use Rattle.value_codec.specs.FirstBad.{IsFirstBad}
-use Rattle.value_codec.specs.Spelling.{flag_spelling, list_spelling, cell_spelling, HasCellSpelling, name_spelling, HasNameSpelling, piece_spelling, HasPieceSpelling, object_spelling, content_spelling, HasContentSpelling, HasRowSpelling}
-use Rattle.value_codec.specs.Reading.{byte_at, number_at, flag_at, text_at, list_at, int_at, bool_at, text_cell_at, cell_at, after_cell, cell_in, name_at, keep_at, fresh_at, piece_at, exactly_at, fresh_is_at, piece_in, after_piece, object_in, after_object, row_at, content_at}
+use Rattle.value_codec.specs.Spelling.{flag_spelling, list_spelling, cell_spelling, HasCellSpelling, name_spelling, HasNameSpelling, piece_spelling, HasPieceSpelling, object_spelling, content_spelling, HasContentSpelling, HasKeptSpelling}
+use Rattle.value_codec.specs.Reading.{byte_at, number_at, flag_at, text_at, list_at, int_at, bool_at, text_cell_at, cell_at, after_cell, cell_in, name_at, keep_at, fresh_at, piece_at, exactly_at, fresh_is_at, piece_in, after_piece, object_in, after_object, row_from, content_from, content_at, kept_content_at}
 use Rattle.value_codec.proofs.FieldReads.{gives, four_reads, eight_reads}
-use Rattle.value_codec.proofs.ListReads.{each_of, each_from}
 use Rattle.value_codec.proofs.CellReads.{cell_reads}
 use Rattle.value_codec.proofs.PieceReads.{IsNext, next_reads}
-use Rattle.value_codec.proofs.ContentReads.{IsObjectNext, object_reads, AreNext, pieces_read, AreCells, AreObjects, cells_read, objects_read, objects_are, are_objects}
-use Rattle.value_codec.proofs.Stops.{Stops, err_is, not_ok, bind_err, branch_err, one_err, head_is, tail_is, moved, behind, no_byte, bad_byte, two_fail_made}
+use Rattle.value_codec.proofs.ContentReads.{IsObjectNext, object_reads, AreNext, pieces_read, AreCells, AreObjectsFrom, cells_read, objects_read, IsContentFrom, content_is, is_content, kept_is, is_kept}
+use Rattle.value_codec.proofs.Stops.{Stops, retold_stop, err_is, not_ok, bind_err, branch_err, one_err, head_is, tail_is, moved, behind, no_byte, bad_byte, two_fail_made}
 use Rattle.value_codec.proofs.FieldStops.{four_stop, eight_stop, flag_stop, exactly_fails, Given, given, IsText, text_stop, list_stop}
 
 pub IsBytes-rest : (b : ℕ) (bytes : List ℕ) → IsBytes (b ∷ bytes) → IsBytes bytes
@@ -240,56 +239,53 @@ object_stop fresh = let none : List Piece = [] in record { some = object_of 0 no
 cells_stop : Stops AreCells (list_spelling cell_spelling) (list_at after_cell cell_in tt)
 cells_stop = list_stop after_cell (λ s. HasCellSpelling) cell_spelling cell_in (λ s. cell_reads) (λ s. cell_stop) tt
 
-objects_stop : Stops AreObjects (list_spelling object_spelling) (list_at after_object object_in 0)
-objects_stop = list_stop after_object IsObjectNext object_spelling object_in object_reads object_stop 0
+objects_stop : (fresh : ℕ) → Stops (AreObjectsFrom fresh) (list_spelling object_spelling) (list_at after_object object_in fresh)
+objects_stop fresh = list_stop after_object IsObjectNext object_spelling object_in object_reads object_stop fresh
 
-abbrev AreParts : List Cell × List PieceObject → Type 0
-AreParts p = AreCells p.0 × AreObjects p.1
+abbrev AreParts : ℕ → List Cell × List PieceObject → Type 0
+AreParts fresh p = AreCells p.0 × AreObjectsFrom fresh p.1
 
 abbrev parts_spelling : List Cell × List PieceObject → List ℕ
 parts_spelling p = list_spelling cell_spelling p.0 ++ list_spelling object_spelling p.1
 
-row_fits : (p : List Cell × List PieceObject) → AreParts p → HasRowSpelling p.0 p.1
-row_fits p h =
-    let each = objects_are 0 p.1 h.1.1 in
-    record { cell_count = h.0.0; each_cell = each_of after_cell HasCellSpelling tt p.0 h.0.1; object_count = h.1.0; each_object = each.0; fresh = each.1 }
+row_back : (fresh : ℕ) (z : PieceContent) (others : List ℕ) → IsContentFrom fresh z → content_spelling z ≡ 1 ∷ others → (p : List Cell × List PieceObject) × AreParts fresh p × (parts_spelling p ≡ others)
+row_back fresh Gone others h e = differ 0 1 [] others refl e
+row_back fresh (Row some objects) others h e = ((some, objects), h, tail_is 1 1 (parts_spelling (some, objects)) others e)
 
-row_back : (z : PieceContent) (others : List ℕ) → HasContentSpelling z → content_spelling z ≡ 1 ∷ others → (p : List Cell × List PieceObject) × AreParts p × (parts_spelling p ≡ others)
-row_back Gone others h e = differ 0 1 [] others refl e
-row_back (Row some objects) others h e = (
-  (some, objects),
-  ((h.cell_count, each_from after_cell HasCellSpelling tt some h.each_cell), (h.object_count, are_objects 0 objects h.each_object h.fresh)),
-  tail_is 1 1 (parts_spelling (some, objects)) others e,
-)
+no_content : (fresh b : ℕ) → eqb b 0 ≡ false → eqb b 1 ≡ false → (z : PieceContent) (others : List ℕ) → IsContentFrom fresh z → content_spelling z ≡ b ∷ others → ⊥
+no_content fresh b p q Gone others h e = eqb-false b 0 p (sym (head_is 0 b [] others e))
+no_content fresh b p q (Row some objects) others h e = eqb-false b 1 q (sym (head_is 1 b (parts_spelling (some, objects)) others e))
 
-no_content : (b : ℕ) → eqb b 0 ≡ false → eqb b 1 ≡ false → (z : PieceContent) (others : List ℕ) → HasContentSpelling z → content_spelling z ≡ b ∷ others → ⊥
-no_content b p q Gone others h e = eqb-false b 0 p (sym (head_is 0 b [] others e))
-no_content b p q (Row some objects) others h e = eqb-false b 1 q (sym (head_is 1 b (parts_spelling (some, objects)) others e))
-
-abbrev BadContent : List ℕ → ℕ → Type 0
-BadContent bytes left = IsFirstBad HasContentSpelling content_spelling bytes left
+abbrev BadContent : ℕ → List ℕ → ℕ → Type 0
+BadContent fresh bytes left = IsFirstBad (IsContentFrom fresh) content_spelling bytes left
 
 abbrev row_of : List Cell → List PieceObject → PieceContent
 row_of some objects = Row some objects
 
-row_fails : (bytes : List ℕ) (left : ℕ) → IsBytes bytes → row_at bytes ≡ Err left → BadContent (1 ∷ bytes) left
-unfolding row_at
-row_fails bytes left fits e =
-    behind {W = List Cell × List PieceObject} 1 AreParts parts_spelling HasContentSpelling content_spelling bytes left (λ p h. (Row p.0 p.1, row_fits p h, refl)) row_back
-    (two_fail_made AreCells (list_spelling cell_spelling) (list_at after_cell cell_in tt) (λ (cs : List Cell). AreObjects) (λ (cs : List Cell). list_spelling object_spelling) (λ (cs : List Cell). list_at after_object object_in 0) cells_read cells_stop (λ cs. objects_read) (λ cs h. objects_stop) row_of bytes left fits e)
+row_fails : (fresh : ℕ) (bytes : List ℕ) (left : ℕ) → IsBytes bytes → row_from fresh bytes ≡ Err left → BadContent fresh (1 ∷ bytes) left
+unfolding row_from
+row_fails fresh bytes left fits e =
+    behind {W = List Cell × List PieceObject} 1 (AreParts fresh) parts_spelling (IsContentFrom fresh) content_spelling bytes left (λ p h. (Row p.0 p.1, h, refl)) (row_back fresh)
+    (two_fail_made AreCells (list_spelling cell_spelling) (list_at after_cell cell_in tt) (λ (cs : List Cell). AreObjectsFrom fresh) (λ (cs : List Cell). list_spelling object_spelling) (λ (cs : List Cell). list_at after_object object_in fresh) cells_read cells_stop (λ cs. objects_read fresh) (λ cs h. objects_stop fresh) row_of bytes left fits e)
 
-content_fails : (bytes : List ℕ) (left : ℕ) → IsBytes bytes → content_at bytes ≡ Err left → BadContent bytes left
-unfolding content_at byte_at
-content_fails [] left fits e = subst (BadContent []) (err_is {A = PieceContent × List ℕ} 0 left e) (no_byte HasContentSpelling content_spelling Gone tt)
-content_fails (b ∷ bytes) left fits e =
+content_fails : (fresh : ℕ) (bytes : List ℕ) (left : ℕ) → IsBytes bytes → content_from fresh bytes ≡ Err left → BadContent fresh bytes left
+unfolding content_from byte_at
+content_fails fresh [] left fits e = subst (BadContent fresh []) (err_is {A = PieceContent × List ℕ} 0 left e) (no_byte (IsContentFrom fresh) content_spelling Gone tt)
+content_fails fresh (b ∷ bytes) left fits e =
     let rest = IsBytes-rest b bytes fits in
-    elim (branch_err (eqb b 0) (gives Gone bytes) (cond (eqb b 1) (row_at bytes) (Err (suc (length bytes)))) left e) [
+    elim (branch_err (eqb b 0) (gives Gone bytes) (cond (eqb b 1) (row_from fresh bytes) (Err (suc (length bytes)))) left e) [
       | inl y ↦ absurd (not_ok (Gone, bytes) left y.1)
-      | inr p ↦ elim (branch_err (eqb b 1) (row_at bytes) (Err (suc (length bytes))) left p.1) [
-        | inl y ↦ subst (λ (m : ℕ). BadContent (m ∷ bytes) left) (sym (eqb-true b 1 y.0)) (row_fails bytes left rest y.1)
-        | inr q ↦ subst (BadContent (b ∷ bytes)) (err_is {A = PieceContent × List ℕ} (suc (length bytes)) left q.1) (bad_byte HasContentSpelling content_spelling Gone b bytes tt (no_content b p.0 q.0))
+      | inr p ↦ elim (branch_err (eqb b 1) (row_from fresh bytes) (Err (suc (length bytes))) left p.1) [
+        | inl y ↦ subst (λ (m : ℕ). BadContent fresh (m ∷ bytes) left) (sym (eqb-true b 1 y.0)) (row_fails fresh bytes left rest y.1)
+        | inr q ↦ subst (BadContent fresh (b ∷ bytes)) (err_is {A = PieceContent × List ℕ} (suc (length bytes)) left q.1) (bad_byte (IsContentFrom fresh) content_spelling Gone b bytes tt (no_content fresh b p.0 q.0))
       ]
     ]
 
+content_from_stop : (fresh : ℕ) → Stops (IsContentFrom fresh) content_spelling (content_from fresh)
+content_from_stop fresh = record { some = Gone; has = tt; fails = content_fails fresh }
+
 pub content_stop : Stops HasContentSpelling content_spelling content_at
-content_stop = record { some = Gone; has = tt; fails = content_fails }
+content_stop = retold_stop (IsContentFrom 0) HasContentSpelling content_spelling content_at (content_from_stop 0) content_is is_content
+
+pub kept_stop : Stops HasKeptSpelling content_spelling kept_content_at
+kept_stop = retold_stop (IsContentFrom (2 ^ 32)) HasKeptSpelling content_spelling kept_content_at (content_from_stop (2 ^ 32)) kept_is is_kept

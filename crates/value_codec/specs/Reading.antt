@@ -46,6 +46,10 @@ flag_at bytes = do
   flag ← byte_at bytes
   if flag.0 == 0 then Ok (false, flag.1) else (if flag.0 == 1 then Ok (true, flag.1) else Err (length bytes))
 
+-- the 16 bytes of a row's id
+unfoldable pub id_at : List ℕ → Result (List ℕ × List ℕ) ℕ
+id_at bytes = if nat_lt (length bytes) 16 then Err 0 else Ok (take 16 bytes, drop 16 bytes)
+
 -- a text of so many bytes
 unfoldable pub utf8_at : ℕ → List ℕ → Result (List ℕ × List ℕ) ℕ
 utf8_at len bytes = do
@@ -156,16 +160,24 @@ object_in fresh bytes = do
 abbrev pub after_object : ℕ → PieceObject → ℕ
 after_object fresh object = fresh + length (fresh_in object.pieces)
 
-unfoldable pub row_at : List ℕ → Result (PieceContent × List ℕ) ℕ
-row_at bytes = do
+-- a row behind so many new chunks; behind 2 ^ 32 of them it has none
+unfoldable pub row_from : ℕ → List ℕ → Result (PieceContent × List ℕ) ℕ
+row_from fresh bytes = do
   some ← list_at after_cell cell_in tt bytes
-  objects ← list_at after_object object_in 0 some.1
+  objects ← list_at after_object object_in fresh some.1
   Ok (Row some.0 objects.0, objects.1)
 
-unfoldable pub content_at : List ℕ → Result (PieceContent × List ℕ) ℕ
-content_at bytes = do
+unfoldable pub content_from : ℕ → List ℕ → Result (PieceContent × List ℕ) ℕ
+content_from fresh bytes = do
   tag ← byte_at bytes
-  if tag.0 == 0 then Ok (Gone, tag.1) else (if tag.0 == 1 then row_at tag.1 else Err (length bytes))
+  if tag.0 == 0 then Ok (Gone, tag.1) else (if tag.0 == 1 then row_from fresh tag.1 else Err (length bytes))
+
+abbrev pub content_at : List ℕ → Result (PieceContent × List ℕ) ℕ
+content_at bytes = content_from 0 bytes
+
+-- a content without new chunks
+abbrev pub kept_content_at : List ℕ → Result (PieceContent × List ℕ) ℕ
+kept_content_at bytes = content_from (2 ^ 32) bytes
 
 -- nothing may follow the last field
 unfoldable pub whole : {X : Type 0} → Result (X × List ℕ) ℕ → Result X ℕ

@@ -88,3 +88,12 @@ pub record HasRowSpelling (some : List Cell) (objects : List PieceObject) : Type
 abbrev pub HasContentSpelling : PieceContent → Type 0
 HasContentSpelling Gone = Unit {0}
 HasContentSpelling (Row some objects) = HasRowSpelling some objects
+
+-- no new chunk
+abbrev pub AreKept : PieceContent → Type 0
+AreKept Gone = Unit {0}
+AreKept (Row some objects) = fresh_in (pieces_of objects) ≡ []
+
+pub record HasKeptSpelling (content : PieceContent) : Type 0 where
+  pub spelled : HasContentSpelling content
+  pub kept : AreKept content

@@ -1,11 +1,11 @@
 ghost use Rattle.std.specs.Prelude.{◌≡◌, ◌≤◌, ◌+◌, ◌-◌, ◌<◌, ◌^◌, ◌++◌, ◌∷◌, [], ℕ, List, length, take, drop, IfOk, IfErr, Ok};
 ghost use Rattle.std.specs.Int.{w32, w64};
-ghost use Rattle.value_codec.specs.Reading.{Gives, byte_at, number_at, flag_at, utf8_at, text_at, exactly_at};
+ghost use Rattle.value_codec.specs.Reading.{Gives, byte_at, number_at, flag_at, id_at, utf8_at, text_at, exactly_at};
 ghost use Rattle.value_codec.specs.FirstBad.{TellsPlace};
 
 use crate::spell_fault::SpellFault;
 use crate::utf8::skip_utf8;
-use stab_base::{Bytes, take_u8, take_u32, take_u64};
+use stab_base::{Bytes, RowId, take_u8, take_u32, take_u64};
 use std::alloc::Global;
 
 /// The byte at a place, and the place behind it.
@@ -45,6 +45,31 @@ pub fn take_eight(bytes: &[u8], at: usize) -> Result<(u64, usize), SpellFault>
     }
 }
 
+fn id_of(front: &[u8]) -> RowId
+    requires { 16 ≤ length front.now }
+    ensures { result ≡ take 16 front.now }
+{
+    let mut id = [0; 16];
+    id.copy_from_slice(&front[..16]);
+    RowId::from_bytes(id)
+}
+
+/// The row id at a place, and the place behind it.
+#[tactic(auto, using(stab_base::proofs::Places::after), unfolding(crate::specs::Reading::id_at))]
+pub fn take_id(bytes: &[u8], at: usize) -> Result<(RowId, usize), SpellFault>
+    requires { at ≤ length bytes.now }
+    ensures value { Gives bytes.now (λ x. (x.0, drop x.1 bytes.now)) result (id_at (drop at bytes.now)) }
+    ensures within { IfOk result (λ x. (x.1 ≡ at + 16) × (x.1 ≤ length bytes.now)) }
+    ensures place { IfErr result TellsPlace }
+{
+    let rest = &bytes[at..];
+    if rest.len() < 16 {
+        return Err(SpellFault::Bad { at: bytes.len() });
+    }
+    let id = id_of(rest);
+    Ok((id, at + 16))
+}
+
 /// The flag at a place, and the place behind it.
 #[tactic(auto, unfolding(crate::specs::Reading::flag_at))]
 pub fn take_flag(bytes: &[u8], at: usize) -> Result<(bool, usize), SpellFault>
@@ -76,8 +101,8 @@ pub(crate) fn take_text(
     Ok((text, end))
 }
 
-/// These bytes and no others.
-pub(crate) fn skip_exactly(bytes: &[u8], at: usize, text: &[u8]) -> Result<usize, SpellFault>
+/// The place behind these bytes, where they and no others stand. No memory is taken.
+pub fn skip_exactly(bytes: &[u8], at: usize, text: &[u8]) -> Result<usize, SpellFault>
     requires { at ≤ length bytes.now }
     ensures value { Gives bytes.now (λ x. drop x bytes.now) result (exactly_at text.now (drop at bytes.now)) }
     ensures within { IfOk result (λ x. x ≤ length bytes.now) }

@@ -10,7 +10,7 @@ use stab_base::{ChunkName, Sequence};
 use std::alloc::Global;
 
 /// How many new chunks a content may have: one for each ordinal.
-const FRESH_MAX: u64 = 1 << 32;
+pub(crate) const FRESH_MAX: u64 = 1 << 32;
 
 #[tactic(auto, unfolding(crate::specs::Reading::name_at))]
 fn read_name(bytes: &[u8], at: usize) -> Result<(ChunkName, usize), SpellFault>

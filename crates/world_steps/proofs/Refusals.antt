@@ -14,6 +14,8 @@ pub call_refused : (client : Client) (step : ClientStep) (fault : CallFault) (r 
 call_refused client step call.NoTable r h e = cc
 call_refused client step (call.BadCell column) r h e = cc
 call_refused client step (call.BadObject column len) r h e = cc
+call_refused client step (call.RowTooLarge len) r h e = cc
+call_refused client step (call.TooManyChunks count) r h e = cc
 call_refused client step call.NoRow r h e = cc
 call_refused client step (call.Spent last) r h e = absurd h
 call_refused client step call.Memory r h e = absurd cc
@@ -23,6 +25,8 @@ pub write_refused : (client : Client) (step : ClientStep) (fault : CallFault) (r
 write_refused client step call.NoTable r h e = cc
 write_refused client step (call.BadCell column) r h e = cc
 write_refused client step (call.BadObject column len) r h e = cc
+write_refused client step (call.RowTooLarge len) r h e = cc
+write_refused client step (call.TooManyChunks count) r h e = cc
 write_refused client step call.NoRow r h e = absurd h
 write_refused client step (call.Spent last) r h e = absurd cc
 write_refused client step call.Memory r h e = absurd cc

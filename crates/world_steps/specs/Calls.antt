@@ -15,6 +15,8 @@ abbrev pub refusal_in : CallFault → Result Refusal WorldFault
 refusal_in call.NoTable = Ok refusals.NoTable
 refusal_in (call.BadCell column) = Ok (refusals.BadCell column)
 refusal_in (call.BadObject column len) = Ok (refusals.BadObject column len)
+refusal_in (call.RowTooLarge len) = Ok (refusals.RowTooLarge len)
+refusal_in (call.TooManyChunks count) = Ok (refusals.TooManyChunks count)
 refusal_in call.NoRow = Ok refusals.NoRow
 refusal_in (call.Spent last) = Err (Limit 11 (NUMBER_MAX + 1))
 refusal_in call.Memory = Err Memory

@@ -19,6 +19,8 @@ fn refusal_of(fault: CallFault) -> Result<Refusal, WorldFault>
         CallFault::NoTable => Ok(Refusal::NoTable),
         CallFault::BadCell { column } => Ok(Refusal::BadCell { column }),
         CallFault::BadObject { column, len } => Ok(Refusal::BadObject { column, len }),
+        CallFault::RowTooLarge { len } => Ok(Refusal::RowTooLarge { len }),
+        CallFault::TooManyChunks { count } => Ok(Refusal::TooManyChunks { count }),
         CallFault::NoRow => Ok(Refusal::NoRow),
         CallFault::Spent { .. } => Err(WorldFault::Limit {
             code: 11,

@@ -1,0 +1,2 @@
+mod NameSets
+mod Numbering

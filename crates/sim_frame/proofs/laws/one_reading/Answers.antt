@@ -1,0 +1,5 @@
+use Rattle.sim_frame.proofs.Streams.{one_reading}
+use Rattle.sim_frame.proofs.laws.one_reading.Goals as goal
+
+pub returns : goal.returns
+returns c = one_reading

@@ -66,10 +66,11 @@ either_true false b e p q = q e
 
 cells-in_order : (before columns : List Column) → (has_object before ≡ true → AreObjectColumns columns) → CellsFirst columns → InOrder before columns
 cells-in_order before [] h k = tt
-cells-in_order before (column ∷ columns) h k =
-    ((λ e. (h e).0),
-    cells-in_order (before ++ column ∷ []) columns
-    (λ e. either_true (has_object before) (is_object column.kind) (sym (has_object-push before column) ∙ e) (λ a. (h a).1) k.0) k.1)
+cells-in_order before (column ∷ columns) h k = (
+  (λ e. (h e).0),
+  cells-in_order (before ++ column ∷ []) columns
+      (λ e. either_true (has_object before) (is_object column.kind) (sym (has_object-push before column) ∙ e) (λ a. (h a).1) k.0) k.1,
+)
 
 -- ---- what is read is spelled so
 
@@ -111,14 +112,16 @@ columns-ok at before [] all e = ([], record { all_is = ok_all all e ∙ sym (app
 columns-ok at before (w ∷ ws) all e =
     let p = bind-ok (placed at (new_column_at before w)) (λ column. columns_in (at + 1) (before ++ column ∷ []) ws) all e in
     let c = new_column_at-ok before w p.0 (placed-ok at (new_column_at before w) p.0 p.1) in
-    let q = columns-ok (at + 1) (before ++ p.0 ∷ []) ws all p.2 in
-    (p.0 ∷ q.0, record {
-      all_is = q.1.all_is ∙ append_assoc before (p.0 ∷ []) q.0;
-      words = ap (λ (word : List ℕ). word ∷ ws) c.0 ∙ ap (λ (words : List (List ℕ)). column_word p.0 ∷ words) q.1.words;
-      names = (c.1, q.1.names);
-      new = (c.2, subst (λ (met : List (List ℕ)). NewTo met (names_of q.0)) (named_next before p.0) q.1.new);
-      order = (c.3, q.1.order);
-    })
+    let q = columns-ok (at + 1) (before ++ p.0 ∷ []) ws all p.2 in (
+      p.0 ∷ q.0,
+      record {
+        all_is = q.1.all_is ∙ append_assoc before (p.0 ∷ []) q.0;
+        words = ap (λ (word : List ℕ). word ∷ ws) c.0 ∙ ap (λ (words : List (List ℕ)). column_word p.0 ∷ words) q.1.words;
+        names = (c.1, q.1.names);
+        new = (c.2, subst (λ (met : List (List ℕ)). NewTo met (names_of q.0)) (named_next before p.0) q.1.new);
+        order = (c.3, q.1.order);
+      },
+    )
 
 pub some_columns-ok : (at : ℕ) (ws : List (List ℕ)) (columns : List Column) → some_columns_in at ws ≡ Ok columns
     → (ws ≡ map column_word columns) × AllByRecursion (λ column. is_name column.name ≡ true) columns × NewTo [] (names_of columns) × CellsFirst columns × (columns ≢ [])

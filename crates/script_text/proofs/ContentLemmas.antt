@@ -52,15 +52,20 @@ values-ok : (at : ℕ) (row : Values) (ws : List (List ℕ)) (done : Values) →
     → (of_cells of_objects : List (List ℕ)) × (some : List Cell) × (objects : List (List ℕ)) × Behind row done ws of_cells of_objects some objects
 unfolding each_in value_behind
 values-ok at row [] done e =
-    let same : done ≡ row = row_same e in
-    ([], [], [], [], record {
-      words = refl;
-      cells_are = ap (λ (v : Values). v.0) same ∙ sym (append-nil row.0);
-      objects_are = ap (λ (v : Values). v.1) same ∙ sym (append-nil row.1);
-      each_cell = tt;
-      each_object = tt;
-      order = λ some. refl;
-    })
+    let same : done ≡ row = row_same e in (
+      [],
+      [],
+      [],
+      [],
+      record {
+        words = refl;
+        cells_are = ap (λ (v : Values). v.0) same ∙ sym (append-nil row.0);
+        objects_are = ap (λ (v : Values). v.1) same ∙ sym (append-nil row.1);
+        each_cell = tt;
+        each_object = tt;
+        order = λ some. refl;
+      },
+    )
 values-ok at row (w ∷ ws) done e =
     let p = bind-ok (placed at (value_at w >>= in_order row.1)) (λ value. values_in (at + 1) (with_value row value) ws) done e in
     let v = bind-ok (value_at w) (in_order row.1) p.0 (placed-ok at (value_at w >>= in_order row.1) p.0 p.1) in
@@ -71,27 +76,37 @@ values-ok at row (w ∷ ws) done e =
         → (of_cells of_objects : List (List ℕ)) × (some : List Cell) × (objects : List (List ℕ)) × Behind row done (w ∷ ws) of_cells of_objects some objects
     added (OfCell cell) value is order same more =
         let none = no_cell_behind row.1 cell value order in
-        let h = subst (λ (x : Value). Behind (with_value row x) done ws more.0 more.1 more.2 more.3) (sym same) more.4 in
-        (w ∷ more.0, more.1, cell ∷ more.2, more.3, record {
-          words = ap (λ (words : List (List ℕ)). w ∷ words) h.words;
-          cells_are = h.cells_are ∙ append_assoc row.0 (cell ∷ []) more.2;
-          objects_are = h.objects_are;
-          each_cell = (is, h.each_cell);
-          each_object = h.each_object;
-          order = λ some. absurd (some none);
-        })
+        let h = subst (λ (x : Value). Behind (with_value row x) done ws more.0 more.1 more.2 more.3) (sym same) more.4 in (
+          w ∷ more.0,
+          more.1,
+          cell ∷ more.2,
+          more.3,
+          record {
+            words = ap (λ (words : List (List ℕ)). w ∷ words) h.words;
+            cells_are = h.cells_are ∙ append_assoc row.0 (cell ∷ []) more.2;
+            objects_are = h.objects_are;
+            each_cell = (is, h.each_cell);
+            each_object = h.each_object;
+            order = λ some. absurd (some none);
+          },
+        )
     added (OfObject object) value is order same more =
         let h = subst (λ (x : Value). Behind (with_value row x) done ws more.0 more.1 more.2 more.3) (sym same) more.4 in
         let none = h.order (not_empty row.1 object) in
-        let no_cell = no_cells more.2 more.0 none h.each_cell in
-        ([], w ∷ more.1, [], object ∷ more.3, record {
-          words = ap (λ (words : List (List ℕ)). w ∷ words) (h.words ∙ ap (λ (words : List (List ℕ)). words ++ more.1) none);
-          cells_are = h.cells_are ∙ ap (λ (some : List Cell). row.0 ++ some) no_cell;
-          objects_are = h.objects_are ∙ append_assoc row.1 (object ∷ []) more.3;
-          each_cell = tt;
-          each_object = (is, h.each_object);
-          order = λ some. refl;
-        })
+        let no_cell = no_cells more.2 more.0 none h.each_cell in (
+          [],
+          w ∷ more.1,
+          [],
+          object ∷ more.3,
+          record {
+            words = ap (λ (words : List (List ℕ)). w ∷ words) (h.words ∙ ap (λ (words : List (List ℕ)). words ++ more.1) none);
+            cells_are = h.cells_are ∙ ap (λ (some : List Cell). row.0 ++ some) no_cell;
+            objects_are = h.objects_are ∙ append_assoc row.1 (object ∷ []) more.3;
+            each_cell = tt;
+            each_object = (is, h.each_object);
+            order = λ some. refl;
+          },
+        )
 
 pub content-ok : (at : ℕ) (ws : List (List ℕ)) (content : Content) → content_in at ws ≡ Ok content → SpellsContent ws content
 unfolding content_in next_in

@@ -6,9 +6,7 @@ ghost use Rattle.script_text.specs.Reading.{Reads, Makes, Tells, placed, made_ta
 use crate::columns::some_columns;
 use crate::contents::some_content;
 use crate::declared::Declared;
-use crate::fault::{
-    BadLine, CLIENTS, COLUMNS, MOST_COLUMNS, STORES, ScriptFault, TABLES, bad,
-};
+use crate::fault::{BadLine, CLIENTS, COLUMNS, MOST_COLUMNS, STORES, ScriptFault, TABLES, bad};
 use crate::next::{end, next_word, placed};
 use crate::places::{
     chunk_at, client_at, gate_at, new_client_at, new_name_at, new_store_at, new_table_at,

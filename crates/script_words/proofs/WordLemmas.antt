@@ -59,4 +59,3 @@ utf8-test bytes (Err e) P Q h = elim (cases_Bool (is_utf8 bytes)) [
   | inl is ↦ absurd (h.0 (IsUtf8-from_is_utf8 bytes is))
   | inr other ↦ sym other
 ]
-

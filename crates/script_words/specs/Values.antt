@@ -33,7 +33,7 @@ abbrev pub SpellsObject : List ℕ → List ℕ → Type 0
 SpellsObject word object =
     ((digits : List ℕ) × (word ≡ codes "h:" ++ digits) × (decode_of digits ≡ Ok object))
     ⊎ ((len : ℕ) × (digits pattern : List ℕ) × (word ≡ codes "r:" ++ (decimal len ++ (codes ":" ++ digits)))
-        × (len ≤ 33554432) × (pattern ≢ []) × (decode_of digits ≡ Ok pattern) × (object ≡ repeated pattern len))
+    × (len ≤ 33554432) × (pattern ≢ []) × (decode_of digits ≡ Ok pattern) × (object ≡ repeated pattern len))
 
 abbrev pub SpellsValue : List ℕ → Value → Type 0
 SpellsValue word (OfCell cell) = SpellsCell word cell

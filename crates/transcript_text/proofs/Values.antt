@@ -52,9 +52,9 @@ low_bytes = refl
 
 kept_above : (b : ℕ) → should_percent_encode ESCAPED b ≡ false → 32 < b
 kept_above b kept = elim (cases_lt b 33) [
-    | inl low ↦ absurd (true≢false (sym (each_below (should_percent_encode ESCAPED) 33 b low_bytes low) ∙ kept))
-    | inr high ↦ high
-  ]
+  | inl low ↦ absurd (true≢false (sym (each_below (should_percent_encode ESCAPED) 33 b low_bytes low) ∙ kept))
+  | inr high ↦ high
+]
 
 low_digits : every (λ n. ltb 32 (get_or lower_digits n 0)) 16 ≡ true
 unfolding every

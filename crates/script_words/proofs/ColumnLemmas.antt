@@ -43,7 +43,8 @@ named-some name (Some kind) q e = elim (cases_Bool (is_name name)) [
   | inr other ↦ absurd (none_some q (rw other at e))
 ]
 
-column-some : (word : List ℕ) (q : List ℕ × ColumnKind) (o : Option (List ℕ × List ℕ)) → parts_of word ≡ o → elim o [ None ↦ None | Some p ↦ named p.0 (kind_of p.1) ] ≡ Some q → (kind : List ℕ) × (word ≡ q.0 ++ 58 ∷ kind) × (kind_of kind ≡ Some q.1) × (is_name q.0 ≡ true)
+column-some : (word : List ℕ) (q : List ℕ × ColumnKind) (o : Option (List ℕ × List ℕ)) → parts_of word ≡ o → elim o [ None ↦ None | Some p ↦ named p.0 (kind_of p.1) ] ≡ Some q
+    → (kind : List ℕ) × (word ≡ q.0 ++ 58 ∷ kind) × (kind_of kind ≡ Some q.1) × (is_name q.0 ≡ true)
 column-some word q None is e = absurd (none_some q e)
 column-some word q (Some p) is e =
     let r = named-some p.0 (kind_of p.1) q e in

@@ -35,15 +35,18 @@ int_of-none word e h =
       | inr not_is ↦ rw not_is refl
     ]
 
-chosen : (word : List ℕ) (z v : ℤ) → z ≡ v → mag v < 2 ^ 63 → (if ltb (mag v) (2 ^ 63) && bytes_eq (signed_decimal v) word then Some v else None) ≡ (if bytes_eq (signed_decimal z) word then Some z else None)
+chosen : (word : List ℕ) (z v : ℤ) → z ≡ v → mag v < 2 ^ 63
+    → (if ltb (mag v) (2 ^ 63) && bytes_eq (signed_decimal v) word then Some v else None) ≡ (if bytes_eq (signed_decimal z) word then Some z else None)
 chosen word z v same less = rw (same, lt-ltb (mag v) (2 ^ 63) less) refl
 
-pub int_of-read : {E : Type 0} (word : List ℕ) (z : ℤ) (r : Result ℤ E) → r ≡ Ok z → ParsesSigned w64 10 word r → (int_of word ≡ (if bytes_eq (signed_decimal z) word then Some z else None)) × FitsSigned w64 z
+pub int_of-read : {E : Type 0} (word : List ℕ) (z : ℤ) (r : Result ℤ E) → r ≡ Ok z → ParsesSigned w64 10 word r
+    → (int_of word ≡ (if bytes_eq (signed_decimal z) word then Some z else None)) × FitsSigned w64 z
 unfolding int_of
 int_of-read {E} word z r e h =
     let v = signed_digits_value 10 word in
     let p = OkIff-at_ok r _ v z h e in
     (chosen word z v p.1 p.0.1.sfits, subst (λ (y : ℤ). FitsSigned w64 y) (sym p.1) p.0.1)
 
-pub int_of-test : {E : Type 0} (word : List ℕ) (z : ℤ) (r : Result ℤ E) → r ≡ Ok z → ParsesSigned w64 10 word r → (b : Bool) → b ≡ bytes_eq (signed_decimal z) word → int_of word ≡ (if b then Some z else None)
+pub int_of-test : {E : Type 0} (word : List ℕ) (z : ℤ) (r : Result ℤ E) → r ≡ Ok z → ParsesSigned w64 10 word r → (b : Bool) → b ≡ bytes_eq (signed_decimal z) word
+    → int_of word ≡ (if b then Some z else None)
 int_of-test word z r e h b test = rw test (int_of-read word z r e h).0

@@ -1,5 +1,6 @@
 -- A word is read as the value that it spells.
-use Rattle.std.proofs.Common.{◌≡◌, ◌≢◌, ℕ, zero, suc, ◌+◌, ◌<◌, ◌≤◌, ◌^◌, ◌%◌, Bool, true, false, ◌&&◌, eqb, ltb, leb, cond, List, [], ◌∷◌, ◌++◌, length, get_or, map, codes, Option, Some, None, Result, Ok, Err, ℤ, pos, negsuc, neg_ℤ, refl, sym, ap, ◌∙◌, subst, inl, inr, arith}
+use Rattle.std.proofs.Common.{◌≡◌, ◌≢◌, ℕ, zero, suc, ◌+◌, ◌<◌, ◌≤◌, ◌^◌, ◌%◌, Bool, true, false, ◌&&◌, eqb, ltb, leb, cond, List, [], ◌∷◌, ◌++◌}
+use Rattle.std.proofs.Common.{length, get_or, map, codes, Option, Some, None, Result, Ok, Err, ℤ, pos, negsuc, neg_ℤ, refl, sym, ap, ◌∙◌, subst, inl, inr, arith}
 use Rattle.std.specs.Prelude.{◌⊎◌}
 use Rattle.std.specs.Int.Signed.{mag}
 use Rattle.std.specs.Fmt.{decimal, signed_decimal}
@@ -21,7 +22,8 @@ use Rattle.script_words.specs.declared.code.Code.TheVariants.{NoValue}
 use Rattle.script_words.specs.declared.values.Value.{Value}
 use Rattle.script_words.specs.declared.values.Value.TheVariants.{OfCell, OfObject}
 use Rattle.script_words.specs.Words.{is_length, parts_of, is_colon}
-use Rattle.script_words.specs.Values.{repeated, SpellsCell, SpellsObject, SpellsValue, int_of, length_in, text_in, hex_in, object_in, repeat_in, repeat_with, repeat_of, long_of, word_of, value_or, judged, value_at}
+use Rattle.script_words.specs.Values.{repeated, SpellsCell, SpellsObject, SpellsValue, int_of, length_in, text_in, hex_in}
+use Rattle.script_words.specs.Values.{object_in, repeat_in, repeat_with, repeat_of, long_of, word_of, value_or, judged, value_at}
 use Rattle.script_words.proofs.WordLemmas.{both}
 use Rattle.script_words.proofs.IntLemmas.{int_of-parts}
 use Rattle.script_words.proofs.Numerals.{length-text, length-right, value-right}

@@ -1,5 +1,6 @@
 -- Forms of words.
-use Rattle.std.proofs.Common.{◌≡◌, ℕ, ◌<◌, ◌^◌, Bool, true, false, ◌&&◌, eqb, ltb, leb, List, [], ◌∷◌, length, get_or, Option, Some, None, Result, Ok, Err, refl, sym, ap, ◌∙◌, subst, arith, true≢false, inl, inr}
+use Rattle.std.proofs.Common.{◌≡◌, ℕ, ◌<◌, ◌^◌, Bool, true, false, ◌&&◌, eqb, ltb, leb, List, [], ◌∷◌, length}
+use Rattle.std.proofs.Common.{get_or, Option, Some, None, Result, Ok, Err, refl, sym, ap, ◌∙◌, subst, arith, true≢false, inl, inr}
 use Rattle.std.specs.Prelude.{if◌then◌else◌, ◌≤◌}
 use Rattle.std.specs.Result.{MatchResult, is_ok}
 use Rattle.std.proofs.lemmas.Str.{is_utf8-from_IsUtf8, IsUtf8-from_is_utf8}
@@ -53,7 +54,8 @@ length-none ds r f is h e =
       | inr more ↦ rw (is, more) refl
     ]
 
-pub utf8-test : {X E : Type 0} (bytes : List ℕ) (r : Result X E) (P : X → Type 0) (Q : E → Type 0) → MatchResult r (λ s. P s × IsUtf8 bytes) (λ e. (IsUtf8 bytes → ⊥) × Q e) → is_ok r ≡ is_utf8 bytes
+pub utf8-test : {X E : Type 0} (bytes : List ℕ) (r : Result X E) (P : X → Type 0) (Q : E → Type 0) → MatchResult r (λ s. P s × IsUtf8 bytes) (λ e. (IsUtf8 bytes → ⊥) × Q e)
+    → is_ok r ≡ is_utf8 bytes
 utf8-test bytes (Ok s) P Q h = sym (is_utf8-from_IsUtf8 bytes h.1)
 utf8-test bytes (Err e) P Q h = elim (cases_Bool (is_utf8 bytes)) [
   | inl is ↦ absurd (h.0 (IsUtf8-from_is_utf8 bytes is))

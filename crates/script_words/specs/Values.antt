@@ -26,7 +26,8 @@ repeated pattern len = map (λ place. slice_index pattern (place % length patter
 abbrev pub SpellsCell : List ℕ → Cell → Type 0
 SpellsCell word (cells.Int z) = (word ≡ signed_decimal z) × (mag z < 2 ^ 63)
 SpellsCell word (cells.Bool b) = word ≡ (if b then codes "true" else codes "false")
-SpellsCell word (cells.Text text) = (escaped : List ℕ) × (word ≡ codes "t:" ++ escaped) × (percent_decode escaped ≡ text) × IsUtf8 text
+SpellsCell word (cells.Text text) =
+    (escaped : List ℕ) × (word ≡ codes "t:" ++ escaped) × (percent_decode escaped ≡ text) × IsUtf8 text
 
 -- `h:` and two digits a byte; or `r:`, a length up to 33,554,432, a colon, and the digits of what is repeated
 abbrev pub SpellsObject : List ℕ → List ℕ → Type 0
@@ -49,7 +50,8 @@ int_of word =
 
 -- the length that digits spell, up to 33,554,432
 unfoldable pub length_in : List ℕ → Option ℕ
-length_in digits = if is_length digits && nat_le (digits_value 10 digits) 33554432 then Some (digits_value 10 digits) else None
+length_in digits =
+    if is_length digits && nat_le (digits_value 10 digits) 33554432 then Some (digits_value 10 digits) else None
 
 abbrev pub text_in : List ℕ → Option Value
 text_in text = if is_utf8 text then Some (OfCell (cells.Text text)) else None

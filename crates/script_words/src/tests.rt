@@ -4,7 +4,8 @@ use std::alloc::Global;
 use std::process::Abort;
 use std::test::Fail;
 
-/// What a word is read as: 1 and a number, 2 and a truth value, 3 and a text's bytes, 4 and an object's; 0 for no value.
+/// What a word is read as: 1 and a number, 2 and a truth value, 3 and a text's bytes, 4 and an object's; 0 where it is
+/// no value.
 fn read(alloc: Global, word: &str) -> Result<(u8, i64, Vec<u8>), Fail> {
     let none = Vec::new(alloc);
     match value_at(alloc, word) {

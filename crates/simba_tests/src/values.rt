@@ -1,5 +1,5 @@
 //! Values of all kinds, written, sent, pulled and shown.
-use crate::runs::{check, ends};
+use crate::runs::{check, ends, texts};
 use std::alloc::Global;
 use std::test::Fail;
 
@@ -87,4 +87,23 @@ const LARGE: &str =
 fn rows_and_their_chunks_have_limits(rt: HostRuntime) -> Result<(), Fail> {
     let answers = "no 12 16777224\nno 9 262144\nno 9 32769\n";
     check(&rt, rt.alloc(), &[LARGE], 0, &[answers])
+}
+
+/// An object of 4,194,304 zero bytes, the most that one may have: the write is printed whole.
+#[test]
+fn the_longest_object_is_written(rt: HostRuntime) -> Result<(), Fail> {
+    let alloc = rt.alloc();
+    let script =
+        "store S1\ntable T1 notes eventual 65536 o:object\nclient C1 - T1\nwrite C1 T1 00000000-0000-4000-8000-000000000001 r:4194304:00\n";
+    let (status, written) = ends(alloc, "run", texts(alloc, &[script])?, &[], &[])?;
+    let mut answer = texts(
+        alloc,
+        &["ok 1\nwrote C1 1 T1 00000000-0000-4000-8000-000000000001 0 h:"],
+    )?;
+    let zeros = vec![in alloc; b'0'; 8_388_608]?;
+    answer.extend_from_slice(&zeros)?;
+    answer.push(b'\n')?;
+    assert_eq!(rt; status, 0);
+    assert!(rt; written.as_slice() == answer.as_slice());
+    Ok(())
 }

@@ -1,5 +1,6 @@
 -- The words of a line: its text tells them, and they tell the line.
-use Rattle.std.proofs.Common.{◌≡◌, ℕ, ◌≤◌, ◌<◌, ◌^◌, Bool, ◌||◌, cond, List, [], ◌∷◌, ◌++◌, map, codes, true, false, refl, sym, subst, ap, ◌∙◌, arith, rules, length, get_or, All, Some, append-nil, inl}
+use Rattle.std.proofs.Common.{◌≡◌, ℕ, ◌≤◌, ◌<◌, ◌^◌, Bool, ◌||◌, cond, List, [], ◌∷◌, ◌++◌, map, codes}
+use Rattle.std.proofs.Common.{true, false, refl, sym, subst, ap, ◌∙◌, arith, rules, length, get_or, All, Some, append-nil, inl}
 use Rattle.std.specs.List.{AllByRecursion, flat_map}
 use Rattle.std.specs.Fmt.{decimal, signed_decimal}
 use Rattle.std.specs.Str.{bytes_eq}

@@ -9,8 +9,8 @@ ghost use Rattle.sync_msgs.specs.Spelling.{kind_of, kind_code, body_spelling, Ha
 
 /// Two messages of one kind and one body are the same. (Does nothing: its clause is a law.)
 pub fn one_message()
-    ensures { (x y : Message) → HasSpelling x → HasSpelling y → kind_of x ≡ kind_of y → body_spelling x ≡ body_spelling y
-        → x ≡ y }
+    ensures { (x y : Message) → HasSpelling x → HasSpelling y → kind_of x ≡ kind_of y
+        → body_spelling x ≡ body_spelling y → x ≡ y }
 {}
 
 /// The number of a kind stands for one kind. (Does nothing: its clause is a law.)

@@ -4,3 +4,4 @@ pub mod Names
 pub mod Transitions
 pub mod Kept
 pub mod Drops
+pub mod Held

@@ -4,6 +4,7 @@
 mod change;
 mod drops;
 mod header;
+mod held;
 mod laws;
 mod names;
 mod resolving;
@@ -14,6 +15,7 @@ mod writes;
 pub use change::{Change, Sending};
 pub use drops::dropped;
 pub use header::take_header;
+pub use held::{HeldChunks, NewChunks, ShownChunks, held_against};
 pub use laws::{open_writes_stay_shown, slots_stay_in_order, what_was_read_never_falls};
 pub use resolving::{HeldChoice, resolve};
 pub use response::{is_countable, take_response};

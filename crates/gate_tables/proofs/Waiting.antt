@@ -3,7 +3,7 @@ use Rattle.std.proofs.Common.{◌≡◌, ℕ, ◌+◌, Bool, true, false, ◌||�
 use Rattle.std.specs.List.{AllByRecursion}
 use Rattle.std.proofs.lemmas.Bool.{cases_Bool, leb-false}
 use Rattle.gate_tables.specs.declared.timer.Timer.{Timer}
-use Rattle.gate_tables.specs.Timers.{Timers, is_due, fired, each, any_due, after_firing}
+use Rattle.gate_tables.specs.Timers.{Timers, is_due, as_fired, each, any_due, after_firing}
 use Rattle.gate_tables.specs.Gate.{Session, Running, fire_each, ticked, count_all}
 use Rattle.gate_tables.specs.Laws.{Waits, AllWait}
 
@@ -11,10 +11,10 @@ unmarked_if : (timer : Timer) (b : Bool) → timer.marked ≡ b → (cond b (rec
 unmarked_if timer true e = refl
 unmarked_if timer false e = e
 
-unmarked : (timer : Timer) → (fired timer).marked ≡ false
+unmarked : (timer : Timer) → (as_fired timer).marked ≡ false
 unmarked timer = unmarked_if timer timer.marked refl
 
-all_fired : (timers : Timers) → AllByRecursion Waits (each fired timers)
+all_fired : (timers : Timers) → AllByRecursion Waits (each as_fired timers)
 all_fired [] = tt
 all_fired (e ∷ timers) = (λ is. let no : true ≡ false = sym is ∙ unmarked e.1 in absurd cc, all_fired timers)
 

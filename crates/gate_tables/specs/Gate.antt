@@ -15,7 +15,7 @@ use Rattle.gate_tables.specs.declared.timer.Placed.{Placed}
 use Rattle.gate_tables.specs.declared.timer.Asked.{Asked}
 use Rattle.gate_tables.specs.declared.timer.Wish.{Wish}
 use Rattle.gate_tables.specs.declared.timer.Wish.TheVariants as wishes
-use Rattle.gate_tables.specs.Timers.{Timers, timer_of, counted, marked, each, after_firing, told, fired, bitmap}
+use Rattle.gate_tables.specs.Timers.{Timers, timer_of, as_counted, as_marked, each, after_firing, told, as_fired, bitmap}
 
 -- ---- what a gateway holds
 
@@ -269,7 +269,7 @@ fire_all running =
     record { running = record running { sessions = fires.0 }; sends = fires.1 }
 
 abbrev pub mark : ℕ → ℕ × Timer → ℕ × Timer
-mark table e = (e.0, if e.0 == table then marked e.1 else e.1)
+mark table e = (e.0, if e.0 == table then as_marked e.1 else e.1)
 
 abbrev pub has_timer : ℕ → Session → Bool
 has_timer table session = is_some (lookup (is_at (nat_cmp table)) session.timers)
@@ -279,7 +279,7 @@ abbrev pub notified : ℕ → Bool → ℕ × Session → (ℕ × Session) × Se
 notified table strong e =
     let timers = map (mark table) e.1.timers in
     if strong && has_timer table e.1
-    then ((e.0, record e.1 { timers = each fired timers }), notify e.0 (bitmap timers) ∷ [])
+    then ((e.0, record e.1 { timers = each as_fired timers }), notify e.0 (bitmap timers) ∷ [])
     else ((e.0, record e.1 { timers = timers }), [])
 
 abbrev pub notified_each : ℕ → Bool → List (ℕ × Session) → List (ℕ × Session) × Sends
@@ -315,7 +315,7 @@ taken directory number starts running (nodes.Gate gate) message = quiet running
 
 abbrev pub count_all : Running → Running
 count_all running =
-    record running { sessions = map (λ e. (e.0, record e.1 { timers = each counted e.1.timers })) running.sessions }
+    record running { sessions = map (λ e. (e.0, record e.1 { timers = each as_counted e.1.timers })) running.sessions }
 
 abbrev pub ticked : Running → Done
 ticked running = fire_all (count_all running)

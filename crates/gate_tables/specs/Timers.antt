@@ -11,17 +11,17 @@ abbrev pub timer_of : ℕ → ℕ → Bool → Timer
 timer_of period tolerance marked = record { period = period; tolerance = tolerance; count = 0; marked = marked }
 
 -- a count that is full stands still
-abbrev pub counted : Timer → Timer
-counted timer = record timer { count = min (timer.count + 1) 4294967295 }
+abbrev pub as_counted : Timer → Timer
+as_counted timer = record timer { count = min (timer.count + 1) 4294967295 }
 
 abbrev pub is_due : Timer → Bool
 is_due timer = timer.marked && nat_le (timer.period + timer.tolerance) timer.count
 
-abbrev pub fired : Timer → Timer
-fired timer = if timer.marked then record timer { count = 0; marked = false } else timer
+abbrev pub as_fired : Timer → Timer
+as_fired timer = if timer.marked then record timer { count = 0; marked = false } else timer
 
-abbrev pub marked : Timer → Timer
-marked timer = record timer { marked = true }
+abbrev pub as_marked : Timer → Timer
+as_marked timer = record timer { marked = true }
 
 -- bit T - 1 stands for table T
 abbrev pub bit : ℕ → ℕ
@@ -44,7 +44,7 @@ abbrev pub any_due : Timers → Bool
 any_due timers = list_any (λ e. is_due e.1) timers
 
 abbrev pub after_firing : Timers → Timers
-after_firing timers = if any_due timers then each fired timers else timers
+after_firing timers = if any_due timers then each as_fired timers else timers
 
 -- the tables of a notify
 abbrev pub told : Timers → Option ℕ

@@ -1,3 +1,6 @@
+ghost use Rattle.std.specs.Prelude.{◌≡◌};
+ghost use Rattle.gate_tables.specs.Timers.{timer_of, as_counted, is_due, as_fired, as_marked, bit};
+
 use row_value::Scheme;
 use stab_base::{ClientNo, StoreNo, TableNo};
 
@@ -12,6 +15,73 @@ pub struct Timer {
     pub count: u32,
     /// Whether the table has changed since then.
     pub marked: bool,
+}
+
+impl Timer {
+    /// Set now.
+    pub fn new(period: u32, tolerance: u32, marked: bool) -> Self
+        ensures { result ≡ timer_of period tolerance marked }
+    {
+        Timer {
+            period,
+            tolerance,
+            count: 0,
+            marked,
+        }
+    }
+
+    /// One tick later. A count that is full stands still.
+    pub fn counted(self) -> Self
+        ensures { result ≡ as_counted self }
+    {
+        Timer {
+            count: self.count.saturating_add(1),
+            ..self
+        }
+    }
+
+    /// Whether it fires at this tick.
+    pub fn is_due(self) -> bool
+        ensures { result ≡ is_due self }
+    {
+        self.marked && u64::from(self.period) + u64::from(self.tolerance) <= u64::from(self.count)
+    }
+
+    /// When its client's timers fire: it does where it is marked.
+    pub fn fired(self) -> Self
+        ensures { result ≡ as_fired self }
+    {
+        if self.marked {
+            Timer {
+                count: 0,
+                marked: false,
+                ..self
+            }
+        } else {
+            self
+        }
+    }
+
+    /// When its table changes.
+    pub fn marked(self) -> Self
+        ensures { result ≡ as_marked self }
+    {
+        Timer {
+            marked: true,
+            ..self
+        }
+    }
+}
+
+/// The bit of a table in a `Notify`: bit T - 1 of table T, and none above 64.
+pub fn bit(table: TableNo) -> u64
+    ensures { result ≡ bit table }
+{
+    if 1 <= table && table <= 64 {
+        1 << (table - 1)
+    } else {
+        0
+    }
 }
 
 /// Where a table is, and how it is kept consistent.

@@ -204,7 +204,7 @@ module _ (node : old.Client) where
   pub response_is_once : (r : SyncResponse) → AtOnce node.number (old.deliver_step node (kinds.SyncResponse r)) (client.client_step node.number (client_of node) (client.Take (message_of (kinds.SyncResponse r))))
   response_is_once r =
       subst (λ (o : Option TableDisk). AtOnce node.number (old.deliver_step node (kinds.SyncResponse r))
-          (client.response_in node.number (disk_of node) (record { client = r.client; table = r.table; row = r.row; number = r.number; outcome = lift.outcome_of r.outcome }) o))
+      (client.response_in node.number (disk_of node) (record { client = r.client; table = r.table; row = r.row; number = r.number; outcome = lift.outcome_of r.outcome }) o))
       (sym (found r.table)) (go (old.table_at node r.table) refl)
     where
       go : (o : Option ClientTable) → old.table_at node r.table ≡ o → AtOnce node.number (old.response_in node r o)
@@ -239,10 +239,10 @@ module _ (node : old.Client) where
   newer_same table hd q s (Some out) = go (nat_le out.number hd.yours.number)
     where
       freed : (m : Option Main) → SameRow table hd q (record {
-          slots = record { main = old.without out.number s.main; shadow = Some (old.shadow_of hd); out = None };
-          facts = old.acked node.number table hd.row out.number hd.yours.version ∷ told.New node.number table hd.row hd.version ∷ [];
-        }) (client.placed Eventual node.number table (header_of hd) (record { main = old.without out.number s.main; shadow = s.shadow; out = None; conflict = None })
-        (facts.Acked node.number out.number table hd.row hd.yours.version ∷ []) m None)
+        slots = record { main = old.without out.number s.main; shadow = Some (old.shadow_of hd); out = None };
+        facts = old.acked node.number table hd.row out.number hd.yours.version ∷ told.New node.number table hd.row hd.version ∷ [];
+      }) (client.placed Eventual node.number table (header_of hd) (record { main = old.without out.number s.main; shadow = s.shadow; out = None; conflict = None })
+          (facts.Acked node.number out.number table hd.row hd.yours.version ∷ []) m None)
       freed None = record { slots = refl; facts_are = refl }
       freed (Some m) = record { slots = refl; facts_are = refl }
 
@@ -263,10 +263,10 @@ module _ (node : old.Client) where
           (if b then client.placed Eventual node.number table (header_of hd) (client.freed (slots_of s) out.number) (facts.Acked node.number out.number table hd.row hd.yours.version ∷ []) (client.without out.number s.main) None
           else client.placed Eventual node.number table (header_of hd) (slots_of s) [] s.main None)
       go true = subst (λ (m : Option Main). SameRow table hd q (record {
-          slots = record { main = old.without out.number s.main; shadow = Some (old.shadow_of hd); out = None };
-          facts = old.acked node.number table hd.row out.number hd.yours.version ∷ told.New node.number table hd.row hd.version ∷ [];
-        }) (client.placed Eventual node.number table (header_of hd) (record { main = m; shadow = s.shadow; out = None; conflict = None })
-        (facts.Acked node.number out.number table hd.row hd.yours.version ∷ []) m None)) (sym (without_is s.main)) (freed (old.without out.number s.main))
+        slots = record { main = old.without out.number s.main; shadow = Some (old.shadow_of hd); out = None };
+        facts = old.acked node.number table hd.row out.number hd.yours.version ∷ told.New node.number table hd.row hd.version ∷ [];
+      }) (client.placed Eventual node.number table (header_of hd) (record { main = m; shadow = s.shadow; out = None; conflict = None })
+          (facts.Acked node.number out.number table hd.row hd.yours.version ∷ []) m None)) (sym (without_is s.main)) (freed (old.without out.number s.main))
       go false = kept s.main
 
   -- a row that isn't newer was read before
@@ -328,12 +328,12 @@ module _ (node : old.Client) where
       go false = quiet_once node.number node answers.Done
       go true =
           subst (λ (sl : client.Slots). AtOnce node.number (old.take_row node q.table opened q hd (old.take_header node.number q.table hd (slots_at opened hd.row)))
-              (client.row_taken node.number (disk_of node) (lift.pulled_of q) (opened_of opened) (header_of hd) sl)) (sym (slots_there node.number node q.table opened at hd.row))
+          (client.row_taken node.number (disk_of node) (lift.pulled_of q) (opened_of opened) (header_of hd) sl)) (sym (slots_there node.number node q.table opened at hd.row))
           (subst (λ (g : Scheme). AtOnce node.number (old.take_row node q.table opened q hd (old.take_header node.number q.table hd (slots_at opened hd.row)))
-              (if nat_le hd.version (version_in (slots_at opened hd.row).shadow)
-              then client.begun (disk_of node) facts.Done (client.position_plan node.number (disk_of node) q.table q.to) (client.next_pull node.number q.table (lift.pulled_of q))
-              else client.begun (disk_of node) facts.Done (client.row_plan node.number (disk_of node) q.table hd.row q.to (client.row_placed g node.number q.table (header_of hd) (slots_of (slots_at opened hd.row)) (slots_at opened hd.row).out))
-              (client.next_pull node.number q.table (lift.pulled_of q)))) (sym (ready.eventual opened at))
+          (if nat_le hd.version (version_in (slots_at opened hd.row).shadow)
+          then client.begun (disk_of node) facts.Done (client.position_plan node.number (disk_of node) q.table q.to) (client.next_pull node.number q.table (lift.pulled_of q))
+          else client.begun (disk_of node) facts.Done (client.row_plan node.number (disk_of node) q.table hd.row q.to (client.row_placed g node.number q.table (header_of hd) (slots_of (slots_at opened hd.row)) (slots_at opened hd.row).out))
+          (client.next_pull node.number q.table (lift.pulled_of q)))) (sym (ready.eventual opened at))
           (row_is_once q opened at hd (ready.rising opened at) (f hd refl)))
 
   pub pulled_is_once : (q : PullResponse) → IsReady q.table → ((hd : RowHeader) → q.header ≡ Some hd → 1 ≤ hd.version)
@@ -400,7 +400,7 @@ module _ (node : old.Client) where
   slots_found : (opened : ClientTable) (row : List ℕ) (s : Slots) → Rising (map row_of opened.rows) → Among opened.rows (row, s) → slots_of (slots_at opened row) ≡ slots_of s
   slots_found opened row s rising a =
       let found_is : lookup (is_at (row_cmp row)) (map row_of opened.rows) ≡ Some (slots_of s) =
-          rising_found (map row_of opened.rows) (row, slots_of s) rising (among_map row_of opened.rows (row, s) a) in
+      rising_found (map row_of opened.rows) (row, slots_of s) rising (among_map row_of opened.rows (row, s) a) in
       go (lookup (is_at (row_cmp row)) opened.rows) refl (sym (look_map row_cmp slots_of opened.rows row) ∙ found_is)
     where
       go : (o : Option Slots) → lookup (is_at (row_cmp row)) opened.rows ≡ o → option_map slots_of (lookup (is_at (row_cmp row)) opened.rows) ≡ Some (slots_of s) → slots_of (slots_at opened row) ≡ slots_of s
@@ -418,10 +418,10 @@ module _ (node : old.Client) where
   first_once table opened at rising (Some x) None f = absurd f
   first_once table opened at rising (Some x) (Some y) f =
       subst (λ (z : client.RowOut). AtOnce node.number (old.sync_first node table opened (old.resent node.number table opened.rows) (Some x))
-          (client.sync_first node.number (disk_of node) table (client.resent node.number table (map row_of opened.rows)) (Some z))) (sym f.same)
+      (client.sync_first node.number (disk_of node) table (client.resent node.number table (map row_of opened.rows)) (Some z))) (sym f.same)
       (subst (λ (sl : client.Slots). AtOnce node.number (old.sync_first node table opened (old.resent node.number table opened.rows) (Some x))
-          (client.sync_first node.number (disk_of node) table (client.resent node.number table (map row_of opened.rows)) (Some (record { row = x.0; slots = sl; out = x.1 }))))
-          (slots_found opened x.0 f.slots rising f.there)
+      (client.sync_first node.number (disk_of node) table (client.resent node.number table (map row_of opened.rows)) (Some (record { row = x.0; slots = sl; out = x.1 }))))
+      (slots_found opened x.0 f.slots rising f.there)
       (rw (resent_length table opened.rows)
       (sync_once node.number node table opened at (answers.Number (length (old.resent node.number table opened.rows) + 1)) x.0 (record (slots_at opened x.0) { out = Some x.1 })
       (old.resent node.number table opened.rows ++ old.request_for node.number table x.0 x.1 ∷ []) (client.resent node.number table (map row_of opened.rows)) (client.request_for node.number table x.0 x.1 ∷ [])

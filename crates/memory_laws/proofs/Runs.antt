@@ -63,9 +63,9 @@ deliver_number node m = grind arith
 client_numbered : (w : memory.World) (c : ℕ) (node : old.Client) → memory.client_at w c ≡ Some node → (was : old.ClientStep) → was.client.number ≡ node.number → Numbered w → Numbered (memory.after_client w c was).world
 client_numbered w c node at was same n q x there = ⊎_elim
     (λ e.
-        let both : Some was.client ≡ Some x = sym e.1 ∙ there in
-        let is : was.client ≡ x = cc in
-        ap (λ (y : old.Client). y.number) (sym is) ∙ (same ∙ (n c node at ∙ sym e.0)))
+    let both : Some was.client ≡ Some x = sym e.1 ∙ there in
+    let is : was.client ≡ x = cc in
+    ap (λ (y : old.Client). y.number) (sym is) ∙ (same ∙ (n c node at ∙ sym e.0)))
     (λ e. n q x (sym e.1 ∙ there))
     (look_cases w.clients c was.client q)
 
@@ -105,10 +105,10 @@ joined_numbered : (w : memory.World) (c : ℕ) (tables : List ℕ) (o : Option o
 joined_numbered w c tables (Some node) n = n
 joined_numbered w c tables None n = λ q x there. ⊎_elim
     (λ e.
-        let fresh : old.Client = record { number = c; last = 0; tables = [] } in
-        let both : Some (memory.open_all w fresh tables) ≡ Some x = sym e.1 ∙ there in
-        let is : memory.open_all w fresh tables ≡ x = cc in
-        ap (λ (y : old.Client). y.number) (sym is) ∙ (open_number w tables fresh ∙ sym e.0))
+    let fresh : old.Client = record { number = c; last = 0; tables = [] } in
+    let both : Some (memory.open_all w fresh tables) ≡ Some x = sym e.1 ∙ there in
+    let is : memory.open_all w fresh tables ≡ x = cc in
+    ap (λ (y : old.Client). y.number) (sym is) ∙ (open_number w tables fresh ∙ sym e.0))
     (λ e. n q x (sym e.1 ∙ there))
     (look_cases w.clients c (memory.open_all w (record { number = c; last = 0; tables = [] }) tables) q)
 
@@ -169,7 +169,7 @@ turns_are [] w s k n e = refl
 turns_are (event ∷ script) w s k n e =
     let same : Same w (step (world_of w) event []) (memory.step w event) = step_same all_eventual schemes_are w s k n event in
     let sound : StepSound client_law client_grows lapsed_grows fresh_part all_eventual s (world_of w) event (step (world_of w) event []) =
-        step_sound client_law client_grows lapsed_grows fresh_part all_eventual (world_of w) s k event [] (first_is w s k event e.0) in
+    step_sound client_law client_grows lapsed_grows fresh_part all_eventual (world_of w) s k event [] (first_is w s k event e.0) in
     let later : Said = hear_lines s (lines_of (world_of w) (step (world_of w) event [])) in
     let kept : Keeps (memory.step w event).world later = subst (λ (x : World). Kept all_eventual x later) same.world sound.kept in
     let rest = turns_are script (memory.step w event).world later kept (numbered_on w event n) e.1 in

@@ -127,7 +127,7 @@ module _ (g : ℕ → Scheme) (eventual : (table : ℕ) → g table ≡ Eventual
       (elim (memory.stored_at w table) as (λ (x : Option (List Stored)). memory.WorldStep) [ None ↦ memory.answered w answers.Done | Some stored ↦ memory.after_store w table from (old_store.store_step table stored m) ])
   at_table table from m =
       subst (λ (o : Option Hosted). Same w (to_hosted (world_of w) table (store.Take from (message_of m)) [] o)
-          (elim (memory.stored_at w table) as (λ (x : Option (List Stored)). memory.WorldStep) [ None ↦ memory.answered w answers.Done | Some stored ↦ memory.after_store w table from (old_store.store_step table stored m) ]))
+      (elim (memory.stored_at w table) as (λ (x : Option (List Stored)). memory.WorldStep) [ None ↦ memory.answered w answers.Done | Some stored ↦ memory.after_store w table from (old_store.store_step table stored m) ]))
       (sym (hosted_same w table)) (hosted_event table from m (memory.stored_at w table) refl (λ stored. stores.take_once from table stored m) _ refl)
 
   store_same : (from to : Node) (number : ℕ) (m : Message)

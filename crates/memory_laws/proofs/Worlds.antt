@@ -141,7 +141,7 @@ module _ (w : memory.World) where
         ap (λ (d : client.ClientDisk). Behind (record { disk = d; agenda = Some [] }) (client_packets c (map packet_of w.packets ++ Sent) k.tasks)) k.disk
         ∙ (ap (λ (ps : List Packet). Behind (client_of was.client) ps) (k.packets (map packet_of w.packets) ∙ sym (map-append packet_of w.packets (once.sent_by c was.messages)))
         ∙ ap (λ (cs : List (ℕ × Client)). record { schemas = w.schemas; tables = map named_store w.tables; clients = cs; packets = map packet_of (w.packets ++ once.sent_by c was.messages) })
-            (put_map nat_cmp client_of w.clients c was.client))
+        (put_map nat_cmp client_of w.clients c was.client))
 
     pub client_event : Same (call_there (world_of w) c move [] (Some (client_of node))) (memory.after_client w c was)
     client_event = record {
@@ -211,7 +211,7 @@ module _ (w : memory.World) where
         ∙ (ap (λ (h : List Entry). Then (record { store = store_of was.stored; history = h }) (store_packets (map packet_of w.packets ++ Given) k.tasks)) k.told
         ∙ (ap (λ (ps : List Packet). Then (hosted_of was.stored) ps) (k.packets (map packet_of w.packets) ∙ sym (map-append packet_of w.packets (stores.sent_to from was.messages)))
         ∙ ap (λ (ts : List (ℕ × Hosted)). record { schemas = w.schemas; tables = ts; clients = map named_client w.clients; packets = map packet_of (w.packets ++ stores.sent_to from was.messages) })
-            (put_map nat_cmp hosted_of w.tables table was.stored)))
+        (put_map nat_cmp hosted_of w.tables table was.stored)))
 
     pub table_event : Same (to_hosted (world_of w) table (store.Take from m) [] (Some (hosted_of stored))) (memory.after_store w table from was)
     table_event = record {

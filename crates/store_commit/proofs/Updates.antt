@@ -1,5 +1,5 @@
 -- At every moment of an update the devices have named chunks.
-use Rattle.std.proofs.Common.{◌≡◌, inl, inr, ⊎_elim, ◌⊎◌, ℕ, suc, ◌+◌, ◌<◌, ◌≤◌, Bool, true, false, cond, List, [], ◌∷◌, ◌++◌, length, get_or, Option, Some, None, refl, sym, ◌∙◌, ap, subst, arith}
+use Rattle.std.proofs.Common.{◌≡◌, inl, inr, ⊎_elim, ◌⊎◌, ℕ, suc, ◌+◌, ◌<◌, ◌≤◌, Bool, true, false, List, [], ◌∷◌, ◌++◌, length, get_or, Option, Some, None, refl, sym, ◌∙◌, ap, subst, arith}
 use Rattle.std.specs.Prelude.{◌==◌, if◌then◌else◌}
 use Rattle.std.specs.BTreeMap.{insert_entry, is_at}
 use Rattle.std.proofs.lemmas.Bool.{cases_eq}
@@ -11,7 +11,7 @@ use Rattle.chunk_store.specs.Standing.{chunk_in}
 use Rattle.row_store.specs.declared.stored.StoredRow.{StoredRow}
 use Rattle.row_store.specs.Data.{TableData, id_cmp, with_row, row_of, version_of}
 use Rattle.status_log.specs.Entry.{Entry}
-use Rattle.store_commit.specs.Devs.{Devs, Write, OpenEntry, PutChunk, PutRow, DropChunk, CloseEntry, changed_by, changed_by_all}
+use Rattle.store_commit.specs.Devs.{Devs, Write, OpenEntry, PutRow, CloseEntry, changed_by, changed_by_all}
 use Rattle.store_commit.specs.NamedChunks.{Among, AreDifferent, names_of, IsNamed, IsNewOf, left_of, IsLeft, NamedChunks}
 use Rattle.store_commit.specs.Agenda.{fresh_name, puts, drops, update_writes, Replaces, meaning_with, row_is_to_come, IsMoment, Runs}
 use Rattle.store_commit.proofs.Lookups.{cases_id, not_itself_id, cases_among, chunk_put, chunk_put_other, chunk_dropped, chunk_dropped_other, row_put, row_put_other}

@@ -1,19 +1,20 @@
 -- What one write does to the three devices, from what it does to its own.
-use Rattle.std.proofs.Common.{◌≡◌, inl, inr, ⊎_elim, ◌⊎◌, ℕ, ◌+◌, ◌<◌, ◌≤◌, true, false, List, [], ◌∷◌, length, Option, Some, None, Result, Ok, Err, refl, sym, ◌∙◌, ap, subst, arith}
+use Rattle.std.proofs.Common.{◌≡◌, inl, inr, ⊎_elim, ℕ, ◌+◌, ◌<◌, ◌≤◌, List, [], ◌∷◌, length, Option, Some, None, Result, Ok, Err, refl, sym, ◌∙◌, ap, subst, arith}
 use Rattle.std.specs.Prelude.{IsErrOf}
 use Rattle.std.specs.BTreeMap.{insert_entry}
 use Rattle.disk_trait.specs.Image.{IsImage, settled}
 use Rattle.disk_trait.proofs.Images.{settled_only}
 use Rattle.disk_trait.proofs.Moments.{started}
 use Rattle.vault.specs.File.{StandsForOne}
+use Rattle.vault.proofs.Lists.{stands_at}
 use Rattle.disk_trait.specs.Calls.{DiskState}
 use Rattle.vault.specs.declared.fault.VaultFault.{VaultFault}
 use Rattle.vault.specs.declared.fault.VaultFault.TheVariants as causes
 use Rattle.vault.specs.declared.vault.Vault.{Vault}
-use Rattle.vault.specs.Standing.{payloads, faults, disk_of, IsUp, IsDown, IsSound, IsSynced}
+use Rattle.vault.specs.Standing.{payloads, faults, disk_of, IsUp, IsDown, IsSound, IsSynced, IsBlank}
 use Rattle.vault.specs.Standing as vaults
 use Rattle.vault.specs.Calls.{IsEither, Refuses, RefusesOnly}
-use Rattle.vault.proofs.Uppers.{opened_sound, runs_weaker}
+use Rattle.vault.proofs.Uppers.{opened_sound, less_room, runs_weaker}
 use Rattle.vault.proofs.Stayings.{looked_leaves}
 use Rattle.stab_base.specs.declared.chunk_name.ChunkName.{ChunkName}
 use Rattle.row_value.specs.declared.schema.Schema.{Schema}
@@ -28,8 +29,8 @@ use Rattle.row_store.specs.declared.fault.RowFault.{RowFault}
 use Rattle.row_store.specs.declared.stored.StoredRow.{StoredRow}
 use Rattle.row_store.specs.declared.stored.Terms.{Terms}
 use Rattle.row_store.specs.Fault.{fault_of as row_fault}
-use Rattle.row_store.specs.Spelling.{row_payload, table_payload}
-use Rattle.row_store.specs.Data.{TableData, with_row, with_table, with_sub, data_of}
+use Rattle.row_store.specs.Spelling.{row_payload, table_payload, IsClient}
+use Rattle.row_store.specs.Data.{TableData, with_row, with_table, with_sub, data_of, nothing_held}
 use Rattle.row_store.specs.Standing as rows
 use Rattle.status_log.specs.declared.device.StatusLog.{StatusLog}
 use Rattle.status_log.specs.declared.fault.LogFault.{LogFault}
@@ -42,7 +43,7 @@ use Rattle.store_commit.specs.Fault.{disk_or}
 use Rattle.store_commit.specs.declared.fault.CommitFault.{CommitFault}
 use Rattle.store_commit.specs.declared.fault.CommitFault.TheVariants.{Disk, Down}
 use Rattle.store_commit.specs.Devs.{Devs, Write, OpenChunks, OpenRows, OpenLog, OpenEntry, PutChunk, PutRow, DropChunk, CloseEntry, PutTable, PutSub, changed_by, IsBeforeOrAfter}
-use Rattle.store_commit.specs.Standing.{devs, AreUp, IsOneDown, all_faults, chunk_opens, chunk_puts, chunk_bytes, row_opens, row_puts, row_bytes, log_opens, log_puts, log_bytes, chunk_opened, row_opened, log_opened, MayDoAll, IsReady, DevsLeave, Works, AreSound, AreSynced}
+use Rattle.store_commit.specs.Standing.{devs, AreUp, IsOneDown, chunk_opens, chunk_puts, chunk_bytes, row_opens, row_puts, row_bytes, log_opens, log_puts, log_bytes, chunk_opened, row_opened, log_opened, MayDoAll, IsReady, DevsLeave, Works, AreSound, AreSynced, AreBlank, nothing}
 
 -- a device that is up and takes no memory fails by its disk alone
 must_be_disk : {D X T E : Type 0} (state : D → DiskState) (fault : VaultFault → E) (old new : Vault D) (before after : X) (x : E) → Refuses {T = T} state fault old new before after (Err x) → RefusesOnly {T = T} fault (Err x) → (IsErrOf {T = T} (Err x) (fault causes.Memory) → ⊥) → IsUp old
@@ -144,7 +145,7 @@ module _ {D : Type 0} (state : D → DiskState) (images : D → ℕ → List ℕ
             log_is_opened = ready.log_is_opened;
             log_room = ready.log_room;
           };
-          up = record { chunks = k.opened.vault.looked.up; rows = up.rows; log = up.log; };
+          up = record { chunks = k.opened.vault.looked.up; rows = up.rows; log = up.log };
           counted = omega (arith, k.refuses.cause);
           any_moment = open_chunks_moment (Ok x) k;
           disk = λ e is. absurd cc;
@@ -187,7 +188,7 @@ module _ {D : Type 0} (state : D → DiskState) (images : D → ℕ → List ℕ
             log_is_opened = ready.log_is_opened;
             log_room = ready.log_room;
           };
-          up = record { chunks = up.chunks; rows = k.opened.vault.looked.up; log = up.log; };
+          up = record { chunks = up.chunks; rows = k.opened.vault.looked.up; log = up.log };
           counted = omega (arith, k.refuses.cause);
           any_moment = open_rows_moment (Ok x) k;
           disk = λ e is. absurd cc;
@@ -230,7 +231,7 @@ module _ {D : Type 0} (state : D → DiskState) (images : D → ℕ → List ℕ
             row_is_opened = ready.row_is_opened;
             row_room = ready.row_room;
           };
-          up = record { chunks = up.chunks; rows = up.rows; log = k.opened.vault.looked.up; };
+          up = record { chunks = up.chunks; rows = up.rows; log = k.opened.vault.looked.up };
           counted = omega (arith, k.refuses.cause);
           any_moment = open_log_moment (Ok x) k;
           disk = λ e is. absurd cc;
@@ -273,7 +274,7 @@ module _ {D : Type 0} (state : D → DiskState) (images : D → ℕ → List ℕ
             row_is_opened = ready.row_is_opened;
             row_room = ready.row_room;
           };
-          up = record { chunks = up.chunks; rows = up.rows; log = k.opened.vault.looked.up; };
+          up = record { chunks = up.chunks; rows = up.rows; log = k.opened.vault.looked.up };
           counted = omega (arith, k.refuses.cause);
           any_moment = open_entry_moment (Ok x) k;
           disk = λ e is. absurd cc;
@@ -316,7 +317,7 @@ module _ {D : Type 0} (state : D → DiskState) (images : D → ℕ → List ℕ
             log_is_opened = ready.log_is_opened;
             log_room = ready.log_room;
           };
-          up = record { chunks = k.opened.vault.looked.up; rows = up.rows; log = up.log; };
+          up = record { chunks = k.opened.vault.looked.up; rows = up.rows; log = up.log };
           counted = omega (arith, k.refuses.cause);
           any_moment = put_chunk_moment (Ok x) k;
           disk = λ e is. absurd cc;
@@ -359,7 +360,7 @@ module _ {D : Type 0} (state : D → DiskState) (images : D → ℕ → List ℕ
             log_is_opened = ready.log_is_opened;
             log_room = ready.log_room;
           };
-          up = record { chunks = up.chunks; rows = k.opened.vault.looked.up; log = up.log; };
+          up = record { chunks = up.chunks; rows = k.opened.vault.looked.up; log = up.log };
           counted = omega (arith, k.refuses.cause);
           any_moment = put_row_moment (Ok x) k;
           disk = λ e is. absurd cc;
@@ -402,7 +403,7 @@ module _ {D : Type 0} (state : D → DiskState) (images : D → ℕ → List ℕ
             log_is_opened = ready.log_is_opened;
             log_room = ready.log_room;
           };
-          up = record { chunks = k.opened.vault.looked.up; rows = up.rows; log = up.log; };
+          up = record { chunks = k.opened.vault.looked.up; rows = up.rows; log = up.log };
           counted = omega (arith, k.refuses.cause);
           any_moment = drop_chunk_moment (Ok x) k;
           disk = λ e is. absurd cc;
@@ -445,7 +446,7 @@ module _ {D : Type 0} (state : D → DiskState) (images : D → ℕ → List ℕ
             row_is_opened = ready.row_is_opened;
             row_room = ready.row_room;
           };
-          up = record { chunks = up.chunks; rows = up.rows; log = k.opened.vault.looked.up; };
+          up = record { chunks = up.chunks; rows = up.rows; log = k.opened.vault.looked.up };
           counted = omega (arith, k.refuses.cause);
           any_moment = close_entry_moment (Ok x) k;
           disk = λ e is. absurd cc;
@@ -488,7 +489,7 @@ module _ {D : Type 0} (state : D → DiskState) (images : D → ℕ → List ℕ
             log_is_opened = ready.log_is_opened;
             log_room = ready.log_room;
           };
-          up = record { chunks = up.chunks; rows = k.opened.vault.looked.up; log = up.log; };
+          up = record { chunks = up.chunks; rows = k.opened.vault.looked.up; log = up.log };
           counted = omega (arith, k.refuses.cause);
           any_moment = put_table_moment (Ok x) k;
           disk = λ e is. absurd cc;
@@ -531,7 +532,7 @@ module _ {D : Type 0} (state : D → DiskState) (images : D → ℕ → List ℕ
             log_is_opened = ready.log_is_opened;
             log_room = ready.log_room;
           };
-          up = record { chunks = up.chunks; rows = k.opened.vault.looked.up; log = up.log; };
+          up = record { chunks = up.chunks; rows = k.opened.vault.looked.up; log = up.log };
           counted = omega (arith, k.refuses.cause);
           any_moment = put_sub_moment (Ok x) k;
           disk = λ e is. absurd cc;
@@ -546,7 +547,6 @@ module _ {D : Type 0} (state : D → DiskState) (images : D → ℕ → List ℕ
           any_moment = put_sub_moment (Err x) k;
           disk = λ e is. (cc, omega (arith, failed.1), inr (inl failed.0));
         }
-
 
 -- the same, where the write's name is answered
 pub works_named : {D S : Type 0} (state : D → DiskState) (images : D → ℕ → List ℕ → Type 0) (w : Write) (ws : List Write) (old new : TableDevs D) (s : S) → Works {T = Unit {0}} state images w ws old new (Ok tt) → Works {T = S} state images w ws old new (Ok s)
@@ -624,3 +624,90 @@ module _ {D : Type 0} (state : D → DiskState) (images : D → ℕ → List ℕ
   pub two_looked : (old : TableDevs D) (cs : ChunkDev D) (rs : RowDev D) → AreUp old → AreSynced state old → AreSound state old → vaults.Leaves state images (chunks.vault_of old.chunks) (chunks.vault_of cs) (λ l. chunks_of l ≡ chunks.chunks state old.chunks) → vaults.Leaves state images (rows.vault_of old.rows) (rows.vault_of rs) (λ l. data_of l ≡ rows.held state old.rows)
       → DevsLeave state images old (record old { chunks = cs; rows = rs }) (λ d. d ≡ devs state old)
   two_looked old cs rs up synced sound a b = let new : TableDevs D = record old { chunks = cs; rows = rs } in all_same old new a b (synced_log old.log up.log synced.log sound.log)
+
+  -- ---- a format
+
+  abbrev made : List (ChunkName × List ℕ) → TableData → Option Entry → Devs
+  made c h p = record { chunks = c; held = h; pending = p }
+
+  short_stands : (image : List ℕ) → length image ≤ 1 → StandsForOne (λ list. list ≡ []) image
+  short_stands image short = ([], stands_at image 0 [] (record { size = refl; front = refl; more = λ lt. absurd (omega arith); short = tt }) (λ _. omega arith), refl)
+
+  -- while nothing is done, a crash of a blank file leaves no payload
+  blank_leaves : (vault : Vault D) → IsBlank state vault → vaults.Leaves state images vault vault (λ list. list ≡ [])
+  blank_leaves vault blank =
+      let file = (state (disk_of vault)).seen in
+      started state images (disk_of vault) (StandsForOne (λ list. list ≡ []))
+      (λ image left.
+      let same = settled_only file image (subst (λ q. IsImage q image) blank.synced (only_now (disk_of vault) image left)) in
+      short_stands image (rw same blank.short))
+
+  no_rows : data_of [] ≡ nothing_held
+  unfolding data_of
+  no_rows = refl
+
+  no_chunks : chunks_of [] ≡ []
+  unfolding chunks_of
+  no_chunks = refl
+
+  no_entry : pending_of [] ≡ None
+  unfolding pending_of
+  no_entry = refl
+
+  pub all_blank : (old new : TableDevs D) → vaults.Leaves state images (chunks.vault_of old.chunks) (chunks.vault_of new.chunks) (λ l. chunks_of l ≡ chunks_of []) → vaults.Leaves state images (rows.vault_of old.rows) (rows.vault_of new.rows) (λ l. data_of l ≡ data_of []) → vaults.Leaves state images (logs.vault_of old.log) (logs.vault_of new.log) (λ l. pending_of l ≡ pending_of [])
+      → DevsLeave state images old new (λ d. d ≡ nothing)
+  all_blank old new a b c =
+      leave state images only_now old new (λ here. here ≡ chunks_of []) (λ here. here ≡ data_of []) (λ here. here ≡ pending_of []) (λ d. d ≡ nothing) a b c
+      (λ x y z px py pz. let p : x ≡ [] = px ∙ no_chunks in let q : y ≡ nothing_held = py ∙ no_rows in let r : z ≡ None = pz ∙ no_entry in cc)
+
+  blank_rows : (dev : RowDev D) → IsBlank state (rows.vault_of dev) → vaults.Leaves state images (rows.vault_of dev) (rows.vault_of dev) (λ l. data_of l ≡ data_of [])
+  blank_rows dev blank = runs_weaker state images (rows.vault_of dev) (rows.vault_of dev) (λ l. l ≡ []) (λ l. data_of l ≡ data_of []) (blank_leaves (rows.vault_of dev) blank) (λ l is. ap data_of is)
+
+  blank_log : (dev : StatusLog D) → IsBlank state (logs.vault_of dev) → vaults.Leaves state images (logs.vault_of dev) (logs.vault_of dev) (λ l. pending_of l ≡ pending_of [])
+  blank_log dev blank = runs_weaker state images (logs.vault_of dev) (logs.vault_of dev) (λ l. l ≡ []) (λ l. pending_of l ≡ pending_of []) (blank_leaves (logs.vault_of dev) blank) (λ l is. ap pending_of is)
+
+  pub one_blank : (old new : TableDevs D) → new.rows ≡ old.rows → new.log ≡ old.log → AreBlank state old → vaults.Leaves state images (chunks.vault_of old.chunks) (chunks.vault_of new.chunks) (λ l. chunks_of l ≡ chunks_of []) → DevsLeave state images old new (λ d. d ≡ nothing)
+  one_blank old new rs ls blank a = all_blank old new a (rw rs (blank_rows old.rows blank.rows)) (rw ls (blank_log old.log blank.log))
+
+  pub two_blank : (old new : TableDevs D) → new.log ≡ old.log → AreBlank state old → vaults.Leaves state images (chunks.vault_of old.chunks) (chunks.vault_of new.chunks) (λ l. chunks_of l ≡ chunks_of []) → vaults.Leaves state images (rows.vault_of old.rows) (rows.vault_of new.rows) (λ l. data_of l ≡ data_of [])
+      → DevsLeave state images old new (λ d. d ≡ nothing)
+  two_blank old new ls blank a b = all_blank old new a b (rw ls (blank_log old.log blank.log))
+
+  pub all_empty : (c : List (ChunkName × List ℕ)) (h : TableData) (p : Option Entry) → c ≡ chunks_of [] → h ≡ data_of [] → p ≡ pending_of [] → made c h p ≡ nothing
+  all_empty c h p px py pz = let a : c ≡ [] = px ∙ no_chunks in let b : h ≡ nothing_held = py ∙ no_rows in let e : p ≡ None = pz ∙ no_entry in cc
+
+  -- opened devices with room for an opening each are at rest
+  pub at_rest : (table : TableDevs D) → chunks.IsOpened state table.chunks → rows.IsOpened state table.rows → logs.IsOpened state table.log → chunks.HasRoom state table.chunks 1 0 0 → rows.HasRoom state table.rows 1 0 0 → logs.HasRoom state table.log 1 0 0 → IsReady state table []
+  at_rest table a b c x y z = record {
+    may = tt;
+    chunk_looked = record { vault = a.vault.looked; memory = a.memory };
+    chunk_sound = opened_sound state (chunks.vault_of table.chunks) a.vault;
+    chunk_is_opened = a;
+    chunk_room = record { vault = less_room state (chunks.vault_of table.chunks) 1 0 0 0 0 0 (omega arith) (omega arith) (omega arith) x.vault; memory = x.memory; payload = x.payload };
+    row_looked = record { vault = b.vault.looked; memory = b.memory };
+    row_sound = opened_sound state (rows.vault_of table.rows) b.vault;
+    row_is_opened = b;
+    row_room = record { vault = less_room state (rows.vault_of table.rows) 1 0 0 0 0 0 (omega arith) (omega arith) (omega arith) y.vault; memory = y.memory; payload = y.payload };
+    log_looked = record { vault = c.vault.looked; memory = c.memory };
+    log_sound = opened_sound state (logs.vault_of table.log) c.vault;
+    log_is_opened = c;
+    log_room = record { vault = less_room state (logs.vault_of table.log) 1 0 0 0 0 0 (omega arith) (omega arith) (omega arith) z.vault; memory = z.memory; payload = z.payload };
+  }
+
+  -- room for one put of a row's device
+  pub ready_sub : (old new : TableDevs D) (client : ℕ) (terms : Option Terms) → IsClient client → new.chunks ≡ old.chunks → new.log ≡ old.log → rows.Stays state old.rows new.rows → rows.HasRoom state new.rows 1 1 18 → IsReady state old [] → IsReady state new (PutSub client terms ∷ [])
+  ready_sub old new client terms is cs ls stays room r = record {
+    may = (is, tt);
+    chunk_looked = rw cs r.chunk_looked;
+    chunk_sound = rw cs r.chunk_sound;
+    chunk_is_opened = rw cs r.chunk_is_opened;
+    chunk_room = rw cs r.chunk_room;
+    row_looked = stays.looked r.row_looked;
+    row_sound = stays.sound r.row_sound;
+    row_is_opened = stays.opened r.row_is_opened;
+    row_room = record { vault = less_room state (rows.vault_of new.rows) 1 1 18 0 1 18 (omega arith) (omega arith) (omega arith) room.vault; memory = room.memory; payload = room.payload };
+    log_looked = rw ls r.log_looked;
+    log_sound = rw ls r.log_sound;
+    log_is_opened = rw ls r.log_is_opened;
+    log_room = rw ls r.log_room;
+  }

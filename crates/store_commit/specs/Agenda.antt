@@ -1,5 +1,5 @@
 -- The writes of an update and of a recovery, in their order.
-use Rattle.std.specs.Prelude.{◌≡◌, ◌⊎◌, ℕ, ◌+◌, ◌<◌, ◌≤◌, ◌==◌, Bool, true, false, if◌then◌else◌, is_some, List, [], ◌∷◌, ◌++◌, length, map, filter, Option, Some, None, slice_index_or}
+use Rattle.std.specs.Prelude.{◌≡◌, ◌⊎◌, ℕ, ◌+◌, ◌<◌, ◌==◌, Bool, true, false, if◌then◌else◌, List, [], ◌∷◌, ◌++◌, length, map, Some, slice_index_or}
 use Rattle.stab_base.specs.declared.chunk_name.ChunkName.{ChunkName}
 use Rattle.row_value.specs.declared.pieces.Piece.{Piece}
 use Rattle.row_value.specs.declared.pieces.Piece.TheVariants.{Keep, Fresh}
@@ -8,10 +8,10 @@ use Rattle.row_value.specs.declared.pieces.PieceContent.{PieceContent}
 use Rattle.row_value.specs.declared.pieces.PieceContent.TheVariants.{Gone, Row}
 use Rattle.chunk_store.specs.Standing.{chunk_in}
 use Rattle.row_store.specs.declared.stored.StoredRow.{StoredRow}
-use Rattle.row_store.specs.Data.{TableData, with_row, row_of, version_of}
+use Rattle.row_store.specs.Data.{TableData, with_row, row_of}
 use Rattle.status_log.specs.Entry.{Entry}
 use Rattle.store_commit.specs.Devs.{Devs, Write, OpenChunks, OpenRows, OpenLog, OpenEntry, PutChunk, PutRow, DropChunk, CloseEntry, changed_by}
-use Rattle.store_commit.specs.NamedChunks.{Among, AreDifferent, names_of, IsNamed, IsNewOf, IsLeft, NamedChunks}
+use Rattle.store_commit.specs.NamedChunks.{Among, AreDifferent, names_of, IsNewOf, IsLeft, NamedChunks}
 
 -- ---- an update
 

@@ -1,5 +1,5 @@
 -- What the three devices of a table hold, and what one write makes of it.
-use Rattle.std.specs.Prelude.{◌≡◌, ◌⊎◌, ℕ, ◌==◌, List, [], ◌∷◌, Option, Some, None}
+use Rattle.std.specs.Prelude.{◌≡◌, ◌⊎◌, ℕ, List, [], ◌∷◌, Option, Some, None}
 use Rattle.std.specs.BTreeMap.{insert_entry}
 use Rattle.spare_map.specs.Late.{without}
 use Rattle.stab_base.specs.declared.chunk_name.ChunkName.{ChunkName}

@@ -1,10 +1,9 @@
 -- A table's devices between calls, as what they hold and the writes that are still to come.
-use Rattle.std.specs.Prelude.{◌≡◌, ◌⊎◌, ℕ, ◌+◌, ◌<◌, ◌≤◌, true, false, List, [], ◌∷◌, length, map, Option, Some, None, IsSome, Result, Ok, Err, OnOk, IfOk}
+use Rattle.std.specs.Prelude.{◌≡◌, ◌⊎◌, ℕ, ◌+◌, ◌<◌, ◌≤◌, List, [], ◌∷◌, length, map, None, IsSome, Result, Ok, Err, OnOk, IfOk}
 use Rattle.disk_trait.specs.Calls.{DiskState}
 use Rattle.vault.specs.Limit.{payload_most}
 use Rattle.vault.specs.File.{StandsFor}
 use Rattle.vault.specs.Standing.{faults, disk_of, IsUp, IsDown, IsSound, IsSynced, IsBlank}
-use Rattle.stab_base.specs.declared.chunk_name.ChunkName.{ChunkName}
 use Rattle.stab_base.specs.declared.limits.TheConstants.{NUMBER_MAX}
 use Rattle.value_codec.specs.SchemaSpelling.{HasSchemaSpelling}
 use Rattle.chunk_store.specs.Payload.{chunks_of}
@@ -13,7 +12,7 @@ use Rattle.chunk_store.specs.Standing as chunks
 use Rattle.row_store.specs.Spelling.{HasStoredSpelling, row_payload, IsState, table_payload, IsClient}
 use Rattle.row_store.specs.Data.{data_of, nothing_held}
 use Rattle.row_store.specs.Standing as rows
-use Rattle.status_log.specs.Entry.{Entry, entry_of, size_of, HasSpelling}
+use Rattle.status_log.specs.Entry.{entry_of, size_of, HasSpelling}
 use Rattle.status_log.specs.Payload.{pending_of}
 use Rattle.status_log.specs.Standing as logs
 use Rattle.stab_base.specs.declared.step.Step.{Step}

@@ -1,11 +1,13 @@
 //! Why a table's devices didn't do what they were asked for.
 ghost use Rattle.std.specs.Prelude.{◌≡◌};
+ghost use Rattle.store_commit.specs.declared.fault.CommitFault.TheVariants.{Memory};
 ghost use Rattle.store_commit.specs.Fault.{disk_or, chunk_cause, row_cause, log_cause};
 
 use chunk_store::ChunkFault;
 use row_store::RowFault;
 use stab_base::Version;
 use status_log::LogFault;
+use std::alloc::AllocError;
 use thiserror::Error;
 
 #[derive(Debug, Drop, Clone, Copy, PartialEq, Eq, Error)]
@@ -33,6 +35,14 @@ pub(crate) fn told<E: Drop>(answer: Result<(), E>) -> Result<(), CommitFault>
     match answer {
         Ok(()) => Ok(()),
         Err(_) => Err(CommitFault::Disk),
+    }
+}
+
+impl From<AllocError> for CommitFault {
+    ghost from_gives = { λ _ e. e ≡ Memory };
+
+    fn from(_: AllocError) -> Self {
+        CommitFault::Memory
     }
 }
 

@@ -1,9 +1,8 @@
 -- What decoding answers, from what reading gives.
-use Rattle.std.proofs.Common.{◌≡◌, ℕ, ◌-◌, ◌≤◌, List, length, Result, Ok, Err, refl, sym, ap, subst, ◌∙◌, inr}
+use Rattle.std.proofs.Common.{◌≡◌, ℕ, ◌-◌, List, length, Result, Ok, Err, refl, sym, ap, ◌∙◌, inr}
 use Rattle.stab_base.specs.Codec.{IsBytes}
 use Rattle.value_codec.specs.declared.spell_fault.SpellFault.{SpellFault}
-use Rattle.value_codec.specs.declared.spell_fault.SpellFault.TheVariants.{Bad, Memory}
-use Rattle.value_codec.specs.FirstBad.{IsFirstBad}
+use Rattle.value_codec.specs.declared.spell_fault.SpellFault.TheVariants.{Bad}
 use Rattle.value_codec.specs.Reading.{Gives, whole}
 use Rattle.value_codec.proofs.FieldReads.{one_value}
 use Rattle.value_codec.proofs.Stops.{moved}

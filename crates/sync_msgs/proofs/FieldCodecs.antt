@@ -1,6 +1,5 @@
 -- The fields of messages: each reading gives what is spelled, and tells the first bad place.
-use Rattle.std.proofs.Common.{◌≡◌, ℕ, zero, suc, ◌-◌, ◌<◌, ◌≤◌, ◌^◌, Bool, true, false, ◌&&◌, cond, eqb, leb, ltb, List, [], ◌∷◌, ◌++◌, length, take, drop, Result, Ok, Err, Option, Some, None, refl, sym, ap, subst, ◌∙◌, arith, inl, inr, length-append}
-use Rattle.std.specs.List.{AllByRecursion}
+use Rattle.std.proofs.Common.{◌≡◌, ℕ, zero, suc, ◌-◌, ◌<◌, ◌≤◌, ◌^◌, Bool, true, false, eqb, leb, ltb, List, [], ◌∷◌, ◌++◌, length, take, drop, Result, Ok, Err, Option, Some, None, refl, sym, ap, subst, ◌∙◌, arith, inl, inr, length-append}
 use Rattle.std.specs.Int.{w32, w64}
 use Rattle.std.proofs.lemmas.Bool.{eqb-true, leb-true, ltb-true, ltb-false, le-ltb}
 use Rattle.std.proofs.lemmas.List.{take_at, drop_at, append-nil, length-take-le, take-append-drop}
@@ -10,20 +9,19 @@ use Rattle.value_codec.specs.Spelling.{flag_spelling, list_spelling, content_spe
 use Rattle.value_codec.specs.SchemaSpelling.{schema_spelling, HasSchemaSpelling}
 use Rattle.value_codec.specs.Reading.{byte_at, number_at, flag_at, id_at, content_at, kept_content_at, list_at, exactly_at}
 use Rattle.value_codec.specs.SchemaReading.{schema_at}
-use Rattle.value_codec.proofs.FieldReads.{Reads, retold, bind_ok, branch, ok_is, no_fault, gives, byte_reads, four_reads, eight_reads, id_reads, flag_reads}
+use Rattle.value_codec.proofs.FieldReads.{retold, bind_ok, branch, ok_is, no_fault, gives, byte_reads, four_reads, eight_reads, id_reads, flag_reads}
 use Rattle.value_codec.proofs.PieceReads.{exactly_takes, exactly_again}
 use Rattle.value_codec.proofs.ContentReads.{content_reads, kept_reads}
 use Rattle.value_codec.proofs.SchemaReads.{schema_reads}
 use Rattle.value_codec.proofs.ListReads.{EachFrom, list_reads, each_of, each_from}
-use Rattle.value_codec.proofs.Stops.{Stops, retold_stop, moved, bind_err, branch_err, err_is, not_ok, no_byte}
+use Rattle.value_codec.proofs.Stops.{retold_stop, moved, bind_err, branch_err, err_is, not_ok, no_byte}
 use Rattle.value_codec.proofs.FieldStops.{four_stop, eight_stop, id_stop, flag_stop, exactly_fails, Given, given, list_stop, zeros, zeros-length}
 use Rattle.value_codec.proofs.ValueStops.{content_stop, kept_stop}
 use Rattle.value_codec.proofs.SchemaStops.{schema_stop}
-use Rattle.table_model.specs.declared.message.RowHeader.{RowHeader}
 use Rattle.table_model.specs.declared.message.TableSubscription.{TableSubscription}
 use Rattle.table_model.specs.declared.message.Outcome.{Outcome}
 use Rattle.table_model.specs.declared.message.Outcome.TheVariants as outcomes
-use Rattle.sync_msgs.specs.Fields.{Reader, then_at, ◌&◌, made_at, byte_if, ranged_at, client_at, period_if, bytes_at, chunk_bytes_at, value_if, inside_if, option_at, is_flag, option_if}
+use Rattle.sync_msgs.specs.Fields.{Reader, client_at, period_if, bytes_at, chunk_bytes_at, value_if, inside_if, option_at, is_flag, option_if}
 use Rattle.sync_msgs.specs.Spelling.{four, eight, IsBetween, IsClient, IsPeriod, IsChunk, chunk_spelling, IsOption, option_spelling, IsOptionIf, header_spelling, HasHeaderSpelling, outcome_spelling, HasOutcomeSpelling, subscription_spelling, HasSubscriptionSpelling, AreSubscriptions, subscriptions_spelling}
 use Rattle.sync_msgs.specs.Reading.{header_of, header_at, is_outcome, outcome_of, outcome_at, subscription_at, after_subscription, subscription_in}
 use Rattle.sync_msgs.proofs.Codecs.{Codec, both, depending, made}

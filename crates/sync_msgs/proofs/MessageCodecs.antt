@@ -1,5 +1,5 @@
 -- Each kind of message: its reading gives what is spelled, and tells the first bad place.
-use Rattle.std.proofs.Common.{◌≡◌, ℕ, ◌<◌, ◌^◌, Bool, true, List, ◌++◌, length, Option, refl}
+use Rattle.std.proofs.Common.{◌≡◌, ℕ, ◌<◌, ◌^◌, Bool, true, List, ◌++◌, Option, refl}
 use Rattle.std.specs.Int.{w32, w64}
 use Rattle.row_value.specs.declared.schema.Schema.{Schema}
 use Rattle.row_value.specs.declared.pieces.PieceContent.{PieceContent}
@@ -15,8 +15,8 @@ use Rattle.table_model.specs.declared.message.Outcome.{Outcome}
 use Rattle.table_model.specs.declared.message.TableSubscription.{TableSubscription}
 use Rattle.table_model.specs.declared.message.Message.{Message}
 use Rattle.table_model.specs.declared.message.Message.TheVariants as messages
-use Rattle.sync_msgs.specs.Fields.{Reader, then_at, ◌&◌, made_at, period_if, option_if}
-use Rattle.sync_msgs.specs.Spelling.{four, eight, IsPeriod, IsOptionIf, option_spelling, has_schema, kind_code, kind_of, body_spelling, HasSpelling}
+use Rattle.sync_msgs.specs.Fields.{Reader, then_at, ◌&◌, period_if, option_if}
+use Rattle.sync_msgs.specs.Spelling.{four, eight, IsPeriod, IsOptionIf, option_spelling, has_schema, body_spelling, HasSpelling}
 use Rattle.sync_msgs.specs.Reading.{register_device_at, create_table_at, drop_table_at, subscribe_table_at, unsubscribe_table_at, notify_at, object_fragment_at, pull_request_at, pull_response_at, sync_request_at, sync_response_at, torn_row_request_at, torn_row_response_at, operation_response_at, save_client_subscription_at, restore_client_subscriptions_at, table_version_update_notification_at, message_at}
 use Rattle.sync_msgs.proofs.Codecs.{Codec, both, depending, made}
 use Rattle.sync_msgs.proofs.Ranges.{one_byte}

@@ -1,7 +1,6 @@
-use Rattle.std.proofs.Common.{◌≡◌, ◌∷◌, ◌++◌, List, map, Option, Some, Ok, Err, refl, sym, ◌∙◌, ap, subst}
+use Rattle.std.proofs.Common.{◌≡◌, ◌∷◌, ◌++◌, List, map, Option, Ok, Err, refl, sym, ◌∙◌, ap, subst}
 use Rattle.std.specs.Prelude.{option_to_list}
 use Rattle.store_commit.specs.declared.task.Task.{Task}
-use Rattle.store_commit.specs.Devs.{Write}
 use Rattle.store_commit.specs.Standing.{write_of, writes_of, IsReady, WorksOn}
 use Rattle.store_commit.proofs.Works.{works_named, works_failed, same_ready, same_works}
 use Rattle.store_commit.proofs.devs.TableDevs.work.Goals as goal

@@ -72,7 +72,8 @@ module _ (old : List (ChunkName × List ℕ)) (chunks : List (List ℕ)) (first 
   keep_more name is = more (Keep name) (kept_piece (slice_get old (length chunks)) chunk (Some name) 0 is)
       (rw (fresh_in-append pieces (Keep name ∷ []), append-nil) so_far.fresh)
 
-  pub fresh_more : IsKept (slice_get old (length chunks)) chunk None → (next : ℕ) → next ≡ first + length (fresh_in pieces) → AreAgainst old (chunks ++ chunk ∷ []) first (pieces ++ Fresh next ∷ [])
+  pub fresh_more : IsKept (slice_get old (length chunks)) chunk None → (next : ℕ) → next ≡ first + length (fresh_in pieces)
+      → AreAgainst old (chunks ++ chunk ∷ []) first (pieces ++ Fresh next ∷ [])
   fresh_more is next at = more (Fresh next) (kept_piece (slice_get old (length chunks)) chunk None next is)
       (rw (fresh_in-append pieces (Fresh next ∷ [])) (CountsFrom-push first (fresh_in pieces) next so_far.fresh at))
 

@@ -13,10 +13,11 @@ IsPieceOf (Some (name, bytes)) chunk (Keep kept) = (kept ≡ name) × (bytes ≡
 IsPieceOf (Some (name, bytes)) chunk (Fresh ordinal) = bytes ≡ chunk → ⊥
 
 -- a piece for each chunk; the new ones count from `first`
-pub record AreAgainst (old : List (ChunkName × List ℕ)) (chunks : List (List ℕ)) (first : ℕ) (pieces : List Piece) : Type 0 where
+pub record AreAgainst (old : List (ChunkName × List ℕ)) (chunks : List (List ℕ)) (first : ℕ) (pieces : List Piece)
+    : Type 0 where
   pub count : length pieces ≡ length chunks
-  pub each : (place : ℕ) (chunk : List ℕ) (piece : Piece) → slice_get chunks place ≡ Some chunk → slice_get pieces place ≡ Some piece
-      → IsPieceOf (slice_get old place) chunk piece
+  pub each : (place : ℕ) (chunk : List ℕ) (piece : Piece) → slice_get chunks place ≡ Some chunk
+      → slice_get pieces place ≡ Some piece → IsPieceOf (slice_get old place) chunk piece
   pub fresh : CountsFrom first (fresh_in pieces)
 
 -- the name of an old chunk that has these bytes, if it has

@@ -9,3 +9,5 @@ mod disks;
 mod logs;
 #[cfg(test)]
 mod rows;
+#[cfg(test)]
+mod tables;

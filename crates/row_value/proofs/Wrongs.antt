@@ -1,5 +1,6 @@
 -- The first place that isn't right, and what a cell that is right leaves of the room.
-use Rattle.std.proofs.Common.{◌≡◌, ℕ, zero, suc, ◌+◌, ◌-◌, ◌<◌, ◌≤◌, Bool, true, false, cond, List, [], ◌∷◌, length, get_or, take, Option, Some, None, Ok, Err, refl, sym, ap, ◌∙◌, subst, arith, rules, tests, leb, ltb, inl, inr}
+use Rattle.std.proofs.Common.{◌≡◌, ℕ, zero, suc, ◌+◌, ◌-◌, ◌<◌, ◌≤◌, Bool, true, false, cond, List, [], ◌∷◌, length, get_or}
+use Rattle.std.proofs.Common.{take, Option, Some, None, Ok, Err, refl, sym, ap, ◌∙◌, subst, arith, rules, tests, leb, ltb, inl, inr}
 use Rattle.std.specs.Prelude.{IfSome, ◌↔◌, ◌==◌, ◌*◌, ◌/◌, not, ◌&&◌, nat_le, nat_lt, sum_by, slice_get, position, if◌then◌else◌, min}
 use Rattle.std.specs.List.{range_with_len, position_or_len}
 use Rattle.std.proofs.lemmas.List.Sums.{position_or_len_is, sum_by_more}
@@ -11,7 +12,8 @@ use Rattle.row_value.specs.declared.content.Cell.{Cell}
 use Rattle.row_value.specs.declared.schema.Schema.{Schema}
 use Rattle.row_value.specs.declared.content.Content.TheVariants as contents
 use Rattle.row_value.specs.declared.fit.FitFault.TheVariants as faults
-use Rattle.row_value.specs.Fit.{wrong_in, misfit, object_misfit, cell_count, cells_fit, objects_fit, size_fit, fit_of, len_of, or_surplus, has_cell, is_cell_of, is_of, spelled_len, spelled_most, chunk_count, room_at, room_behind}
+use Rattle.row_value.specs.Fit.{wrong_in, misfit, object_misfit, cell_count, cells_fit, objects_fit, size_fit, fit_of, len_of}
+use Rattle.row_value.specs.Fit.{or_surplus, has_cell, is_cell_of, is_of, spelled_len, spelled_most, chunk_count, room_at, room_behind}
 use Rattle.std.specs.Int.{div_ceil}
 use Rattle.std.specs.Str.{IsUtf8, is_utf8}
 use Rattle.std.proofs.lemmas.Str.{IsUtf8-from_is_utf8, is_utf8-from_IsUtf8}
@@ -88,14 +90,16 @@ module _ (columns : List Column) (some : List Cell) (place room : ℕ) (column :
   pub no_room : room_at room column.kind (slice_get some place) ≡ None → has_cell columns some place ≡ false
   no_room = none_at (slice_get some place) refl
 
-  some_at : (o : Option Cell) → slice_get some place ≡ o → (rest : ℕ) → room_at room column.kind o ≡ Some rest → (has_cell columns some place ≡ true) × (rest + sum_by spelled_len (take (place + 1) some) ≡ spelled_most)
+  some_at : (o : Option Cell) → slice_get some place ≡ o → (rest : ℕ) → room_at room column.kind o ≡ Some rest
+      → (has_cell columns some place ≡ true) × (rest + sum_by spelled_len (take (place + 1) some) ≡ spelled_most)
   some_at None given rest is = absurd (let bad : None ≡ Some rest = is in cc)
   some_at (Some cell) given rest is =
       let p = passed_some (is_of column.kind cell && nat_le (spelled_len cell) room) (room - spelled_len cell) rest is in
       let enough : spelled_len cell ≤ room = room_enough (is_of column.kind cell) (spelled_len cell) room p.0 in
       (has_cell-fits cell given ∙ p.0, omega (arith, p.1, enough, more cell given))
 
-  pub has_room : (rest : ℕ) → room_at room column.kind (slice_get some place) ≡ Some rest → (has_cell columns some place ≡ true) × (rest + sum_by spelled_len (take (place + 1) some) ≡ spelled_most)
+  pub has_room : (rest : ℕ) → room_at room column.kind (slice_get some place) ≡ Some rest
+      → (has_cell columns some place ≡ true) × (rest + sum_by spelled_len (take (place + 1) some) ≡ spelled_most)
   has_room = some_at (slice_get some place) refl
 
 -- ---- chunks

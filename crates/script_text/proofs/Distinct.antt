@@ -16,7 +16,7 @@ use Rattle.std.proofs.lemmas.List.Folds.{list_any-append}
 use Rattle.std.proofs.lemmas.Map.Text.{is_eq-slice_cmp}
 use Rattle.std.proofs.lemmas.Slice.Eq.{bytes_eq-Decides}
 use Rattle.script_text.specs.Names.{IsSetOf}
-use Rattle.script_text.specs.Words.{is_among}
+use Rattle.script_words.specs.Words.{is_among}
 use Rattle.script_text.specs.Grammar.{table_word}
 
 -- names that were met, kept as a set

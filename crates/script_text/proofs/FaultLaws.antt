@@ -5,7 +5,7 @@ use Rattle.script_text.specs.declared.fault.BadLine.{BadLine}
 use Rattle.script_text.specs.declared.verb.Verb.{Verb}
 use Rattle.script_text.specs.Verbs.{verb_of, name_of}
 use Rattle.script_text.specs.Names.{Names}
-use Rattle.script_text.specs.Words.{words_of}
+use Rattle.script_words.specs.Words.{words_of}
 use Rattle.script_text.specs.Reading.{words_in}
 use Rattle.script_text.specs.Grammar.{IsPassed, Spells, SpelledBy, IsFault, limit_of, WordsLimit, PassesLimit}
 use Rattle.script_text.proofs.Numbers.{some_same}

@@ -1,30 +1,29 @@
 -- What the words of a line spell that reads well.
 use Rattle.std.proofs.Common.{◌≡◌, ◌≢◌, ℕ, ◌+◌, Bool, true, false, ltb, List, [], ◌∷◌, map, codes, cond, length, Option, Some, None, Result, Ok, Err, ℤ, refl, sym, ap, ◌∙◌, subst, arith}
 use Rattle.std.specs.Result.{MatchResult}
-use Rattle.std.specs.Fmt.{decimal, signed_decimal}
+use Rattle.std.specs.Fmt.{decimal}
 use Rattle.std.proofs.lemmas.Bool.{ltb-false}
 use Rattle.row_value.specs.declared.schema.Scheme.{Scheme}
 use Rattle.row_value.specs.declared.schema.Column.{Column}
-use Rattle.row_value.specs.declared.content.Cell.{Cell}
-use Rattle.row_value.specs.declared.content.Cell.TheVariants as cells
-use Rattle.row_value.specs.declared.content.Content.TheVariants.{Row}
 use Rattle.table_model.specs.declared.event.Event.{Event}
 use Rattle.table_model.specs.declared.event.Event.TheVariants as events
-use Rattle.script_text.specs.declared.fault.Code.{Code}
+use Rattle.script_words.specs.declared.code.Code.{Code}
 use Rattle.script_text.specs.declared.fault.BadLine.{BadLine}
 use Rattle.script_text.specs.declared.verb.Verb.{Verb}
 use Rattle.script_text.specs.declared.verb.Verb.TheVariants as verbs
 use Rattle.script_text.specs.Faults.{bad}
 use Rattle.script_text.specs.Verbs.{name_of}
 use Rattle.script_text.specs.Names.{Names, has_no_store}
-use Rattle.script_text.specs.Places.{◌>>=◌, value_at, new_store_at, new_table_at, new_client_at, tables_at, new_name_at, scheme_at, chunk_at}
-use Rattle.script_text.specs.Reading.{placed, made_store, made_table, made_client, store_in, table_in, client_in, cell_in, cells_in, some_cells_in, some_columns_in, write_in, show_in, client_table_in, sync_in, pull_in, deliver_in, store_show_in, history_in, next_in}
-use Rattle.script_text.specs.Grammar.{SpelledBy, AreShort, AreColumns, client_word, table_word, column_word, tables_word, IsClient, IsTable, limit_of}
+use Rattle.script_text.specs.Places.{◌>>=◌, names_of, new_store_at, new_table_at, new_client_at, tables_at, new_name_at, scheme_at, chunk_at}
+use Rattle.script_text.specs.Reading.{placed, made_store, made_table, made_client, store_in, table_in, client_in, content_in, some_columns_in, write_in, show_in, client_table_in, sync_in, pull_in, deliver_in, store_show_in, history_in, next_in}
+use Rattle.script_text.specs.Grammar.{SpelledBy, AreColumns, client_word, table_word, tables_word, IsClient, IsTable, limit_of}
 use Rattle.script_text.proofs.Steps.{ok_err, bind-ok, word_in-ok, end-ok}
 use Rattle.script_text.proofs.Numbers.{packet_at-ok}
 use Rattle.script_text.proofs.Distinct.{new-distinct}
 use Rattle.script_text.proofs.ColumnLemmas.{some_columns-ok, same_count}
-use Rattle.script_text.proofs.PlaceLemmas.{client_at-ok, table_at-ok, new_store_at-ok, new_store_at-within, new_store_at-limit, new_table_at-ok, new_table_at-within, new_table_at-limit, new_client_at-ok, new_client_at-within, new_client_at-limit, gate_at-ok, new_name_at-ok, scheme_at-ok, chunk_at-ok, row_at-ok, value_at-ok}
+use Rattle.script_text.proofs.PlaceLemmas.{client_at-ok, table_at-ok, new_store_at-ok, new_store_at-within, new_store_at-limit, new_table_at-ok, new_table_at-within, new_table_at-limit, new_client_at-ok, new_client_at-within, new_client_at-limit, gate_at-ok, new_name_at-ok, scheme_at-ok, chunk_at-ok, row_at-ok}
+use Rattle.script_words.specs.Columns.{column_word}
+use Rattle.script_text.proofs.ContentLemmas.{content-ok}
 use Rattle.script_text.proofs.TableLemmas.{tables_at-ok, tables_at-within, tables_at-limit}
 
 ok_told : {x y : Result Event ℕ} → ◌≡◌ {A = Result (Result Event ℕ) BadLine} (Ok x) (Ok y) → x ≡ y
@@ -69,15 +68,15 @@ module _ (names : Names) where
       let pc = scheme_at-ok c scheme hc in
       let pd = chunk_at-ok d chunk hd in
       let pk = some_columns-ok 5 k columns hk in
-      let count = same_count pk.0 k columns pk.1 pk.2 in
-      let long : ltb 32 (length k) ≡ ltb 32 (length columns) = ap (ltb 32) (count.1 ∙ sym count.0) in
-      let words : codes "table" ∷ w ∷ name ∷ c ∷ d ∷ k ≡ codes "table" ∷ table_word n ∷ name ∷ codes "eventual" ∷ decimal chunk ∷ map column_word pk.0 = cc (pa.0, pc.0, pd.0, pk.1) in
+      let count = same_count k columns pk.0 in
+      let long : ltb 32 (length k) ≡ ltb 32 (length columns) = ap (ltb 32) count in
+      let words : codes "table" ∷ w ∷ name ∷ c ∷ d ∷ k ≡ codes "table" ∷ table_word n ∷ name ∷ codes "eventual" ∷ decimal chunk ∷ map column_word columns = cc (pa.0, pc.0, pd.0, pk.0) in
       table-picked (w ∷ name ∷ c ∷ d ∷ k) (events.Table n (record { name = name; scheme = scheme; chunk = chunk; columns = columns })) (ltb 32 (length columns))
       (λ many. rw (new_table_at-within names w n h, long ∙ many) refl)
       (λ few.
       let within = ltb-false 32 (length columns) few in
-      let all : AreColumns pk.0 = record { some = pk.5; few = omega (arith, within, count.0); names = pk.3; distinct = new-distinct pk.0 pk.4 } in
-      ((pk.0, words, pa.1, pc.1, pd.1, pk.2, all, pb.1, early, store, pa.2, pb.2), rw (new_table_at-within names w n h, long ∙ few) refl))
+      let all : AreColumns columns = record { some = pk.4; few = omega (arith, within); names = pk.1; distinct = new-distinct (names_of columns) pk.2; order = pk.3 } in
+      ((words, pa.1, pc.1, pd.1, all, pb.1, early, store, pa.2, pb.2), rw (new_table_at-within names w n h, long ∙ few) refl))
 
 columns-told : (o : Option ℕ) (name : List ℕ) (scheme : Scheme) (chunk : ℕ) (r : Result (List Column) BadLine) (e : Result Event ℕ)
     → (r >>= λ columns. Ok (made_table o (record { name = name; scheme = scheme; chunk = chunk; columns = columns }))) ≡ Ok e
@@ -188,33 +187,6 @@ module _ (names : Names) (ws : List (List ℕ)) where
         let is : ws ≡ client_word a.2 ∷ table_word b.2 ∷ c.0 ∷ [] = cc (a.3, b.3, c.3, r.0, p.0, q.0) in
         subst (λ (x : Event). SpelledBy names (codes "show" ∷ ws) x) r.1 (c.0, ap (λ (t : List (List ℕ)). codes "show" ∷ t) is, p.1, q.1, row_at-ok c.0 c.2 c.4)
 
-cell-ok : (at : ℕ) (w : List ℕ) (cell : Cell) → cell_in at w ≡ Ok cell → (z : ℤ) × (value_at w ≡ Ok z) × (cell ≡ cells.Int z)
-unfolding cell_in
-cell-ok at w cell e = cell_from (value_at w) refl e where
-  cell_from : (r : Result ℤ Code) → value_at w ≡ r → (placed at r >>= λ number. Ok (cells.Int number)) ≡ Ok cell → (z : ℤ) × (value_at w ≡ Ok z) × (cell ≡ cells.Int z)
-  cell_from (Ok z) is e = (z, is, cc)
-  cell_from (Err code) is e = absurd (ok_err cell (bad code at) (sym e))
-
-pub cells-ok : (at : ℕ) (ws : List (List ℕ)) (row : List Cell) → cells_in at ws ≡ Ok row → (numbers : List ℤ) × (ws ≡ map signed_decimal numbers) × (row ≡ map cells.Int numbers) × AreShort numbers
-unfolding cells_in
-cells-ok at [] row e = ([], refl, cc, tt)
-cells-ok at (w ∷ ws) row e =
-    let p = bind-ok (cell_in at w) (λ cell. cells_in (at + 1) ws >>= λ more. Ok (cell ∷ more)) row e in
-    let q = bind-ok (cells_in (at + 1) ws) (λ more. Ok (p.0 ∷ more)) row p.2 in
-    let c = cell-ok at w p.0 p.1 in
-    let v = value_at-ok w c.0 c.1 in
-    let more = cells-ok (at + 1) ws q.0 q.1 in
-    let texts : w ∷ ws ≡ map signed_decimal (c.0 ∷ more.0) = cc in
-    let made : row ≡ map cells.Int (c.0 ∷ more.0) = cc in
-    (c.0 ∷ more.0, texts, made, (v.0, more.3))
-
-pub some_cells-ok : (at : ℕ) (ws : List (List ℕ)) (row : List Cell) → some_cells_in at ws ≡ Ok row → (numbers : List ℤ) × (ws ≡ map signed_decimal numbers) × (row ≡ map cells.Int numbers) × AreShort numbers × (numbers ≢ [])
-unfolding some_cells_in next_in
-some_cells-ok at [] row e = absurd (ok_err row _ (sym e))
-some_cells-ok at (w ∷ ws) row e =
-    let p = cells-ok at (w ∷ ws) row e in
-    (p.0, p.1, p.2, p.3, λ none. let is : w ∷ ws ≡ map signed_decimal [] = p.1 ∙ ap (map signed_decimal) none in cc)
-
 module _ (names : Names) (ws : List (List ℕ)) (e : Event) where
   pub write-ok : write_in names ws ≡ Ok e → SpelledBy names (codes "write" ∷ ws) e
   unfolding write_in
@@ -224,8 +196,8 @@ module _ (names : Names) (ws : List (List ℕ)) (e : Event) where
       let c = word_in-ok _ _ _ b.1 e b.5 in
       let p = client_at-ok names a.0 a.2 a.4 in
       let q = table_at-ok names b.0 b.2 b.4 in
-      let r = bind-ok (some_cells_in 4 c.1) (λ row. Ok (events.Write a.2 b.2 c.2 (Row row []))) e c.5 in
-      let v = some_cells-ok 4 c.1 r.0 r.1 in
-      let is : ws ≡ client_word a.2 ∷ table_word b.2 ∷ c.0 ∷ map signed_decimal v.0 = cc (a.3, b.3, c.3, p.0, q.0, v.1) in
+      let r = bind-ok (content_in 4 c.1) (λ content. Ok (events.Write a.2 b.2 c.2 content)) e c.5 in
+      let v = content-ok 4 c.1 r.0 r.1 in
+      let is : ws ≡ client_word a.2 ∷ table_word b.2 ∷ c.0 ∷ c.1 = cc (a.3, b.3, c.3, p.0, q.0) in
       subst (λ (x : Event). SpelledBy names (codes "write" ∷ ws) x) (event_told r.2)
-      (c.0, v.0, ap (λ (t : List (List ℕ)). codes "write" ∷ t) is, p.1, q.1, row_at-ok c.0 c.2 c.4, ap (λ (row : List Cell). Row row []) v.2, v.4, v.3)
+      (c.0, c.1, ap (λ (t : List (List ℕ)). codes "write" ∷ t) is, p.1, q.1, row_at-ok c.0 c.2 c.4, v)

@@ -1,9 +1,9 @@
-pub mod CellLemmas
+pub mod Each
+pub mod ContentLemmas
 pub mod ColumnLemmas
 pub mod Distinct
 pub mod FaultLaws
 pub mod Goods
-pub mod IntLemmas
 pub mod LineLemmas
 pub mod Numbers
 pub mod PlaceLemmas

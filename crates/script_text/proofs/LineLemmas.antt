@@ -9,13 +9,13 @@ use Rattle.std.proofs.lemmas.Bool.{cases_Bool, eqb-true}
 use Rattle.std.proofs.lemmas.Str.{IsUtf8-from_ascii, IsUtf8-from_is_utf8, is_utf8-from_IsUtf8}
 use Rattle.std.proofs.lemmas.Str.Ascii.{IsAscii-nil, IsAscii-cons}
 use Rattle.table_model.specs.declared.event.Event.{Event}
-use Rattle.script_text.specs.declared.fault.Code.TheVariants.{NotUtf8}
+use Rattle.script_words.specs.declared.code.Code.TheVariants.{NotUtf8}
 use Rattle.script_text.specs.declared.fault.BadLine.{BadLine}
 use Rattle.script_text.specs.declared.fault.ScriptFault.{ScriptFault}
 use Rattle.script_text.specs.declared.fault.ScriptFault.TheVariants as faults
 use Rattle.script_text.specs.Faults.{bad}
 use Rattle.script_text.specs.Names.{Names}
-use Rattle.script_text.specs.Words.{words_of, is_comment}
+use Rattle.script_words.specs.Words.{words_of, is_comment}
 use Rattle.script_text.specs.Reading.{words_in, line_in, Tells}
 use Rattle.script_text.specs.Grammar.{IsPassed, Spells, IsFault, WordsLimit, PassesLimit, Blames}
 use Rattle.script_text.proofs.Steps.{ok_err}

@@ -9,17 +9,14 @@ use Rattle.std.proofs.lemmas.Bool.{ltb-true, cases_Bool, eqb-true}
 use Rattle.std.proofs.lemmas.Fmt.{decimal_digit}
 use Rattle.std.proofs.lemmas.Slice.Eq.{bytes_eq-Decides}
 use Rattle.stab_base.specs.Row.{row_of}
-use Rattle.row_value.specs.declared.schema.ColumnKind.{ColumnKind}
-use Rattle.row_value.specs.declared.schema.ColumnKind.TheVariants as kinds
 use Rattle.row_value.specs.declared.schema.Scheme.{Scheme}
 use Rattle.row_value.specs.declared.schema.Scheme.TheVariants as schemes
-use Rattle.script_text.specs.declared.fault.Code.{Code}
-use Rattle.script_text.specs.declared.fault.Code.TheVariants.{NoNumber, NoName, NoRow, NoValue, NotDeclared, Twice, Unbuilt}
+use Rattle.script_words.specs.declared.code.Code.{Code}
+use Rattle.script_words.specs.declared.code.Code.TheVariants.{NoNumber, NoName, NoRow, NoValue, NotDeclared, Twice, Unbuilt}
 use Rattle.script_text.specs.Names.{Names, has_store, has_table, has_name, has_client}
-use Rattle.script_text.specs.Words.{is_name, is_among}
-use Rattle.script_text.specs.Places.{◌>>=◌, node_at, built, known, limited_at, passed, fresh, opened, opened_at, client_at, table_at, store_number, table_number, client_number, new_store_at, new_table_at, new_client_at, gate_at, new_name_at, scheme_at, chunk_at, is_colon, parts_of, kind_of, named, column_of, built_column, new_column, new_column_at, row_at, found_row, found_value, int_of, is_long_value, value_at}
-use Rattle.script_text.specs.Grammar.{IsChunk, IsUpTo, client_word, table_word, column_word, IsClient, IsTable}
-use Rattle.script_text.proofs.IntLemmas.{int_of-parts}
+use Rattle.script_words.specs.Words.{is_name}
+use Rattle.script_text.specs.Places.{◌>>=◌, node_at, built, known, limited_at, passed, fresh, opened, opened_at, client_at, table_at, store_number, table_number, client_number, new_store_at, new_table_at, new_client_at, gate_at, new_name_at, scheme_at, chunk_at, row_at, found_row}
+use Rattle.script_text.specs.Grammar.{IsChunk, IsUpTo, client_word, table_word, IsClient, IsTable}
 use Rattle.script_text.proofs.Steps.{ok_err, bind-ok}
 use Rattle.script_text.proofs.Numbers.{if-ok, unless-ok, some_same, ok_same, none_some, node-some, limited-some}
 
@@ -215,69 +212,6 @@ chunk_at-ok word n e = elim (cases_Bool (bytes_eq word (codes "64"))) [
   ]
 ]
 
-parts_of-some : (word : List ℕ) (p : List ℕ × List ℕ) → parts_of word ≡ Some p → word ≡ p.0 ++ 58 ∷ p.1
-unfolding parts_of
-parts_of-some word p e = elim (cases_Bool (ltb (position_or_len is_colon word) (length word))) [
-  | inl less ↦
-      let within = ltb-true _ _ less in
-      let same : (before_first is_colon word, after_first is_colon word) ≡ p = some_same _ _ (rw less at e) in
-      let colon : get_or word (position_or_len is_colon word) 0 ≡ 58 = eqb-true _ _ (passes_at_first is_colon word 0 within) in
-      subst (λ (q : List ℕ × List ℕ). word ≡ q.0 ++ 58 ∷ q.1) same (split_at_first is_colon word 0 within ∙ ap (λ (b : ℕ). before_first is_colon word ++ b ∷ after_first is_colon word) colon)
-  | inr more ↦ absurd (none_some p (rw more at e))
-]
-
-other_kind : (a b c : Bool) → cond a (Some kinds.Bool) (cond b (Some kinds.Text) (cond c (Some kinds.Object) None)) ≡ Some kinds.Int → ⊥
-other_kind true b c e = cc
-other_kind false true c e = cc
-other_kind false false true e = cc
-other_kind false false false e = cc
-
-kind_of-int : (word : List ℕ) → kind_of word ≡ Some kinds.Int → word ≡ codes "int"
-unfolding kind_of
-kind_of-int word e = elim (cases_Bool (bytes_eq word (codes "int"))) [
-  | inl is ↦ (bytes_eq-Decides word (codes "int")).0 is
-  | inr a ↦ absurd (other_kind (bytes_eq word (codes "bool")) (bytes_eq word (codes "text")) (bytes_eq word (codes "object")) (rw a at e))
-]
-
-named-some : (name : List ℕ) (o : Option ColumnKind) (q : List ℕ × ColumnKind) → named name o ≡ Some q → (o ≡ Some q.1) × (name ≡ q.0) × (is_name q.0 ≡ true)
-named-some name None q e = absurd (none_some q e)
-named-some name (Some kind) q e = elim (cases_Bool (is_name name)) [
-  | inl is ↦
-      let same : (name, kind) ≡ q = some_same _ _ (rw is at e) in
-      (ap (λ (r : List ℕ × ColumnKind). Some r.1) same, ap (λ (r : List ℕ × ColumnKind). r.0) same, subst (λ (r : List ℕ × ColumnKind). is_name r.0 ≡ true) same is)
-  | inr other ↦ absurd (none_some q (rw other at e))
-]
-
-column-some : (word : List ℕ) (q : List ℕ × ColumnKind) (o : Option (List ℕ × List ℕ)) → parts_of word ≡ o → elim o [ None ↦ None | Some p ↦ named p.0 (kind_of p.1) ] ≡ Some q → (kind : List ℕ) × (word ≡ q.0 ++ 58 ∷ kind) × (kind_of kind ≡ Some q.1) × (is_name q.0 ≡ true)
-column-some word q None is e = absurd (none_some q e)
-column-some word q (Some p) is e =
-    let r = named-some p.0 (kind_of p.1) q e in
-    (p.1, parts_of-some word p is ∙ ap (λ (name : List ℕ). name ++ 58 ∷ p.1) r.1, r.0, r.2)
-
-column_of-some : (word : List ℕ) (q : List ℕ × ColumnKind) → column_of word ≡ Some q → (kind : List ℕ) × (word ≡ q.0 ++ 58 ∷ kind) × (kind_of kind ≡ Some q.1) × (is_name q.0 ≡ true)
-unfolding column_of
-column_of-some word q e = column-some word q (parts_of word) refl e
-
-pub built-column : (name made : List ℕ) (kind : ColumnKind) → built_column name kind ≡ Ok made → (kind ≡ kinds.Int) × (name ≡ made)
-built-column name made kinds.Int e = (refl, ok_same _ _ e)
-built-column name made kinds.Bool e = absurd (ok_err made Unbuilt (sym e))
-built-column name made kinds.Text e = absurd (ok_err made Unbuilt (sym e))
-built-column name made kinds.Object e = absurd (ok_err made Unbuilt (sym e))
-
-new_column-ok : (before : List (List ℕ)) (word name : List ℕ) (o : Option (List ℕ × ColumnKind)) → column_of word ≡ o → new_column before o ≡ Ok name → (word ≡ column_word name) × (is_name name ≡ true) × (is_among name before ≡ false)
-new_column-ok before word name None is e = absurd (ok_err name NoName (sym e))
-new_column-ok before word name (Some q) is e =
-    let p = unless-ok (is_among q.0 before) (built_column q.0 q.1) Twice name e in
-    let b = built-column q.0 name q.1 p.1 in
-    let r = column_of-some word q is in
-    let kind : r.0 ≡ codes "int" = kind_of-int r.0 (r.2 ∙ ap Some b.0) in
-    subst (λ (n : List ℕ). (word ≡ column_word n) × (is_name n ≡ true) × (is_among n before ≡ false)) b.1
-    (r.1 ∙ ap (λ (k : List ℕ). q.0 ++ 58 ∷ k) kind, r.3, p.0)
-
-pub new_column_at-ok : (before : List (List ℕ)) (word name : List ℕ) → new_column_at before word ≡ Ok name → (word ≡ column_word name) × (is_name name ≡ true) × (is_among name before ≡ false)
-unfolding new_column_at
-new_column_at-ok before word name e = new_column-ok before word name (column_of word) refl e
-
 row-ok : (o : Option (List ℕ)) (row : List ℕ) → found_row o ≡ Ok row → o ≡ Some row
 row-ok None row e = absurd (ok_err row NoRow (sym e))
 row-ok (Some r) row e = ap Some (ok_same _ _ e)
@@ -285,11 +219,3 @@ row-ok (Some r) row e = ap Some (ok_same _ _ e)
 pub row_at-ok : (word row : List ℕ) → row_at word ≡ Ok row → row_of word ≡ Some row
 unfolding row_at
 row_at-ok word row e = row-ok (row_of word) row e
-
-value-ok : (o : Option ℤ) (b : Bool) (z : ℤ) → found_value b o ≡ Ok z → o ≡ Some z
-value-ok None b z e = absurd (two_errors b z Unbuilt NoValue e)
-value-ok (Some y) b z e = ap Some (ok_same _ _ e)
-
-pub value_at-ok : (word : List ℕ) (z : ℤ) → value_at word ≡ Ok z → (mag z < 2 ^ 63) × (word ≡ signed_decimal z)
-unfolding value_at
-value_at-ok word z e = int_of-parts word z (value-ok (int_of word) (bytes_eq word (codes "true") || bytes_eq word (codes "false") || is_long_value word) z e)

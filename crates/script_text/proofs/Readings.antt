@@ -2,7 +2,7 @@
 use Rattle.std.proofs.Common.{◌≡◌, ◌≢◌, ℕ, Bool, true, false, List, [], ◌∷◌, cond, Option, Some, None, Result, Ok, Err, refl, sym, ap, ◌∙◌, subst, inl, inr}
 use Rattle.std.specs.Option.{MatchOption}
 use Rattle.table_model.specs.declared.event.Event.{Event}
-use Rattle.script_text.specs.declared.fault.Code.TheVariants.{NoVerb, NotDeclared, Late, Unbuilt}
+use Rattle.script_words.specs.declared.code.Code.TheVariants.{NoVerb, NotDeclared, Late, Unbuilt}
 use Rattle.script_text.specs.declared.fault.BadLine.{BadLine}
 use Rattle.script_text.specs.declared.verb.Verb.{Verb}
 use Rattle.script_text.specs.declared.verb.Verb.TheVariants as verbs

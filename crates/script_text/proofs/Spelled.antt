@@ -1,32 +1,33 @@
 -- Words that spell an event are read as it, and none of them is at fault.
-use Rattle.std.proofs.Common.{◌≡◌, ◌≢◌, ℕ, ◌+◌, Bool, true, false, ltb, List, [], ◌∷◌, ◌++◌, map, length, codes, cond, Option, Some, None, Result, Ok, Err, ℤ, refl, sym, ap, ◌∙◌}
+use Rattle.std.proofs.Common.{◌≡◌, ◌≢◌, ℕ, ◌+◌, Bool, true, false, ltb, List, [], ◌∷◌, ◌++◌, map, length, codes, cond, Option, Some, None, Result, Ok, Err, refl, sym, ap, ◌∙◌}
 use Rattle.std.specs.List.{AllByRecursion}
-use Rattle.std.specs.Fmt.{decimal, signed_decimal}
+use Rattle.std.specs.Fmt.{decimal}
 use Rattle.std.proofs.lemmas.Bool.{le-ltb}
 use Rattle.std.proofs.lemmas.List.{length-map}
 use Rattle.row_value.specs.declared.schema.Scheme.TheVariants as schemes
-use Rattle.row_value.specs.declared.content.Cell.TheVariants as cells
-use Rattle.row_value.specs.declared.content.Content.TheVariants.{Row}
 use Rattle.table_model.specs.declared.event.Event.{Event}
 use Rattle.table_model.specs.declared.event.Event.TheVariants as events
 use Rattle.row_value.specs.declared.schema.Schema.{Schema}
 use Rattle.row_value.specs.declared.content.Content.{Content}
-use Rattle.script_text.specs.declared.fault.Code.{Code}
-use Rattle.script_text.specs.declared.fault.Code.TheVariants.{NotDeclared, Late}
+use Rattle.script_words.specs.declared.code.Code.{Code}
+use Rattle.script_words.specs.declared.code.Code.TheVariants.{NotDeclared, Late}
 use Rattle.script_text.specs.declared.fault.BadLine.{BadLine}
 use Rattle.script_text.specs.declared.verb.Verb.{Verb}
 use Rattle.script_text.specs.declared.verb.Verb.TheVariants as verbs
 use Rattle.script_text.specs.Faults.{bad}
 use Rattle.script_text.specs.Verbs.{name_of}
 use Rattle.script_text.specs.Names.{Names, has_no_store}
-use Rattle.script_text.specs.Words.{is_name}
-use Rattle.script_text.specs.Places.{int_column}
-use Rattle.script_text.specs.Reading.{next_in, word_in, end_in, store_in, column_in, columns_in, some_columns_in, made_table, table_in, client_in, cell_in, cells_in, some_cells_in, write_in, show_in, client_table_in, sync_in, pull_in, deliver_in, store_show_in, history_in, unlimited, in_time, built_in, event_in, words_in}
-use Rattle.script_text.specs.Grammar.{SpelledBy, SpellsStore, SpellsTable, SpellsClient, SpellsWrite, SpellsShow, SpellsSync, SpellsPull, SpellsDeliver, SpellsStoreShow, SpellsHistory, AreShort, client_word, table_word, tables_word, column_word, IsClient, IsTable}
+use Rattle.script_words.specs.Words.{is_name}
+use Rattle.script_text.specs.Places.{names_of}
+use Rattle.script_words.specs.Columns.{column_word}
+use Rattle.script_text.specs.Reading.{next_in, word_in, end_in, store_in, made_table, table_in, client_in, write_in, show_in, client_table_in, sync_in, pull_in, deliver_in, store_show_in, history_in, unlimited, in_time, built_in, event_in, words_in}
+use Rattle.script_text.specs.Grammar.{SpelledBy, SpellsStore, SpellsTable, SpellsClient, SpellsWrite, SpellsShow, SpellsSync, SpellsPull, SpellsDeliver, SpellsStoreShow, SpellsHistory, client_word, table_word, tables_word, IsClient, IsTable}
 use Rattle.script_text.proofs.Numbers.{packet_at-right}
-use Rattle.script_text.proofs.Distinct.{NewTo, distinct-new}
+use Rattle.script_text.proofs.Distinct.{distinct-new}
+use Rattle.script_text.proofs.ColumnLemmas.{some_columns_in-right}
+use Rattle.script_text.proofs.ContentLemmas.{content-right}
 use Rattle.script_text.proofs.VerbWords.{verb-again}
-use Rattle.script_text.proofs.Rights.{client_at-right, table_at-right, new_store_at-right, new_table_at-right, new_client_at-right, tables_at-right, new_name_at-right, gate_at-right, scheme_at-right, chunk_at-right, new_column_at-right, row_at-right, value_at-right}
+use Rattle.script_text.proofs.Rights.{client_at-right, table_at-right, new_store_at-right, new_table_at-right, new_client_at-right, tables_at-right, new_name_at-right, gate_at-right, scheme_at-right, chunk_at-right, row_at-right}
 
 word_in-right : {X Y : Type 0} (at : ℕ) (place : List ℕ → Result X Code) (w : List ℕ) (ws : List (List ℕ)) (next : X → List (List ℕ) → Result Y BadLine) (x : X) → place w ≡ Ok x → word_in at place (w ∷ ws) next ≡ next x ws
 unfolding word_in next_in
@@ -35,27 +36,6 @@ word_in-right at place w ws next x e = rw e refl
 end_in-right : (at : ℕ) → end_in at [] ≡ Ok tt
 unfolding end_in
 end_in-right at = refl
-
-columns_in-right : (at : ℕ) (before columns : List (List ℕ)) → AllByRecursion (λ name. is_name name ≡ true) columns → NewTo before columns → columns_in at before (map column_word columns) ≡ Ok (map int_column columns)
-unfolding columns_in column_in
-columns_in-right at before [] h new = refl
-columns_in-right at before (name ∷ columns) h new =
-    rw (new_column_at-right before name h.0 new.0, columns_in-right (at + 1) (before ++ name ∷ []) columns h.1 new.1) refl
-
-some_columns_in-right : (at : ℕ) (columns : List (List ℕ)) → columns ≢ [] → AllByRecursion (λ name. is_name name ≡ true) columns → NewTo [] columns → some_columns_in at (map column_word columns) ≡ Ok (map int_column columns)
-unfolding some_columns_in next_in
-some_columns_in-right at [] some h new = absurd (some refl)
-some_columns_in-right at (name ∷ columns) some h new = columns_in-right at [] (name ∷ columns) h new
-
-cells_in-right : (at : ℕ) (numbers : List ℤ) → AreShort numbers → cells_in at (map signed_decimal numbers) ≡ Ok (map cells.Int numbers)
-unfolding cells_in cell_in
-cells_in-right at [] h = refl
-cells_in-right at (z ∷ numbers) h = rw (value_at-right z h.0, cells_in-right (at + 1) numbers h.1) refl
-
-some_cells_in-right : (at : ℕ) (numbers : List ℤ) → numbers ≢ [] → AreShort numbers → some_cells_in at (map signed_decimal numbers) ≡ Ok (map cells.Int numbers)
-unfolding some_cells_in next_in
-some_cells_in-right at [] some h = absurd (some refl)
-some_cells_in-right at (z ∷ numbers) some h = cells_in-right at (z ∷ numbers) h
 
 event_in-right : (names : Names) (verb : Verb) (ws : List (List ℕ)) (e : Event) → built_in names verb ws ≡ Ok (Ok e) → words_in names (name_of verb ∷ ws) ≡ Ok (Ok (Some e))
 unfolding event_in
@@ -132,14 +112,13 @@ module _ (names : Names) where
   write-right : (ws : List (List ℕ)) (client table : ℕ) (row : List ℕ) (content : Content) → SpellsWrite names ws client table row content → words_in names ws ≡ Ok (Ok (Some (events.Write client table row content)))
   unfolding write_in
   write-right ws client table row content h =
-      let read : write_in names (client_word client ∷ table_word table ∷ h.0 ∷ map signed_decimal h.1) ≡ Ok (events.Write client table row (Row (map cells.Int h.1) [])) =
+      let read : write_in names (client_word client ∷ table_word table ∷ h.0 ∷ h.1) ≡ Ok (events.Write client table row content) =
       (word_in-right 1 _ (client_word client) _ _ client (client_at-right names client h.3)
       ∙ word_in-right 2 _ (table_word table) _ _ table (table_at-right names table h.4)
       ∙ word_in-right 3 _ h.0 _ _ row (row_at-right h.0 row h.5)
-      ∙ rw (some_cells_in-right 4 h.1 h.7 h.8) refl)
+      ∙ rw (content-right 4 h.1 content h.6) refl)
       in
-      rw (h.2, h.6)
-      (event_in-right names verbs.Write (client_word client ∷ table_word table ∷ h.0 ∷ map signed_decimal h.1) (events.Write client table row (Row (map cells.Int h.1) [])) (ap unlimited read))
+      rw h.2 (event_in-right names verbs.Write (client_word client ∷ table_word table ∷ h.0 ∷ h.1) (events.Write client table row content) (ap unlimited read))
 
   client-right : (ws : List (List ℕ)) (client : ℕ) (gate : Option ℕ) (tables : List ℕ) → SpellsClient names ws client gate tables → words_in names ws ≡ Ok (Ok (Some (events.Client client gate tables)))
   unfolding client_in
@@ -155,20 +134,20 @@ module _ (names : Names) where
   table-right : (ws : List (List ℕ)) (table : ℕ) (schema : Schema) → SpellsTable names ws table schema → words_in names ws ≡ Ok (Ok (Some (events.Table table schema)))
   unfolding table_in
   table-right ws table schema h =
-      let few : ltb 32 (length (map int_column h.0)) ≡ false = le-ltb _ _ (rw (length-map h.0 int_column) h.6.few) in
-      let same : ◌≡◌ {A = Schema} (record { name = schema.name; scheme = schemes.Eventual; chunk = schema.chunk; columns = map int_column h.0 }) schema = rw (← h.3, ← h.5) refl in
-      let made : made_table (Some table) (record { name = schema.name; scheme = schemes.Eventual; chunk = schema.chunk; columns = map int_column h.0 }) ≡ Ok (events.Table table schema) =
+      let few : ltb 32 (length schema.columns) ≡ false = le-ltb _ _ h.4.few in
+      let same : ◌≡◌ {A = Schema} (record { name = schema.name; scheme = schemes.Eventual; chunk = schema.chunk; columns = schema.columns }) schema = rw (← h.2) refl in
+      let made : made_table (Some table) (record { name = schema.name; scheme = schemes.Eventual; chunk = schema.chunk; columns = schema.columns }) ≡ Ok (events.Table table schema) =
       (rw few (ap (λ (s : Schema). Ok (events.Table table s)) same))
       in
-      rw h.1
-      (event_in-right names verbs.Table (table_word table ∷ schema.name ∷ codes "eventual" ∷ decimal schema.chunk ∷ map column_word h.0) (events.Table table schema)
-      (stored-right names _ h.9
-      ∙ in_time-right names _ h.8
-      ∙ word_in-right 1 _ (table_word table) _ _ (Some table) (new_table_at-right names table h.2 h.10)
-      ∙ word_in-right 2 _ schema.name _ _ schema.name (new_name_at-right names schema.name h.7 h.11)
+      rw h.0
+      (event_in-right names verbs.Table (table_word table ∷ schema.name ∷ codes "eventual" ∷ decimal schema.chunk ∷ map column_word schema.columns) (events.Table table schema)
+      (stored-right names _ h.7
+      ∙ in_time-right names _ h.6
+      ∙ word_in-right 1 _ (table_word table) _ _ (Some table) (new_table_at-right names table h.1 h.8)
+      ∙ word_in-right 2 _ schema.name _ _ schema.name (new_name_at-right names schema.name h.5 h.9)
       ∙ word_in-right 3 _ (codes "eventual") _ _ schemes.Eventual scheme_at-right
-      ∙ word_in-right 4 _ (decimal schema.chunk) _ _ schema.chunk (chunk_at-right schema.chunk h.4)
-      ∙ rw (some_columns_in-right 5 h.0 h.6.some h.6.names (distinct-new h.0 h.6.distinct)) (ap Ok made)))
+      ∙ word_in-right 4 _ (decimal schema.chunk) _ _ schema.chunk (chunk_at-right schema.chunk h.3)
+      ∙ rw (some_columns_in-right 5 schema.columns h.4.some h.4.names (distinct-new (names_of schema.columns) h.4.distinct) h.4.order) (ap Ok made)))
 
   pub spelled : (ws : List (List ℕ)) (e : Event) → SpelledBy names ws e → words_in names ws ≡ Ok (Ok (Some e))
   spelled ws (events.Store store) h = store-right ws store h

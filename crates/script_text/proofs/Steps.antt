@@ -1,15 +1,15 @@
 -- A line read word by word: what a reading that succeeds has met, and where one that fails stops.
-use Rattle.std.proofs.Common.{◌≡◌, ℕ, ◌+◌, List, [], ◌∷◌, ◌++◌, Option, Result, Ok, Err, ℤ, refl, sym}
+use Rattle.std.proofs.Common.{◌≡◌, ℕ, ◌+◌, List, [], ◌∷◌, ◌++◌, Option, Result, Ok, Err, refl, sym}
 use Rattle.std.specs.Option.{MatchOption}
 use Rattle.std.specs.Result.{MatchResult}
-use Rattle.row_value.specs.declared.content.Cell.TheVariants as cells
-use Rattle.script_text.specs.declared.fault.Code.{Code}
-use Rattle.script_text.specs.declared.fault.Code.TheVariants.{Missing, Surplus}
+use Rattle.row_value.specs.declared.content.Content.TheVariants.{Row}
+use Rattle.script_words.specs.declared.code.Code.{Code}
+use Rattle.script_words.specs.declared.code.Code.TheVariants.{Missing, Surplus}
 use Rattle.script_text.specs.declared.fault.BadLine.{BadLine}
 use Rattle.script_text.specs.Faults.{bad}
-use Rattle.script_text.specs.Places.{◌>>=◌, value_at, int_column, new_column_at}
-use Rattle.script_text.specs.Reading.{next_in, placed, word_in, end_in, cell_in, cells_in, some_cells_in, column_in, columns_in, some_columns_in}
-use Rattle.script_text.specs.Grammar.{Rest, NoMore, ValuesFault, ColumnsFault, OneOrMore, FirstFault, fault_of}
+use Rattle.script_text.specs.Places.{◌>>=◌, new_column_at, with_column, value_behind, with_value}
+use Rattle.script_text.specs.Reading.{next_in, placed, word_in, end_in, each_in, values_in, content_in, some_columns_in}
+use Rattle.script_text.specs.Grammar.{Rest, NoMore, EachFault, ValuesFault, ColumnsFault, OneOrMore, FirstFault, fault_of}
 
 pub ok_err : {X E : Type 0} (x : X) (e : E) → ◌≡◌ {A = Result X E} (Ok x) (Err e) → ⊥
 ok_err x e h = cc
@@ -67,64 +67,46 @@ module _ {Y : Type 0} (at : ℕ) (y : Y) where
   end-fault [] f h = absurd h
   end-fault (w ∷ ws) f h = cc
 
--- values
+-- words judged one behind the other
+
+module _ {R X : Type 0} (judge : R → List ℕ → Result X Code) (add : R → X → R) (f : BadLine) where
+  first_fault : (at : ℕ) (r : Result X Code) (go : X → Result R BadLine) (P : X → Type 0) → (placed at r >>= go) ≡ Err f → ((x : X) → go x ≡ Err f → P x) → MatchResult r P (λ code. f ≡ bad code at)
+  first_fault at (Ok x) go P e more = more x e
+  first_fault at (Err code) go P e more = cc
+
+  pub each-err : (at : ℕ) (row : R) (ws : List (List ℕ)) → each_in judge add at row ws ≡ Err f → EachFault judge add row at ws f
+  unfolding each_in
+  each-err at row [] e = absurd (ok_err row f e)
+  each-err at row (w ∷ ws) e =
+      first_fault at (judge row w) (λ x. each_in judge add (at + 1) (add row x) ws) (λ x. EachFault judge add (add row x) (at + 1) ws f) e (λ x. each-err (at + 1) (add row x) ws)
+
+  refused_first : (at : ℕ) (r : Result X Code) (go : X → Result R BadLine) (P : X → Type 0) → MatchResult r P (λ code. f ≡ bad code at) → ((x : X) → P x → go x ≡ Err f) → (placed at r >>= go) ≡ Err f
+  refused_first at (Ok x) go P h more = more x h
+  refused_first at (Err code) go P h more = cc
+
+  pub each-fault : (at : ℕ) (row : R) (ws : List (List ℕ)) → EachFault judge add row at ws f → each_in judge add at row ws ≡ Err f
+  unfolding each_in
+  each-fault at row [] h = absurd h
+  each-fault at row (w ∷ ws) h =
+      refused_first at (judge row w) (λ x. each_in judge add (at + 1) (add row x) ws) (λ x. EachFault judge add (add row x) (at + 1) ws f) h (λ x. each-fault (at + 1) (add row x) ws)
 
 module _ (f : BadLine) where
-  first_cell : (at : ℕ) (ws : List (List ℕ)) (r : Result ℤ Code) → ((placed at r >>= λ number. Ok (cells.Int number)) >>= λ cell. (cells_in (at + 1) ws >>= λ more. Ok (cell ∷ more))) ≡ Err f → (cells_in (at + 1) ws ≡ Err f → ValuesFault (at + 1) ws f) → MatchResult r (λ value. ValuesFault (at + 1) ws f) (λ code. f ≡ bad code at)
-  first_cell at ws (Ok z) e go = go (bind-err (cells_in (at + 1) ws) (λ more. cells.Int z ∷ more) f e)
-  first_cell at ws (Err code) e go = cc
-
-  cells-err : (at : ℕ) (ws : List (List ℕ)) → cells_in at ws ≡ Err f → ValuesFault at ws f
-  unfolding cells_in cell_in
-  cells-err at [] e = absurd (ok_err [] f e)
-  cells-err at (w ∷ ws) e = first_cell at ws (value_at w) e (cells-err (at + 1) ws)
-
-  pub some_cells-err : (at : ℕ) (ws : List (List ℕ)) → some_cells_in at ws ≡ Err f → OneOrMore ValuesFault at ws f
-  unfolding some_cells_in next_in
-  some_cells-err at [] e = cc
-  some_cells-err at (w ∷ ws) e = cells-err at (w ∷ ws) e
-
-  cell_refused : (at : ℕ) (ws : List (List ℕ)) (r : Result ℤ Code) → MatchResult r (λ value. ValuesFault (at + 1) ws f) (λ code. f ≡ bad code at) → (ValuesFault (at + 1) ws f → cells_in (at + 1) ws ≡ Err f) → ((placed at r >>= λ number. Ok (cells.Int number)) >>= λ cell. (cells_in (at + 1) ws >>= λ more. Ok (cell ∷ more))) ≡ Err f
-  cell_refused at ws (Ok z) h go = rw (go h) refl
-  cell_refused at ws (Err code) h go = cc
-
-  cells-fault : (at : ℕ) (ws : List (List ℕ)) → ValuesFault at ws f → cells_in at ws ≡ Err f
-  unfolding cells_in cell_in
-  cells-fault at [] h = absurd h
-  cells-fault at (w ∷ ws) h = cell_refused at ws (value_at w) h (cells-fault (at + 1) ws)
-
-  pub some_cells-fault : (at : ℕ) (ws : List (List ℕ)) → OneOrMore ValuesFault at ws f → some_cells_in at ws ≡ Err f
-  unfolding some_cells_in next_in
-  some_cells-fault at [] h = cc
-  some_cells-fault at (w ∷ ws) h = cells-fault at (w ∷ ws) h
-
--- columns
-
-module _ (f : BadLine) where
-  first_column : (at : ℕ) (before ws : List (List ℕ)) (r : Result (List ℕ) Code) → ((placed at r >>= λ name. Ok (int_column name)) >>= λ column. (columns_in (at + 1) (before ++ column.name ∷ []) ws >>= λ more. Ok (column ∷ more))) ≡ Err f → ((name : List ℕ) → columns_in (at + 1) (before ++ name ∷ []) ws ≡ Err f → ColumnsFault (before ++ name ∷ []) (at + 1) ws f) → MatchResult r (λ name. ColumnsFault (before ++ name ∷ []) (at + 1) ws f) (λ code. f ≡ bad code at)
-  first_column at before ws (Ok name) e go = go name (bind-err (columns_in (at + 1) (before ++ name ∷ []) ws) (λ more. int_column name ∷ more) f e)
-  first_column at before ws (Err code) e go = cc
-
-  columns-err : (at : ℕ) (before ws : List (List ℕ)) → columns_in at before ws ≡ Err f → ColumnsFault before at ws f
-  unfolding columns_in column_in
-  columns-err at before [] e = absurd (ok_err [] f e)
-  columns-err at before (w ∷ ws) e = first_column at before ws (new_column_at before w) e (λ name. columns-err (at + 1) (before ++ name ∷ []) ws)
-
-  pub some_columns-err : (at : ℕ) (ws : List (List ℕ)) → some_columns_in at ws ≡ Err f → OneOrMore (ColumnsFault []) at ws f
+  pub some_columns-err : (at : ℕ) (ws : List (List ℕ)) → some_columns_in at ws ≡ Err f → OneOrMore ColumnsFault at ws f
   unfolding some_columns_in next_in
   some_columns-err at [] e = cc
-  some_columns-err at (w ∷ ws) e = columns-err at [] (w ∷ ws) e
+  some_columns-err at (w ∷ ws) e = each-err new_column_at with_column f at [] (w ∷ ws) e
 
-  column_refused : (at : ℕ) (before ws : List (List ℕ)) (r : Result (List ℕ) Code) → MatchResult r (λ name. ColumnsFault (before ++ name ∷ []) (at + 1) ws f) (λ code. f ≡ bad code at) → ((name : List ℕ) → ColumnsFault (before ++ name ∷ []) (at + 1) ws f → columns_in (at + 1) (before ++ name ∷ []) ws ≡ Err f) → ((placed at r >>= λ name. Ok (int_column name)) >>= λ column. (columns_in (at + 1) (before ++ column.name ∷ []) ws >>= λ more. Ok (column ∷ more))) ≡ Err f
-  column_refused at before ws (Ok name) h go = rw (go name h) refl
-  column_refused at before ws (Err code) h go = cc
-
-  columns-fault : (at : ℕ) (before ws : List (List ℕ)) → ColumnsFault before at ws f → columns_in at before ws ≡ Err f
-  unfolding columns_in column_in
-  columns-fault at before [] h = absurd h
-  columns-fault at before (w ∷ ws) h = column_refused at before ws (new_column_at before w) h (λ name. columns-fault (at + 1) (before ++ name ∷ []) ws)
-
-  pub some_columns-fault : (at : ℕ) (ws : List (List ℕ)) → OneOrMore (ColumnsFault []) at ws f → some_columns_in at ws ≡ Err f
+  pub some_columns-fault : (at : ℕ) (ws : List (List ℕ)) → OneOrMore ColumnsFault at ws f → some_columns_in at ws ≡ Err f
   unfolding some_columns_in next_in
   some_columns-fault at [] h = cc
-  some_columns-fault at (w ∷ ws) h = columns-fault at [] (w ∷ ws) h
+  some_columns-fault at (w ∷ ws) h = each-fault new_column_at with_column f at [] (w ∷ ws) h
+
+  pub content-err : (at : ℕ) (ws : List (List ℕ)) → content_in at ws ≡ Err f → OneOrMore ValuesFault at ws f
+  unfolding content_in next_in
+  content-err at [] e = cc
+  content-err at (w ∷ ws) e = each-err value_behind with_value f at ([], []) (w ∷ ws) (bind-err (values_in at ([], []) (w ∷ ws)) (λ row. Row row.0 row.1) f e)
+
+  pub content-fault : (at : ℕ) (ws : List (List ℕ)) → OneOrMore ValuesFault at ws f → content_in at ws ≡ Err f
+  unfolding content_in next_in
+  content-fault at [] h = cc
+  content-fault at (w ∷ ws) h = rw (each-fault value_behind with_value f at ([], []) (w ∷ ws) h) refl

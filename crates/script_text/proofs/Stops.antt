@@ -3,9 +3,9 @@ use Rattle.std.proofs.Common.{◌≡◌, ℕ, List, drop, Err, refl}
 use Rattle.script_text.specs.declared.fault.BadLine.{BadLine}
 use Rattle.script_text.specs.declared.verb.Verb.TheVariants as verbs
 use Rattle.script_text.specs.Names.{Names}
-use Rattle.script_text.specs.Reading.{store_in, table_in, client_in, some_cells_in, some_columns_in, write_in, show_in, client_table_in, sync_in, pull_in, deliver_in, store_show_in, history_in}
+use Rattle.script_text.specs.Reading.{store_in, table_in, client_in, content_in, some_columns_in, write_in, show_in, client_table_in, sync_in, pull_in, deliver_in, store_show_in, history_in}
 use Rattle.script_text.specs.Grammar.{FirstFault, places_of, more_of}
-use Rattle.script_text.proofs.Steps.{bind-err, word_in-err, word_in-fault, end-err, end-fault, some_cells-err, some_cells-fault, some_columns-err, some_columns-fault}
+use Rattle.script_text.proofs.Steps.{bind-err, word_in-err, word_in-fault, end-err, end-fault, content-err, content-fault, some_columns-err, some_columns-fault}
 
 module _ (names : Names) (ws : List (List ℕ)) (f : BadLine) where
   pub store-err : store_in names ws ≡ Err f → FirstFault 1 (places_of names verbs.Store) (more_of verbs.Store) ws f
@@ -37,7 +37,7 @@ module _ (names : Names) (ws : List (List ℕ)) (f : BadLine) where
       word_in-err _ _ _ (drop 1 (places_of names verbs.Write)) (more_of verbs.Write) f ws h (λ va a xa ia oa ha.
       word_in-err _ _ _ (drop 2 (places_of names verbs.Write)) (more_of verbs.Write) f a ha (λ vb b xb ib ob hb.
       word_in-err _ _ _ (drop 3 (places_of names verbs.Write)) (more_of verbs.Write) f b hb (λ vc c xc ic oc hc.
-      some_cells-err f 4 c (bind-err (some_cells_in 4 c) _ f hc))))
+      content-err f 4 c (bind-err (content_in 4 c) _ f hc))))
 
   pub show-err : show_in names ws ≡ Err f → FirstFault 1 (places_of names verbs.Show) (more_of verbs.Show) ws f
   unfolding show_in
@@ -109,7 +109,7 @@ module _ (names : Names) (ws : List (List ℕ)) (f : BadLine) where
       word_in-fault _ _ _ (drop 1 (places_of names verbs.Write)) (more_of verbs.Write) f ws h (λ va a xa ia oa ha.
       word_in-fault _ _ _ (drop 2 (places_of names verbs.Write)) (more_of verbs.Write) f a ha (λ vb b xb ib ob hb.
       word_in-fault _ _ _ (drop 3 (places_of names verbs.Write)) (more_of verbs.Write) f b hb (λ vc c xc ic oc hc.
-      rw (some_cells-fault f 4 c hc) refl)))
+      rw (content-fault f 4 c hc) refl)))
 
   pub show-fault : FirstFault 1 (places_of names verbs.Show) (more_of verbs.Show) ws f → show_in names ws ≡ Err f
   unfolding show_in

@@ -9,13 +9,13 @@ use Rattle.std.specs.Str.{bytes_eq}
 use Rattle.std.proofs.lemmas.Bool.{cases_Bool}
 use Rattle.std.proofs.lemmas.List.Splits.{join_with_byte-slice_split}
 use Rattle.std.proofs.lemmas.Slice.Eq.{bytes_eq-Decides}
-use Rattle.script_text.specs.declared.fault.Code.{Code}
-use Rattle.script_text.specs.declared.fault.Code.TheVariants.{Twice}
+use Rattle.script_words.specs.declared.code.Code.{Code}
+use Rattle.script_words.specs.declared.code.Code.TheVariants.{Twice}
 use Rattle.script_text.specs.Names.{Names, has_table, IsSetOf}
-use Rattle.script_text.specs.Words.{texts, is_among}
+use Rattle.script_words.specs.Words.{texts, is_among}
 use Rattle.script_text.specs.Places.{◌>>=◌, opened_at, joined, alone, tables_in, parts_at, tables_at, tables_passed, limited_at, node_at}
 use Rattle.script_text.specs.Grammar.{IsUpTo, table_word, tables_word}
-use Rattle.script_text.proofs.CellLemmas.{dropped, dropped_next}
+use Rattle.script_text.proofs.Each.{dropped, dropped_next}
 use Rattle.script_text.proofs.Distinct.{set-put, NewTo, new-distinct, distinct-numbers}
 use Rattle.script_text.proofs.Steps.{bind-ok}
 use Rattle.script_text.proofs.Numbers.{unless-ok, some_same, ok_same, none_some}

@@ -1,28 +1,30 @@
 -- The lines of a script: which are passed over, which spell an event, and what is the first word at fault.
-use Rattle.std.specs.Prelude.{◌≡◌, ◌≢◌, ◌⊎◌, ℕ, ◌==◌, ◌+◌, ◌<◌, ◌≤◌, ◌^◌, nat_lt, true, false, List, [], ◌∷◌, ◌++◌, length, drop, map, codes, Option, Some, None, MatchOption, Result, Ok, Err, MatchResult, if◌then◌else◌, ℤ}
+use Rattle.std.specs.Prelude.{◌≡◌, ◌≢◌, ◌⊎◌, ℕ, ◌==◌, ◌+◌, ◌<◌, ◌≤◌, ◌^◌, nat_lt, true, false, List, [], ◌∷◌, ◌++◌, length, drop, map, codes, Option, Some, None, MatchOption, Result, Ok, Err, MatchResult, if◌then◌else◌}
 use Rattle.std.specs.List.{AllByRecursion, IsDistinct, join_with_byte}
-use Rattle.std.specs.Int.Signed.{mag}
-use Rattle.std.specs.Fmt.{decimal, signed_decimal}
+use Rattle.std.specs.Fmt.{decimal}
 use Rattle.std.specs.Str.{IsUtf8, bytes_eq}
 use Rattle.stab_base.specs.Row.{row_of}
 use Rattle.row_value.specs.declared.schema.Scheme.TheVariants as schemes
 use Rattle.row_value.specs.declared.schema.Schema.{Schema}
-use Rattle.row_value.specs.declared.content.Cell.TheVariants as cells
+use Rattle.row_value.specs.declared.schema.Column.{Column}
 use Rattle.row_value.specs.declared.content.Content.{Content}
-use Rattle.row_value.specs.declared.content.Content.TheVariants.{Row}
+use Rattle.row_value.specs.declared.content.Content.TheVariants.{Gone, Row}
+use Rattle.value_codec.specs.SchemaSpelling.{CellsFirst}
+use Rattle.script_words.specs.Columns.{column_word}
+use Rattle.script_words.specs.Values.{SpellsCell, SpellsObject}
 use Rattle.table_model.specs.declared.event.Event.{Event}
 use Rattle.table_model.specs.declared.event.Event.TheVariants as events
-use Rattle.script_text.specs.declared.fault.Code.{Code}
-use Rattle.script_text.specs.declared.fault.Code.TheVariants.{NoVerb, Missing, Surplus, NotDeclared, NotUtf8, Late, Unbuilt}
+use Rattle.script_words.specs.declared.code.Code.{Code}
+use Rattle.script_words.specs.declared.code.Code.TheVariants.{NoVerb, Missing, Surplus, NotDeclared, NotUtf8, Late, Unbuilt}
 use Rattle.script_text.specs.declared.fault.BadLine.{BadLine}
 use Rattle.script_text.specs.declared.fault.ScriptFault.{ScriptFault}
 use Rattle.script_text.specs.declared.fault.ScriptFault.TheVariants as faults
 use Rattle.script_text.specs.declared.verb.Verb.{Verb}
 use Rattle.script_text.specs.declared.verb.Verb.TheVariants as verbs
 use Rattle.script_text.specs.Faults.{bad}
-use Rattle.script_text.specs.Words.{words_of, is_name, is_comment}
+use Rattle.script_words.specs.Words.{words_of, is_name, is_comment}
 use Rattle.script_text.specs.Verbs.{name_of, is_unbuilt}
-use Rattle.script_text.specs.Places.{client_at, table_at, new_store_at, new_table_at, new_client_at, gate_at, tables_at, new_name_at, scheme_at, chunk_at, int_column, new_column_at, row_at, value_at, packet_at, passed, or_else, store_number, table_number, client_number, tables_passed, parts_at}
+use Rattle.script_text.specs.Places.{client_at, table_at, new_store_at, new_table_at, new_client_at, gate_at, tables_at, new_name_at, scheme_at, chunk_at, names_of, new_column_at, with_column, row_at, value_behind, with_value, packet_at, passed, or_else, store_number, table_number, client_number, tables_passed, parts_at}
 pub use Rattle.script_text.specs.Names.{Names, no_names, with_event, has_store, has_table, has_name, has_client, has_no_store}
 
 -- a line that begins with `#`, and a line without a word
@@ -59,24 +61,20 @@ IsClient names client = (1 ≤ client) × (client < 2 ^ 32) × (has_client names
 abbrev pub IsTable : Names → ℕ → Type 0
 IsTable names table = (1 ≤ table) × (table < 2 ^ 32) × (has_table names table ≡ true)
 
--- a column of numbers, NAME:int
-abbrev pub column_word : List ℕ → List ℕ
-column_word name = name ++ codes ":int"
-
--- names of columns, one or more and up to 32, none of them twice
-pub record AreColumns (columns : List (List ℕ)) : Type 0 where
+-- columns, one or more and up to 32, no two of one name and no cell column behind an object column
+pub record AreColumns (columns : List Column) : Type 0 where
   pub some : columns ≢ []
   pub few : length columns ≤ 32
-  pub names : AllByRecursion (λ column. is_name column ≡ true) columns
-  pub distinct : IsDistinct bytes_eq columns
+  pub names : AllByRecursion (λ column. is_name column.name ≡ true) columns
+  pub distinct : IsDistinct bytes_eq (names_of columns)
+  pub order : CellsFirst columns
 
--- `table T NAME eventual CHUNK COLUMN:int ..`
+-- `table T NAME eventual CHUNK COLUMN:KIND ..`
 abbrev pub SpellsTable : Names → List (List ℕ) → ℕ → Schema → Type 0
 SpellsTable names words table schema =
-    (columns : List (List ℕ))
-    × (words ≡ codes "table" ∷ table_word table ∷ schema.name ∷ codes "eventual" ∷ decimal schema.chunk ∷ map column_word columns)
+    (words ≡ codes "table" ∷ table_word table ∷ schema.name ∷ codes "eventual" ∷ decimal schema.chunk ∷ map column_word schema.columns)
     × IsUpTo 64 table × (schema.scheme ≡ schemes.Eventual) × IsChunk schema.chunk
-    × (schema.columns ≡ map int_column columns) × AreColumns columns × (is_name schema.name ≡ true)
+    × AreColumns schema.columns × (is_name schema.name ≡ true)
     × IsEarly names × (has_no_store names ≡ false) × (has_table names table ≡ false) × (has_name names schema.name ≡ false)
 
 -- TABLES: names joined by commas, or `-` for none
@@ -92,17 +90,26 @@ SpellsClient names words client gate tables =
     × AllByRecursion (λ table. IsUpTo 64 table × (has_table names table ≡ true)) tables × IsDistinct (λ m n. m == n) tables
     × IsEarly names × (has_client names client ≡ false)
 
--- numbers of 64 bits with a sign, as cells
-abbrev pub AreShort : List ℤ → Type 0
-AreShort numbers = AllByRecursion (λ z. mag z < 2 ^ 63) numbers
+-- a word for each item
+abbrev pub AreSpelled : {X : Type 0} → (List ℕ → X → Type 0) → List (List ℕ) → List X → Type 0
+AreSpelled spells [] [] = Unit {0}
+AreSpelled spells [] (x ∷ xs) = ⊥
+AreSpelled spells (word ∷ words) [] = ⊥
+AreSpelled spells (word ∷ words) (x ∷ xs) = spells word x × AreSpelled spells words xs
 
--- `write C T ROW NUMBER ..`
+-- values, one or more: the cells first, and then the objects
+abbrev pub SpellsContent : List (List ℕ) → Content → Type 0
+SpellsContent words Gone = ⊥
+SpellsContent words (Row some objects) =
+    (of_cells of_objects : List (List ℕ)) × (words ≡ of_cells ++ of_objects) × (words ≢ [])
+    × AreSpelled SpellsCell of_cells some × AreSpelled SpellsObject of_objects objects
+
+-- `write C T ROW VALUE ..`
 abbrev pub SpellsWrite : Names → List (List ℕ) → ℕ → ℕ → List ℕ → Content → Type 0
 SpellsWrite names words client table row content =
-    (place : List ℕ) × (numbers : List ℤ)
-    × (words ≡ codes "write" ∷ client_word client ∷ table_word table ∷ place ∷ map signed_decimal numbers)
-    × IsClient names client × IsTable names table × (row_of place ≡ Some row)
-    × (content ≡ Row (map cells.Int numbers) []) × (numbers ≢ []) × AreShort numbers
+    (place : List ℕ) × (values : List (List ℕ))
+    × (words ≡ codes "write" ∷ client_word client ∷ table_word table ∷ place ∷ values)
+    × IsClient names client × IsTable names table × (row_of place ≡ Some row) × SpellsContent values content
 
 -- `show C T ROW`
 abbrev pub SpellsShow : Names → List (List ℕ) → ℕ → ℕ → List ℕ → Type 0
@@ -165,16 +172,17 @@ abbrev pub NoMore : Rest
 NoMore at [] fault = ⊥
 NoMore at (word ∷ words) fault = fault ≡ bad Surplus at
 
--- values, each judged alone
-abbrev pub ValuesFault : Rest
-ValuesFault at [] fault = ⊥
-ValuesFault at (word ∷ words) fault = MatchResult (value_at word) (λ value. ValuesFault (at + 1) words fault) (λ code. fault ≡ bad code at)
+-- words each of which is judged by what stands before it
+abbrev pub EachFault : {R X : Type 0} → (R → List ℕ → Result X Code) → (R → X → R) → R → Rest
+EachFault judge add row at [] fault = ⊥
+EachFault judge add row at (word ∷ words) fault =
+    MatchResult (judge row word) (λ x. EachFault judge add (add row x) (at + 1) words fault) (λ code. fault ≡ bad code at)
 
--- columns, each judged behind those of these names
-abbrev pub ColumnsFault : List (List ℕ) → Rest
-ColumnsFault before at [] fault = ⊥
-ColumnsFault before at (word ∷ words) fault =
-    MatchResult (new_column_at before word) (λ name. ColumnsFault (before ++ name ∷ []) (at + 1) words fault) (λ code. fault ≡ bad code at)
+abbrev pub ColumnsFault : Rest
+ColumnsFault = EachFault new_column_at with_column []
+
+abbrev pub ValuesFault : Rest
+ValuesFault = EachFault value_behind with_value ([], [])
 
 -- one or more
 abbrev pub OneOrMore : Rest → Rest
@@ -209,7 +217,7 @@ places_of names verbs.History = (λ word. fault_of (table_at names word)) ∷ []
 -- what stands behind them
 abbrev pub more_of : Verb → Rest
 more_of verbs.Store = NoMore
-more_of verbs.Table = OneOrMore (ColumnsFault [])
+more_of verbs.Table = OneOrMore ColumnsFault
 more_of verbs.Client = NoMore
 more_of verbs.Write = OneOrMore ValuesFault
 more_of verbs.Show = NoMore

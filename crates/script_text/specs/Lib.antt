@@ -1,8 +1,8 @@
 pub mod Faults
 pub mod Names
-pub mod Words
 pub mod Verbs
 pub mod Places
 pub mod Reading
 pub mod Grammar
 pub mod Text
+pub use Rattle.script_words.specs.Words

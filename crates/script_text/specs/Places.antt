@@ -1,24 +1,24 @@
 -- What a word says at its place in a line, or the code of its fault there.
-use Rattle.std.specs.Prelude.{◌≡◌, ℕ, Bool, false, ◌==◌, ◌&&◌, ◌||◌, ◌^◌, nat_le, nat_lt, not, List, [], ◌∷◌, ◌++◌, length, codes, Option, Some, None, Result, Ok, Err, if◌then◌else◌, ℤ}
-use Rattle.std.specs.List.{slice_split, before_first, after_first, position_or_len}
+use Rattle.std.specs.Prelude.{◌≡◌, ℕ, Bool, false, ◌==◌, ◌&&◌, ◌||◌, ◌^◌, nat_le, nat_lt, not, map, List, [], ◌∷◌, ◌++◌, codes, Option, Some, None, Result, Ok, Err, if◌then◌else◌}
+use Rattle.std.specs.List.{slice_split, list_any}
 use Rattle.std.specs.Borrow.{Bor}
-use Rattle.std.specs.Int.Signed.{mag}
-use Rattle.std.specs.Fmt.{signed_decimal}
-use Rattle.std.specs.Str.{bytes_eq, is_utf8}
-use Rattle.std.specs.Str.Parse.{digits_value, signed_digits_value}
-use Rattle.percent_encoding.specs.Percent.{percent_decode}
+use Rattle.std.specs.Str.{bytes_eq}
+use Rattle.std.specs.Str.Parse.{digits_value}
 use Rattle.stab_base.specs.Row.{row_of}
+use Rattle.row_value.specs.Fit.{is_object}
+use Rattle.row_value.specs.declared.content.Cell.{Cell}
 use Rattle.row_value.specs.declared.schema.ColumnKind.{ColumnKind}
-use Rattle.row_value.specs.declared.schema.ColumnKind.TheVariants as kinds
 use Rattle.row_value.specs.declared.schema.Column.{Column}
 use Rattle.row_value.specs.declared.schema.Scheme.{Scheme}
 use Rattle.row_value.specs.declared.schema.Scheme.TheVariants as schemes
-use Rattle.script_text.specs.declared.fault.ValueFault.{ValueFault}
-use Rattle.script_text.specs.declared.fault.ValueFault.TheVariants as faults
-use Rattle.script_text.specs.declared.fault.Code.{Code}
-use Rattle.script_text.specs.declared.fault.Code.TheVariants.{NoNumber, NoName, NoRow, NoValue, NotDeclared, Twice, Unbuilt}
+use Rattle.script_words.specs.declared.code.Code.{Code}
+use Rattle.script_words.specs.declared.code.Code.TheVariants.{NoNumber, NoName, NoRow, NoValue, NotDeclared, Twice, Unbuilt}
+use Rattle.script_words.specs.declared.values.Value.{Value}
+use Rattle.script_words.specs.declared.values.Value.TheVariants.{OfCell, OfObject}
+use Rattle.script_words.specs.Words.{is_number, is_length, is_name, is_among}
+use Rattle.script_words.specs.Columns.{column_of}
+use Rattle.script_words.specs.Values.{value_at}
 use Rattle.script_text.specs.Names.{Names, has_store, has_table, has_name, has_client}
-use Rattle.script_text.specs.Words.{is_number, is_length, is_name, is_hex, is_among}
 
 infixl 10 ◌>>=◌
 abbrev pub ◌>>=◌ : {A B E : Type 0} → Result A E → (A → Result B E) → Result B E
@@ -29,20 +29,6 @@ abbrev pub ◌>>=◌ : {A B E : Type 0} → Result A E → (A → Result B E) �
 abbrev pub seen : {E : Type 0} → Result (Bor (List ℕ)) E → Result (List ℕ) E
 seen (Ok word) = Ok word.now
 seen (Err code) = Err code
-
-abbrev pub seen_parts : Option (Bor (List ℕ) × Bor (List ℕ)) → Option (List ℕ × List ℕ)
-seen_parts None = None
-seen_parts (Some p) = Some (p.0.now, p.1.now)
-
-abbrev pub seen_column : Option (Bor (List ℕ) × ColumnKind) → Option (List ℕ × ColumnKind)
-seen_column None = None
-seen_column (Some p) = Some (p.0.now, p.1)
-
--- a word's judgement, where memory sufficed
-abbrev pub Judges : {X : Type 0} → Result X ValueFault → Result X Code → Type 0
-Judges (Ok x) judged = judged ≡ Ok x
-Judges (Err faults.Memory) judged = Unit {0}
-Judges (Err (faults.Code code)) judged = judged ≡ Err code
 
 -- the number that digits spell, where it is below 2 ^ 32, as every number that is declared
 unfoldable pub small : List ℕ → Option ℕ
@@ -180,49 +166,49 @@ chunk_at word =
     else if bytes_eq word (codes "65536") then Ok 65536
     else Err NoNumber
 
-abbrev pub is_colon : ℕ → Bool
-is_colon b = b == 58
+-- ---- columns
 
--- what stands before and behind the first colon
-unfoldable pub parts_of : List ℕ → Option (List ℕ × List ℕ)
-parts_of word =
-    if nat_lt (position_or_len is_colon word) (length word)
-    then Some (before_first is_colon word, after_first is_colon word) else None
+abbrev pub names_of : List Column → List (List ℕ)
+names_of columns = map (λ column. column.name) columns
 
-unfoldable pub kind_of : List ℕ → Option ColumnKind
-kind_of word =
-    if bytes_eq word (codes "int") then Some kinds.Int
-    else if bytes_eq word (codes "bool") then Some kinds.Bool
-    else if bytes_eq word (codes "text") then Some kinds.Text
-    else if bytes_eq word (codes "object") then Some kinds.Object
-    else None
+-- whether one of them is of objects
+abbrev pub has_object : List Column → Bool
+has_object columns = list_any (λ column. is_object column.kind) columns
 
-abbrev pub named : List ℕ → Option ColumnKind → Option (List ℕ × ColumnKind)
-named name None = None
-named name (Some kind) = if is_name name then Some (name, kind) else None
-
--- the name and the kind of a column, with a colon between them
-unfoldable pub column_of : List ℕ → Option (List ℕ × ColumnKind)
-column_of word = elim (parts_of word) [ None ↦ None | Some p ↦ named p.0 (kind_of p.1) ]
-
--- a column of numbers
-abbrev pub int_column : List ℕ → Column
-int_column name = record { name = name; kind = kinds.Int }
-
--- the kinds of cells but numbers, and objects, aren't built
-abbrev pub built_column : List ℕ → ColumnKind → Result (List ℕ) Code
-built_column name kinds.Int = Ok name
-built_column name kinds.Bool = Err Unbuilt
-built_column name kinds.Text = Err Unbuilt
-built_column name kinds.Object = Err Unbuilt
-
--- the name of a column of numbers, behind columns of these names
-abbrev pub new_column : List (List ℕ) → Option (List ℕ × ColumnKind) → Result (List ℕ) Code
+-- no two columns have one name, and no cell column stands behind an object column
+abbrev pub new_column : List Column → Option (List ℕ × ColumnKind) → Result Column Code
 new_column before None = Err NoName
-new_column before (Some p) = if is_among p.0 before then Err Twice else built_column p.0 p.1
+new_column before (Some p) =
+    if is_among p.0 (names_of before) then Err Twice
+    else if has_object before && not (is_object p.1) then Err NoValue
+    else Ok (record { name = p.0; kind = p.1 })
 
-unfoldable pub new_column_at : List (List ℕ) → List ℕ → Result (List ℕ) Code
+-- a column behind others
+unfoldable pub new_column_at : List Column → List ℕ → Result Column Code
 new_column_at before word = new_column before (column_of word)
+
+abbrev pub with_column : List Column → Column → List Column
+with_column before column = before ++ column ∷ []
+
+-- ---- values
+
+-- cells and objects
+abbrev pub Values : Type 0
+Values = List Cell × List (List ℕ)
+
+-- no cell stands behind an object
+abbrev pub in_order : List (List ℕ) → Value → Result Value Code
+in_order [] value = Ok value
+in_order (object ∷ objects) (OfCell cell) = Err NoValue
+in_order (object ∷ objects) (OfObject more) = Ok (OfObject more)
+
+-- a value behind others
+unfoldable pub value_behind : Values → List ℕ → Result Value Code
+value_behind row word = value_at word >>= in_order row.1
+
+abbrev pub with_value : Values → Value → Values
+with_value row (OfCell cell) = (row.0 ++ cell ∷ [], row.1)
+with_value row (OfObject object) = (row.0, row.1 ++ object ∷ [])
 
 abbrev pub found_row : Option (List ℕ) → Result (List ℕ) Code
 found_row None = Err NoRow
@@ -230,44 +216,6 @@ found_row (Some row) = Ok row
 
 unfoldable pub row_at : List ℕ → Result (List ℕ) Code
 row_at word = found_row (row_of word)
-
--- the number of 64 bits with a sign whose one text the word is
-unfoldable pub int_of : List ℕ → Option ℤ
-int_of word =
-    let z = signed_digits_value 10 word in
-    if nat_lt (mag z) (2 ^ 63) && bytes_eq (signed_decimal z) word then Some z else None
-
--- a length up to 33,554,432
-unfoldable pub is_repeat_length : List ℕ → Bool
-is_repeat_length digits = is_length digits && nat_le (digits_value 10 digits) 33554432
-
--- such a length, and one byte or more to repeat
-unfoldable pub is_repeat : List ℕ → Bool
-is_repeat word = elim (parts_of word) [
-  | None ↦ false
-  | Some p ↦ is_repeat_length p.0 && not (length p.1 == 0) && is_hex p.1
-]
-
-unfoldable pub is_text_value : List ℕ → Bool
-is_text_value text = is_utf8 (percent_decode text)
-
--- a text or an object
-unfoldable pub is_long_value : List ℕ → Bool
-is_long_value word = elim (parts_of word) [
-  | None ↦ false
-  | Some p ↦
-      if bytes_eq p.0 (codes "t") then is_text_value p.1
-      else if bytes_eq p.0 (codes "h") then is_hex p.1
-      else bytes_eq p.0 (codes "r") && is_repeat p.1
-]
-
-abbrev pub found_value : Bool → Option ℤ → Result ℤ Code
-found_value other None = if other then Err Unbuilt else Err NoValue
-found_value other (Some z) = Ok z
-
--- a number; the other values aren't built
-unfoldable pub value_at : List ℕ → Result ℤ Code
-value_at word = found_value (bytes_eq word (codes "true") || bytes_eq word (codes "false") || is_long_value word) (int_of word)
 
 -- the number of a packet, below 2 ^ 64
 unfoldable pub packet_at : List ℕ → Result ℕ Code

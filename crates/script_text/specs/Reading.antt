@@ -2,13 +2,12 @@
 use Rattle.std.specs.Prelude.{◌≡◌, ℕ, ◌+◌, nat_lt, List, [], ◌∷◌, ◌++◌, length, Option, Some, None, Result, Ok, Err, if◌then◌else◌}
 use Rattle.std.specs.Str.{is_utf8}
 use Rattle.row_value.specs.declared.schema.Column.{Column}
-use Rattle.row_value.specs.declared.content.Cell.{Cell}
-use Rattle.row_value.specs.declared.content.Cell.TheVariants as cells
+use Rattle.row_value.specs.declared.content.Content.{Content}
 use Rattle.row_value.specs.declared.content.Content.TheVariants.{Row}
 use Rattle.table_model.specs.declared.event.Event.{Event}
 use Rattle.table_model.specs.declared.event.Event.TheVariants as events
-use Rattle.script_text.specs.declared.fault.Code.{Code}
-use Rattle.script_text.specs.declared.fault.Code.TheVariants.{NoVerb, Missing, Surplus, NotDeclared, NotUtf8, Late, Unbuilt}
+use Rattle.script_words.specs.declared.code.Code.{Code}
+use Rattle.script_words.specs.declared.code.Code.TheVariants.{NoVerb, Missing, Surplus, NotDeclared, NotUtf8, Late, Unbuilt}
 use Rattle.script_text.specs.declared.fault.BadLine.{BadLine}
 use Rattle.script_text.specs.declared.fault.ScriptFault.{ScriptFault}
 use Rattle.script_text.specs.declared.fault.ScriptFault.TheVariants as faults
@@ -19,8 +18,8 @@ use Rattle.script_text.specs.Faults.{bad}
 use Rattle.script_text.specs.Verbs.{verb_of, is_unbuilt}
 use Rattle.script_text.specs.Names.{Names, has_no_store}
 use Rattle.std.specs.Borrow.{Bor}
-use Rattle.script_text.specs.Words.{texts, words_of, is_comment}
-use Rattle.script_text.specs.Places.{◌>>=◌, client_at, table_at, new_store_at, new_table_at, new_client_at, gate_at, tables_at, new_name_at, scheme_at, chunk_at, int_column, new_column_at, row_at, value_at, packet_at}
+use Rattle.script_words.specs.Words.{texts, words_of, is_comment}
+use Rattle.script_text.specs.Places.{◌>>=◌, client_at, table_at, new_store_at, new_table_at, new_client_at, gate_at, tables_at, new_name_at, scheme_at, chunk_at, new_column_at, with_column, row_at, Values, value_behind, with_value, packet_at}
 
 -- the next word and the words behind it
 unfoldable pub next_in : ℕ → List (List ℕ) → Result (List ℕ × List (List ℕ)) BadLine
@@ -57,24 +56,17 @@ store_in names words =
     word_in 1 (new_store_at names) words (λ store a.
     end_in 2 a >>= λ done. Ok (made_store store))
 
-unfoldable pub column_in : ℕ → List (List ℕ) → List ℕ → Result Column BadLine
-column_in at before word = do
-  name ← placed at (new_column_at before word)
-  Ok (int_column name)
+-- each word judged by what stands before it, and added to that
+unfoldable pub each_in : {R X : Type 0} → (R → List ℕ → Result X Code) → (R → X → R) → ℕ → R → List (List ℕ) → Result R BadLine
+each_in judge add at row [] = Ok row
+each_in judge add at row (word ∷ words) = placed at (judge row word) >>= λ x. each_in judge add (at + 1) (add row x) words
 
--- columns of numbers behind columns of these names, none of which has another's name
-unfoldable pub columns_in : ℕ → List (List ℕ) → List (List ℕ) → Result (List Column) BadLine
-columns_in at before [] = Ok []
-columns_in at before (word ∷ words) = do
-  column ← column_in at before word
-  more ← columns_in (at + 1) (before ++ column.name ∷ []) words
-  Ok (column ∷ more)
+abbrev pub columns_in : ℕ → List Column → List (List ℕ) → Result (List Column) BadLine
+columns_in at before words = each_in new_column_at with_column at before words
 
 -- one column or more
 unfoldable pub some_columns_in : ℕ → List (List ℕ) → Result (List Column) BadLine
-some_columns_in at words = do
-  a ← next_in at words
-  columns_in at [] words
+some_columns_in at words = next_in at words >>= λ a. columns_in at [] words
 
 -- a table, of up to 32 columns
 abbrev pub made_table : Option ℕ → Schema → Result Event ℕ
@@ -103,34 +95,19 @@ client_in names words =
     word_in 3 (tables_at names) b (λ tables c.
     end_in 4 c >>= λ done. Ok (made_client client tables))))
 
-unfoldable pub cell_in : ℕ → List ℕ → Result Cell BadLine
-cell_in at word = do
-  number ← placed at (value_at word)
-  Ok (cells.Int number)
+abbrev pub values_in : ℕ → Values → List (List ℕ) → Result Values BadLine
+values_in at row words = each_in value_behind with_value at row words
 
-unfoldable pub cells_in : ℕ → List (List ℕ) → Result (List Cell) BadLine
-cells_in at [] = Ok []
-cells_in at (word ∷ words) = do
-  cell ← cell_in at word
-  more ← cells_in (at + 1) words
-  Ok (cell ∷ more)
-
-abbrev pub with_front : {X : Type 0} → List X → Result (List X) BadLine → Result (List X) BadLine
-with_front front (Ok more) = Ok (front ++ more)
-with_front front (Err fault) = Err fault
-
--- one value or more
-unfoldable pub some_cells_in : ℕ → List (List ℕ) → Result (List Cell) BadLine
-some_cells_in at words = do
-  a ← next_in at words
-  cells_in at words
+-- the content of one value or more
+unfoldable pub content_in : ℕ → List (List ℕ) → Result Content BadLine
+content_in at words = next_in at words >>= λ a. (values_in at ([], []) words >>= λ row. Ok (Row row.0 row.1))
 
 unfoldable pub write_in : Names → List (List ℕ) → Result Event BadLine
 write_in names words =
     word_in 1 (client_at names) words (λ client a.
     word_in 2 (table_at names) a (λ table b.
     word_in 3 row_at b (λ row c.
-    some_cells_in 4 c >>= λ row_cells. Ok (events.Write client table row (Row row_cells [])))))
+    content_in 4 c >>= λ content. Ok (events.Write client table row content))))
 
 -- a client and a table, and no more
 unfoldable pub client_table_in : Names → List (List ℕ) → Result (ℕ × ℕ) BadLine

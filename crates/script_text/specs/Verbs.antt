@@ -3,7 +3,7 @@ use Rattle.std.specs.Prelude.{ℕ, Bool, ◌||◌, List, [], ◌∷◌, codes, O
 use Rattle.std.specs.Str.{bytes_eq}
 use Rattle.script_text.specs.declared.verb.Verb.{Verb}
 use Rattle.script_text.specs.declared.verb.Verb.TheVariants as verbs
-use Rattle.script_text.specs.Words.{is_among}
+use Rattle.script_words.specs.Words.{is_among}
 
 -- of the lines that are built
 abbrev pub name_of : Verb → List ℕ

@@ -3,6 +3,7 @@
 #![tactic(auto)]
 
 mod columns;
+mod contents;
 mod declared;
 mod fault;
 mod laws;
@@ -10,9 +11,7 @@ mod lines;
 mod next;
 mod parse;
 mod places;
-mod values;
 mod verb;
-mod words;
 
 pub use declared::Declared;
 pub use fault::{BadLine, ScriptFault};

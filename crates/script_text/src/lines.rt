@@ -1,21 +1,20 @@
-ghost use Rattle.std.specs.Prelude.{◌≡◌, ◌<◌, ◌+◌, ◌^◌, length, List, ℕ, Err, Ok, IfOk};
-ghost use Rattle.script_text.specs.Words.{texts};
+ghost use Rattle.std.specs.Prelude.{◌≡◌};
+ghost use Rattle.script_words.specs.Words.{texts};
 ghost use Rattle.script_text.specs.Places.{tables_at};
-ghost use Rattle.script_text.specs.Reading.{Reads, Makes, Tells, placed, made_table, made_client, store_in, table_in, client_in, cell_in, cells_in, some_cells_in, write_in, show_in, client_table_in, sync_in, pull_in, deliver_in, store_show_in, history_in, built_in, event_in};
+ghost use Rattle.script_text.specs.Reading.{Reads, Makes, Tells, placed, made_table, made_client, store_in, table_in, client_in, write_in, show_in, client_table_in, sync_in, pull_in, deliver_in, store_show_in, history_in, built_in, event_in};
 
 use crate::columns::some_columns;
+use crate::contents::some_content;
 use crate::declared::Declared;
-use crate::fault::{
-    BadLine, CLIENTS, COLUMNS, Code, MOST_COLUMNS, STORES, ScriptFault, TABLES, ValueFault, bad,
-};
+use crate::fault::{BadLine, CLIENTS, COLUMNS, MOST_COLUMNS, STORES, ScriptFault, TABLES, bad};
 use crate::next::{end, next_word, placed};
 use crate::places::{
     chunk_at, client_at, gate_at, new_client_at, new_name_at, new_store_at, new_table_at,
     packet_at, row_at, scheme_at, table_at, tables_at,
 };
-use crate::values::value_at;
 use crate::verb::{Verb, is_unbuilt, verb_of};
-use row_value::{Bytes, Cell, Cells, Content, Schema, Sequence};
+use row_value::{Bytes, Schema};
+use script_words::{Code, ValueFault};
 use std::alloc::Global;
 use table_model::{Event, Tables};
 
@@ -186,37 +185,6 @@ fn client_line(alloc: Global, names: &Declared, words: &[&str]) -> Result<Event,
     client_event(client, tables)
 }
 
-#[tactic(auto, unfolding(crate::specs::Reading::cell_in))]
-fn cell_at(alloc: Global, word: &str, at: usize) -> Result<Cell, ScriptFault>
-    ensures { Reads result (cell_in at word.now) }
-{
-    match value_at(alloc, word) {
-        Ok(number) => Ok(Cell::Int(number)),
-        Err(ValueFault::Code(code)) => Err(ScriptFault::BadLine(bad(code, at))),
-        Err(ValueFault::Memory) => Err(ScriptFault::Memory),
-    }
-}
-
-fn cells_of(alloc: Global, words: &[&str], at: usize) -> Result<Cells, ScriptFault>
-    requires { at < 2 ^ 32 }
-    ensures { Reads result (cells_in at (texts words.now)) }
-{
-    let mut cells = Sequence::new(alloc);
-    for (i, word) in words.iter().enumerate() {
-        cells.push(cell_at(alloc, word, at + i)?)?;
-    }
-    Ok(cells)
-}
-
-#[tactic(auto, unfolding(crate::specs::Reading::some_cells_in))]
-fn some_cells(alloc: Global, words: &[&str], at: usize) -> Result<Cells, ScriptFault>
-    requires { at < 2 ^ 32 }
-    ensures { Reads result (some_cells_in at (texts words.now)) }
-{
-    let _first = next_word(words, at)?;
-    cells_of(alloc, words, at)
-}
-
 #[tactic(auto, unfolding(crate::specs::Reading::write_in, crate::specs::Reading::word_in))]
 fn write_line(alloc: Global, names: &Declared, words: &[&str]) -> Result<Event, ScriptFault>
     ensures { Reads result (write_in names.now (texts words.now)) }
@@ -227,15 +195,12 @@ fn write_line(alloc: Global, names: &Declared, words: &[&str]) -> Result<Event, 
     let table = placed(2, table_at(names, word))?;
     let (word, rest) = next_word(rest, 3)?;
     let row = placed(3, row_at(word))?;
-    let cells = some_cells(alloc, rest, 4)?;
+    let content = some_content(alloc, rest, 4)?;
     Ok(Event::Write {
         client,
         table,
         row,
-        content: Content::Row {
-            cells,
-            objects: Sequence::new(alloc),
-        },
+        content,
     })
 }
 

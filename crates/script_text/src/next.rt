@@ -1,9 +1,10 @@
 //! The words of a line, one behind the other.
 ghost use Rattle.std.specs.Prelude.{◌≡◌};
-ghost use Rattle.script_text.specs.Words.{texts};
+ghost use Rattle.script_words.specs.Words.{texts};
 ghost use Rattle.script_text.specs.Reading.{seen_next, placed, next_in, end_in};
 
-use crate::fault::{BadLine, Code, bad};
+use crate::fault::{BadLine, bad};
+use script_words::Code;
 
 #[tactic(auto, unfolding(crate::specs::Reading::next_in))]
 pub(crate) fn next_word<'a>(

@@ -1,13 +1,13 @@
 ghost use Rattle.std.specs.Prelude.{◌≡◌, IfOk, IfErr, IfSome, IfNone, MatchOption, true, false};
 ghost use Rattle.std.specs.Str.{is_utf8};
-ghost use Rattle.script_text.specs.Words.{is_comment};
+ghost use Rattle.script_words.specs.Words.{is_comment};
 ghost use Rattle.script_text.specs.Reading.{Tells, line_in};
 ghost use Rattle.script_text.specs.Grammar.{IsPassed, Spells, Blames};
 
 use crate::declared::Declared;
-use crate::fault::{Code, ScriptFault, bad};
+use crate::fault::{ScriptFault, bad};
 use crate::lines::event_line;
-use crate::words::words;
+use script_words::{Code, words};
 use std::alloc::Global;
 use std::str;
 use table_model::Event;

@@ -132,7 +132,7 @@ fn refusals_at_the_start(rt: HostRuntime) -> Result<(), Fail> {
     check(&rt, rt.alloc(), &names, &AT_THE_START)
 }
 
-const BEHIND_A_STORE: [(&str, u32, usize); 26] = [
+const BEHIND_A_STORE: [(&str, u32, usize); 30] = [
     (STORE, 9, 1),
     ("table T2 notes eventual 64 n:int", 0, 0),
     ("table T64 notes eventual 64 n:int", 0, 0),
@@ -151,9 +151,21 @@ const BEHIND_A_STORE: [(&str, u32, usize); 26] = [
     ("table T1 notes eventual 65536 n", 5, 5),
     ("table T1 notes eventual 65536 N:int", 5, 5),
     ("table T1 notes eventual 65536 n:float", 5, 5),
-    ("table T1 notes eventual 65536 n:bool", 12, 5),
+    ("table T1 notes eventual 65536 n:bool", 0, 0),
     ("table T1 notes eventual 65536 n:int m:int", 0, 0),
-    ("table T1 notes eventual 65536 n:int m:text", 12, 6),
+    ("table T1 notes eventual 65536 n:int m:text", 0, 0),
+    (
+        "table T1 notes eventual 65536 n:int t:text o:object p:object",
+        0,
+        0,
+    ),
+    ("table T1 notes eventual 65536 o:object n:int", 7, 6),
+    (
+        "table T1 notes eventual 65536 o:object p:object n:bool",
+        7,
+        7,
+    ),
+    ("table T1 notes causal 65536 o:object n:int", 12, 3),
     ("table T1 notes eventual 65536 n:int n:text", 9, 6),
     ("table T1 notes eventual 65536 n:int m", 5, 6),
     ("table T1 notes eventual 65536 n:int m:int n:int", 9, 7),
@@ -167,7 +179,7 @@ fn refusals_behind_a_store(rt: HostRuntime) -> Result<(), Fail> {
     check(&rt, rt.alloc(), &names, &BEHIND_A_STORE)
 }
 
-const BEHIND_DECLARATIONS: [(&str, u32, usize); 44] = [
+const BEHIND_DECLARATIONS: [(&str, u32, usize); 48] = [
     (TABLE, 9, 1),
     (CLIENT, 9, 1),
     ("client C65 - T1,T1", 9, 3),
@@ -190,20 +202,40 @@ const BEHIND_DECLARATIONS: [(&str, u32, usize); 44] = [
     ("write C1 T1 00000000-0000-4000-8000-00000000000a 5 x", 7, 5),
     (
         "write C1 T1 00000000-0000-4000-8000-00000000000a true x",
-        12,
-        4,
+        7,
+        5,
     ),
     (
         "write C1 T1 00000000-0000-4000-8000-00000000000a 5 t:a%",
-        12,
+        0,
+        0,
+    ),
+    (
+        "write C1 T1 00000000-0000-4000-8000-00000000000a h:00 5",
+        7,
         5,
+    ),
+    (
+        "write C1 T1 00000000-0000-4000-8000-00000000000a 5 h:00 t:a",
+        7,
+        6,
+    ),
+    (
+        "write C1 T1 00000000-0000-4000-8000-00000000000a 5 h:00 h:1 t:a",
+        7,
+        6,
+    ),
+    (
+        "write C1 T1 00000000-0000-4000-8000-00000000000a 5 h:00 r:2:11",
+        0,
+        0,
     ),
     (
         "write C1 T1 00000000-0000-4000-8000-00000000000a t:%ff",
         7,
         4,
     ),
-    ("write C1 T1 00000000-0000-4000-8000-00000000000a h:", 12, 4),
+    ("write C1 T1 00000000-0000-4000-8000-00000000000a h:", 0, 0),
     (
         "write C1 T1 00000000-0000-4000-8000-00000000000a h:abc",
         7,
@@ -211,8 +243,8 @@ const BEHIND_DECLARATIONS: [(&str, u32, usize); 44] = [
     ),
     (
         "write C1 T1 00000000-0000-4000-8000-00000000000a r:33554432:ab",
-        12,
-        4,
+        0,
+        0,
     ),
     (
         "write C1 T1 00000000-0000-4000-8000-00000000000a r:33554433:ab",
@@ -311,7 +343,7 @@ fn a_table_has_up_to_32_columns(rt: HostRuntime) -> Result<(), Fail> {
         let line = wide(alloc, table, columns)?;
         assert_eq!(rt; passed(alloc, &line, &names)?, limit, "{table} {columns}");
     }
-    for (end, code) in [(" c0:int", 9), (" c31:int", 9), (" x", 5), (" x:bool", 12)] {
+    for (end, code) in [(" c0:int", 9), (" c31:int", 9), (" x", 5)] {
         let mut line = wide(alloc, "T65", 32)?;
         line.extend_from_slice(end.as_bytes())?;
         assert_eq!(rt; judged(alloc, &line, &names)?, (code, 37), "{end}");

@@ -3,8 +3,8 @@ use Rattle.std.proofs.Common.{◌≡◌, ℕ, List, [], ◌∷◌, ◌++◌, tak
 use Rattle.std.proofs.lemmas.List.{take-append-drop, take_all}
 use Rattle.sim_frame.specs.declared.frame.Frame.{Frame}
 use Rattle.sim_frame.specs.declared.part.Part.{Part}
-use Rattle.sim_frame.specs.Stream.{frame_spelling, HasFrameSpelling, IsFront, Left, IsLeft, Reads, IsFed}
-use Rattle.sim_frame.specs.Stream.Left.{Open, Broken}
+use Rattle.sim_frame.specs.Stream.{frame_spelling, HasFrameSpelling, IsFront, Left, Reads, IsFed}
+use Rattle.sim_frame.specs.Stream.Left.{Open}
 use Rattle.sim_frame.specs.Opening.{AreWhole, left_of, held_of, IsBehind}
 use Rattle.sim_frame.proofs.Streams.{with_first}
 

@@ -1,5 +1,5 @@
 -- The front of a frame, and what a piece makes of it.
-use Rattle.std.proofs.Common.{◌≡◌, ℕ, ◌+◌, ◌-◌, ◌<◌, ◌≤◌, min, List, [], ◌∷◌, ◌++◌, length, take, drop, get_or, drop-cons, length-drop, refl, sym, ap, subst, ◌∙◌, append_assoc, arith, ◌⊎◌, inl, inr}
+use Rattle.std.proofs.Common.{◌≡◌, ℕ, ◌+◌, ◌-◌, ◌<◌, ◌≤◌, min, List, ◌∷◌, ◌++◌, length, take, drop, get_or, drop-cons, length-drop, refl, sym, ap, subst, ◌∙◌, append_assoc, arith, inl, inr}
 use Rattle.std.specs.Int.{w32, to_be_bytes, from_be_bytes}
 use Rattle.std.proofs.lemmas.Nat.{be_bytes_4}
 use Rattle.std.proofs.lemmas.Bool.{cases_lt}
@@ -8,7 +8,7 @@ use Rattle.std.proofs.Math.Seq.{take-append-add}
 use Rattle.sim_frame.specs.declared.part.Part.{Part}
 use Rattle.sim_frame.specs.Stream.{IsLength, length_at, IsFront, IsBroken}
 use Rattle.stab_base.specs.Codec.{IsBytes}
-use Rattle.sim_frame.specs.Opening.{IsFirst, IsSized, held_of, IsShaped, IsKept, IsWhole}
+use Rattle.sim_frame.specs.Opening.{IsFirst, IsSized, held_of, IsShaped, IsWhole}
 
 -- ---- the first five bytes of two strings
 

@@ -1,39 +1,66 @@
 //! The program `simba`: a script on standard input, its transcript on standard output.
 #![tactic(auto)]
 
+mod ending;
+mod noted;
+
+use ending::{StopWords, code_text, limit_text, status_text, stop_words};
+use noted::Noted;
 use simba_top::run_simba;
 use stab_io::{ReaderSource, WriterSink};
 use std::process::ExitCode;
-use std::{env, io};
+use std::{env, io, str};
 
-/// What ended the run, for the person at the terminal. Nothing where it came to its end.
-fn ending(status: u8) -> Option<&'static str> {
-    match status {
-        0 => None,
-        2 => Some("usage: simba run < SCRIPT"),
-        3 => Some("a line of the script is in no grammar; the last line of the output names it"),
-        4 => Some("the script could not be read to its end"),
-        5 => Some("the transcript could not be written"),
-        6 => Some("there is no more memory"),
-        7 => Some("the script passes a limit; the last line of the output names it"),
-        _ => Some("the run ended early"),
+// Tells the person at the terminal what ended the run. Nothing where it came to its end.
+fn tell(rt: &HostRuntime, status: u8, last: &[u8]) -> io::Result<()> {
+    if status == 0 {
+        return Ok(());
+    }
+    match (status, stop_words(str::from_utf8(last).unwrap_or(""))) {
+        (3, Some(StopWords { line, number })) => {
+            eprintln!(rt; "simba: line {line}: {} (code {number})", code_text(number))
+        }
+        (7, Some(StopWords { line, number })) => {
+            eprintln!(rt;
+                "simba: line {line}: {} (limit {number})",
+                limit_text(number)
+            )
+        }
+        _ => eprintln!(rt; "simba: {}", status_text(status)),
     }
 }
 
-fn run(rt: &HostRuntime) -> io::Result<u8> {
+// The words behind the program's name. One that isn't UTF-8 is no word of the program.
+fn words(rt: &HostRuntime) -> Result<Vec<String>, u8> {
+    let args = match env::args(rt) {
+        Ok(args) => args,
+        Err(e) if e.kind() == io::ErrorKind::InvalidData => return Err(2),
+        Err(_) => return Err(6),
+    };
     let mut words = Vec::new(rt.alloc());
-    for word in env::args(rt)?.skip(1) {
-        words.push(word)?;
+    for word in args.skip(1) {
+        if words.push(word).is_err() {
+            return Err(6);
+        }
     }
+    Ok(words)
+}
+
+fn run(rt: &HostRuntime) -> u8 {
+    let words = match words(rt) {
+        Ok(words) => words,
+        Err(status) => {
+            let _ = tell(rt, status, &[]);
+            return status;
+        }
+    };
     let mut source = ReaderSource::new(rt.stdin());
-    let mut sink = WriterSink::new(rt.stdout());
-    Ok(run_simba(rt.alloc(), &words, &mut source, &mut sink))
+    let mut sink = Noted::new(WriterSink::new(rt.stdout()));
+    let status = run_simba(rt.alloc(), &words, &mut source, &mut sink);
+    let _ = tell(rt, status, sink.last());
+    status
 }
 
 fn main(rt: HostRuntime) -> ExitCode {
-    let status = run(&rt).unwrap_or(6);
-    if let Some(text) = ending(status) {
-        let _ = eprintln!(rt; "simba: {text}");
-    }
-    ExitCode::from(status)
+    ExitCode::from(run(&rt))
 }

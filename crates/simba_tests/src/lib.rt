@@ -9,3 +9,5 @@ mod nodes;
 mod runs;
 #[cfg(test)]
 mod tests;
+#[cfg(test)]
+mod values;

@@ -1,4 +1,4 @@
--- Where the whole input spells a script, no line is bad and no limit is passed.
+-- A line that a run has carried out isn't bad and passes no limit.
 use Rattle.std.proofs.Common.{◌≡◌, ◌⊎◌, ℕ, ◌+◌, ◌<◌, ◌≤◌, Bool, true, false, eqb, cond, List, [], ◌∷◌, ◌++◌, length, Option, Some, None, refl, sym, ap, subst, ◌∙◌, inl, inr, append_assoc, length-append, arith}
 use Rattle.std.specs.Prelude.{nat_lt, slice_get}
 use Rattle.table_model.specs.declared.event.Event.{Event}
@@ -23,42 +23,27 @@ use Rattle.simba_top.specs.declared.run.TheConstants.{MOST_LINES}
 use Rattle.simba_top.specs.declared.row_names.TheConstants.{MOST_ROWS}
 use Rattle.simba_top.specs.RowNames.{rows_named, FewRows, NamesTooMany}
 use Rattle.simba_top.specs.Script.{next_in, Behind, Spelled, IsFront, IsWhole}
-use Rattle.simba_top.specs.Ends.{IsBadAt, IsLimitAt}
 use Rattle.simba_top.proofs.RowNames.{rows_grow}
-use Rattle.simba_top.proofs.Fronts.{Grammar, none_is_end, not_end, same_line, spelled_few, rest_of_front}
+use Rattle.simba_top.proofs.Fronts.{Grammar, same_line, spelled_few}
 
--- behind a front of a whole input stands its end, or a line that is passed over or spells an event
+-- a line behind a front that a longer one has carried out is passed over or spells an event
 module _ (Is : Names → List ℕ → Type 0) (passed : (names : Names) (line : List ℕ) → IsPassed line → Is names line → ⊥)
     (spells : (names : Names) (line : List ℕ) (event : Event) → Spells names line event → Is names line → ⊥) where
-  line_apart : (total : ℕ) (names after : Names) (rest : List ℕ) (lines : List (List ℕ)) (script : List Event) (line left : List ℕ)
-      → Behind total rest lines [] → Spelled names lines script after → next_in total rest ≡ Line line left → Is names line → ⊥
-  line_apart total names after rest [] script line left behind spelled next is =
-      not_end total line left (subst (λ (b : List ℕ). next_in total b ≡ Line line left) (sym behind) next)
-  line_apart total names after rest (same ∷ lines) script line left behind (inl s) next is =
+  pub line_apart : (total : ℕ) (names after : Names) (rest end : List ℕ) (lines : List (List ℕ)) (script : List Event) (line left : List ℕ)
+      → Behind total rest lines end → Spelled names lines script after → 0 < length lines → next_in total rest ≡ Line line left → Is names line → ⊥
+  line_apart total names after rest end [] script line left behind spelled some next is = absurd (omega (arith, some))
+  line_apart total names after rest end (same ∷ lines) script line left behind (inl s) some next is =
       passed names same s.0 (subst (λ (l : List ℕ). Is names l) (same_line total rest line same left behind.0 next behind.1) is)
-  line_apart total names after rest (same ∷ lines) script line left behind (inr s) next is =
+  line_apart total names after rest end (same ∷ lines) script line left behind (inr s) some next is =
       spells names same s.0 s.3 (subst (λ (l : List ℕ). Is names l) (same_line total rest line same left behind.0 next behind.1) is)
 
-pub not_bad : Grammar → (input : List ℕ) (script whole : List Event) (count : ℕ) (fault : BadLine) → IsBadAt input script count fault → IsWhole input whole → ⊥
-not_bad grammar input script whole count fault bad all =
-    let more = rest_of_front grammar input script whole count all.0 bad.names all.1 bad.rest bad.front all.2 in
-    line_apart (λ names line. IsFault names line fault) (λ names line. grammar.passed_fault names line fault)
-    (λ names line event. grammar.fault_spells names line event fault)
-    (length input) bad.names all.1 bad.rest more.lines more.events bad.line bad.left more.behind more.spelled bad.next bad.bad
-
 -- and no byte past a limit
-no_limit : (total : ℕ) (rest : List ℕ) (lines : List (List ℕ)) (next : Next) → Behind total rest lines [] → next_in total rest ≡ next
-    → (next ≡ LineTooLong) ⊎ (next ≡ InputTooLong) → ⊥
-no_limit total rest [] next behind is which =
-    let e : End ≡ next = sym (none_is_end total) ∙ subst (λ (b : List ℕ). next_in total b ≡ next) (sym behind) is in
-    elim which [ inl l ↦ (let f = e ∙ l in cc f) | inr i ↦ (let f = e ∙ i in cc f) ]
-no_limit total rest (line ∷ lines) next behind is which =
+pub no_limit : (total : ℕ) (rest end : List ℕ) (lines : List (List ℕ)) (next : Next) → Behind total rest lines end → 0 < length lines
+    → next_in total rest ≡ next → (next ≡ LineTooLong) ⊎ (next ≡ InputTooLong) → ⊥
+no_limit total rest end [] next behind some is which = absurd (omega (arith, some))
+no_limit total rest end (line ∷ lines) next behind some is which =
     let e : Line line behind.0 ≡ next = sym behind.1 ∙ is in
     elim which [ inl l ↦ (let f = e ∙ l in cc f) | inr i ↦ (let f = e ∙ i in cc f) ]
-
-one_more : (total : ℕ) (rest : List ℕ) (lines : List (List ℕ)) → Behind total rest lines [] → 0 < length rest → 1 ≤ length lines
-one_more total rest [] behind some = absurd (let e = ap (λ (b : List ℕ). length b) behind in omega (arith, e, some))
-one_more total rest (line ∷ lines) behind some = omega arith
 
 -- ---- the numbers of a script's writes and versions are no more than its events
 
@@ -100,7 +85,7 @@ module _ (script : List Event) (few : length script ≤ MOST_LINES) where
   no_packet None spent = spent
   no_packet (Some packet) spent = no_packet_at packet packet.to spent
 
-  not_spent : (event : Event) → Spends (world_after script) event → ⊥
+  pub not_spent : (event : Event) → Spends (world_after script) event → ⊥
   not_spent (events.Write client table row content) spent = no_number client table row content (client_at (world_after script) client) refl spent
   not_spent (events.Deliver packet) spent = no_packet (slice_get (world_after script).packets packet) spent
   not_spent (events.Store store) spent = spent
@@ -112,47 +97,27 @@ module _ (script : List Event) (few : length script ≤ MOST_LINES) where
   not_spent (events.StoreShow table row) spent = spent
   not_spent (events.History table) spent = spent
 
-front_few : (input : List ℕ) (script : List Event) (count : ℕ) (names : Names) (rest : List ℕ) → IsFront input script count names rest → length script ≤ MOST_LINES
+pub front_few : (input : List ℕ) (script : List Event) (count : ℕ) (names : Names) (rest : List ℕ) → IsFront input script count names rest → length script ≤ MOST_LINES
 front_few input script count names rest front = omega (arith, spelled_few no_names front.lines script names front.spelled, front.counted, front.few)
 
 -- ---- nor does an event name a row too many
 
--- the event that the line behind a front of a whole input spells is the script's next
-event_next : Grammar → (total : ℕ) (names after : Names) (rest : List ℕ) (lines : List (List ℕ)) (script : List Event) (line left : List ℕ) (event : Event)
-    → Behind total rest lines [] → Spelled names lines script after → next_in total rest ≡ Line line left → Spells names line event
+-- the event that the line behind a front spells is the next of a longer one
+pub event_next : Grammar → (total : ℕ) (names after : Names) (rest end : List ℕ) (lines : List (List ℕ)) (script : List Event) (line left : List ℕ) (event : Event)
+    → Behind total rest lines end → Spelled names lines script after → 0 < length lines → next_in total rest ≡ Line line left → Spells names line event
     → (more : List Event) × (script ≡ event ∷ more)
-event_next grammar total names after rest [] script line left event behind spelled next spells =
-    absurd (not_end total line left (subst (λ (b : List ℕ). next_in total b ≡ Line line left) (sym behind) next))
-event_next grammar total names after rest (same ∷ lines) script line left event behind (inl s) next spells =
+event_next grammar total names after rest end [] script line left event behind spelled some next spells = absurd (omega (arith, some))
+event_next grammar total names after rest end (same ∷ lines) script line left event behind (inl s) some next spells =
     absurd (grammar.passed_spells names same event s.0
     (subst (λ (l : List ℕ). Spells names l event) (same_line total rest line same left behind.0 next behind.1) spells))
-event_next grammar total names after rest (same ∷ lines) script line left event behind (inr s) next spells =
+event_next grammar total names after rest end (same ∷ lines) script line left event behind (inr s) some next spells =
     let one : s.0 ≡ event = grammar.one_event names same s.0 event s.3
     (subst (λ (l : List ℕ). Spells names l event) (same_line total rest line same left behind.0 next behind.1) spells) in
     (s.1, s.2 ∙ ap (λ (e : Event). e ∷ s.1) one)
 
-not_too_many : (script whole more : List Event) (event : Event) → whole ≡ script ++ event ∷ more → FewRows whole → NamesTooMany script event → ⊥
+pub not_too_many : (script whole more : List Event) (event : Event) → whole ≡ script ++ event ∷ more → FewRows whole → NamesTooMany script event → ⊥
 not_too_many script whole more event is few many =
     let longer : script ++ event ∷ more ≡ (script ++ event ∷ []) ++ more = sym (append_assoc script (event ∷ []) more) in
     let fits : length (rows_named many.0 ((script ++ event ∷ []) ++ more)) ≤ MOST_ROWS =
     subst (λ (events : List Event). length (rows_named many.0 events) ≤ MOST_ROWS) (is ∙ longer) (few many.0) in
     omega (arith, many.1, rows_grow many.0 (script ++ event ∷ []) more, fits)
-
-pub not_limit : Grammar → (input : List ℕ) (script whole : List Event) (count limit : ℕ) → IsLimitAt input script count limit → IsWhole input whole → ⊥
-not_limit grammar input script whole count limit at all =
-    let more = rest_of_front grammar input script whole count all.0 at.names all.1 at.rest at.front all.2 in
-    elim at.passes [
-      | inl p ↦ no_limit (length input) at.rest more.lines InputTooLong more.behind p.1 (inr refl)
-      | inr (inl p) ↦
-          (let longer = ap (λ (ls : List (List ℕ)). length ls) more.more ∙ length-append at.front.lines more.lines in
-          omega (arith, p.1, longer, at.front.counted, all.2.counted, all.2.few, one_more (length input) at.rest more.lines more.behind p.2))
-      | inr (inr (inl p)) ↦ no_limit (length input) at.rest more.lines LineTooLong more.behind p.2 (inl refl)
-      | inr (inr (inr (inl p))) ↦ not_spent script (front_few input script count at.names at.rest at.front) p.2.2 p.2.5
-      | inr (inr (inr (inr (inl p)))) ↦
-          (let next = event_next grammar (length input) at.names all.1 at.rest more.lines more.events p.2.0 p.2.1 p.2.2 more.behind more.spelled p.2.3 p.2.4 in
-          not_too_many script whole next.0 p.2.2 (more.grows ∙ ap (λ (events : List Event). script ++ events) next.1) all.2.rows p.2.5)
-      | inr (inr (inr (inr (inr p)))) ↦
-          line_apart (λ names line. PassesLimit names line limit) (λ names line. grammar.passed_limit names line limit)
-          (λ names line event. grammar.spells_limit names line event limit)
-          (length input) at.names all.1 at.rest more.lines more.events p.1.0 p.1.1 more.behind more.spelled p.1.2 p.1.3
-    ]

@@ -6,7 +6,6 @@ use Rattle.std.specs.List.{flat_map}
 use Rattle.std.specs.Io.KnownBytes.{Appends}
 use Rattle.std.proofs.KnownBytes.{Appends-trans}
 use Rattle.table_model.specs.declared.event.Event.{Event}
-use Rattle.run_laws.proofs.Runs.{sound}
 use Rattle.stab_io.specs.Faults.{AppendsFront}
 use Rattle.simba_top.specs.declared.stop.Stop.{Stop}
 use Rattle.simba_top.specs.declared.stop.Stop.TheVariants.{Read, Put, Memory, BadLine, Limit}
@@ -18,6 +17,7 @@ use Rattle.transcript_text.specs.Text.{stop_text}
 use Rattle.simba_top.specs.Script.{IsFront}
 use Rattle.simba_top.specs.Stands.{Goes, GoesOn, IsCause, EndedBy, Stopped}
 use Rattle.simba_top.proofs.Puts.{added_then}
+use Rattle.simba_top.proofs.Sounds.{sound_run}
 
 pub same_count : (old new : Run) → new ≡ record old { reader = new.reader } → new.count ≡ old.count
 same_count old new same = ap (λ (run : Run). run.count) same
@@ -44,7 +44,7 @@ module _ (input : List ℕ) (script : List Event) (run : Run) (left : Option (Li
   pub put_failed : AppendsFront mid now (flat_map (λ (text : List ℕ). text) texts) → (text : List ℕ) × IsTextOf input text × AppendsFront before now text
   put_failed put = (
     text_of_run goes.0,
-    (goes.0, sound goes.0, inl (run.count, run.names, goes.1.rest, goes.1.front, refl)),
+    (goes.0, sound_run input goes.0 run.count run.names goes.1.rest goes.1.front, inl (run.count, run.names, goes.1.rest, goes.1.front, refl)),
     subst (λ (text : List ℕ). AppendsFront before now text) (sym goes.2)
         (added_then before mid now (text_of_run script) (flat_map (λ (text : List ℕ). text) texts) told put),
   )
@@ -77,7 +77,7 @@ stopped_bad input left before mid now count fault (Err stop) ended (inl refused)
     rw refused.0 (no_memory input left before mid now ended.0 count (stop_text 3 (count + 1) fault.code ++ 10 ∷ []) ended.2 ended.1.names ended.1.rest ended.1.front refused.1)
 stopped_bad input left before mid now count fault (Err stop) ended (inr failed) =
     rw failed.0 (no_put input left before mid now ended.0 count (stop_text 3 (count + 1) fault.code ++ 10 ∷ []) ended.2
-    (ended.0, sound ended.0, inr (inl (count, fault, ended.1, refl))) failed.1)
+    (ended.0, sound_run input ended.0 count ended.1.names ended.1.rest ended.1.front, inr (inl (count, fault, ended.1, refl))) failed.1)
 
 pub stopped_limit : (input : List ℕ) (left before mid now : Option (List ℕ)) (count limit : ℕ) (put : Result (Unit {0}) Stop)
     → EndedBy (Limit limit) input count left before mid → Written mid now (stop_text 7 (count + 1) limit ++ 10 ∷ []) put
@@ -88,4 +88,4 @@ stopped_limit input left before mid now count limit (Err stop) ended (inl refuse
     rw refused.0 (no_memory input left before mid now ended.0 count (stop_text 7 (count + 1) limit ++ 10 ∷ []) ended.2 ended.1.names ended.1.rest ended.1.front refused.1)
 stopped_limit input left before mid now count limit (Err stop) ended (inr failed) =
     rw failed.0 (no_put input left before mid now ended.0 count (stop_text 7 (count + 1) limit ++ 10 ∷ []) ended.2
-    (ended.0, sound ended.0, inr (inr (count, limit, ended.1, refl))) failed.1)
+    (ended.0, sound_run input ended.0 count ended.1.names ended.1.rest ended.1.front, inr (inr (count, limit, ended.1, refl))) failed.1)

@@ -17,6 +17,9 @@ pub record Grammar : Type 0 where
   pub fault_spells : (names : Names) (line : List ℕ) (event : Event) (fault : BadLine) → Spells names line event → IsFault names line fault → ⊥
   pub passed_limit : (names : Names) (line : List ℕ) (limit : ℕ) → IsPassed line → PassesLimit names line limit → ⊥
   pub spells_limit : (names : Names) (line : List ℕ) (event : Event) (limit : ℕ) → Spells names line event → PassesLimit names line limit → ⊥
+  pub fault_limit : (names : Names) (line : List ℕ) (fault : BadLine) (limit : ℕ) → IsFault names line fault → PassesLimit names line limit → ⊥
+  pub one_fault : (names : Names) (line : List ℕ) (f g : BadLine) → IsFault names line f → IsFault names line g → f ≡ g
+  pub one_limit : (names : Names) (line : List ℕ) (l m : ℕ) → PassesLimit names line l → PassesLimit names line m → l ≡ m
 
 pub none_is_end : (total : ℕ) → next_in total [] ≡ End
 unfolding next_of
@@ -94,12 +97,12 @@ spelled_few names (line ∷ lines) script after (inl s) = omega (arith, spelled_
 spelled_few names (line ∷ lines) script after (inr s) =
     let e = ap (λ (es : List Event). length es) s.2 in omega (arith, e, spelled_few (with_event names s.0) lines s.1 after s.4)
 
--- what a whole script has behind a front
-pub record Rest (total : ℕ) (names : Names) (front all : List (List ℕ)) (script whole : List Event) (bytes : List ℕ) (after : Names) : Type 0 where
+-- what a longer front, which leaves the bytes `end`, has behind a shorter one, which leaves `bytes`
+pub record Rest (total : ℕ) (names : Names) (front all : List (List ℕ)) (script whole : List Event) (bytes end : List ℕ) (after : Names) : Type 0 where
   pub lines : List (List ℕ)
   pub events : List Event
   pub more : all ≡ front ++ lines
-  pub behind : Behind total bytes lines []
+  pub behind : Behind total bytes lines end
   pub grows : whole ≡ script ++ events
   pub spelled : Spelled names lines events after
 
@@ -116,9 +119,9 @@ module _ (total : ℕ) (bytes line same left left' : List ℕ) (next : next_in t
 pub not_end : (total : ℕ) (line left : List ℕ) → next_in total [] ≡ Line line left → ⊥
 not_end total line left next = let e : End ≡ Line line left = sym (none_is_end total) ∙ next in cc e
 
-rest_passed : (total : ℕ) (names : Names) (front all : List (List ℕ)) (script whole : List Event) (left : List ℕ) (after : Names) (line same : List ℕ)
-    → line ≡ same → Rest total names front all script whole left after → Rest total names (line ∷ front) (same ∷ all) script whole left after
-rest_passed total names front all script whole left after line same here rest = record {
+rest_passed : (total : ℕ) (names : Names) (front all : List (List ℕ)) (script whole : List Event) (left end : List ℕ) (after : Names) (line same : List ℕ)
+    → line ≡ same → Rest total names front all script whole left end after → Rest total names (line ∷ front) (same ∷ all) script whole left end after
+rest_passed total names front all script whole left end after line same here rest = record {
   lines = rest.lines;
   events = rest.events;
   more = let e = rest.more in cc;
@@ -127,10 +130,10 @@ rest_passed total names front all script whole left after line same here rest = 
   spelled = rest.spelled;
 }
 
-rest_event : (total : ℕ) (names : Names) (front all : List (List ℕ)) (script whole more more' : List Event) (left : List ℕ) (after : Names) (line same : List ℕ) (event : Event)
-    → line ≡ same → script ≡ event ∷ more → whole ≡ event ∷ more' → Rest total names front all more more' left after
-    → Rest total names (line ∷ front) (same ∷ all) script whole left after
-rest_event total names front all script whole more more' left after line same event here is also rest = record {
+rest_event : (total : ℕ) (names : Names) (front all : List (List ℕ)) (script whole more more' : List Event) (left end : List ℕ) (after : Names) (line same : List ℕ) (event : Event)
+    → line ≡ same → script ≡ event ∷ more → whole ≡ event ∷ more' → Rest total names front all more more' left end after
+    → Rest total names (line ∷ front) (same ∷ all) script whole left end after
+rest_event total names front all script whole more more' left end after line same event here is also rest = record {
   lines = rest.lines;
   events = rest.events;
   more = let e = rest.more in cc;
@@ -140,42 +143,69 @@ rest_event total names front all script whole more more' left after line same ev
 }
 
 module _ (grammar : Grammar) (total : ℕ) where
-  rest_of : (bytes : List ℕ) (from : Names) (front all : List (List ℕ)) (script whole : List Event) (left : List ℕ) (names after : Names)
-      → Behind total bytes front left → Spelled from front script names → Behind total bytes all [] → Spelled from all whole after
-      → Rest total names front all script whole left after
-  rest_of bytes from [] all script whole left names after behind spelled behind_all spelled_all = record {
+  rest_of : (bytes : List ℕ) (from : Names) (front all : List (List ℕ)) (script whole : List Event) (left end : List ℕ) (names after : Names)
+      → length front ≤ length all
+      → Behind total bytes front left → Spelled from front script names → Behind total bytes all end → Spelled from all whole after
+      → Rest total names front all script whole left end after
+  rest_of bytes from [] all script whole left end names after fits behind spelled behind_all spelled_all = record {
     lines = all;
     events = whole;
     more = refl;
-    behind = subst (λ (b : List ℕ). Behind total b all []) (sym behind) behind_all;
+    behind = subst (λ (b : List ℕ). Behind total b all end) (sym behind) behind_all;
     grows = ap (λ (es : List Event). es ++ whole) (sym spelled.0);
     spelled = subst (λ (n : Names). Spelled n all whole after) (sym spelled.1) spelled_all;
   }
-  rest_of bytes from (line ∷ front) [] script whole left names after behind spelled behind_all spelled_all =
-      absurd (not_end total line behind.0 (subst (λ (b : List ℕ). next_in total b ≡ Line line behind.0) (sym behind_all) behind.1))
-  rest_of bytes from (line ∷ front) (same ∷ all) script whole left names after behind (inl s) behind_all (inl t) =
-      rest_passed total names front all script whole left after line same (same_line total bytes line same behind.0 behind_all.0 behind.1 behind_all.1)
-      (rest_of behind.0 from front all script whole left names after behind.2 s.1
-      (subst (λ (b : List ℕ). Behind total b all []) (sym (same_left total bytes line same behind.0 behind_all.0 behind.1 behind_all.1)) behind_all.2) t.1)
-  rest_of bytes from (line ∷ front) (same ∷ all) script whole left names after behind (inl s) behind_all (inr t) =
+  rest_of bytes from (line ∷ front) [] script whole left end names after fits behind spelled behind_all spelled_all = absurd (omega (arith, fits))
+  rest_of bytes from (line ∷ front) (same ∷ all) script whole left end names after fits behind (inl s) behind_all (inl t) =
+      rest_passed total names front all script whole left end after line same (same_line total bytes line same behind.0 behind_all.0 behind.1 behind_all.1)
+      (rest_of behind.0 from front all script whole left end names after (omega (arith, fits)) behind.2 s.1
+      (subst (λ (b : List ℕ). Behind total b all end) (sym (same_left total bytes line same behind.0 behind_all.0 behind.1 behind_all.1)) behind_all.2) t.1)
+  rest_of bytes from (line ∷ front) (same ∷ all) script whole left end names after fits behind (inl s) behind_all (inr t) =
       absurd (grammar.passed_spells from same t.0 (subst IsPassed (same_line total bytes line same behind.0 behind_all.0 behind.1 behind_all.1) s.0) t.3)
-  rest_of bytes from (line ∷ front) (same ∷ all) script whole left names after behind (inr s) behind_all (inl t) =
+  rest_of bytes from (line ∷ front) (same ∷ all) script whole left end names after fits behind (inr s) behind_all (inl t) =
       absurd (grammar.passed_spells from same s.0 t.0
       (subst (λ (l : List ℕ). Spells from l s.0) (same_line total bytes line same behind.0 behind_all.0 behind.1 behind_all.1) s.3))
-  rest_of bytes from (line ∷ front) (same ∷ all) script whole left names after behind (inr s) behind_all (inr t) =
+  rest_of bytes from (line ∷ front) (same ∷ all) script whole left end names after fits behind (inr s) behind_all (inr t) =
       let here : line ≡ same = same_line total bytes line same behind.0 behind_all.0 behind.1 behind_all.1 in
       let one : s.0 ≡ t.0 = grammar.one_event from same s.0 t.0 (subst (λ (l : List ℕ). Spells from l s.0) here s.3) t.3 in
-      rest_event total names front all script whole s.1 t.1 left after line same s.0 here s.2 (t.2 ∙ ap (λ (e : Event). e ∷ t.1) (sym one))
-      (rest_of behind.0 (with_event from s.0) front all s.1 t.1 left names after behind.2 s.4
-      (subst (λ (b : List ℕ). Behind total b all []) (sym (same_left total bytes line same behind.0 behind_all.0 behind.1 behind_all.1)) behind_all.2)
+      rest_event total names front all script whole s.1 t.1 left end after line same s.0 here s.2 (t.2 ∙ ap (λ (e : Event). e ∷ t.1) (sym one))
+      (rest_of behind.0 (with_event from s.0) front all s.1 t.1 left end names after (omega (arith, fits)) behind.2 s.4
+      (subst (λ (b : List ℕ). Behind total b all end) (sym (same_left total bytes line same behind.0 behind_all.0 behind.1 behind_all.1)) behind_all.2)
       (subst (λ (e : Event). Spelled (with_event from e) all t.1 after) (sym one) t.4))
+
+-- what the longer of two fronts of an input has behind the shorter
+pub rest_of_fronts : Grammar → (input : List ℕ) (script whole : List Event) (count count' : ℕ) (names names' : Names) (left end : List ℕ)
+    → (front : IsFront input script count names left) → (all : IsFront input whole count' names' end) → count ≤ count'
+    → Rest (length input) names front.lines all.lines script whole left end names'
+rest_of_fronts grammar input script whole count count' names names' left end front all fits =
+    rest_of grammar (length input) input no_names front.lines all.lines script whole left end names names'
+    (let a = front.counted in let b = all.counted in omega (arith, fits, a, b)) front.behind front.spelled all.behind all.spelled
+
+-- no front has more lines than the whole input
+whole_is_longest : (total : ℕ) (bytes left : List ℕ) (front all : List (List ℕ)) → Behind total bytes front left → Behind total bytes all []
+    → length front ≤ length all
+whole_is_longest total bytes left [] all behind whole = omega arith
+whole_is_longest total bytes left (line ∷ front) [] behind whole =
+    absurd (not_end total line behind.0 (subst (λ (b : List ℕ). next_in total b ≡ Line line behind.0) (sym whole) behind.1))
+whole_is_longest total bytes left (line ∷ front) (same ∷ all) behind whole =
+    let fits = whole_is_longest total behind.0 left front all behind.2
+    (subst (λ (b : List ℕ). Behind total b all []) (sym (same_left total bytes line same behind.0 whole.0 behind.1 whole.1)) whole.2) in
+    omega (arith, fits)
+
+-- so a front counts no more lines
+pub front_fits : (input : List ℕ) (script whole : List Event) (count count' : ℕ) (names names' : Names) (left : List ℕ)
+    → IsFront input script count names left → IsFront input whole count' names' [] → count ≤ count'
+front_fits input script whole count count' names names' left front all =
+    let fits = whole_is_longest (length input) input left front.lines all.lines front.behind all.behind in
+    let a = front.counted in let b = all.counted in omega (arith, fits, a, b)
 
 -- what the script of a whole input has behind a front of it
 pub rest_of_front : Grammar → (input : List ℕ) (script whole : List Event) (count count' : ℕ) (names names' : Names) (left : List ℕ)
     → (front : IsFront input script count names left) → (all : IsFront input whole count' names' [])
-    → Rest (length input) names front.lines all.lines script whole left names'
+    → Rest (length input) names front.lines all.lines script whole left [] names'
 rest_of_front grammar input script whole count count' names names' left front all =
-    rest_of grammar (length input) input no_names front.lines all.lines script whole left names names' front.behind front.spelled all.behind all.spelled
+    rest_of_fronts grammar input script whole count count' names names' left [] front all
+    (front_fits input script whole count count' names names' left front all)
 
 ends_here : (total : ℕ) (names after : Names) (script whole : List Event) (lines : List (List ℕ)) (events : List Event)
     → Behind total [] lines [] → Spelled names lines events after → whole ≡ script ++ events → script ≡ whole

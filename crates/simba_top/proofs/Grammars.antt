@@ -2,7 +2,7 @@
 -- limit.
 use Rattle.script_text.specs.Words.{words_of}
 use Rattle.script_text.proofs.Spelled.{one_event}
-use Rattle.script_text.proofs.FaultLaws.{passed_event, fault_apart, limit_event}
+use Rattle.script_text.proofs.FaultLaws.{passed_event, fault_apart, limit_event, one_fault, one_limit}
 use Rattle.simba_top.proofs.Fronts.{Grammar}
 
 pub grammar : Grammar
@@ -13,4 +13,7 @@ grammar = record {
   fault_spells = λ names line event fault. fault_apart names line event fault;
   passed_limit = λ names line limit p q. q.0 p;
   spells_limit = λ names line event limit. limit_event names limit line event;
+  fault_limit = λ names line fault limit p q. q.2 fault p;
+  one_fault = one_fault;
+  one_limit = one_limit;
 }

@@ -2,7 +2,9 @@ pub mod RowNames
 pub mod Fronts
 pub mod Grammars
 pub mod Complete
+pub mod OneEnd
 pub mod Puts
+pub mod Sounds
 pub mod Turns
 pub mod Endings
 pub mod Statuses

@@ -1,9 +1,9 @@
 -- What the status of a run says.
-use Rattle.std.proofs.Common.{◌≡◌, ◌⊎◌, ℕ, ◌+◌, ◌-◌, ◌^◌, ◌<◌, List, Option, Some, None, Result, Ok, Err, refl, subst, inl, inr, arith}
+use Rattle.std.proofs.Common.{◌≡◌, ◌⊎◌, ℕ, ◌+◌, ◌-◌, ◌^◌, ◌<◌, List, [], ◌++◌, Option, Some, None, Result, Ok, Err, refl, subst, inl, inr, arith}
 use Rattle.std.specs.Prelude.{IfSome, OnOk, IfErr, MatchResult}
 use Rattle.std.specs.Io.KnownBytes.{IsAtEnd}
 use Rattle.table_model.specs.declared.event.Event.{Event}
-use Rattle.run_laws.proofs.Runs.{sound}
+use Rattle.simba_top.proofs.Sounds.{sound_run}
 use Rattle.stab_io.specs.Faults.{Rose}
 use Rattle.script_text.specs.declared.fault.BadLine.{BadLine as ABadLine}
 use Rattle.script_text.specs.Names.{Names}
@@ -14,7 +14,7 @@ use Rattle.simba_top.specs.Ends.{IsBadAt, IsLimitAt, IsCutOff, Tells, TellsStop}
 use Rattle.simba_top.specs.Stops.{status_of}
 use Rattle.simba_top.specs.Stands.{Stopped, IsDone, CountsReads, CountsPuts}
 use Rattle.simba_top.proofs.Fronts.{Grammar}
-use Rattle.simba_top.proofs.Complete.{not_bad, not_limit}
+use Rattle.simba_top.proofs.OneEnd.{not_bad, not_limit}
 
 if_some_map : {X : Type 0} (P Q : X → Type 0) (o : Option X) → ((x : X) → P x → Q x) → IfSome o P → IfSome o Q
 if_some_map P Q None f h = tt
@@ -40,7 +40,7 @@ module _ (left left' held held' : Option (List ℕ)) (reads reads' puts puts' : 
   done (Ok over) came is = (
     came.end,
     if_some_map (λ input. IsDone input held held') (λ input. (script : List Event) × IsWhole input script × Tells script held held') left
-        (λ input is. (is.0, is.1, (sound is.0, is.2))) came.done,
+        (λ input is. (is.0, is.1, (sound_run input is.0 is.1.0 is.1.1 [] is.1.2, is.2))) came.done,
   )
   done (Err Read) came is = absurd (omega arith)
   done (Err Put) came is = absurd (omega arith)
@@ -55,7 +55,7 @@ module _ (left left' held held' : Option (List ℕ)) (reads reads' puts puts' : 
   pub bad_line : (ended : Result (Unit {0}) Stop) → Came ended → status_of ended ≡ 3 → IfSome left BadLineOf
   bad_line (Err (BadLine fault)) came is =
       if_some_map (λ input. Stopped (BadLine fault) input left' held held') BadLineOf left
-      (λ input at. (at.0, at.1, fault, at.2, (sound at.0, at.3))) came.stopped
+      (λ input at. (at.0, at.1, fault, at.2, (sound_run input at.0 at.1 at.2.names at.2.rest at.2.front, at.3))) came.stopped
   bad_line (Ok over) came is = absurd (omega arith)
   bad_line (Err Read) came is = absurd (omega arith)
   bad_line (Err Put) came is = absurd (omega arith)
@@ -69,7 +69,7 @@ module _ (left left' held held' : Option (List ℕ)) (reads reads' puts puts' : 
   pub limit_passed : (ended : Result (Unit {0}) Stop) → Came ended → status_of ended ≡ 7 → IfSome left LimitOf
   limit_passed (Err (Limit limit)) came is =
       if_some_map (λ input. Stopped (Limit limit) input left' held held') LimitOf left
-      (λ input at. (at.0, at.1, limit, at.2, (sound at.0, at.3))) came.stopped
+      (λ input at. (at.0, at.1, limit, at.2, (sound_run input at.0 at.1 at.2.names at.2.rest at.2.front, at.3))) came.stopped
   limit_passed (Ok over) came is = absurd (omega arith)
   limit_passed (Err Read) came is = absurd (omega arith)
   limit_passed (Err Put) came is = absurd (omega arith)
@@ -84,7 +84,7 @@ module _ (left left' held held' : Option (List ℕ)) (reads reads' puts puts' : 
   read (Err Read) came is = (
     came.reads_counted,
     if_some_map (λ input. Stopped Read input left' held held') (λ input. IfSome left' (CutOff input)) left
-        (λ input at. if_some_map (λ bytes. IsCutOff input at.0 bytes) (CutOff input) left' (λ bytes cut. (at.0, cut, (sound at.0, at.2))) at.1) came.stopped,
+        (λ input at. if_some_map (λ bytes. IsCutOff input at.0 bytes) (CutOff input) left' (λ bytes cut. (at.0, cut, (sound_run input at.0 cut.count cut.names (cut.held ++ bytes) cut.front, at.2))) at.1) came.stopped,
   )
   read (Ok over) came is = absurd (omega arith)
   read (Err Put) came is = absurd (omega arith)
@@ -98,7 +98,7 @@ module _ (left left' held held' : Option (List ℕ)) (reads reads' puts puts' : 
   pub memory : (ended : Result (Unit {0}) Stop) → Came ended → status_of ended ≡ 6 → IfSome left NoMemory
   memory (Err Memory) came is =
       if_some_map (λ input. Stopped Memory input left' held held') NoMemory left
-      (λ input at. (at.1.0, at.0, at.1.1.0, at.1.1.1, at.1.1.2, (sound at.1.0, at.1.2))) came.stopped
+      (λ input at. (at.1.0, at.0, at.1.1.0, at.1.1.1, at.1.1.2, (sound_run input at.1.0 at.0 at.1.1.0 at.1.1.1 at.1.1.2, at.1.2))) came.stopped
   memory (Ok over) came is = absurd (omega arith)
   memory (Err Read) came is = absurd (omega arith)
   memory (Err Put) came is = absurd (omega arith)

@@ -233,12 +233,13 @@ module _ (input : List ℕ) (script : List Event) (line : List ℕ) (run : Run) 
   row_stops event stops.Put spells cause = absurd cause
   row_stops event (stops.BadLine fault) spells cause = absurd cause
 
-  pub world_stops : (event : Event) (fault : WorldFault) → Spells run.names line event → IsWorldCause (world_after script) event fault
+  pub world_stops : (event : Event) (fault : WorldFault) → Spells run.names line event → FewRows (script ++ event ∷ [])
+      → IsWorldCause (world_after script) event fault
       → IsCause (of_world fault) input script run.count left
-  world_stops event world_faults.Memory spells cause = (run.names, has.before, has.front)
-  world_stops event (world_faults.Limit code count) spells cause = record {
+  world_stops event world_faults.Memory spells few_rows cause = (run.names, has.before, has.front)
+  world_stops event (world_faults.Limit code count) spells few_rows cause = record {
     names = run.names;
     rest = has.before;
     front = has.front;
-    passes = inr (inr (inr (inl (cause.0, few, (line, has.rest, event, has.next, spells, cause.2)))));
+    passes = inr (inr (inr (inl (cause.0, few, (line, has.rest, event, has.next, spells, few_rows, cause.2)))));
   }

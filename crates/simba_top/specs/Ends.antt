@@ -1,9 +1,12 @@
 -- How a run over an input ends, and what it has written then.
-use Rattle.std.specs.Prelude.{◌≡◌, ◌⊎◌, ℕ, ◌+◌, ◌-◌, ◌<◌, ◌≤◌, List, [], ◌∷◌, ◌++◌, length, codes, Option}
+use Rattle.std.specs.Prelude.{◌≡◌, ◌⊎◌, ℕ, ◌+◌, ◌-◌, ◌<◌, ◌≤◌, List, [], ◌∷◌, ◌++◌, length, map, codes, Option}
 use Rattle.std.specs.Io.KnownBytes.{Appends}
 use Rattle.table_model.specs.declared.event.Event.{Event}
 use Rattle.run_laws.specs.Turns.{turns, world_after, transcript}
 use Rattle.run_laws.specs.Sound.{IsSound}
+use Rattle.world_tables.specs.Turns as moves
+use Rattle.world_tables.specs.Sound as sound_moves
+use Rattle.memory_laws.specs.Lift.{turn_of, at_once}
 use Rattle.stab_io.specs.declared.limits.TheConstants.{LINE_LIMIT, INPUT_LIMIT}
 use Rattle.stab_io.specs.Lines.{Line, LineTooLong, InputTooLong, HasNoNewline}
 use Rattle.script_text.specs.declared.fault.BadLine.{BadLine}
@@ -12,7 +15,7 @@ use Rattle.script_text.specs.Grammar.{Spells, IsFault, PassesLimit}
 use Rattle.transcript_text.specs.Text.{stop_text, transcript_text}
 use Rattle.simba_top.specs.declared.run.TheConstants.{MOST_LINES}
 use Rattle.world_steps.specs.Holds.{Spends}
-use Rattle.simba_top.specs.RowNames.{NamesTooMany}
+use Rattle.simba_top.specs.RowNames.{FewRows, NamesTooMany}
 use Rattle.simba_top.specs.Script.{next_in, IsFront}
 
 -- the transcript of a script, as bytes
@@ -39,16 +42,17 @@ abbrev pub IsFull : List ℕ → List ℕ → Type 0
 IsFull input rest = length input - length rest ≡ INPUT_LIMIT
 
 -- the line behind these is the first that passes a limit: 1 the input's bytes, 2 its lines, 3 the bytes of a line,
--- 9 the rows that a script names in a table, 11 versions and the numbers of a client's writes, or one on what the line
--- declares. The first byte past a limit decides, so behind
--- the most lines any byte does, whatever is behind it
+-- 9 the rows that a script names in a table, 11 versions and the numbers of a client's writes, where the event passes no
+-- limit on rows, or one on what the line declares. The first byte past a limit decides, so behind the most lines any byte
+-- does, whatever is behind it
 abbrev pub Passes : List ℕ → List Event → ℕ → Names → List ℕ → ℕ → Type 0
 Passes input script count names rest limit =
     ((limit ≡ 1) × (next_in (length input) rest ≡ InputTooLong) × ((count < MOST_LINES) ⊎ IsFull input rest))
     ⊎ (((limit ≡ 2) × (count ≡ MOST_LINES) × (0 < length rest) × (length input - length rest < INPUT_LIMIT))
     ⊎ (((limit ≡ 3) × (count < MOST_LINES) × (next_in (length input) rest ≡ LineTooLong))
     ⊎ (((limit ≡ 11) × (count < MOST_LINES) × ((line : List ℕ) × (left : List ℕ) × (event : Event)
-    × (next_in (length input) rest ≡ Line line left) × Spells names line event × Spends (world_after script) event))
+    × (next_in (length input) rest ≡ Line line left) × Spells names line event × FewRows (script ++ event ∷ [])
+    × Spends (world_after script) event))
     ⊎ (((limit ≡ 9) × (count < MOST_LINES) × ((line : List ℕ) × (left : List ℕ) × (event : Event)
     × (next_in (length input) rest ≡ Line line left) × Spells names line event × NamesTooMany script event))
     ⊎ ((count < MOST_LINES) × ((line : List ℕ) × (left : List ℕ)
@@ -72,17 +76,24 @@ pub record IsCutOff (input : List ℕ) (script : List Event) (left : List ℕ) :
   pub fits : length input - length left ≤ INPUT_LIMIT
   pub few : (count < MOST_LINES) ⊎ (held ≡ [])
 
+-- a script's transcript is sound; it is what the script's events write where each is a call or a delivery and then the
+-- node's work until it is idle, every device write being done; and it is sound as what the moves write
+pub record IsSoundRun (script : List Event) : Type 0 where
+  pub sound : IsSound (turns script)
+  pub run : moves.turns (map at_once script) ≡ map turn_of (turns script)
+  pub moved : sound_moves.IsSound (map turn_of (turns script))
+
 -- where the sink tells its bytes: the transcript of this script was added to them
 abbrev pub Tells : List Event → Option (List ℕ) → Option (List ℕ) → Type 0
-Tells script before after = IsSound (turns script) × Appends before after (text_of_run script)
+Tells script before after = IsSoundRun script × Appends before after (text_of_run script)
 
 -- the same, with the line that says why the run stopped
 abbrev pub TellsStop : List Event → ℕ → ℕ → ℕ → Option (List ℕ) → Option (List ℕ) → Type 0
-TellsStop script status line code before after = IsSound (turns script) × Appends before after (stopped_text script status line code)
+TellsStop script status line code before after = IsSoundRun script × Appends before after (stopped_text script status line code)
 
 -- a text that a run over this input may write: the transcript of its first lines, with its stop line where it has one
 abbrev pub IsTextOf : List ℕ → List ℕ → Type 0
-IsTextOf input text = (script : List Event) × IsSound (turns script) × (
+IsTextOf input text = (script : List Event) × IsSoundRun script × (
     ((count : ℕ) × (names : Names) × (rest : List ℕ) × IsFront input script count names rest × (text ≡ text_of_run script))
     ⊎ (((count : ℕ) × (fault : BadLine) × IsBadAt input script count fault × (text ≡ stopped_text script 3 (count + 1) fault.code))
     ⊎ ((count limit : ℕ) × IsLimitAt input script count limit × (text ≡ stopped_text script 7 (count + 1) limit))))

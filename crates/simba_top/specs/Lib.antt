@@ -3,3 +3,4 @@ pub mod Script
 pub mod Ends
 pub mod Stops
 pub mod Stands
+pub mod Limits

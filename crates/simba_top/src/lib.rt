@@ -7,6 +7,6 @@ mod run;
 mod stop;
 mod turn;
 
-pub use laws::one_script;
+pub use laws::{limits_are_as_defined, one_end, one_script};
 pub use row_names::MOST_ROWS;
 pub use run::{MOST_LINES, run_simba};

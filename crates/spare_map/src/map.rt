@@ -239,4 +239,17 @@ impl<K: Ord + Copy, V: Copy> SpareMap<K, V> {
         }
         Ok(found)
     }
+
+    /// The first key from this one on, with its value. It is logarithmic, besides what `reserve` left in the queue.
+    pub fn first_from(&mut self, key: K) -> Result<Option<(K, V)>, AllocError>
+        ensures first { IfOk result (λ first. first ≡ slice_get (filter (λ e. is_le (K.cmp key e.0)) (entries_of K.cmp self.old)) 0) }
+        ensures same { entries_of K.cmp self.new ≡ entries_of K.cmp self.old }
+        ensures spare { spare_of self.old ≤ spare_of self.new }
+    {
+        self.settle()?;
+        match self.tree.range(key..).next() {
+            Some((key, value)) => Ok(Some((*key, *value))),
+            None => Ok(None),
+        }
+    }
 }

@@ -1,9 +1,10 @@
-ghost use Rattle.std.specs.Prelude.{◌≡◌};
+ghost use Rattle.std.specs.Prelude.{◌≡◌, IfOk};
 ghost use Rattle.table_model.specs.MessageNames.{name_of};
 
 use crate::message_name::MessageName;
 use row_value::{PieceContent, Schema};
 use stab_base::{Bytes, ClientNo, GateNo, RowId, Sequence, TableNo, Version, WriteNo};
+use std::alloc::AllocError;
 
 /// A client asks its gateway for a session.
 #[derive(Debug, Clone, Copy, PartialEq, Eq)]
@@ -18,6 +19,20 @@ pub struct CreateTable {
     pub token: u64,
     pub table: TableNo,
     pub schema: Schema,
+}
+
+impl CreateTable {
+    /// A copy.
+    pub fn copy(&self) -> Result<Self, AllocError>
+        ensures { IfOk result (λ made. made ≡ self.now) }
+    {
+        Ok(CreateTable {
+            client: self.client,
+            token: self.token,
+            table: self.table,
+            schema: self.schema.copy()?,
+        })
+    }
 }
 
 /// A client asks that a table be dropped.
@@ -76,6 +91,25 @@ pub struct ObjectFragment {
     pub bytes: Bytes,
 }
 
+impl ObjectFragment {
+    /// A copy.
+    pub fn copy(&self) -> Result<Self, AllocError>
+        ensures { IfOk result (λ made. made ≡ self.now) }
+    {
+        Ok(ObjectFragment {
+            client: self.client,
+            token: self.token,
+            table: self.table,
+            row: self.row,
+            down: self.down,
+            key: self.key,
+            column: self.column,
+            place: self.place,
+            bytes: self.bytes.clone()?,
+        })
+    }
+}
+
 /// A client asks for the next change of a table above its position.
 #[derive(Debug, Clone, Copy, PartialEq, Eq)]
 pub struct PullRequest {
@@ -103,6 +137,38 @@ pub struct RowHeader {
     pub content: PieceContent,
 }
 
+impl RowHeader {
+    /// A copy.
+    pub fn copy(&self) -> Result<Self, AllocError>
+        ensures { IfOk result (λ made. made ≡ self.now) }
+    {
+        Ok(RowHeader {
+            row: self.row,
+            version: self.version,
+            yours: self.yours,
+            content: self.content.copy()?,
+        })
+    }
+}
+
+fn copy_header(header: &Option<RowHeader>) -> Result<Option<RowHeader>, AllocError>
+    ensures { IfOk result (λ made. made ≡ header.now) }
+{
+    match header {
+        None => Ok(None),
+        Some(header) => Ok(Some(header.copy()?)),
+    }
+}
+
+fn copy_schema(schema: &Option<Schema>) -> Result<Option<Schema>, AllocError>
+    ensures { IfOk result (λ made. made ≡ schema.now) }
+{
+    match schema {
+        None => Ok(None),
+        Some(schema) => Ok(Some(schema.copy()?)),
+    }
+}
+
 /// The Store's answer to a `PullRequest`.
 #[derive(Debug, Drop)]
 pub struct PullResponse {
@@ -117,6 +183,22 @@ pub struct PullResponse {
     pub header: Option<RowHeader>,
 }
 
+impl PullResponse {
+    /// A copy.
+    pub fn copy(&self) -> Result<Self, AllocError>
+        ensures { IfOk result (λ made. made ≡ self.now) }
+    {
+        Ok(PullResponse {
+            client: self.client,
+            table: self.table,
+            from: self.from,
+            to: self.to,
+            latest: self.latest,
+            header: copy_header(&self.header)?,
+        })
+    }
+}
+
 /// A client asks the Store to accept a write.
 #[derive(Debug, Drop)]
 pub struct SyncRequest {
@@ -129,6 +211,23 @@ pub struct SyncRequest {
     /// The version that the write rests on, 0 where it rests on none.
     pub base: Version,
     pub content: PieceContent,
+}
+
+impl SyncRequest {
+    /// A copy.
+    pub fn copy(&self) -> Result<Self, AllocError>
+        ensures { IfOk result (λ made. made ≡ self.now) }
+    {
+        Ok(SyncRequest {
+            client: self.client,
+            token: self.token,
+            table: self.table,
+            row: self.row,
+            number: self.number,
+            base: self.base,
+            content: self.content.copy()?,
+        })
+    }
 }
 
 /// What the Store made of a `SyncRequest`.
@@ -177,6 +276,20 @@ pub struct TornRowResponse {
     pub header: Option<RowHeader>,
 }
 
+impl TornRowResponse {
+    /// A copy.
+    pub fn copy(&self) -> Result<Self, AllocError>
+        ensures { IfOk result (λ made. made ≡ self.now) }
+    {
+        Ok(TornRowResponse {
+            client: self.client,
+            table: self.table,
+            row: self.row,
+            header: copy_header(&self.header)?,
+        })
+    }
+}
+
 /// The answer to a message of another kind.
 #[derive(Debug, Drop)]
 pub struct OperationResponse {
@@ -190,6 +303,22 @@ pub struct OperationResponse {
     pub token: u64,
     /// In the answers to a `CreateTable` and a `SubscribeTable` that are done, and nowhere else.
     pub schema: Option<Schema>,
+}
+
+impl OperationResponse {
+    /// A copy.
+    pub fn copy(&self) -> Result<Self, AllocError>
+        ensures { IfOk result (λ made. made ≡ self.now) }
+    {
+        Ok(OperationResponse {
+            client: self.client,
+            table: self.table,
+            answered: self.answered,
+            status: self.status,
+            token: self.token,
+            schema: copy_schema(&self.schema)?,
+        })
+    }
 }
 
 /// A gateway asks a Store to keep a client's subscription, or to forget it.
@@ -226,6 +355,20 @@ pub struct RestoreClientSubscriptions {
     pub subscriptions: TableSubscriptions,
 }
 
+impl RestoreClientSubscriptions {
+    /// A copy.
+    pub fn copy(&self) -> Result<Self, AllocError>
+        ensures { IfOk result (λ made. made ≡ self.now) }
+    {
+        Ok(RestoreClientSubscriptions {
+            client: self.client,
+            gate: self.gate,
+            reply: self.reply,
+            subscriptions: self.subscriptions.clone()?,
+        })
+    }
+}
+
 /// A Store tells a gateway of a table's last version.
 #[derive(Debug, Clone, Copy, PartialEq, Eq)]
 pub struct TableVersionUpdateNotification {
@@ -257,6 +400,35 @@ pub enum Message {
 }
 
 impl Message {
+    /// A copy.
+    pub fn copy(&self) -> Result<Self, AllocError>
+        ensures { IfOk result (λ made. made ≡ self.now) }
+    {
+        match self {
+            Message::RegisterDevice(m) => Ok(Message::RegisterDevice(*m)),
+            Message::CreateTable(m) => Ok(Message::CreateTable(m.copy()?)),
+            Message::DropTable(m) => Ok(Message::DropTable(*m)),
+            Message::SubscribeTable(m) => Ok(Message::SubscribeTable(*m)),
+            Message::UnsubscribeTable(m) => Ok(Message::UnsubscribeTable(*m)),
+            Message::Notify(m) => Ok(Message::Notify(*m)),
+            Message::ObjectFragment(m) => Ok(Message::ObjectFragment(m.copy()?)),
+            Message::PullRequest(m) => Ok(Message::PullRequest(*m)),
+            Message::PullResponse(m) => Ok(Message::PullResponse(m.copy()?)),
+            Message::SyncRequest(m) => Ok(Message::SyncRequest(m.copy()?)),
+            Message::SyncResponse(m) => Ok(Message::SyncResponse(*m)),
+            Message::TornRowRequest(m) => Ok(Message::TornRowRequest(*m)),
+            Message::TornRowResponse(m) => Ok(Message::TornRowResponse(m.copy()?)),
+            Message::OperationResponse(m) => Ok(Message::OperationResponse(m.copy()?)),
+            Message::SaveClientSubscription(m) => Ok(Message::SaveClientSubscription(*m)),
+            Message::RestoreClientSubscriptions(m) => Ok(Message::RestoreClientSubscriptions(
+                m.copy()?,
+            )),
+            Message::TableVersionUpdateNotification(m) => Ok(
+                Message::TableVersionUpdateNotification(*m),
+            ),
+        }
+    }
+
     /// The name of the message's kind.
     pub fn name(&self) -> MessageName
         ensures { result ≡ name_of self.now }

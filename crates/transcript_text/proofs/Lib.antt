@@ -1,2 +1,3 @@
 mod Above
+mod Values
 mod LineWords

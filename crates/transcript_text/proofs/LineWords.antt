@@ -1,5 +1,6 @@
 -- The words of a line: its text tells them, and they tell the line.
-use Rattle.std.proofs.Common.{◌≡◌, ℕ, ◌≤◌, ◌<◌, ◌^◌, Bool, ◌||◌, cond, List, [], ◌∷◌, ◌++◌, map, codes, true, false, refl, sym, subst, ap, ◌∙◌, arith, rules, length, get_or, All, Some, append-nil, inl}
+use Rattle.std.proofs.Common.{◌≡◌, ℕ, ◌≤◌, ◌<◌, ◌^◌, Bool, ◌||◌, cond, List, [], ◌∷◌, ◌++◌, map, codes}
+use Rattle.std.proofs.Common.{true, false, refl, sym, subst, ap, ◌∙◌, arith, rules, length, get_or, All, Some, append-nil, inl}
 use Rattle.std.specs.List.{AllByRecursion, flat_map}
 use Rattle.std.specs.Fmt.{decimal, signed_decimal}
 use Rattle.std.specs.Str.{bytes_eq}
@@ -32,17 +33,9 @@ use Rattle.table_model.specs.declared.line.Fact.TheVariants as facts
 use Rattle.table_model.specs.declared.line.TextLine.{TextLine}
 use Rattle.table_model.specs.declared.line.TextLine.TheVariants as lines
 use Rattle.transcript_text.specs.Text.{cell_text, content_text, refusal_text, shown_text, answer_text, node_text, message_text, entry_text, fact_text, text_of}
-use Rattle.transcript_text.specs.OneForm.{IsNumberCell, HasContentText, HasRefusalText, HasValue, HasShownText, HasAnswerText, HasRowText, HasWriteText, HasEntryText, HasNodeText, HasFactText, HasText}
-use Rattle.transcript_text.proofs.Above.{IsAbove, led, led_same, led_above, decimal_above, signed_above, row_above, decimal_first, signed_first}
-
-abbrev pub cell_word : Cell → List ℕ
-cell_word (cells.Int n) = signed_decimal n
-cell_word (cells.Bool true) = codes "true"
-cell_word (cells.Bool false) = codes "false"
-cell_word (cells.Text text) = codes "t:" ++ percent_encode ESCAPED text
-
-abbrev pub object_word : List ℕ → List ℕ
-object_word object = codes "h:" ++ encode_lower object
+use Rattle.transcript_text.specs.OneForm.{HasContentText, HasRefusalText, HasValue, HasShownText, HasAnswerText, HasRowText, HasWriteText, HasEntryText, HasNodeText, HasFactText, HasText}
+use Rattle.transcript_text.proofs.Above.{IsAbove, led, led_same, led_above, decimal_above, row_above, decimal_first}
+use Rattle.transcript_text.proofs.Values.{cell_word, object_word, cells_above, objects_above, all_words, values_same, not_gone}
 
 abbrev pub content_words : Content → List (List ℕ)
 content_words Gone = codes "gone" ∷ []
@@ -201,15 +194,9 @@ text_led (lines.Answer answer) = answer_led answer
 text_led (lines.Entry table entry) = rw entry_led refl
 text_led (lines.Fact fact) = fact_led fact
 
-cells_above : (some : List Cell) → AllByRecursion IsNumberCell some → AllByRecursion (IsAbove 32) (map cell_word some)
-cells_above [] h = tt
-cells_above (cells.Int n ∷ some) h = (signed_above n h.0, cells_above some h.1)
-cells_above (cells.Bool b ∷ some) h = absurd h.0
-cells_above (cells.Text t ∷ some) h = absurd h.0
-
 content_above : (content : Content) → HasContentText content → AllByRecursion (IsAbove 32) (content_words content)
 content_above Gone h = search rules
-content_above (Row some objects) h = rw (h.1, append-nil) (cells_above some h.0)
+content_above (Row some objects) h = all_words (IsAbove 32) (map cell_word some) (map object_word objects) (cells_above some h.0) (objects_above objects h.1)
 
 refusal_above : (refusal : Refusal) → HasRefusalText refusal → AllByRecursion (IsAbove 32) (refusal_words refusal)
 refusal_above (refusals.TooManyChunks count) h = search (rules, decimal_above)
@@ -271,27 +258,11 @@ words_above (lines.Answer answer) h = answer_above answer h
 words_above (lines.Entry table entry) h = search (rules, entry_above)
 words_above (lines.Fact fact) h = fact_above fact h
 
-cells_same : (xs ys : List Cell) → AllByRecursion IsNumberCell xs → AllByRecursion IsNumberCell ys → map cell_word xs ≡ map cell_word ys → xs ≡ ys
-cells_same [] [] p q e = refl
-cells_same [] (y ∷ ys) p q e = absurd cc
-cells_same (x ∷ xs) [] p q e = absurd cc
-cells_same (cells.Int m ∷ xs) (cells.Int n ∷ ys) p q e = cc (signed_decimal_injective m n (omega (arith, p.0)) (omega (arith, q.0)) (cc), cells_same xs ys p.1 q.1 (cc))
-cells_same (cells.Bool b ∷ xs) ys p q e = absurd p.0
-cells_same (cells.Text t ∷ xs) ys p q e = absurd p.0
-cells_same xs (cells.Bool b ∷ ys) p q e = absurd q.0
-cells_same xs (cells.Text t ∷ ys) p q e = absurd q.0
-
-not_gone : (some : List Cell) → AllByRecursion IsNumberCell some → map cell_word some ≡ codes "gone" ∷ [] → ⊥
-not_gone [] h e = cc
-not_gone (cells.Int n ∷ some) h e = omega (arith, signed_first n 103 (codes "one") h.0 (cc))
-not_gone (cells.Bool b ∷ some) h e = absurd h.0
-not_gone (cells.Text t ∷ some) h e = absurd h.0
-
 content_same : (a b : Content) → HasContentText a → HasContentText b → content_words a ≡ content_words b → a ≡ b
 content_same Gone Gone p q e = refl
-content_same Gone (Row some objects) p q e = absurd (not_gone some q.0 (sym (rw (q.1, append-nil) at e)))
-content_same (Row some objects) Gone p q e = absurd (not_gone some p.0 (rw (p.1, append-nil) at e))
-content_same (Row some objects) (Row more others) p q e = cc (cells_same some more p.0 q.0 (simp (p.1, q.1, append-nil) at e))
+content_same Gone (Row some objects) p q e = absurd (not_gone some objects q.0 (sym e))
+content_same (Row some objects) Gone p q e = absurd (not_gone some objects p.0 e)
+content_same (Row some objects) (Row more others) p q e = let same = values_same some more objects others p.0 q.0 p.1 q.1 e in cc (same.0, same.1)
 
 bytes_same : (xs ys : List ℕ) → length xs ≡ 16 → length ys ≡ 16 → All (λ b. b < 256) xs → All (λ b. b < 256) ys
     → hyphenated_text lower xs ≡ hyphenated_text lower ys → xs ≡ ys
@@ -459,7 +430,8 @@ number_shown n (Mine number content) rest h e = no_letter n 109 (codes "ine") h 
 
 some_word : (content : Content) → HasValue content → content_words content ≡ [] → ⊥
 some_word Gone h e = cc
-some_word (Row [] objects) h e = h
+some_word (Row [] []) h e = h
+some_word (Row [] (object ∷ objects)) h e = cc
 some_word (Row (cell ∷ some) objects) h e = cc
 
 abbrev is_refused : Answer → Bool

@@ -1,5 +1,4 @@
--- What the values of the program's types meet, as far as contents have cells of numbers only and no objects: of such
--- lines each text is that of one line alone. Other kinds of cells, and objects, are left out here.
+-- What the values of the program's types meet: of such lines each text is that of one line alone.
 use Rattle.std.specs.Prelude.{◌≡◌, ℕ, ◌<◌, ◌^◌, List, [], ◌∷◌, length, All, FitsSigned}
 use Rattle.std.specs.Int.{w64}
 use Rattle.std.specs.List.{AllByRecursion}
@@ -22,15 +21,18 @@ use Rattle.table_model.specs.declared.line.Fact.TheVariants as facts
 use Rattle.table_model.specs.declared.line.TextLine.{TextLine}
 use Rattle.table_model.specs.declared.line.TextLine.TheVariants as lines
 
--- a number, of 64 bits and either sign
-abbrev pub IsNumberCell : Cell → Type 0
-IsNumberCell (cells.Int n) = FitsSigned w64 n
-IsNumberCell (cells.Bool b) = ⊥
-IsNumberCell (cells.Text text) = ⊥
+abbrev pub AreBytes : List ℕ → Type 0
+AreBytes bytes = AllByRecursion (λ b. b < 256) bytes
+
+-- a number of 64 bits and either sign, a truth value, a text's bytes
+abbrev pub HasCellText : Cell → Type 0
+HasCellText (cells.Int n) = FitsSigned w64 n
+HasCellText (cells.Bool b) = Unit {0}
+HasCellText (cells.Text text) = AreBytes text
 
 abbrev pub HasContentText : Content → Type 0
 HasContentText Gone = Unit {0}
-HasContentText (Row some objects) = AllByRecursion IsNumberCell some × (objects ≡ [])
+HasContentText (Row some objects) = AllByRecursion HasCellText some × AllByRecursion AreBytes objects
 
 abbrev pub HasRefusalText : Refusal → Type 0
 HasRefusalText (refusals.TooManyChunks count) = count < 2 ^ 64
@@ -44,7 +46,8 @@ HasRefusalText (refusals.NoPacket sent) = sent < 2 ^ 64
 -- gone, or with a value; a row without one has the text of a number
 abbrev pub HasValue : Content → Type 0
 HasValue Gone = Unit {0}
-HasValue (Row [] objects) = ⊥
+HasValue (Row [] []) = ⊥
+HasValue (Row [] (object ∷ objects)) = Unit {0}
 HasValue (Row (cell ∷ some) objects) = Unit {0}
 
 abbrev pub HasShownText : Shown → Type 0

@@ -16,3 +16,4 @@ pub mod Stops
 pub mod FieldStops
 pub mod ValueStops
 pub mod SchemaStops
+pub mod Counts

@@ -101,8 +101,8 @@ pub(crate) fn take_text(
     Ok((text, end))
 }
 
-/// These bytes and no others.
-pub(crate) fn skip_exactly(bytes: &[u8], at: usize, text: &[u8]) -> Result<usize, SpellFault>
+/// The place behind these bytes, where they and no others stand. No memory is taken.
+pub fn skip_exactly(bytes: &[u8], at: usize, text: &[u8]) -> Result<usize, SpellFault>
     requires { at ≤ length bytes.now }
     ensures value { Gives bytes.now (λ x. drop x bytes.now) result (exactly_at text.now (drop at bytes.now)) }
     ensures within { IfOk result (λ x. x ≤ length bytes.now) }

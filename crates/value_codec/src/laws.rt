@@ -1,5 +1,7 @@
 //! What the spellings keep, as laws.
-ghost use Rattle.std.specs.Prelude.{◌≡◌, ◌++◌, ℕ, List, Ok, Err};
+ghost use Rattle.std.specs.Prelude.{◌≡◌, ◌++◌, ℕ, List, length, sum_by, Ok, Err};
+ghost use Rattle.std.specs.List.{flat_map};
+ghost use Rattle.row_value.specs.Fit.{spelled_len};
 ghost use Rattle.stab_base.specs.Codec.{IsBytes};
 ghost use Rattle.stab_base.specs.declared.chunk_name.ChunkName.{ChunkName};
 ghost use Rattle.row_value.specs.declared.content.Cell.{Cell};
@@ -64,4 +66,9 @@ pub fn faults_are_the_first_bad_places()
         → IsFirstBad HasContentSpelling content_spelling bytes left }
     ensures schema { (bytes : List ℕ) (left : ℕ) → IsBytes bytes → schema_at bytes ≡ Err left
         → IsFirstBad HasSchemaSpelling schema_spelling bytes left }
+{}
+
+/// The limit on the cells of a row counts the bytes that spell them. (Does nothing: its clause is a law.)
+pub fn cells_are_counted_as_spelled()
+    ensures { (cells : List Cell) → length (flat_map cell_spelling cells) ≡ sum_by spelled_len cells }
 {}

@@ -20,9 +20,10 @@ pub use cell_reader::take_cell;
 pub use cell_writer::put_cell;
 pub use content_reader::{content_of, take_content, take_kept_content};
 pub use content_writer::put_content;
-pub use field_reader::{take_byte, take_eight, take_flag, take_four, take_id};
+pub use field_reader::{skip_exactly, take_byte, take_eight, take_flag, take_four, take_id};
 pub use laws::{
-    faults_are_the_first_bad_places, one_spelling, values_are_read_again, values_were_spelled_so,
+    cells_are_counted_as_spelled, faults_are_the_first_bad_places, one_spelling,
+    values_are_read_again, values_were_spelled_so,
 };
 pub use piece_reader::{take_name, take_piece};
 pub use piece_writer::{put_name, put_piece};

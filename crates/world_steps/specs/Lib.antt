@@ -3,3 +3,4 @@ pub mod Hosted
 pub mod Holds
 pub mod Delivered
 pub mod Calls
+pub mod Sounds

@@ -1,6 +1,9 @@
-ghost use Rattle.std.specs.Prelude.{◌≡◌, [], ◌∷◌, ◌++◌, length, slice_get, IfOk, IfErr, OnOk, None};
+ghost use Rattle.std.specs.Prelude.{◌≡◌, [], ◌∷◌, ◌++◌, List, length, slice_get, IfOk, IfErr, OnOk, None};
+ghost use Rattle.table_model.specs.declared.event.Event.{Event as AnEvent};
 ghost use Rattle.step_tables.specs.Client.{Client, write_step, show_step, sync_step, pull_step};
 ghost use Rattle.run_laws.specs.World.{World as AWorld, start, step, declared, joined, open_all, with_opened, call, delivered, store_shows, history_lines, answer_lines, entry_lines, sent_from, schema_at, stored_at, client_at};
+ghost use Rattle.run_laws.specs.Turns.{world_after};
+ghost use Rattle.world_steps.specs.Sounds.{GoesOnSound};
 ghost use Rattle.world_steps.specs.Network.{packets_in, packets_from};
 ghost use Rattle.world_steps.specs.Holds.{Holds, idle, IsCause, Spends};
 
@@ -46,6 +49,16 @@ impl World {
     /// Carries out an event: the lines that it writes. `Limit` where a client has made its last write, or a table has
     /// given its last version. What a fault leaves of the world isn't said; it ends the run.
     pub fn step(&mut self, event: &Event) -> Result<Lines, WorldFault>
+        ensures lines { (w : AWorld) → Holds w self.old → IfOk result (λ lines. lines ≡ (step w event.now).lines) }
+        ensures world { (w : AWorld) → Holds w self.old → OnOk result (Holds (step w event.now).world self.new) }
+        ensures sound { (script : List AnEvent) → Holds (world_after script) self.old → IfOk result (λ lines. GoesOnSound script event.now lines) }
+        ensures cause { (w : AWorld) → Holds w self.old → IfErr result (IsCause w event.now) }
+        ensures unspent { (w : AWorld) → Holds w self.old → OnOk result (Spends w event.now → ⊥) }
+    {
+        self.carry_out(event)
+    }
+
+    fn carry_out(&mut self, event: &Event) -> Result<Lines, WorldFault>
         ensures lines { (w : AWorld) → Holds w self.old → IfOk result (λ lines. lines ≡ (step w event.now).lines) }
         ensures world { (w : AWorld) → Holds w self.old → OnOk result (Holds (step w event.now).world self.new) }
         ensures cause { (w : AWorld) → Holds w self.old → IfErr result (IsCause w event.now) }

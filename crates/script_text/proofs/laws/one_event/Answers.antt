@@ -1,4 +1,4 @@
-use Rattle.script_text.specs.Words.{words_of}
+use Rattle.script_words.specs.Words.{words_of}
 use Rattle.script_text.proofs.Spelled.{one_event}
 use Rattle.script_text.proofs.laws.one_event.Goals as goal
 

@@ -1,6 +1,6 @@
 use Rattle.std.proofs.Common.{◌≡◌, [], take}
 use Rattle.script_text.specs.Names.{texts_of, IsSetOf}
-use Rattle.script_text.specs.Words.{texts}
+use Rattle.script_words.specs.Words.{texts}
 use Rattle.script_text.specs.Places.{tables_in}
 use Rattle.script_text.proofs.TableLemmas.{left}
 use Rattle.script_text.proofs.places.opened.Given as goal

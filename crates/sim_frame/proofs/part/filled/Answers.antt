@@ -1,4 +1,4 @@
-use Rattle.std.proofs.Common.{◌≡◌, ◌++◌, ◌-◌, min, length, take, ap, ◌∙◌, rules}
+use Rattle.std.proofs.Common.{◌≡◌, ◌++◌, ◌-◌, min, length, take, ◌∙◌, rules}
 use Rattle.sim_frame.proofs.Fronts.{five_of}
 use Rattle.sim_frame.proofs.part.filled.Goals as goal
 

@@ -1,4 +1,4 @@
-use Rattle.std.proofs.Common.{◌≡◌, ◌≤◌, ◌+◌, ◌-◌, ℕ, List, length, take, drop, get_or, subst, sym, arith, rules}
+use Rattle.std.proofs.Common.{◌≡◌, ◌+◌, ◌-◌, ℕ, List, take, drop, get_or, subst, sym, arith, rules}
 use Rattle.stab_base.specs.Codec.{IsBytes}
 use Rattle.sim_frame.specs.Opening.{IsFirst}
 use Rattle.sim_frame.proofs.Fronts.{first_frame}

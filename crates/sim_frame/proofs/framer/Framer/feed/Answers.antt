@@ -1,5 +1,4 @@
-use Rattle.std.proofs.Common.{◌≡◌, ◌∷◌, ℕ, List, drop, sym, subst, rules}
-use Rattle.sim_frame.specs.declared.frame.Frame.{Frame}
+use Rattle.std.proofs.Common.{◌≡◌, ◌∷◌, ℕ, List, drop, subst, rules}
 use Rattle.sim_frame.specs.Opening.{left_of, held_of, IsBehind}
 use Rattle.sim_frame.specs.Stream.{IsFed}
 use Rattle.sim_frame.proofs.Feeds.{none_is, front_fed, whole_fed, whole_rest}

@@ -1,4 +1,4 @@
-use Rattle.std.proofs.Common.{◌≡◌, ◌≤◌, ◌<◌, ◌+◌, ◌-◌, ◌++◌, ℕ, List, length, take, sym, ap, subst, ◌∙◌, arith, length-append}
+use Rattle.std.proofs.Common.{◌≡◌, ◌<◌, ◌+◌, ◌-◌, ◌++◌, ℕ, List, length, take, subst, ◌∙◌, arith, length-append}
 use Rattle.sim_frame.specs.Stream.{IsBroken}
 use Rattle.sim_frame.specs.Opening.{held_of, IsSized}
 use Rattle.sim_frame.proofs.Fronts.{by_five, broken_by_five, sized_by_five, less_held, still_front, now_whole}

@@ -19,4 +19,4 @@ pub returns-in_err-lines-clause-texts : goal.returns-in_err-lines-clause-texts
 returns-in_err-lines-clause-texts c = λ input script line left has spells.
     let p = err_from_is_err_and c.from_residual-in_err-lines.result c.from_residual-in_err-lines.ensures.1 in
     rw (p.1, p.2) (world_stops input script line c.args.self.now left has c.requires.few c.args.event.now c.in_err-lines.field-0.0 spells
-    (c.in_err-lines.ensures.cause (world_after script) has.world))
+    (c.in_ok-add-2.ensures.few script has.rows has.front.rows) (c.in_err-lines.ensures.cause (world_after script) has.world))

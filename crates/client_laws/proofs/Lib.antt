@@ -1,0 +1,10 @@
+pub mod Grows
+pub mod RowFits
+pub mod Disks
+pub mod PlanRuns
+pub mod Ties
+pub mod Plans
+pub mod Headers
+pub mod Sends
+pub mod Law
+pub mod Start

@@ -1,0 +1,145 @@
+-- The writes of any plan go well: what it tells may be told now and again, and a crash may come before each of them or
+-- behind it.
+use Rattle.std.proofs.Common.{◌≡◌, ◌≢◌, ◌⊎◌, ℕ, List, [], ◌∷◌, ◌++◌, Option, Some, None, refl, sym, ap, subst, ◌∙◌, append-nil, inl, inr}
+use Rattle.std.specs.Prelude.{map}
+use Rattle.row_value.specs.declared.schema.Scheme.{Scheme}
+use Rattle.step_tables.specs.Facts.{ClientFact, Fact}
+use Rattle.step_tables.specs.Facts as facts
+use Rattle.step_tables.specs.Messages.{Send}
+use Rattle.step_tables.specs.Sayings.{client_says, saying, Heard, own, own_all}
+use Rattle.step_tables.specs.ClientMoves.{RowPut, Plan, ClientDisk, ClientTask, Commit, PutRow, PutTable, Finish, row_put, table_put, applied, planned_in, seen, changed, told, retold, row_task, table_task, rest_of}
+use Rattle.client_laws.specs.Part.{Items, Sending, sendings, Tied, AreOwn, Requests, IsPlan, RestsOn, Rests, Runs}
+use Rattle.client_laws.proofs.Disks.{Alike, tied_alike, alike_row, alike_table, alike_plan, alike_itself, row_put_plan, table_put_plan}
+
+-- ---- facts told again
+
+own-redone : (t : Heard) (fs : List ClientFact) → own_all t (map facts.Redone fs) ≡ own_all t (map facts.Client fs)
+own-redone t [] = refl
+own-redone t (f ∷ fs) = own-redone (own t (client_says f)) fs
+
+pub own-retold : (t : Heard) (p : Plan) → own_all t (retold p) ≡ own_all t (told p)
+own-retold t p = own-redone t p.facts
+
+module _ (g : ℕ → Scheme) (c : ℕ) (h : Items) where
+  are_own-redone : (sent : List Sending) (t : Heard) (fs : List ClientFact) → AreOwn g c h sent t (map facts.Client fs) → AreOwn g c h sent t (map facts.Redone fs)
+  are_own-redone sent t [] k = tt
+  are_own-redone sent t (f ∷ fs) k = (k.0, are_own-redone sent (own t (client_says f)) fs k.1)
+
+  pub are_own-retold : (sent : List Sending) (t : Heard) (p : Plan) → AreOwn g c h sent t (told p) → AreOwn g c h sent t (retold p)
+  are_own-retold sent t p k = are_own-redone sent t p.facts k
+
+  -- behind its facts a plan is one still
+  pub told_plan : (sent : List Sending) (d : ClientDisk) (t : Heard) (p : Plan) → IsPlan g c h sent d t p → IsPlan g c h sent d (own_all t (told p)) p
+  told_plan sent d t p k = record {
+    now = k.again;
+    again = subst (λ (u : Heard). AreOwn g c h sent u (told p)) (sym k.same) k.again;
+    same = ap (λ (u : Heard). own_all u (told p)) k.same;
+    tied = subst (λ (u : Heard). Tied g c h sent (applied p d) u) (sym k.same) k.tied;
+  }
+
+  -- a plan on disks that hold the same once it is carried out
+  pub plan_alike : (sent : List Sending) (d e : ClientDisk) (t : Heard) (p : Plan) → Alike (applied p d) (applied p e) → IsPlan g c h sent d t p → IsPlan g c h sent e t p
+  plan_alike sent d e t p a k = record {
+    now = k.now;
+    again = k.again;
+    same = k.same;
+    tied = tied_alike g c h sent (applied p d) (applied p e) (own_all t (told p)) a k.tied;
+  }
+
+  -- ---- from the commit on: u is what is heard behind the plan's facts
+
+  module _ (sent : List Sending) (d : ClientDisk) (u : Heard) (p : Plan) (some : List Fact) (sends : List Send) (k : IsPlan g c h sent d u p)
+      (is : d.plan ≡ Some p) (same : own_all u (told p) ≡ u) (may : AreOwn g c h sent u some) (silent : own_all u some ≡ u)
+      (requests : Requests g c h u sends) (after : Tied g c h (sent ++ sendings sends) (applied p d) u) where
+    tied : Tied g c h sent (applied p d) u
+    tied = subst (λ (x : Heard). Tied g c h sent (applied p d) x) same k.tied
+
+    -- a disk on which the plan stands, and which holds the same once it is carried out
+    seen_tied : (e : ClientDisk) → e.plan ≡ Some p → Tied g c h sent (applied p e) u → Tied g c h sent (seen e) u
+    seen_tied e plan_is x = subst (λ (o : Option Plan). Tied g c h sent (planned_in e o) u) (sym plan_is) x
+
+    at_rest : (e : ClientDisk) → e.plan ≡ Some p → IsPlan g c h sent e u p → Rests g c h sent e u
+    at_rest e plan_is x = subst (λ (o : Option Plan). RestsOn g c h sent e u o) (sym plan_is) x
+
+    abbrev put : ClientDisk
+    put = row_put d p.last p.table p.row
+
+    put_plan : put.plan ≡ Some p
+    put_plan = row_put_plan d p.last p.table p.row ∙ is
+
+    put_is : IsPlan g c h sent put u p
+    put_is = plan_alike sent d put u p (alike_row p d) k
+
+    whole_plan : (applied p d).plan ≡ Some p
+    whole_plan = table_put_plan put p.table p.position ∙ put_plan
+
+    whole_is : IsPlan g c h sent (applied p d) u p
+    whole_is = plan_alike sent put (applied p d) u p (alike_table p put) put_is
+
+    of_plan : (e : ClientDisk) → IsPlan g c h sent e u p → Tied g c h sent (applied p e) u
+    of_plan e x = subst (λ (y : Heard). Tied g c h sent (applied p e) y) same x.tied
+
+    finish_runs : (e : ClientDisk) → e ≡ applied p d → Runs g c h sent e u (record { change = Finish; facts = some; sends = sends } ∷ [])
+    finish_runs e at = subst (λ (x : ClientDisk). Runs g c h sent x u (record { change = Finish; facts = some; sends = sends } ∷ [])) (sym at) (
+      seen_tied (applied p d) whole_plan (of_plan (applied p d) whole_is),
+      at_rest (applied p d) whole_plan whole_is,
+      tied_alike g c h sent (applied p d) (record (applied p d) { plan = None }) u (alike_itself (applied p d) None) tied,
+      may,
+      subst (λ (x : Heard). Requests g c h x sends) (sym silent) requests,
+      (
+        subst (λ (x : Heard). Tied g c h (sent ++ sendings sends) (record (applied p d) { plan = None }) x) (sym silent)
+            (tied_alike g c h (sent ++ sendings sends) (applied p d) (record (applied p d) { plan = None }) u (alike_itself (applied p d) None) after),
+        refl,
+      ),
+    )
+
+    -- a write that tells and sends nothing
+    quiet_runs : (e : ClientDisk) (more : List ClientTask) → Runs g c h sent e u more → Runs g c h (sent ++ []) e u more
+    quiet_runs e more x = subst (λ (s : List Sending). Runs g c h s e u more) (sym (append-nil sent)) x
+
+    table_runs : (e : ClientDisk) (position : Option ℕ) → p.position ≡ position → e ≡ put
+        → Runs g c h sent e u (table_task p position ++ record { change = Finish; facts = some; sends = sends } ∷ [])
+    table_runs e None at here = finish_runs e (here ∙ sym (ap (λ (n : Option ℕ). table_put put p.table n) at))
+    table_runs e (Some n) at here =
+        subst (λ (x : ClientDisk). Runs g c h sent x u (record { change = PutTable p; facts = []; sends = [] } ∷ record { change = Finish; facts = some; sends = sends } ∷ []))
+        (sym here) (
+          seen_tied put put_plan (of_plan put put_is),
+          at_rest put put_plan put_is,
+          at_rest (applied p d) whole_plan whole_is,
+          tt,
+          tt,
+          quiet_runs (applied p d) (record { change = Finish; facts = some; sends = sends } ∷ []) (finish_runs (applied p d) refl),
+        )
+
+    row_runs : (row : Option RowPut) → p.row ≡ row
+        → Runs g c h sent d u (row_task p row ++ (table_task p p.position ++ record { change = Finish; facts = some; sends = sends } ∷ []))
+    row_runs None at = table_runs d p.position refl (sym (ap (λ (x : Option RowPut). row_put d p.last p.table x) at))
+    row_runs (Some x) at = (
+      seen_tied d is tied,
+      at_rest d is k,
+      at_rest put put_plan put_is,
+      tt,
+      tt,
+      quiet_runs put (table_task p p.position ++ record { change = Finish; facts = some; sends = sends } ∷ []) (table_runs put p.position refl refl),
+    )
+
+    pub rest_runs : Runs g c h sent d u (rest_of p some sends)
+    rest_runs = row_runs p.row refl
+
+  -- ---- a whole plan, from an idle client on
+
+  pub plan_runs : (sent : List Sending) (d : ClientDisk) (t : Heard) (p : Plan) (sends : List Send) → Tied g c h sent (seen d) t → Rests g c h sent d t
+      → IsPlan g c h sent d t p → Requests g c h (own_all t (told p)) sends → Tied g c h (sent ++ sendings sends) (applied p d) (own_all t (told p))
+      → Runs g c h sent d t (record { change = Commit p; facts = told p; sends = [] } ∷ rest_of p [] sends)
+  plan_runs sent d t p sends shown rests k requests after =
+      let e : ClientDisk = record d { plan = Some p } in
+      let begun : IsPlan g c h sent e t p = plan_alike sent d e t p (alike_plan p d (Some p)) k in (
+        shown,
+        rests,
+        begun,
+        k.now,
+        tt,
+        subst (λ (s : List Sending). Runs g c h s e (own_all t (told p)) (rest_of p [] sends)) (sym (append-nil sent))
+            (rest_runs sent e (own_all t (told p)) p [] sends (told_plan sent e t p begun) refl k.same tt refl requests
+            (tied_alike g c h (sent ++ sendings sends) (applied p d) (applied p e) (own_all t (told p)) (alike_plan p d (Some p)) after)),
+      )

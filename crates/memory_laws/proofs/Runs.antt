@@ -1,0 +1,185 @@
+-- Transcripts in memory are those of the moves, and so are sound.
+use Rattle.std.proofs.Common.{◌≡◌, ◌≢◌, ◌⊎◌, inl, inr, ℕ, ◌+◌, ◌<◌, ◌≤◌, Bool, true, false, List, [], ◌∷◌, ◌++◌, length, Option, Some, None, Result, Ok, Err, refl, sym, ap, ◌∙◌, subst, arith, ⊎_elim}
+use Rattle.std.specs.Prelude.{map, option_map, slice_get, ◌==◌, nat_le, if◌then◌else◌}
+use Rattle.std.specs.List.{AllByRecursion}
+use Rattle.std.proofs.lemmas.Bool.Decides.{nat_tests}
+use Rattle.stab_base.specs.declared.node.Node.{Node}
+use Rattle.stab_base.specs.declared.node.Node.TheVariants as nodes
+use Rattle.row_value.specs.declared.content.Content.{Content}
+use Rattle.row_value.specs.declared.schema.Schema.{Schema}
+use Rattle.row_value.specs.declared.schema.Scheme.{Scheme}
+use Rattle.row_value.specs.declared.schema.Scheme.TheVariants.{Eventual}
+use Rattle.row_value.specs.declared.fit.FitFault.{FitFault}
+use Rattle.row_value.specs.Fit.{fit_of}
+use Rattle.table_model.specs.declared.event.Event.{Event}
+use Rattle.table_model.specs.declared.event.Event.TheVariants as events
+use Rattle.table_model.specs.declared.line.TextLine.{TextLine}
+use Rattle.step_tables.specs.declared.message.Message.{Message}
+use Rattle.step_tables.specs.declared.message.Message.TheVariants as kinds
+use Rattle.step_tables.specs.declared.message.Outcome.{Outcome}
+use Rattle.step_tables.specs.declared.message.Outcome.TheVariants as outcomes
+use Rattle.step_tables.specs.declared.message.PullResponse.{PullResponse}
+use Rattle.step_tables.specs.declared.message.RowHeader.{RowHeader}
+use Rattle.step_tables.specs.declared.message.SyncResponse.{SyncResponse}
+use Rattle.step_tables.specs.declared.slots.InFlight.{InFlight}
+use Rattle.step_tables.specs.Store.{Stored, current_of}
+use Rattle.step_tables.specs.Client as old
+use Rattle.step_tables.specs.Client.{ClientTable}
+use Rattle.step_tables.specs.Facts.{Line}
+use Rattle.step_tables.specs.Sayings.{Said, nothing_said, hear_lines}
+use Rattle.run_laws.specs.World as memory
+use Rattle.run_laws.specs.Turns as memory_turns
+use Rattle.world_tables.specs.World.{World, step, lines_of, start, hosted_at}
+use Rattle.world_tables.specs.Turns.{Turn, Happening, turns_from}
+use Rattle.world_tables.specs.Sound.{IsSound}
+use Rattle.client_laws.proofs.Law.{client_law}
+use Rattle.client_laws.proofs.Grows.{client_grows, lapsed_grows}
+use Rattle.world_laws.proofs.Kept.{Kept}
+use Rattle.world_laws.proofs.Runs.{start_kept, step_sound, IsFirst, StepSound, all_runs}
+use Rattle.world_laws.proofs.Fresh.{fresh_part}
+use Rattle.world_laws.proofs.Looks.{look_cases}
+use Rattle.memory_laws.specs.Lift.{world_of, line_of, turn_of, at_once, IsEventual}
+use Rattle.memory_laws.proofs.Worlds.{Same}
+use Rattle.memory_laws.proofs.Steps.{Numbered, step_same}
+
+-- ---- each client keeps its number
+
+write_number : (node : old.Client) (t : ℕ) (r : List ℕ) (x : Content) → (old.write_step node t r x).client.number ≡ node.number
+write_number node t r x = grind arith
+
+show_number : (node : old.Client) (t : ℕ) (r : List ℕ) → (old.show_step node t r).client.number ≡ node.number
+show_number node t r = grind arith
+
+sync_number : (node : old.Client) (t : ℕ) → (old.sync_step node t).client.number ≡ node.number
+sync_number node t = grind arith
+
+pull_number : (node : old.Client) (t : ℕ) → (old.pull_step node t).client.number ≡ node.number
+pull_number node t = grind arith
+
+deliver_number : (node : old.Client) (m : Message) → (old.deliver_step node m).client.number ≡ node.number
+deliver_number node m = grind arith
+
+-- behind a client's step
+client_numbered : (w : memory.World) (c : ℕ) (node : old.Client) → memory.client_at w c ≡ Some node → (was : old.ClientStep) → was.client.number ≡ node.number → Numbered w → Numbered (memory.after_client w c was).world
+client_numbered w c node at was same n q x there = ⊎_elim
+    (λ e.
+    let both : Some was.client ≡ Some x = sym e.1 ∙ there in
+    let is : was.client ≡ x = cc in
+    ap (λ (y : old.Client). y.number) (sym is) ∙ (same ∙ (n c node at ∙ sym e.0)))
+    (λ e. n q x (sym e.1 ∙ there))
+    (look_cases w.clients c was.client q)
+
+call_numbered : (w : memory.World) (c : ℕ) (f : old.Client → old.ClientStep) → ((node : old.Client) → (f node).client.number ≡ node.number) → Numbered w → Numbered (memory.call w c f).world
+call_numbered w c f same n = go (memory.client_at w c) refl
+  where
+    go : (o : Option old.Client) → memory.client_at w c ≡ o → Numbered (memory.at_client w c f o).world
+    go None at = n
+    go (Some node) at = client_numbered w c node at (f node) (same node) n
+
+delivered_numbered : (w : memory.World) (o : Option memory.Packet) → Numbered w → Numbered (memory.delivered w o).world
+delivered_numbered w None n = n
+delivered_numbered w (Some p) n = go p.to
+  where
+    stored : (o : Option (List Stored)) → Numbered (memory.to_store w p o).world
+    stored None = n
+    stored (Some x) = n
+
+    there : (c : ℕ) (o : Option old.Client) → memory.client_at w c ≡ o → Numbered (memory.to_client w c p o).world
+    there c None at = n
+    there c (Some node) at = client_numbered w c node at (old.deliver_step node p.message) (deliver_number node p.message) n
+
+    go : (to : Node) → Numbered (memory.carried w p to).world
+    go (nodes.Store number) = stored (memory.stored_at w (memory.table_in p.message))
+    go (nodes.Client c) = there c (memory.client_at w c) refl
+    go (nodes.Gate gate) = n
+
+open_number : (w : memory.World) (tables : List ℕ) (node : old.Client) → (memory.open_all w node tables).number ≡ node.number
+open_number w [] node = refl
+open_number w (table ∷ tables) node = open_number w tables (memory.with_opened node table (memory.schema_at w table)) ∙ one (memory.schema_at w table)
+  where
+    one : (o : Option Schema) → (memory.with_opened node table o).number ≡ node.number
+    one None = refl
+    one (Some schema) = refl
+
+joined_numbered : (w : memory.World) (c : ℕ) (tables : List ℕ) (o : Option old.Client) → Numbered w → Numbered (memory.joined w c tables o)
+joined_numbered w c tables (Some node) n = n
+joined_numbered w c tables None n = λ q x there. ⊎_elim
+    (λ e.
+    let fresh : old.Client = record { number = c; last = 0; tables = [] } in
+    let both : Some (memory.open_all w fresh tables) ≡ Some x = sym e.1 ∙ there in
+    let is : memory.open_all w fresh tables ≡ x = cc in
+    ap (λ (y : old.Client). y.number) (sym is) ∙ (open_number w tables fresh ∙ sym e.0))
+    (λ e. n q x (sym e.1 ∙ there))
+    (look_cases w.clients c (memory.open_all w (record { number = c; last = 0; tables = [] }) tables) q)
+
+numbered_on : (w : memory.World) (event : Event) → Numbered w → Numbered (memory.step w event).world
+numbered_on w (events.Store number) n = n
+numbered_on w (events.Table table schema) n = go (memory.stored_at w table)
+  where
+    go : (o : Option (List Stored)) → Numbered (memory.declared w table schema o)
+    go None = n
+    go (Some stored) = n
+numbered_on w (events.Client c gate tables) n = joined_numbered w c tables (memory.client_at w c) n
+numbered_on w (events.Write c table row x) n = call_numbered w c (λ node. old.write_step node table row x) (λ node. write_number node table row x) n
+numbered_on w (events.Show c table row) n = call_numbered w c (λ node. old.show_step node table row) (λ node. show_number node table row) n
+numbered_on w (events.Sync c table) n = call_numbered w c (λ node. old.sync_step node table) (λ node. sync_number node table) n
+numbered_on w (events.Pull c table) n = call_numbered w c (λ node. old.pull_step node table) (λ node. pull_number node table) n
+numbered_on w (events.Deliver packet) n = delivered_numbered w (slice_get w.packets packet) n
+numbered_on w (events.StoreShow table row) n = go (memory.stored_at w table)
+  where
+    found : (o : Option Stored) → Numbered (memory.store_row w o).world
+    found None = n
+    found (Some i) = n
+
+    go : (o : Option (List Stored)) → Numbered (memory.store_shows w row o).world
+    go None = n
+    go (Some stored) = found (current_of stored row)
+numbered_on w (events.History table) n = go (memory.stored_at w table)
+  where
+    go : (o : Option (List Stored)) → Numbered (memory.history_lines w table o).world
+    go None = n
+    go (Some stored) = n
+
+-- ---- runs
+
+abbrev pub all_eventual : ℕ → Scheme
+all_eventual table = Eventual
+
+abbrev Keeps : memory.World → Said → Type 0
+Keeps w s = Kept all_eventual (world_of w) s
+
+first_is : (w : memory.World) (s : Said) (k : Keeps w s) (event : Event) → IsEventual event → IsFirst client_law client_grows lapsed_grows fresh_part all_eventual (world_of w) s k event
+first_is w s k (events.Table table schema) e = λ none. e
+first_is w s k (events.Store number) e = tt
+first_is w s k (events.Client c gate tables) e = tt
+first_is w s k (events.Write c table row x) e = tt
+first_is w s k (events.Show c table row) e = tt
+first_is w s k (events.Sync c table) e = tt
+first_is w s k (events.Pull c table) e = tt
+first_is w s k (events.Deliver n) e = tt
+first_is w s k (events.StoreShow table row) e = tt
+first_is w s k (events.History table) e = tt
+
+schemes_are : (table : ℕ) → all_eventual table ≡ Eventual
+schemes_are table = refl
+
+pub turns_are : (script : List Event) (w : memory.World) (s : Said) → Keeps w s → Numbered w → AllByRecursion IsEventual script
+    → turns_from (world_of w) (map at_once script) ≡ map turn_of (memory_turns.turns_from w script)
+turns_are [] w s k n e = refl
+turns_are (event ∷ script) w s k n e =
+    let same : Same w (step (world_of w) event []) (memory.step w event) = step_same all_eventual schemes_are w s k n event in
+    let sound : StepSound client_law client_grows lapsed_grows fresh_part all_eventual s (world_of w) event (step (world_of w) event []) =
+    step_sound client_law client_grows lapsed_grows fresh_part all_eventual (world_of w) s k event [] (first_is w s k event e.0) in
+    let later : Said = hear_lines s (lines_of (world_of w) (step (world_of w) event [])) in
+    let kept : Keeps (memory.step w event).world later = subst (λ (x : World). Kept all_eventual x later) same.world sound.kept in
+    let rest = turns_are script (memory.step w event).world later kept (numbered_on w event n) e.1 in
+    ap (λ (ls : List Line). record { event = event; lines = ls } ∷ turns_from (step (world_of w) event []).world (map at_once script)) same.lines
+    ∙ (ap (λ (x : World). record { event = event; lines = map line_of (memory.step w event).lines } ∷ turns_from x (map at_once script)) same.world
+    ∙ ap (λ (ts : List Turn). record { event = event; lines = map line_of (memory.step w event).lines } ∷ ts) rest)
+
+pub runs_are : (script : List Event) → AllByRecursion IsEventual script → turns_from start (map at_once script) ≡ map turn_of (memory_turns.turns script)
+runs_are script e =
+    turns_are script memory.start nothing_said (start_kept client_law client_grows lapsed_grows fresh_part all_eventual) (λ c node at. absurd cc) e
+
+pub sound : (script : List Event) → AllByRecursion IsEventual script → IsSound (map turn_of (memory_turns.turns script))
+sound script e = subst IsSound (runs_are script e) (all_runs client_law client_grows lapsed_grows fresh_part (map at_once script))

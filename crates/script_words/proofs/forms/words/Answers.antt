@@ -1,0 +1,13 @@
+use Rattle.std.proofs.Common.{eqb, length, tests, rules, lit<}
+use Rattle.std.proofs.lemmas.Iterator.Consumers.{map_from_collect, YieldsList-from_filter, YieldsList-at}
+use Rattle.std.proofs.lemmas.Iterator.Splits.{YieldsList-from_str_split}
+use Rattle.std.specs.Prelude.{not}
+use Rattle.script_words.proofs.forms.words.Goals as goal
+
+pub returns : goal.returns
+returns c =
+    map_from_collect _ c.collect.ensures.ran
+    (YieldsList-from_filter _ (λ w. not (eqb (length w) 0))
+    (YieldsList-at c.filter.ensures.source
+    (YieldsList-from_str_split 32 c.args.line.now (lit< tt) c.split.ensures.text c.split.ensures.has_more c.split.ensures.pattern))
+    c.filter.ensures.closure (λ x b q k. search (rules, tests)))

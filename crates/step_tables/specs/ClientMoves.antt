@@ -1,0 +1,596 @@
+-- A client's step table: what a move makes of it, what it answers, and what is told and sent. Its state is what its
+-- devices stand for, and the device writes that it has begun.
+use Rattle.std.specs.Prelude.{ℕ, ◌+◌, ◌==◌, nat_lt, nat_le, Bool, true, List, [], ◌∷◌, ◌++◌, length, map, Option, Some, None, option_map, option_to_list, Result, Ok, Err, if◌then◌else◌}
+use Rattle.std.specs.Ordering.{nat_cmp}
+use Rattle.std.specs.Map.{lookup}
+use Rattle.std.specs.BTreeMap.{is_at, insert_entry}
+use Rattle.row_value.specs.declared.content.Content.{Content}
+use Rattle.row_value.specs.declared.schema.Schema.{Schema}
+use Rattle.row_value.specs.declared.schema.Scheme.{Scheme}
+use Rattle.row_value.specs.declared.schema.Scheme.TheVariants.{Strong, Causal, Eventual}
+use Rattle.row_value.specs.declared.fit.FitFault.{FitFault}
+use Rattle.row_value.specs.Fit.{fit_of}
+use Rattle.step_tables.specs.declared.slots.Main.{Main}
+use Rattle.step_tables.specs.declared.slots.InFlight.{InFlight}
+use Rattle.step_tables.specs.declared.slots.Shadow.{Shadow}
+use Rattle.step_tables.specs.Client.{row_cmp, version_in}
+use Rattle.step_tables.specs.Facts.{ClientFact, Fact, Answer, Refusal, Shown}
+use Rattle.step_tables.specs.Facts as facts
+use Rattle.step_tables.specs.Messages.{Response, Pulled, Header, Pair, Outcome, Message, Send, Luck, SyncRequest, SyncResponse, PullRequest, PullResponse}
+use Rattle.step_tables.specs.Messages as messages
+
+-- ---- state
+
+-- what a client keeps of a row: its last write that isn't accepted, the row as it last had it from the Store, the write
+-- that waits for its answer, and the Store's row that is in conflict with Main
+pub record Slots : Type 0 where
+  pub main : Option Main
+  pub shadow : Option Shadow
+  pub out : Option InFlight
+  pub conflict : Option Shadow
+
+-- an opened table: the rows in the order of their ids
+pub record TableDisk : Type 0 where
+  pub schema : Schema
+  pub position : ℕ
+  pub rows : List (List ℕ × Slots)
+
+pub record RowPut : Type 0 where
+  pub row : List ℕ
+  pub slots : Slots
+
+-- a change that is carried out whole: the client's last number, a row of a table, the table's position, and what is told
+pub record Plan : Type 0 where
+  pub last : ℕ
+  pub table : ℕ
+  pub row : Option RowPut
+  pub position : Option ℕ
+  pub facts : List ClientFact
+
+-- what the devices stand for: the number of the client's last write, the opened tables by their numbers, and the plan that
+-- is committed and not done
+pub record ClientDisk : Type 0 where
+  pub last : ℕ
+  pub tables : List (ℕ × TableDisk)
+  pub plan : Option Plan
+
+-- one device write: a plan is committed, its row or its table is put, it is done; or nothing of what the devices stand for
+-- changes
+pub data ClientChange : Type 0 where
+  Commit : (plan : Plan) → ClientChange
+  PutRow : (plan : Plan) → ClientChange
+  PutTable : (plan : Plan) → ClientChange
+  Finish : ClientChange
+  Keep : ClientChange
+
+pub record ClientTask : Type 0 where
+  pub change : ClientChange
+  pub facts : List Fact
+  pub sends : List Send
+
+-- no agenda: the client is down
+pub record Client : Type 0 where
+  pub disk : ClientDisk
+  pub agenda : Option (List ClientTask)
+
+-- how a conflict is resolved: by the client's own write, by the Store's row, or by another content
+pub data Choice : Type 0 where
+  Mine : Choice
+  Theirs : Choice
+  Another : (content : Content) → Choice
+
+pub data ClientMove : Type 0 where
+  Write : (table : ℕ) → (row : List ℕ) → (content : Content) → ClientMove
+  Show : (table : ℕ) → (row : List ℕ) → ClientMove
+  Sync : (table : ℕ) → ClientMove
+  Next : (table : ℕ) → ClientMove
+  Resolve : (table : ℕ) → (row : List ℕ) → (seen : ℕ) → (choice : Choice) → ClientMove
+  Take : (message : Message) → ClientMove
+  Work : (luck : Luck) → ClientMove
+  Crash : (luck : Luck) → ClientMove
+  Start : ClientMove
+
+pub record ClientStep : Type 0 where
+  pub client : Client
+  pub answer : Answer
+  pub facts : List Fact
+  pub sends : List Send
+
+abbrev pub quiet : ClientDisk → Option (List ClientTask) → Answer → ClientStep
+quiet d agenda answer = record { client = record { disk = d; agenda = agenda }; answer = answer; facts = []; sends = [] }
+
+abbrev pub down : ClientDisk → ClientStep
+down d = quiet d None (facts.Refuses facts.Down)
+
+-- an idle client that refuses, or has nothing to do
+abbrev pub refused : ClientDisk → Refusal → ClientStep
+refused d refusal = quiet d (Some []) (facts.Refuses refusal)
+
+abbrev pub ignored : ClientDisk → ClientStep
+ignored d = quiet d (Some []) facts.Done
+
+-- ---- what the devices hold
+
+abbrev pub no_slots : Slots
+no_slots = record { main = None; shadow = None; out = None; conflict = None }
+
+abbrev pub or_none : Option Slots → Slots
+or_none None = no_slots
+or_none (Some slots) = slots
+
+abbrev pub slots_at : TableDisk → List ℕ → Slots
+slots_at table row = or_none (lookup (is_at (row_cmp row)) table.rows)
+
+abbrev pub table_at : ClientDisk → ℕ → Option TableDisk
+table_at d number = lookup (is_at (nat_cmp number)) d.tables
+
+abbrev pub slots_in : Option TableDisk → List ℕ → Slots
+slots_in None row = no_slots
+slots_in (Some table) row = slots_at table row
+
+-- what a client keeps of a row of a table
+abbrev pub slots_of : ClientDisk → ℕ → List ℕ → Slots
+slots_of d table row = slots_in (table_at d table) row
+
+abbrev pub position_in : Option TableDisk → ℕ
+position_in None = 0
+position_in (Some table) = table.position
+
+abbrev pub position_of : ClientDisk → ℕ → ℕ
+position_of d table = position_in (table_at d table)
+
+-- an opened table, changed
+abbrev pub with_table : ClientDisk → ℕ → Option TableDisk → (TableDisk → TableDisk) → ClientDisk
+with_table d number None f = d
+with_table d number (Some table) f = record d { tables = insert_entry nat_cmp d.tables number (f table) }
+
+abbrev pub put_row : RowPut → TableDisk → TableDisk
+put_row x table = record table { rows = insert_entry row_cmp table.rows x.row x.slots }
+
+abbrev pub put_position : ℕ → TableDisk → TableDisk
+put_position position table = record table { position = position }
+
+abbrev pub row_put : ClientDisk → ℕ → ℕ → Option RowPut → ClientDisk
+row_put d last table None = d
+row_put d last table (Some x) = with_table (record d { last = last }) table (table_at d table) (put_row x)
+
+abbrev pub table_put : ClientDisk → ℕ → Option ℕ → ClientDisk
+table_put d table None = d
+table_put d table (Some position) = with_table d table (table_at d table) (put_position position)
+
+-- the devices behind a plan
+abbrev pub applied : Plan → ClientDisk → ClientDisk
+applied p d = table_put (row_put d p.last p.table p.row) p.table p.position
+
+abbrev pub planned_in : ClientDisk → Option Plan → ClientDisk
+planned_in d None = d
+planned_in d (Some p) = applied p d
+
+-- the devices as they are read: a plan's change stands from its commit on
+abbrev pub seen : ClientDisk → ClientDisk
+seen d = planned_in d d.plan
+
+-- ---- a device write
+
+abbrev pub changed : ClientDisk → ClientChange → ClientDisk
+changed d (Commit p) = record d { plan = Some p }
+changed d (PutRow p) = row_put d p.last p.table p.row
+changed d (PutTable p) = table_put d p.table p.position
+changed d Finish = record d { plan = None }
+changed d Keep = d
+
+abbrev pub done : ClientDisk → Option (List ClientTask) → ClientStep
+done d None = down d
+done d (Some []) = quiet d (Some []) facts.Done
+done d (Some (task ∷ more)) = record {
+  client = record { disk = changed d task.change; agenda = Some more };
+  answer = facts.Done;
+  facts = task.facts;
+  sends = task.sends;
+}
+
+-- a crash: the write at work is undone, or done with nothing told and sent, and all that isn't on a device is lost
+abbrev pub crashed : ClientDisk → Option (List ClientTask) → Luck → ClientStep
+crashed d (Some (task ∷ more)) messages.FailedBefore = quiet d None facts.Done
+crashed d (Some (task ∷ more)) messages.FailedAfter = quiet (changed d task.change) None facts.Done
+crashed d (Some (task ∷ more)) messages.Done = quiet (changed d task.change) None facts.Done
+crashed d (Some []) luck = quiet d None facts.Done
+crashed d None luck = down d
+
+-- a write that fails takes the client down
+abbrev pub failed : ClientDisk → Option (List ClientTask) → Luck → ClientStep
+failed d agenda luck = record (crashed d agenda luck) { answer = facts.Refuses facts.NoDevice }
+
+abbrev pub worked : ClientDisk → Option (List ClientTask) → Luck → ClientStep
+worked d agenda messages.Done = done d agenda
+worked d agenda messages.FailedBefore = failed d agenda messages.FailedBefore
+worked d agenda messages.FailedAfter = failed d agenda messages.FailedAfter
+
+-- ---- a plan's writes; what it tells comes with the commit, what it sends with the last write
+
+abbrev pub told : Plan → List Fact
+told p = map facts.Client p.facts
+
+abbrev pub retold : Plan → List Fact
+retold p = map facts.Redone p.facts
+
+abbrev pub row_task : Plan → Option RowPut → List ClientTask
+row_task p None = []
+row_task p (Some x) = record { change = PutRow p; facts = []; sends = [] } ∷ []
+
+abbrev pub table_task : Plan → Option ℕ → List ClientTask
+table_task p None = []
+table_task p (Some position) = record { change = PutTable p; facts = []; sends = [] } ∷ []
+
+abbrev pub rest_of : Plan → List Fact → List Send → List ClientTask
+rest_of p some sends = row_task p p.row ++ (table_task p p.position ++ record { change = Finish; facts = some; sends = sends } ∷ [])
+
+abbrev pub begun : ClientDisk → Answer → Plan → List Send → ClientStep
+begun d answer p sends = quiet d (Some (record { change = Commit p; facts = told p; sends = [] } ∷ rest_of p [] sends)) answer
+
+-- a plan that changes the slots of a row, and no number
+abbrev pub slots_plan : ClientDisk → ℕ → List ℕ → Slots → List ClientFact → Plan
+slots_plan d table row slots some =
+    record { last = d.last; table = table; row = Some (record { row = row; slots = slots }); position = None; facts = some }
+
+-- ---- a start
+
+abbrev pub resumed : ℕ → ClientDisk → Option Plan → ClientStep
+resumed c d None = quiet d (Some (record { change = Keep; facts = facts.ClientRecovered c ∷ []; sends = [] } ∷ [])) facts.Done
+resumed c d (Some p) = record {
+  client = record { disk = d; agenda = Some (rest_of p (facts.ClientRecovered c ∷ []) []) };
+  answer = facts.Done;
+  facts = retold p;
+  sends = [];
+}
+
+-- a client that is up goes on
+abbrev pub started : ℕ → ClientDisk → Option (List ClientTask) → ClientStep
+started c d (Some agenda) = quiet d (Some agenda) facts.Done
+started c d None = resumed c d d.plan
+
+-- ---- messages to the table's owner
+
+abbrev pub to_owner : Message → Send
+to_owner message = record { to = None; message = message }
+
+abbrev pub request_for : ℕ → ℕ → List ℕ → InFlight → Send
+request_for c table row out = to_owner (SyncRequest (record {
+  client = c;
+  table = table;
+  row = row;
+  number = out.number;
+  base = out.base;
+  content = out.content;
+}))
+
+abbrev pub pull_from : ℕ → ℕ → ℕ → Send
+pull_from c table position = to_owner (PullRequest (record { client = c; table = table; position = position }))
+
+-- ---- write
+
+abbrev pub main_of : ℕ → ℕ → Content → Main
+main_of number read content = record { number = number; read = read; content = content }
+
+abbrev pub wrote : ℕ → ℕ → List ℕ → Main → ClientFact
+wrote c table row main = facts.Wrote (record {
+  client = c;
+  number = main.number;
+  table = table;
+  row = row;
+  read = main.read;
+  content = main.content;
+})
+
+-- the next write is Main
+abbrev pub write_plan : ℕ → ClientDisk → ℕ → List ℕ → Slots → Content → Plan
+write_plan c d table row slots content =
+    let main : Main = main_of (d.last + 1) (version_in slots.shadow) content in
+    record (slots_plan d table row (record slots { main = Some main }) (wrote c table row main ∷ [])) { last = main.number }
+
+abbrev pub out_of : Main → ℕ → InFlight
+out_of main base = record { number = main.number; read = main.read; base = base; content = main.content }
+
+-- a strong write waits for its answer at once, over what was read
+abbrev pub strong_plan : ℕ → ClientDisk → ℕ → List ℕ → Slots → Content → Plan
+strong_plan c d table row slots content =
+    let main : Main = main_of (d.last + 1) (version_in slots.shadow) content in
+    record (slots_plan d table row (record slots { out = Some (out_of main main.read) }) (wrote c table row main ∷ [])) { last = main.number }
+
+-- the first row of a table whose write waits for its answer
+abbrev pub first_out : List (List ℕ × Slots) → Option InFlight
+first_out [] = None
+first_out (entry ∷ rows) = or_later entry.1.out (first_out rows)
+  where
+    or_later : Option InFlight → Option InFlight → Option InFlight
+    or_later None later = later
+    or_later (Some out) later = Some out
+
+abbrev pub write_strong : ℕ → ClientDisk → ℕ → List ℕ → Slots → Content → Option InFlight → ClientStep
+write_strong c d table row slots content (Some out) = refused d (facts.Outstanding out.number)
+write_strong c d table row slots content None =
+    let read : ℕ = version_in slots.shadow in
+    begun d (facts.Number (d.last + 1)) (strong_plan c d table row slots content)
+    (request_for c table row (out_of (main_of (d.last + 1) read content) read) ∷ [])
+
+abbrev pub write_by : Scheme → ℕ → ClientDisk → ℕ → List ℕ → TableDisk → Slots → Content → ClientStep
+write_by Strong c d table row opened slots content = write_strong c d table row slots content (first_out opened.rows)
+write_by Causal c d table row opened slots content = begun d (facts.Number (d.last + 1)) (write_plan c d table row slots content) []
+write_by Eventual c d table row opened slots content = begun d (facts.Number (d.last + 1)) (write_plan c d table row slots content) []
+
+-- a row in conflict isn't written
+abbrev pub write_free : Scheme → ℕ → ClientDisk → ℕ → List ℕ → TableDisk → Slots → Content → Option Shadow → ClientStep
+write_free g c d table row opened slots content None = write_by g c d table row opened slots content
+write_free g c d table row opened slots content (Some x) = refused d (facts.Conflicted x.version)
+
+-- nor is one while a plan is at work
+abbrev pub write_idle : Scheme → ℕ → ClientDisk → List ClientTask → ℕ → List ℕ → TableDisk → Content → ClientStep
+write_idle g c d (task ∷ more) table row opened content = quiet d (Some (task ∷ more)) (facts.Refuses facts.Busy)
+write_idle g c d [] table row opened content =
+    let slots : Slots = slots_at opened row in write_free g c d table row opened slots content slots.conflict
+
+abbrev pub write_fitting : Scheme → ℕ → ClientDisk → List ClientTask → ℕ → List ℕ → TableDisk → Content → Result (Unit {0}) FitFault → ClientStep
+write_fitting g c d agenda table row opened content (Ok fits) = write_idle g c d agenda table row opened content
+write_fitting g c d agenda table row opened content (Err fault) = quiet d (Some agenda) (facts.Refuses (facts.Unfit fault))
+
+abbrev pub write_to : ℕ → ClientDisk → List ClientTask → ℕ → List ℕ → Content → Option TableDisk → ClientStep
+write_to c d agenda table row content None = quiet d (Some agenda) (facts.Refuses facts.NoTable)
+write_to c d agenda table row content (Some opened) =
+    write_fitting opened.schema.scheme c d agenda table row opened content (fit_of opened.schema content)
+
+abbrev pub write_step : ℕ → ClientDisk → Option (List ClientTask) → ℕ → List ℕ → Content → ClientStep
+write_step c d None table row content = down d
+write_step c d (Some agenda) table row content = write_to c d agenda table row content (table_at (seen d) table)
+
+-- ---- show
+
+-- what a client shows of a row
+abbrev pub shown_in : Option Main → Option Shadow → Option Shadow → Option Shown
+shown_in (Some main) None shadow = Some (facts.Mine main.number main.content)
+shown_in (Some main) (Some x) shadow = Some (facts.Contended main.number x.version main.content)
+shown_in None conflict (Some x) = Some (facts.Clean x.version x.content)
+shown_in None conflict None = None
+
+abbrev pub show_answer : Option Shown → Answer
+show_answer None = facts.Refuses facts.NoRow
+show_answer (Some what) = facts.Shows what
+
+abbrev pub show_in : List ℕ → Option TableDisk → Answer
+show_in row None = facts.Refuses facts.NoTable
+show_in row (Some table) = let slots : Slots = slots_at table row in show_answer (shown_in slots.main slots.conflict slots.shadow)
+
+abbrev pub show_step : ClientDisk → Option (List ClientTask) → ℕ → List ℕ → ClientStep
+show_step d None table row = down d
+show_step d (Some agenda) table row = quiet d (Some agenda) (show_in row (table_at (seen d) table))
+
+-- ---- sync
+
+-- the requests that wait for their answers are sent again, by rising row
+abbrev pub resent : ℕ → ℕ → List (List ℕ × Slots) → List Send
+resent c table [] = []
+resent c table (entry ∷ rows) = option_to_list (option_map (request_for c table entry.0) entry.1.out) ++ resent c table rows
+
+-- what a row sends next: its Main, where nothing of it waits for an answer and nothing is in conflict
+abbrev pub to_send : Slots → Option InFlight → Option Main → Option Shadow → Option InFlight
+to_send slots None (Some main) None = Some (out_of main (version_in slots.shadow))
+to_send slots None (Some main) (Some x) = None
+to_send slots None None conflict = None
+to_send slots (Some out) main conflict = None
+
+pub record RowOut : Type 0 where
+  pub row : List ℕ
+  pub slots : Slots
+  pub out : InFlight
+
+abbrev pub or_later : List ℕ → Slots → Option InFlight → Option RowOut → Option RowOut
+or_later row slots None later = later
+or_later row slots (Some out) later = Some (record { row = row; slots = slots; out = out })
+
+-- the first row that has something to send
+abbrev pub first_to_send : List (List ℕ × Slots) → Option RowOut
+first_to_send [] = None
+first_to_send (entry ∷ rows) = or_later entry.0 entry.1 (to_send entry.1 entry.1.out entry.1.main entry.1.conflict) (first_to_send rows)
+
+abbrev pub send_plan : ClientDisk → ℕ → RowOut → Plan
+send_plan d table x = slots_plan d table x.row (record x.slots { out = Some x.out }) []
+
+abbrev pub sync_first : ℕ → ClientDisk → ℕ → List Send → Option RowOut → ClientStep
+sync_first c d table again None = record (quiet d (Some []) (facts.Number (length again))) { sends = again }
+sync_first c d table again (Some x) =
+    record (begun d (facts.Number (length again + 1)) (send_plan d table x) (request_for c table x.row x.out ∷ [])) { sends = again }
+
+abbrev pub sync_in : ℕ → ClientDisk → List ClientTask → ℕ → Option TableDisk → ClientStep
+sync_in c d agenda table None = quiet d (Some agenda) (facts.Refuses facts.NoTable)
+sync_in c d (task ∷ more) table (Some opened) = quiet d (Some (task ∷ more)) (facts.Refuses facts.Busy)
+sync_in c d [] table (Some opened) = sync_first c d table (resent c table opened.rows) (first_to_send opened.rows)
+
+abbrev pub sync_step : ℕ → ClientDisk → Option (List ClientTask) → ℕ → ClientStep
+sync_step c d None table = down d
+sync_step c d (Some agenda) table = sync_in c d agenda table (table_at (seen d) table)
+
+-- ---- the next change
+
+abbrev pub next_in : ℕ → ClientDisk → List ClientTask → ℕ → Option TableDisk → ClientStep
+next_in c d agenda table None = quiet d (Some agenda) (facts.Refuses facts.NoTable)
+next_in c d (task ∷ more) table (Some opened) = quiet d (Some (task ∷ more)) (facts.Refuses facts.Busy)
+next_in c d [] table (Some opened) = record (ignored d) { sends = pull_from c table opened.position ∷ [] }
+
+abbrev pub next_step : ℕ → ClientDisk → Option (List ClientTask) → ℕ → ClientStep
+next_step c d None table = down d
+next_step c d (Some agenda) table = next_in c d agenda table (table_at (seen d) table)
+
+-- ---- resolving: the row in conflict is read, and a new write stands over it, or none
+
+abbrev pub over_plan : ℕ → ClientDisk → ℕ → List ℕ → Slots → Main → Shadow → Content → Plan
+over_plan c d table row slots main x content =
+    let next : Main = main_of (d.last + 1) x.version content in
+    record (slots_plan d table row (record slots { main = Some next; shadow = Some x; conflict = None })
+    (facts.Resolved c main.number table row x.version ∷ wrote c table row next ∷ [])) { last = next.number }
+
+abbrev pub theirs_plan : ℕ → ClientDisk → ℕ → List ℕ → Slots → Main → Shadow → Plan
+theirs_plan c d table row slots main x =
+    slots_plan d table row (record slots { main = None; shadow = Some x; conflict = None }) (facts.Resolved c main.number table row x.version ∷ [])
+
+abbrev pub over_fitting : ℕ → ClientDisk → ℕ → List ℕ → Slots → Main → Shadow → Content → Result (Unit {0}) FitFault → ClientStep
+over_fitting c d table row slots main x content (Ok fits) = begun d (facts.Number (d.last + 1)) (over_plan c d table row slots main x content) []
+over_fitting c d table row slots main x content (Err fault) = refused d (facts.Unfit fault)
+
+abbrev pub choose : ℕ → ClientDisk → ℕ → List ℕ → Schema → Slots → Main → Shadow → Choice → ClientStep
+choose c d table row schema slots main x Mine = begun d (facts.Number (d.last + 1)) (over_plan c d table row slots main x main.content) []
+choose c d table row schema slots main x Theirs = begun d (facts.Number 0) (theirs_plan c d table row slots main x) []
+choose c d table row schema slots main x (Another content) =
+    over_fitting c d table row slots main x content (fit_of schema content)
+
+abbrev pub resolve_over : ℕ → ClientDisk → ℕ → List ℕ → Schema → Slots → ℕ → Choice → Option Main → Option Shadow → ClientStep
+resolve_over c d table row schema slots version choice (Some main) (Some x) =
+    if x.version == version then choose c d table row schema slots main x choice else refused d (facts.Moved version x.version)
+resolve_over c d table row schema slots version choice None conflict = refused d facts.NoConflict
+resolve_over c d table row schema slots version choice (Some main) None = refused d facts.NoConflict
+
+abbrev pub resolve_in : ℕ → ClientDisk → List ClientTask → ℕ → List ℕ → ℕ → Choice → Option TableDisk → ClientStep
+resolve_in c d agenda table row version choice None = quiet d (Some agenda) (facts.Refuses facts.NoTable)
+resolve_in c d (task ∷ more) table row version choice (Some opened) = quiet d (Some (task ∷ more)) (facts.Refuses facts.Busy)
+resolve_in c d [] table row version choice (Some opened) =
+    let slots : Slots = slots_at opened row in resolve_over c d table row opened.schema slots version choice slots.main slots.conflict
+
+abbrev pub resolve_step : ℕ → ClientDisk → Option (List ClientTask) → ℕ → List ℕ → ℕ → Choice → ClientStep
+resolve_step c d None table row version choice = down d
+resolve_step c d (Some agenda) table row version choice = resolve_in c d agenda table row version choice (table_at (seen d) table)
+
+-- ---- the answer to a request
+
+-- Main is dropped where it is the write of this number
+abbrev pub without : ℕ → Option Main → Option Main
+without number None = None
+without number (Some main) = if main.number == number then None else Some main
+
+-- what waited is accepted
+abbrev pub freed : Slots → ℕ → Slots
+freed slots number = record slots { main = without number slots.main; out = None }
+
+abbrev pub ack_plan : ℕ → ClientDisk → ℕ → List ℕ → Slots → InFlight → ℕ → Plan
+ack_plan c d table row slots out version =
+    slots_plan d table row (record (freed slots out.number) { shadow = Some (record { version = version; content = out.content }) })
+    (facts.Acked c out.number table row version ∷ [])
+
+-- what waited is refused for good
+abbrev pub lost_plan : ℕ → ClientDisk → ℕ → List ℕ → Slots → InFlight → ℕ → Plan
+lost_plan c d table row slots out latest = slots_plan d table row (record slots { out = None }) (facts.Refused c out.number table row latest ∷ [])
+
+abbrev pub outcome_taken : ℕ → ClientDisk → ℕ → List ℕ → TableDisk → Slots → InFlight → Outcome → ClientStep
+outcome_taken c d table row opened slots out (messages.Accepted version) = begun d facts.Done (ack_plan c d table row slots out version) []
+outcome_taken c d table row opened slots out (messages.Again version) = begun d facts.Done (ack_plan c d table row slots out version) []
+outcome_taken c d table row opened slots out (messages.Late last) = ignored d
+outcome_taken c d table row opened slots out (messages.Stale latest) =
+    begun d facts.Done (lost_plan c d table row slots out latest) (pull_from c table opened.position ∷ [])
+outcome_taken c d table row opened slots out (messages.Conflict latest) = record (ignored d) { sends = pull_from c table opened.position ∷ [] }
+
+abbrev pub response_taken : ℕ → ClientDisk → Response → TableDisk → Option InFlight → ClientStep
+response_taken c d response opened None = ignored d
+response_taken c d response opened (Some out) =
+    if out.number == response.number
+    then outcome_taken c d response.table response.row opened (slots_at opened response.row) out response.outcome
+    else ignored d
+
+abbrev pub response_in : ℕ → ClientDisk → Response → Option TableDisk → ClientStep
+response_in c d response None = ignored d
+response_in c d response (Some opened) = response_taken c d response opened (slots_at opened response.row).out
+
+-- ---- a row from the Store
+
+-- the slots behind a row, and what is told
+pub record Placed : Type 0 where
+  pub slots : Slots
+  pub facts : List ClientFact
+
+abbrev pub shadow_of : Header → Shadow
+shadow_of header = record { version = header.version; content = header.content }
+
+abbrev pub read_new : ℕ → ℕ → Header → Slots → List ClientFact → Placed
+read_new c table header slots before = record {
+  slots = record slots { shadow = Some (shadow_of header) };
+  facts = before ++ facts.New c table header.row header.version ∷ [];
+}
+
+abbrev pub read_conflict : ℕ → ℕ → Header → Slots → List ClientFact → Main → Placed
+read_conflict c table header slots before main = record {
+  slots = record slots { conflict = Some (shadow_of header); out = None };
+  facts = before ++ facts.Conflict c main.number table header.row header.version ∷ [];
+}
+
+-- whether a row is read over Main: in an eventual table, and where it is the client's own
+abbrev pub reads_over : Scheme → ℕ → ℕ → Bool
+reads_over Strong yours version = yours == version
+reads_over Causal yours version = yours == version
+reads_over Eventual yours version = true
+
+abbrev pub placed : Scheme → ℕ → ℕ → Header → Slots → List ClientFact → Option Main → Option Shadow → Placed
+placed g c table header slots before None conflict = read_new c table header slots before
+placed g c table header slots before (Some main) (Some x) = read_conflict c table header slots before main
+placed g c table header slots before (Some main) None =
+    if reads_over g header.yours.version header.version
+    then read_new c table header slots before
+    else read_conflict c table header slots before main
+
+-- a write of Out up to the number in `yours` was accepted
+abbrev pub row_placed : Scheme → ℕ → ℕ → Header → Slots → Option InFlight → Placed
+row_placed g c table header slots None = placed g c table header slots [] slots.main slots.conflict
+row_placed g c table header slots (Some out) =
+    if nat_le out.number header.yours.number
+    then placed g c table header (freed slots out.number) (facts.Acked c out.number table header.row header.yours.version ∷ []) (without out.number slots.main) slots.conflict
+    else placed g c table header slots [] slots.main slots.conflict
+
+-- the version of a row that a client has read: Conflict's, else Shadow's, else 0
+abbrev pub top : Option Shadow → Option Shadow → ℕ
+top None shadow = version_in shadow
+top (Some x) shadow = x.version
+
+abbrev pub next_pull : ℕ → ℕ → Pulled → List Send
+next_pull c table pulled = if nat_lt pulled.to pulled.latest then pull_from c table pulled.to ∷ [] else []
+
+abbrev pub row_plan : ℕ → ClientDisk → ℕ → List ℕ → ℕ → Placed → Plan
+row_plan c d table row position x =
+    record (slots_plan d table row x.slots (x.facts ++ facts.Position c table position ∷ [])) { position = Some position }
+
+abbrev pub position_plan : ℕ → ClientDisk → ℕ → ℕ → Plan
+position_plan c d table position =
+    record { last = d.last; table = table; row = None; position = Some position; facts = facts.Position c table position ∷ [] }
+
+-- a row that isn't newer than the one read changes no slot
+abbrev pub row_taken : ℕ → ClientDisk → Pulled → TableDisk → Header → Slots → ClientStep
+row_taken c d pulled opened header slots =
+    if nat_le header.version (top slots.conflict slots.shadow)
+    then begun d facts.Done (position_plan c d pulled.table pulled.to) (next_pull c pulled.table pulled)
+    else begun d facts.Done (row_plan c d pulled.table header.row pulled.to (row_placed opened.schema.scheme c pulled.table header slots slots.out))
+    (next_pull c pulled.table pulled)
+
+-- an answer to another position than the client's is dropped, and one without a row changes nothing
+abbrev pub pulled_taken : ℕ → ClientDisk → Pulled → TableDisk → Option Header → ClientStep
+pulled_taken c d pulled opened None = ignored d
+pulled_taken c d pulled opened (Some header) =
+    if pulled.from == opened.position then row_taken c d pulled opened header (slots_at opened header.row) else ignored d
+
+abbrev pub pulled_in : ℕ → ClientDisk → Pulled → Option TableDisk → ClientStep
+pulled_in c d pulled None = ignored d
+pulled_in c d pulled (Some opened) = pulled_taken c d pulled opened pulled.header
+
+-- a client at work doesn't take a message, and one that no rule takes is dropped
+abbrev pub take_step : ℕ → ClientDisk → Option (List ClientTask) → Message → ClientStep
+take_step c d None message = down d
+take_step c d (Some (task ∷ more)) message = quiet d (Some (task ∷ more)) (facts.Refuses facts.Busy)
+take_step c d (Some []) (SyncRequest request) = ignored d
+take_step c d (Some []) (PullRequest pull) = ignored d
+take_step c d (Some []) (SyncResponse response) = response_in c d response (table_at (seen d) response.table)
+take_step c d (Some []) (PullResponse pulled) = pulled_in c d pulled (table_at (seen d) pulled.table)
+
+-- what a move makes of a client of this number
+abbrev pub client_step : ℕ → Client → ClientMove → ClientStep
+client_step c s (Write table row content) = write_step c s.disk s.agenda table row content
+client_step c s (Show table row) = show_step s.disk s.agenda table row
+client_step c s (Sync table) = sync_step c s.disk s.agenda table
+client_step c s (Next table) = next_step c s.disk s.agenda table
+client_step c s (Resolve table row version choice) = resolve_step c s.disk s.agenda table row version choice
+client_step c s (Take message) = take_step c s.disk s.agenda message
+client_step c s (Work luck) = worked s.disk s.agenda luck
+client_step c s (Crash luck) = crashed s.disk s.agenda luck
+client_step c s Start = started c s.disk s.agenda

@@ -1,0 +1,84 @@
+-- What travels between nodes, and how a device write goes.
+use Rattle.std.specs.Prelude.{ℕ, List, Option}
+use Rattle.row_value.specs.declared.content.Content.{Content}
+use Rattle.table_model.specs.declared.message_name.MessageName.{MessageName}
+use Rattle.table_model.specs.declared.message_name.MessageName.TheVariants as names
+use Rattle.stab_base.specs.declared.node.Node.{Node}
+
+-- what the Store makes of a request: it is accepted, was accepted before, comes behind a later write of its client, or
+-- rests on an older version than the row's last, in a strong and in a causal table
+pub data Outcome : Type 0 where
+  Accepted : (version : ℕ) → Outcome
+  Again : (version : ℕ) → Outcome
+  Late : (last : ℕ) → Outcome
+  Stale : (latest : ℕ) → Outcome
+  Conflict : (latest : ℕ) → Outcome
+
+pub record Request : Type 0 where
+  pub client : ℕ
+  pub table : ℕ
+  pub row : List ℕ
+  pub number : ℕ
+  pub base : ℕ
+  pub content : Content
+
+pub record Response : Type 0 where
+  pub client : ℕ
+  pub table : ℕ
+  pub row : List ℕ
+  pub number : ℕ
+  pub outcome : Outcome
+
+pub record Pull : Type 0 where
+  pub client : ℕ
+  pub table : ℕ
+  pub position : ℕ
+
+-- a client's last accepted write on a row, and its version; zeros where there is none
+pub record Pair : Type 0 where
+  pub number : ℕ
+  pub version : ℕ
+
+-- a row as the Store has it, for one client
+pub record Header : Type 0 where
+  pub row : List ℕ
+  pub version : ℕ
+  pub yours : Pair
+  pub content : Content
+
+pub record Pulled : Type 0 where
+  pub client : ℕ
+  pub table : ℕ
+  pub from : ℕ
+  pub to : ℕ
+  pub latest : ℕ
+  pub header : Option Header
+
+pub data Message : Type 0 where
+  SyncRequest : (request : Request) → Message
+  SyncResponse : (response : Response) → Message
+  PullRequest : (pull : Pull) → Message
+  PullResponse : (pulled : Pulled) → Message
+
+abbrev pub name_of : Message → MessageName
+name_of (SyncRequest request) = names.SyncRequest
+name_of (SyncResponse response) = names.SyncResponse
+name_of (PullRequest pull) = names.PullRequest
+name_of (PullResponse pulled) = names.PullResponse
+
+abbrev pub table_of : Message → ℕ
+table_of (SyncRequest request) = request.table
+table_of (SyncResponse response) = response.table
+table_of (PullRequest pull) = pull.table
+table_of (PullResponse pulled) = pulled.table
+
+-- a message with its address; none is the table's owner
+pub record Send : Type 0 where
+  pub to : Option Node
+  pub message : Message
+
+-- how a device write goes: all of it is done, or it fails with nothing of it or with all of it on the device
+pub data Luck : Type 0 where
+  Done : Luck
+  FailedBefore : Luck
+  FailedAfter : Luck

@@ -1,0 +1,244 @@
+-- The Store's step table, for one table: what a move makes of it, and what is told and sent. Its state is what its devices
+-- stand for, and the device writes that it has begun.
+use Rattle.std.specs.Prelude.{ℕ, ◌+◌, ◌==◌, nat_lt, not, Bool, true, ◌&&◌, List, [], ◌∷◌, ◌++◌, length, Option, Some, None, option_map, if◌then◌else◌}
+use Rattle.std.specs.List.{find, list_any}
+use Rattle.row_value.specs.declared.schema.Scheme.{Scheme}
+use Rattle.row_value.specs.declared.schema.Scheme.TheVariants.{Strong, Causal, Eventual}
+use Rattle.table_model.specs.declared.entry.Entry.{Entry}
+use Rattle.stab_base.specs.declared.node.Node.{Node}
+use Rattle.table_model.specs.History.{same_row}
+use Rattle.table_model.specs.Last.{last_where}
+use Rattle.step_tables.specs.Store.{Stored, current_of, next_changed, version_or}
+use Rattle.step_tables.specs.Facts.{Fact, Answer}
+use Rattle.step_tables.specs.Facts as facts
+use Rattle.step_tables.specs.Messages.{Request, Response, Pull, Pair, Header, Pulled, Outcome, Message, Send, Luck, SyncRequest, SyncResponse, PullRequest, PullResponse}
+use Rattle.step_tables.specs.Messages as messages
+
+-- ---- state
+
+-- what the devices stand for: each update whose row write landed, and the entry that is open in the log
+pub record StoreDisk : Type 0 where
+  pub items : List Stored
+  pub pending : Option Stored
+
+-- one device write: an entry is opened in the log, an update's row is put, the entry is closed; or nothing of what the
+-- devices stand for changes
+pub data StoreChange : Type 0 where
+  Open : (item : Stored) → StoreChange
+  Put : (item : Stored) → StoreChange
+  Close : StoreChange
+  Keep : StoreChange
+
+-- a device write, with what is told and sent when it is done
+pub record StoreTask : Type 0 where
+  pub change : StoreChange
+  pub facts : List Fact
+  pub sends : List Send
+
+-- no agenda: the table is down
+pub record TableStore : Type 0 where
+  pub disk : StoreDisk
+  pub agenda : Option (List StoreTask)
+
+pub data StoreMove : Type 0 where
+  Take : (from : Node) → (message : Message) → StoreMove
+  Work : (luck : Luck) → StoreMove
+  Crash : (luck : Luck) → StoreMove
+  Start : StoreMove
+
+pub record StoreStep : Type 0 where
+  pub store : TableStore
+  pub answer : Answer
+  pub facts : List Fact
+  pub sends : List Send
+
+abbrev pub quiet : StoreDisk → Option (List StoreTask) → Answer → StoreStep
+quiet d agenda answer = record { store = record { disk = d; agenda = agenda }; answer = answer; facts = []; sends = [] }
+
+abbrev pub down : StoreDisk → StoreStep
+down d = quiet d None (facts.Refuses facts.Down)
+
+-- ---- a device write
+
+abbrev pub changed : StoreDisk → StoreChange → StoreDisk
+changed d (Open item) = record d { pending = Some item }
+changed d (Put item) = record d { items = d.items ++ item ∷ [] }
+changed d Close = record d { pending = None }
+changed d Keep = d
+
+abbrev pub done : StoreDisk → Option (List StoreTask) → StoreStep
+done d None = down d
+done d (Some []) = quiet d (Some []) facts.Done
+done d (Some (task ∷ more)) = record {
+  store = record { disk = changed d task.change; agenda = Some more };
+  answer = facts.Done;
+  facts = task.facts;
+  sends = task.sends;
+}
+
+-- a crash: the write at work is undone, or done with nothing told and sent, and all that isn't on a device is lost
+abbrev pub crashed : StoreDisk → Option (List StoreTask) → Luck → StoreStep
+crashed d (Some (task ∷ more)) messages.FailedBefore = quiet d None facts.Done
+crashed d (Some (task ∷ more)) messages.FailedAfter = quiet (changed d task.change) None facts.Done
+crashed d (Some (task ∷ more)) messages.Done = quiet (changed d task.change) None facts.Done
+crashed d (Some []) luck = quiet d None facts.Done
+crashed d None luck = down d
+
+-- a write that fails takes the table down
+abbrev pub failed : StoreDisk → Option (List StoreTask) → Luck → StoreStep
+failed d agenda luck = record (crashed d agenda luck) { answer = facts.Refuses facts.NoDevice }
+
+abbrev pub worked : StoreDisk → Option (List StoreTask) → Luck → StoreStep
+worked d agenda messages.Done = done d agenda
+worked d agenda messages.FailedBefore = failed d agenda messages.FailedBefore
+worked d agenda messages.FailedAfter = failed d agenda messages.FailedAfter
+
+-- ---- a start
+
+abbrev pub item_at : ℕ → List Stored → Option Stored
+item_at version items = find (λ (item : Stored). item.entry.version == version) items
+
+abbrev pub ends_with : StoreChange → Fact → StoreTask
+ends_with change fact = record { change = change; facts = fact ∷ []; sends = [] }
+
+-- the pending entry, and the item that has its version
+abbrev pub recovered : ℕ → ℕ → StoreDisk → Stored → Option Stored → StoreStep
+recovered store table d pending (Some found) = record {
+  store = record { disk = d; agenda = Some (ends_with Close (facts.StoreRecovered store table) ∷ []) };
+  answer = facts.Done;
+  facts = facts.Forward table found.entry ∷ [];
+  sends = [];
+}
+recovered store table d pending None = record {
+  store = record { disk = d; agenda = Some (ends_with Close (facts.StoreRecovered store table) ∷ []) };
+  answer = facts.Done;
+  facts = facts.Back table pending.entry.version ∷ [];
+  sends = [];
+}
+
+abbrev pub recover : ℕ → ℕ → StoreDisk → Option Stored → StoreStep
+recover store table d None = quiet d (Some (ends_with Keep (facts.StoreRecovered store table) ∷ [])) facts.Done
+recover store table d (Some pending) = recovered store table d pending (item_at pending.entry.version d.items)
+
+-- a table that is up goes on
+abbrev pub started : ℕ → ℕ → StoreDisk → Option (List StoreTask) → StoreStep
+started store table d (Some agenda) = quiet d (Some agenda) facts.Done
+started store table d None = recover store table d d.pending
+
+-- ---- a request
+
+-- whether a scheme takes a write over a base, where the row's last version is this
+abbrev pub takes : Scheme → ℕ → ℕ → Bool
+takes Strong base current = base == current
+takes Causal base current = base == current
+takes Eventual base current = true
+
+abbrev pub outdated : Scheme → ℕ → Outcome
+outdated Strong latest = messages.Stale latest
+outdated Causal latest = messages.Conflict latest
+outdated Eventual latest = messages.Stale latest
+
+abbrev pub responded : Node → Request → Outcome → Send
+responded from request outcome = record {
+  to = Some from;
+  message = SyncResponse (record {
+    client = request.client;
+    table = request.table;
+    row = request.row;
+    number = request.number;
+    outcome = outcome;
+  });
+}
+
+abbrev pub sending : StoreDisk → List Send → StoreStep
+sending d sends = record { store = record { disk = d; agenda = Some [] }; answer = facts.Done; facts = []; sends = sends }
+
+-- the item that a request makes: its version is the next
+abbrev pub item_for : List Stored → Request → Stored
+item_for items request = record {
+  entry = record {
+    row = request.row;
+    version = length items + 1;
+    client = request.client;
+    number = request.number;
+    base = request.base;
+  };
+  content = request.content;
+}
+
+abbrev pub accepting : ℕ → Node → Request → Stored → List StoreTask
+accepting table from request item =
+    record { change = Open item; facts = []; sends = [] }
+    ∷ record { change = Put item; facts = facts.Accepted table item.entry ∷ []; sends = [] }
+    ∷ record { change = Close; facts = []; sends = responded from request (messages.Accepted item.entry.version) ∷ [] }
+    ∷ []
+
+abbrev pub version_of : Option Stored → ℕ
+version_of None = 0
+version_of (Some item) = item.entry.version
+
+-- a new write is taken over a base that the scheme takes
+abbrev pub judged : Scheme → ℕ → StoreDisk → Node → Request → ℕ → StoreStep
+judged g table d from request current =
+    if takes g request.base current
+    then quiet d (Some (accepting table from request (item_for d.items request))) facts.Done
+    else sending d (responded from request (outdated g current) ∷ [])
+
+abbrev pub pair_of : Option Stored → Pair
+pair_of None = record { number = 0; version = 0 }
+pair_of (Some item) = record { number = item.entry.number; version = item.entry.version }
+
+abbrev pub is_by : ℕ → List ℕ → Stored → Bool
+is_by client row item = (item.entry.client == client) && same_row item.entry.row row
+
+-- a client's last accepted write on a row
+abbrev pub yours_in : List Stored → ℕ → List ℕ → Pair
+yours_in items client row = pair_of (last_where (is_by client row) items)
+
+-- accepted before, too late, or new
+abbrev pub decided : Scheme → ℕ → StoreDisk → Node → Request → Pair → StoreStep
+decided g table d from request yours =
+    if yours.number == request.number then sending d (responded from request (messages.Again yours.version) ∷ [])
+    else (if nat_lt request.number yours.number then sending d (responded from request (messages.Late yours.number) ∷ [])
+    else judged g table d from request (version_of (current_of d.items request.row)))
+
+-- ---- a pull
+
+abbrev pub header_for : List Stored → ℕ → Stored → Header
+header_for items client item = record {
+  row = item.entry.row;
+  version = item.entry.version;
+  yours = yours_in items client item.entry.row;
+  content = item.content;
+}
+
+abbrev pub pulled_for : List Stored → Pull → Option Stored → Pulled
+pulled_for items pull found = record {
+  client = pull.client;
+  table = pull.table;
+  from = pull.position;
+  to = version_or pull.position found;
+  latest = length items;
+  header = option_map (header_for items pull.client) found;
+}
+
+abbrev pub answered : StoreDisk → Node → Pull → StoreStep
+answered d from pull =
+    sending d (record { to = Some from; message = PullResponse (pulled_for d.items pull (next_changed pull.position d.items)) } ∷ [])
+
+-- ---- a message; a table at work doesn't take it, and one that no rule takes is dropped
+
+abbrev pub taken : Scheme → ℕ → StoreDisk → Option (List StoreTask) → Node → Message → StoreStep
+taken g table d None from message = down d
+taken g table d (Some (task ∷ more)) from message = quiet d (Some (task ∷ more)) (facts.Refuses facts.Busy)
+taken g table d (Some []) from (SyncRequest request) = decided g table d from request (yours_in d.items request.client request.row)
+taken g table d (Some []) from (PullRequest pull) = answered d from pull
+taken g table d (Some []) from (SyncResponse response) = quiet d (Some []) facts.Done
+taken g table d (Some []) from (PullResponse pulled) = quiet d (Some []) facts.Done
+
+-- what a move makes of a table of this number and scheme, at a Store of this number
+abbrev pub store_step : ℕ → Scheme → ℕ → TableStore → StoreMove → StoreStep
+store_step store g table s (Take from message) = taken g table s.disk s.agenda from message
+store_step store g table s (Work luck) = worked s.disk s.agenda luck
+store_step store g table s (Crash luck) = crashed s.disk s.agenda luck
+store_step store g table s Start = started store table s.disk s.agenda

@@ -1,0 +1,4 @@
+pub mod Lookups
+pub mod Updates
+pub mod Recoveries
+pub mod Works

@@ -1,0 +1,5 @@
+pub mod Devs
+pub mod NamedChunks
+pub mod Agenda
+pub mod Standing
+pub mod Fault

@@ -1,0 +1,13 @@
+pub mod Told
+pub mod Kept
+pub mod Lines
+pub mod Changes
+pub mod Looks
+pub mod ClientMoves
+pub mod TableMoves
+pub mod StoreMoves
+pub mod Showings
+pub mod Forms
+pub mod Runs
+pub mod Fresh
+pub mod Whole

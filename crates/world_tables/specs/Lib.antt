@@ -1,0 +1,4 @@
+pub mod World
+pub mod Turns
+pub mod Sound
+pub mod Whole

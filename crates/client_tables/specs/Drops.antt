@@ -46,7 +46,8 @@ names_of_out (Some out) = names_of out.content
 
 -- the chunks that a row's slots name
 abbrev pub names_in : Slots → List LocalName
-names_in slots = names_of_main slots.main ++ names_of_shadow slots.shadow ++ names_of_out slots.out ++ names_of_shadow slots.conflict
+names_in slots =
+    names_of_main slots.main ++ names_of_shadow slots.shadow ++ names_of_out slots.out ++ names_of_shadow slots.conflict
 
 -- ---- names in a tree
 

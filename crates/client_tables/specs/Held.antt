@@ -31,7 +31,8 @@ brought_for bytes (Some kept) = []
 abbrev pub held_pieces : List (HeldPiece × List ℕ) → List (Option ChunkName × List ℕ) → ℕ → List HeldPiece
 held_pieces shown [] next = []
 held_pieces shown (chunk ∷ chunks) next =
-    piece_for next chunk.0 (kept_in shown chunk.1) ∷ held_pieces (drop 1 shown) chunks (next_behind next (kept_in shown chunk.1))
+    piece_for next chunk.0 (kept_in shown chunk.1)
+    ∷ held_pieces (drop 1 shown) chunks (next_behind next (kept_in shown chunk.1))
 
 -- the chunks that are brought
 abbrev pub brought : List (HeldPiece × List ℕ) → List (Option ChunkName × List ℕ) → List (List ℕ)

@@ -20,7 +20,8 @@ abbrev pub named_pieces : ℕ → List Piece → List HeldPiece → List HeldPie
 named_pieces version pieces held = map (λ p. named_piece version p.0 p.1) (zip held pieces)
 
 abbrev pub named_object : ℕ → List Piece → HeldObject → HeldObject
-named_object version pieces object = record object { pieces = named_pieces version (take (length object.pieces) pieces) object.pieces }
+named_object version pieces object =
+    record object { pieces = named_pieces version (take (length object.pieces) pieces) object.pieces }
 
 -- the pieces are those of the first object, then those of the next, and so on
 abbrev pub named_objects : ℕ → List Piece → List HeldObject → List HeldObject

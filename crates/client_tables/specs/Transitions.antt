@@ -38,7 +38,16 @@ abbrev pub written_strong : Slots → ℕ → HeldContent → List Piece → Cha
 written_strong slots number content pieces =
     let read : ℕ = version_in slots.shadow in
     record {
-      slots = Some (record slots { out = Some (record { number = number; read = read; base = read; whole = false; content = content; pieces = pieces }) });
+      slots = Some (record slots {
+        out = Some (record {
+          number = number;
+          read = read;
+          base = read;
+          whole = false;
+          content = content;
+          pieces = pieces;
+        })
+      });
       tells = tell.Wrote number read ∷ [];
       sends = send.Request;
     }
@@ -116,7 +125,8 @@ by_outcome slots out outcomes.NeedWhole = sent_whole slots out
 
 abbrev pub answered_out : Slots → ℕ → Outcome → Option Out → Change
 answered_out slots number outcome None = unchanged send.Nothing
-answered_out slots number outcome (Some out) = if out.number == number then by_outcome slots out outcome else unchanged send.Nothing
+answered_out slots number outcome (Some out) =
+    if out.number == number then by_outcome slots out outcome else unchanged send.Nothing
 
 -- an answer to another write than Out's changes nothing
 abbrev pub answered : Slots → ℕ → Outcome → Change

@@ -81,7 +81,8 @@ fn named_objects(
     Ok(named)
 }
 
-/// The content of a write that was accepted at this version, sent as these pieces, with the Store's names of its chunks.
+/// The content of a write that was accepted at this version, sent as these pieces, with the Store's names of its
+/// chunks.
 pub(crate) fn named(
     alloc: Global,
     version: Version,

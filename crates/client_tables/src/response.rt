@@ -119,8 +119,8 @@ pub fn is_countable(slots: &Slots) -> bool
     }
 }
 
-/// The Store answers the request of the write of this number. An answer to another write than the one that waits changes
-/// nothing.
+/// The Store answers the request of the write of this number. An answer to another write than the one that waits
+/// changes nothing.
 pub fn take_response(
     alloc: Global,
     slots: &Slots,

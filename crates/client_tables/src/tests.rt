@@ -1,10 +1,10 @@
 use crate::{
-    Change, HeldChoice, Sending, ShownAs, can_send, is_countable, resolve, send, shown_as,
-    take_header, take_response, write, write_strong,
+    Change, HeldChoice, HeldChunks, Sending, ShownAs, can_send, dropped, held_against,
+    is_countable, resolve, send, shown_as, take_header, take_response, write, write_strong,
 };
-use held_value::{HeldContent, Shadow, Slots, Tell};
+use held_value::{HeldContent, HeldObject, HeldPiece, LocalName, Main, Shadow, Slots, Tell};
 use row_value::{Piece, Pieces, Scheme};
-use stab_base::{ChunkName, Sequence, Version, WriteNo};
+use stab_base::{Bytes, ChunkName, Sequence, Version, WriteNo};
 use std::alloc::{AllocError, Global};
 use std::test::Fail;
 use table_model::{Outcome, Yours};
@@ -593,5 +593,86 @@ fn each_step_tells_sends_and_shows(rt: HostRuntime) -> Result<(), Fail> {
             "case {place}"
         );
     }
+    Ok(())
+}
+
+fn local(plan: u64, ordinal: u32) -> HeldPiece {
+    HeldPiece {
+        local: LocalName { plan, ordinal },
+        name: None,
+    }
+}
+
+// The chunks `a` and `b` are shown; the new object's are `a`, which the Store has as 2.0, then `c` and `b`.
+fn held(alloc: Global) -> Result<HeldChunks, AllocError> {
+    let mut shown = Sequence::new(alloc);
+    shown.push((local(3, 0), Bytes::from_slice(alloc, b"a")?))?;
+    shown.push((local(3, 1), Bytes::from_slice(alloc, b"b")?))?;
+    let name = ChunkName {
+        version: 2,
+        ordinal: 0,
+    };
+    let mut new = Sequence::new(alloc);
+    new.push((Some(name), Bytes::from_slice(alloc, b"a")?))?;
+    new.push((None, Bytes::from_slice(alloc, b"c")?))?;
+    new.push((None, Bytes::from_slice(alloc, b"b")?))?;
+    held_against(alloc, &shown, new, 0)
+}
+
+fn held_names(alloc: Global) -> Result<(Option<HeldPiece>, Option<HeldPiece>, usize), AllocError> {
+    let held = held(alloc)?;
+    Ok((
+        held.pieces.get(0).copied(),
+        held.pieces.get(2).copied(),
+        held.brought.len(),
+    ))
+}
+
+#[test]
+fn equal_chunks_keep_their_local_names(rt: HostRuntime) -> Result<(), Fail> {
+    let kept = HeldPiece {
+        local: LocalName {
+            plan: 3,
+            ordinal: 0,
+        },
+        name: Some(ChunkName {
+            version: 2,
+            ordinal: 0,
+        }),
+    };
+    assert_eq!(rt; held_names(rt.alloc())?, (Some(kept), Some(local(0, 1)), 2));
+    Ok(())
+}
+
+fn main_of(alloc: Global, first: u32, last: u32) -> Result<Slots, AllocError> {
+    let mut pieces = Sequence::new(alloc);
+    pieces.push(local(3, first))?;
+    pieces.push(local(3, last))?;
+    let mut objects = Sequence::new(alloc);
+    objects.push(HeldObject { len: 128, pieces })?;
+    let content = HeldContent::Row {
+        cells: Sequence::new(alloc),
+        objects,
+    };
+    Ok(Slots {
+        main: Some(Main {
+            number: 1,
+            read: 0,
+            content,
+        }),
+        shadow: None,
+        out: None,
+        conflict: None,
+    })
+}
+
+fn first_dropped(alloc: Global) -> Result<(Option<LocalName>, usize), AllocError> {
+    let drops = dropped(alloc, &main_of(alloc, 2, 1)?, &main_of(alloc, 1, 4)?)?;
+    Ok((drops.get(0).copied(), drops.len()))
+}
+
+#[test]
+fn chunks_that_no_slot_names_are_dropped(rt: HostRuntime) -> Result<(), Fail> {
+    assert_eq!(rt; first_dropped(rt.alloc())?, (Some(local(3, 2).local), 1));
     Ok(())
 }

@@ -13,7 +13,8 @@ IsRising (entry ∷ history) = All (λ later. entry.version < later.version) his
 -- between what the client had read and the base there are its own writes alone, and earlier ones
 abbrev pub IsOwnUpToBase : Entry → ℕ → Entry → Type 0
 IsOwnUpToBase entry read before =
-    before.row ≡ entry.row → read < before.version → before.version ≤ entry.base → (before.client ≡ entry.client) × (before.number < entry.number)
+    before.row ≡ entry.row → read < before.version → before.version ≤ entry.base
+    → (before.client ≡ entry.client) × (before.number < entry.number)
 
 -- a request that a client of such a table makes
 abbrev pub RestsOn : Scheme → List Entry → Entry → ℕ → Type 0
@@ -23,4 +24,5 @@ RestsOn Eventual history entry read = (entry.base ≡ 0) ⊎ Any (IsEntryAt entr
 
 -- the client has no write on the row above this number
 abbrev pub IsLast : List Entry → Entry → ℕ × ℕ → Type 0
-IsLast history entry last = All (λ before. before.row ≡ entry.row → before.client ≡ entry.client → before.number ≤ last.0) history
+IsLast history entry last =
+    All (λ before. before.row ≡ entry.row → before.client ≡ entry.client → before.number ≤ last.0) history

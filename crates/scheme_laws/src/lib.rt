@@ -10,8 +10,8 @@ ghost use Rattle.schemes.specs.declared.decision.Decision.TheVariants.{Accept};
 ghost use Rattle.schemes.specs.Decide.{decision_of};
 ghost use Rattle.scheme_laws.specs.Requests.{IsRising, RestsOn, IsLast};
 
-/// What is accepted is an entry that the scheme allows behind the history, where versions rise along the history and the
-/// request is one that the scheme's clients make. (Does nothing: its clause is a law.)
+/// What is accepted is an entry that the scheme allows behind the history, where versions rise along the history and
+/// the request is one that the scheme's clients make. (Does nothing: its clause is a law.)
 pub fn what_is_accepted_is_allowed()
     ensures { (scheme : Scheme) (history : List Entry) (entry : Entry) (read : ℕ) (last : ℕ × ℕ)
         → IsRising history → RestsOn scheme history entry read

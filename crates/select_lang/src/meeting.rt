@@ -76,8 +76,9 @@ fn meets(predicate: &Predicate, cells: &[Cell]) -> bool
     }
 }
 
-/// Whether a row of the table meets the predicate. A deleted row meets none. Numbers compare as numbers, `false` is below
-/// `true`, and text compares by its bytes; a cell of another kind than the value, and one that isn't there, meet no test.
+/// Whether a row of the table meets the predicate. A deleted row meets none. Numbers compare as numbers, `false` is
+/// below `true`, and text compares by its bytes; a cell of another kind than the value, and one that isn't there, meet
+/// no test.
 pub fn holds(_schema: &Schema, predicate: &Predicate, content: &Content) -> bool
     ensures { result ≡ holds predicate.now content.now }
 {

@@ -46,7 +46,7 @@ written_strong slots number content pieces =
           whole = false;
           content = content;
           pieces = pieces;
-        })
+        });
       });
       tells = tell.Wrote number read ∷ [];
       sends = send.Request;

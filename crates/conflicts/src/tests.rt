@@ -84,6 +84,7 @@ impl<'s> Resolver for Deleting<'s> {
 
     ghost answers = { λ s pair answer. answer ≡ Ok (New Gone) };
 
+    #[tactic(auto, unfolding(row_value::specs::Fit::fit_of))]
     fn choose(&self, _pair: &Pair) -> Result<Choice, AllocError> {
         Ok(Choice::New(Content::Gone))
     }
@@ -98,6 +99,7 @@ fn schema_of(alloc: Global) -> Schema {
     }
 }
 
+#[tactic(auto, unfolding(row_value::specs::Fit::fit_of))]
 fn deleted(alloc: Global) -> Result<bool, AllocError> {
     let schema = schema_of(alloc);
     let pair = Pair {

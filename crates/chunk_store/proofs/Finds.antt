@@ -21,7 +21,8 @@ module _ (index : ChunkIndex) (ps : List (List ℕ)) (fit : IsIndex index ps) wh
   none_is name None is = chunk_is name None is
   none_is name (Some i) is = tt
 
-  pub some_is : (name : ChunkName) (found : Option ℕ) → found ≡ lookup (is_at (name_cmp name)) (entries_of name_cmp index.places) → IfSome found (λ i. chunk_in (chunks_of ps) name ≡ Some (bytes_at ps i))
+  pub some_is : (name : ChunkName) (found : Option ℕ) → found ≡ lookup (is_at (name_cmp name)) (entries_of name_cmp index.places)
+      → IfSome found (λ i. chunk_in (chunks_of ps) name ≡ Some (bytes_at ps i))
   some_is name None is = tt
   some_is name (Some i) is = chunk_is name (Some i) is
 

@@ -43,7 +43,8 @@ module _ (ps : List (List ℕ)) (p : List ℕ) where
 
   -- a change of a name, where n is the index of its payload
   changes : (es : List (ChunkName × ℕ)) → AllValues (IsPlace ps) es → (name : ChunkName) (w : Option (List ℕ)) → change_of p ≡ Some (name, w)
-      → (changed name_cmp (with_values (bytes_at ps) es) name w ≡ with_values (bytes_at more) (changed name_cmp es name (option_map (λ _. length ps) w))) × AllValues (IsPlace more) (changed name_cmp es name (option_map (λ _. length ps) w))
+      → (changed name_cmp (with_values (bytes_at ps) es) name w ≡ with_values (bytes_at more) (changed name_cmp es name (option_map (λ _. length ps) w)))
+      × AllValues (IsPlace more) (changed name_cmp es name (option_map (λ _. length ps) w))
   changes es places name None is = (
     ap (λ (m : List (ChunkName × List ℕ)). changed name_cmp m name None) (alike es places) ∙ sym (map_changed name_cmp (bytes_at more) es name None),
     values_changed name_cmp (IsPlace more) es name None (values_weaker (IsPlace ps) (IsPlace more) still es places) (λ v none. absurd cc),

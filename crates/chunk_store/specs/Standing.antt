@@ -45,32 +45,47 @@ abbrev pub Stays : {D : Type 0} → (D → DiskState) → ChunkDev D → ChunkDe
 Stays state old new = folded.Stays state IsIndex HasSpare old.inner new.inner
 
 -- At every moment since the old state a crash leaves chunks that have R.
-abbrev pub Leaves : {D : Type 0} → (D → DiskState) → (D → ℕ → List ℕ → Type 0) → ChunkDev D → ChunkDev D → (List (ChunkName × List ℕ) → Type 0) → Type 0
+abbrev pub Leaves : {D : Type 0} → (D → DiskState) → (D → ℕ → List ℕ → Type 0) → ChunkDev D → ChunkDev D
+    → (List (ChunkName × List ℕ) → Type 0) → Type 0
 Leaves state images old new R = vaults.Leaves state images (vault_of old) (vault_of new) (λ list. R (chunks_of list))
 
 -- ---- what the calls of a device promise of its chunks
 
-abbrev pub Formats : {D : Type 0} → (D → DiskState) → (D → ℕ → List ℕ → Type 0) → ChunkDev D → ChunkDev D → Result (Unit {0}) ChunkFault → Type 0
-Formats state images old new result = calls.Formats state images IsIndex HasSpare chunks_of fault_of old.inner new.inner old new result
+abbrev pub Formats : {D : Type 0} → (D → DiskState) → (D → ℕ → List ℕ → Type 0) → ChunkDev D → ChunkDev D
+    → Result (Unit {0}) ChunkFault → Type 0
+Formats state images old new result =
+    calls.Formats state images IsIndex HasSpare chunks_of fault_of old.inner new.inner old new result
 
-abbrev pub Looks : {D : Type 0} → (D → DiskState) → (D → ℕ → List ℕ → Type 0) → ChunkDev D → ChunkDev D → Result (Unit {0}) ChunkFault → Type 0
-Looks state images old new result = calls.Looks state images IsIndex HasSpare chunks_of fault_of old.inner new.inner old new result
+abbrev pub Looks : {D : Type 0} → (D → DiskState) → (D → ℕ → List ℕ → Type 0) → ChunkDev D → ChunkDev D
+    → Result (Unit {0}) ChunkFault → Type 0
+Looks state images old new result =
+    calls.Looks state images IsIndex HasSpare chunks_of fault_of old.inner new.inner old new result
 
 abbrev pub Restarts : {D : Type 0} → (D → DiskState) → (D → ℕ → List ℕ → Type 0) → ChunkDev D → ChunkDev D → Type 0
 Restarts state images old new = calls.Restarts state images chunks_of old.inner new.inner
 
-abbrev pub OpensWrite : {D : Type 0} → (D → DiskState) → (D → ℕ → List ℕ → Type 0) → ChunkDev D → ChunkDev D → Result (Unit {0}) ChunkFault → Type 0
-OpensWrite state images old new result = calls.OpensWrite state images IsIndex HasSpare chunks_of fault_of old.inner new.inner old new result
+abbrev pub OpensWrite : {D : Type 0} → (D → DiskState) → (D → ℕ → List ℕ → Type 0) → ChunkDev D → ChunkDev D
+    → Result (Unit {0}) ChunkFault → Type 0
+OpensWrite state images old new result =
+    calls.OpensWrite state images IsIndex HasSpare chunks_of fault_of old.inner new.inner old new result
 
-abbrev pub Reserves : {D : Type 0} → (D → DiskState) → (D → ℕ → List ℕ → Type 0) → ℕ → ℕ → ChunkDev D → ChunkDev D → Result (Unit {0}) ChunkFault → Type 0
-Reserves state images puts bytes old new result = calls.Reserves state images IsIndex HasSpare chunks_of fault_of puts bytes old.inner new.inner old new result
+abbrev pub Reserves : {D : Type 0} → (D → DiskState) → (D → ℕ → List ℕ → Type 0) → ℕ → ℕ → ChunkDev D → ChunkDev D
+    → Result (Unit {0}) ChunkFault → Type 0
+Reserves state images puts bytes old new result =
+    calls.Reserves state images IsIndex HasSpare chunks_of fault_of puts bytes old.inner new.inner old new result
 
 -- the put or drop of a payload of so many bytes, after which these are the chunks
-abbrev pub Puts : {D : Type 0} → (D → DiskState) → (D → ℕ → List ℕ → Type 0) → ℕ → List (ChunkName × List ℕ) → ChunkDev D → ChunkDev D → Result (Unit {0}) ChunkFault → Type 0
-Puts state images bytes map old new result = calls.Appends state images IsIndex HasSpare chunks_of fault_of bytes map old.inner new.inner old new result
+abbrev pub Puts : {D : Type 0} → (D → DiskState) → (D → ℕ → List ℕ → Type 0) → ℕ → List (ChunkName × List ℕ)
+    → ChunkDev D → ChunkDev D → Result (Unit {0}) ChunkFault → Type 0
+Puts state images bytes map old new result =
+    calls.Appends state images IsIndex HasSpare chunks_of fault_of bytes map old.inner new.inner old new result
 
-abbrev pub Gets : {D T : Type 0} → (D → DiskState) → (D → ℕ → List ℕ → Type 0) → ChunkDev D → ChunkDev D → Result T ChunkFault → Type 0
-Gets state images old new result = calls.Reads state images IsIndex HasSpare chunks_of fault_of old.inner new.inner old new result
+abbrev pub Gets : {D T : Type 0} → (D → DiskState) → (D → ℕ → List ℕ → Type 0) → ChunkDev D → ChunkDev D
+    → Result T ChunkFault → Type 0
+Gets state images old new result =
+    calls.Reads state images IsIndex HasSpare chunks_of fault_of old.inner new.inner old new result
 
-abbrev pub Stops : {D : Type 0} → (D → DiskState) → (D → ℕ → List ℕ → Type 0) → ℕ → ℕ → ChunkDev (FuseDisk D) → ChunkDev (FuseDisk D) → Type 0
-Stops state images count pick old new = stops.Stops state images IsIndex HasSpare chunks_of count pick old.inner new.inner
+abbrev pub Stops : {D : Type 0} → (D → DiskState) → (D → ℕ → List ℕ → Type 0) → ℕ → ℕ → ChunkDev (FuseDisk D)
+    → ChunkDev (FuseDisk D) → Type 0
+Stops state images count pick old new =
+    stops.Stops state images IsIndex HasSpare chunks_of count pick old.inner new.inner

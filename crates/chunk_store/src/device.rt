@@ -1,5 +1,6 @@
 //! The device: what its calls promise of its map.
-ghost use Rattle.std.specs.Prelude.{◌≡◌, ◌↔◌, ◌+◌, ◌*◌, ◌<◌, ◌≤◌, false, [], ℕ, List, length, None, Some, OnOk, OnErr, IfOk, IfSome, IfNone, IsErrOf, IsTrue, IsSome};
+ghost use Rattle.std.specs.Prelude.{◌≡◌, ◌↔◌, ◌+◌, ◌*◌, ◌<◌, ◌≤◌, false, [], ℕ, List, length, None, Some, OnOk, OnErr};
+ghost use Rattle.std.specs.Prelude.{IfOk, IfSome, IfNone, IsErrOf, IsTrue, IsSome};
 ghost use Rattle.std.specs.Bool.{MatchBool};
 ghost use Rattle.std.specs.BTreeMap.{insert_entry};
 ghost use Rattle.std.specs.Map.{keys_of};
@@ -9,7 +10,8 @@ ghost use Rattle.vault.specs.Standing.{payloads, disk_of, IsDown, IsUp, IsSynced
 ghost use Rattle.spare_map.specs.Late.{without};
 ghost use Rattle.chunk_store.specs.Payload.{name_cmp};
 ghost use Rattle.chunk_store.specs.Index.{IsPlace, bytes_at};
-ghost use Rattle.chunk_store.specs.Standing.{vault_of, chunks, chunk_in, IsLookedAt, IsOpened, HasRoom, Formats, Looks, Restarts, OpensWrite, Reserves, Puts, Gets};
+ghost use Rattle.chunk_store.specs.Standing.{vault_of, chunks, chunk_in, IsLookedAt, IsOpened, HasRoom, Formats, Looks};
+ghost use Rattle.chunk_store.specs.Standing.{Restarts, OpensWrite, Reserves, Puts, Gets};
 
 use crate::fault::{ChunkFault, told};
 use crate::index::ChunkIndex;
@@ -108,7 +110,8 @@ impl<D: Disk + Drop> ChunkDev<D> {
         requires version { name.version ≤ NUMBER_MAX }
         requires short { 13 + length bytes.now ≤ payload_most }
         requires room { IsUp (vault_of self.old) → HasRoom D.state self.old 0 1 (13 + length bytes.now) }
-        ensures { Puts D.state D.images (13 + length bytes.now) (insert_entry name_cmp (chunks D.state self.old) name bytes.now)
+        ensures { Puts D.state D.images (13 + length bytes.now)
+            (insert_entry name_cmp (chunks D.state self.old) name bytes.now)
             self.old self.new result }
     {
         if self.inner.is_down() {
@@ -147,7 +150,8 @@ impl<D: Disk + Drop> ChunkDev<D> {
     pub fn get(&mut self, name: ChunkName) -> Result<Bytes, ChunkFault>
         requires ready { IsUp (vault_of self.old) → IsLookedAt D.state self.old }
         ensures chunk { IfOk result (λ bytes. chunk_in (chunks D.state self.old) name ≡ Some bytes) }
-        ensures absent { IsErrOf result ChunkFault.Absent ↔ (IsUp (vault_of self.old) × (chunk_in (chunks D.state self.old) name ≡ None)) }
+        ensures absent { IsErrOf result ChunkFault.Absent
+            ↔ (IsUp (vault_of self.old) × (chunk_in (chunks D.state self.old) name ≡ None)) }
         ensures absent_unchanged { IsErrOf result ChunkFault.Absent → self.new ≡ self.old }
         ensures reads { Gets D.state D.images self.old self.new result }
     {

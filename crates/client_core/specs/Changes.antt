@@ -28,7 +28,8 @@ changed slots (changes.Write main) = record slots { main = Some main }
 changed slots (changes.Send out) = record slots { out = Some out }
 changed slots (changes.Read shadow) = record slots { shadow = Some shadow }
 changed slots (changes.Accept version) = accepted slots version slots.out
-changed slots (changes.AcceptAndRead shadow) = record { main = main_left slots.out slots.main; shadow = Some shadow; out = None }
+changed slots (changes.AcceptAndRead shadow) =
+    record { main = main_left slots.out slots.main; shadow = Some shadow; out = None }
 
 -- what stands next for a row
 abbrev pub stage_for : Option InFlight → Option Main → Stage

@@ -1,6 +1,8 @@
 //! A client's node: its calls, the messages that it takes, and what it sends and tells.
 ghost use Rattle.std.specs.Prelude.{◌≡◌, ◌<◌, ◌≤◌, [], Some, IfOk, IfErr, IsSome, OnOk, OnErr};
-ghost use Rattle.step_tables.specs.Client.{ClientTable, answered, deliver_step, opened, pull_step, pulled_in, response_in, show_step, sync_step, table_at, with_table, write_step, written};
+ghost use Rattle.step_tables.specs.Client.{ClientTable, answered, deliver_step, opened, pull_step, pulled_in};
+ghost use Rattle.step_tables.specs.Client.{response_in, show_step, sync_step, table_at, with_table, write_step};
+ghost use Rattle.step_tables.specs.Client.{written};
 ghost use Rattle.client_core.specs.Causes.{IsCause, IsWriteCause};
 ghost use Rattle.client_core.specs.NextNumber.{next_number};
 ghost use Rattle.client_core.specs.Plans.{carried_out};
@@ -51,7 +53,10 @@ impl Model for ClientNode {
 impl ClientNode {
     /// A client that has opened no table and written nothing.
     pub fn new(alloc: Global, client: ClientNo) -> ClientNode
-        ensures { result ≡ record { client = record { number = client; last = 0; tables = [] }; out = nothing_gathered } }
+        ensures { result ≡ record {
+          client = record { number = client; last = 0; tables = [] };
+          out = nothing_gathered;
+        } }
     {
         ClientNode {
             number: client,
@@ -66,7 +71,8 @@ impl ClientNode {
     /// Opens a table of this schema, at position 0 and without rows. A table of this number that is opened already is
     /// replaced.
     pub fn open(&mut self, table: TableNo, schema: &Schema) -> Result<(), AllocError>
-        ensures ok { OnOk result (self.new ≡ record self.old { client = with_table self.old.client table (opened schema.now) }) }
+        ensures ok { OnOk result (self.new
+            ≡ record self.old { client = with_table self.old.client table (opened schema.now) }) }
         ensures err { OnErr result (self.new ≡ self.old) }
     {
         let opened = OpenedTable::new(self.alloc, schema.copy()?);
@@ -87,9 +93,11 @@ impl ClientNode {
         content: &Content,
     ) -> Result<WriteNo, CallFault>
         ensures done { OnOk result (self.new ≡ stepped self.old (write_step self.old.client table row content.now)) }
-        ensures number { IfOk result (λ number. (write_step self.old.client table row content.now).answer ≡ Answer.Number number) }
+        ensures number { IfOk result (λ number. (write_step self.old.client table row content.now).answer
+            ≡ Answer.Number number) }
         ensures room { OnOk result (self.old.client.last < NUMBER_MAX) }
-        ensures causes { IfErr result (IsWriteCause self.old.client (write_step self.old.client table row content.now)) }
+        ensures causes { IfErr result (IsWriteCause self.old.client
+            (write_step self.old.client table row content.now)) }
         ensures kept { OnErr result (self.new ≡ self.old) }
     {
         let number = self.next_number(table, content)?;
@@ -103,7 +111,8 @@ impl ClientNode {
     ///
     /// `NoTable`, then `NoRow` where the row was neither written here nor read.
     pub fn read(&self, table: TableNo, row: RowId) -> Result<Shown, CallFault>
-        ensures shown { IfOk result (λ what. show_step self.now.client table row ≡ answered self.now.client (Answer.Shown what)) }
+        ensures shown { IfOk result (λ what. show_step self.now.client table row
+            ≡ answered self.now.client (Answer.Shown what)) }
         ensures causes { IfErr result (IsCause self.now.client (show_step self.now.client table row)) }
     {
         let Some(opened) = self.tables.get(&table) else {
@@ -293,7 +302,9 @@ impl ClientNode {
     }
 
     fn take_response(&mut self, response: &SyncResponse) -> Result<(), AllocError>
-        ensures ok { OnOk result (self.new ≡ stepped self.old (response_in self.old.client response.now (table_at self.old.client response.now.table))) }
+        ensures ok { OnOk result (self.new
+            ≡ stepped self.old (response_in self.old.client response.now
+            (table_at self.old.client response.now.table))) }
         ensures err { OnErr result (self.new ≡ self.old) }
     {
         let Some(opened) = self.tables.get(&response.table) else {
@@ -320,7 +331,8 @@ impl ClientNode {
     }
 
     fn take_pulled(&mut self, response: &PullResponse) -> Result<(), AllocError>
-        ensures ok { OnOk result (self.new ≡ stepped self.old (pulled_in self.old.client response.now (table_at self.old.client response.now.table))) }
+        ensures ok { OnOk result (self.new
+            ≡ stepped self.old (pulled_in self.old.client response.now (table_at self.old.client response.now.table))) }
         ensures err { OnErr result (self.new ≡ self.old) }
     {
         let Some(opened) = self.tables.get(&response.table) else {

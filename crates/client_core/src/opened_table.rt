@@ -72,8 +72,10 @@ impl OpenedTable {
 
     /// What is shown of a row. None where nothing is.
     pub(crate) fn shown(&self, row: &RowId) -> Result<Option<Shown>, AllocError>
-        ensures ok { IfOk result (λ what. what ≡ shown_in (slots_at self.now row.now).main (slots_at self.now row.now).shadow) }
-        ensures err { OnErr result (IsSome (shown_in (slots_at self.now row.now).main (slots_at self.now row.now).shadow)) }
+        ensures ok { IfOk result (λ what. what
+            ≡ shown_in (slots_at self.now row.now).main (slots_at self.now row.now).shadow) }
+        ensures err { OnErr result (IsSome
+            (shown_in (slots_at self.now row.now).main (slots_at self.now row.now).shadow)) }
     {
         Ok(match self.slots(row) {
             Some(

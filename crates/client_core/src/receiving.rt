@@ -65,7 +65,8 @@ pub(crate) fn taken(
 ) -> Result<(Change, Vec<Fact>), AllocError>
     ensures slots { IfOk result (λ made. changed (or_none (option_copied slots.entry)) made.0
         ≡ (take_header client table header.now (or_none (option_copied slots.entry))).slots) }
-    ensures facts { IfOk result (λ made. made.1.items ≡ (take_header client table header.now (or_none (option_copied slots.entry))).facts) }
+    ensures facts { IfOk result (λ made. made.1.items
+        ≡ (take_header client table header.now (or_none (option_copied slots.entry))).facts) }
 {
     let mut told = Vec::new(alloc);
     if header.version <= version_read(slots) {

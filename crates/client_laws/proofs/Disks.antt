@@ -13,7 +13,8 @@ use Rattle.table_model.specs.History.{same_row}
 use Rattle.step_tables.specs.Client.{row_cmp}
 use Rattle.step_tables.specs.Members.{Among}
 use Rattle.step_tables.specs.Sayings.{Heard}
-use Rattle.step_tables.specs.ClientMoves.{Slots, TableDisk, RowPut, Plan, ClientDisk, or_none, slots_at, slots_in, slots_of, table_at, position_in, position_of, with_table, put_row, put_position, row_put, table_put, applied}
+use Rattle.step_tables.specs.ClientMoves.{Slots, TableDisk, RowPut, Plan, ClientDisk, or_none, slots_at, slots_in, slots_of, table_at, position_in, position_of, with_table, put_row, put_position}
+use Rattle.step_tables.specs.ClientMoves.{row_put, table_put, applied}
 use Rattle.step_tables.proofs.Lists.{lookup-insert_nat, lookup-insert_row, same_row_tells}
 use Rattle.client_laws.specs.Part.{Items, Sending, RowTied, TableTied, Rising, IsOpened, Tied}
 

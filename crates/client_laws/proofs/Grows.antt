@@ -16,11 +16,13 @@ use Rattle.step_tables.specs.Client.{version_in}
 use Rattle.step_tables.specs.Facts.{Fact}
 use Rattle.step_tables.specs.Members.{Among, put, put_at}
 use Rattle.step_tables.specs.Messages.{Send, Message, SyncRequest, SyncResponse, PullRequest, PullResponse}
-use Rattle.step_tables.specs.Sayings.{row_wrote, write_of, Saying, SaysNothing, SaysWrite, SaysEntry, SaysBack, SaysAck, SaysLoss, SaysConflict, SaysResolved, SaysRead, SaysPosition, saying, RowHeard, Heard, own, own_all}
+use Rattle.step_tables.specs.Sayings.{row_wrote, write_of, Saying, SaysNothing, SaysWrite, SaysEntry, SaysBack, SaysAck, SaysLoss, SaysConflict, SaysResolved, SaysRead, SaysPosition, saying, RowHeard}
+use Rattle.step_tables.specs.Sayings.{Heard, own, own_all}
 use Rattle.step_tables.specs.ClientMoves.{Slots, Plan, ClientDisk, ClientTask, Client, seen, applied, changed, told as told_by, slots_of, position_of, top}
 use Rattle.step_tables.specs.Items.{latest, IsItemOf, IsItemAt, IsBase}
 use Rattle.step_tables.proofs.Lists.{among_left, among_cases, among_last, last_where-push, same_row_tells, find_left}
-use Rattle.client_laws.specs.Part.{Items, Sending, sendings, IsContent, Spans, IsAbove, IsOut, IsConflict, Fit, RowTied, TableTied, Tied, IsLapsed, Fits, IsPassed, IsOwn, AreOwn, IsSending, IsRequest, Requests, IsPlan, RestsOn, Rests, Runs, IsAt, ClientPart}
+use Rattle.client_laws.specs.Part.{Items, Sending, sendings, IsContent, Spans, IsAbove, IsOut, IsConflict, Fit, RowTied, TableTied, Tied, IsLapsed, Fits, IsPassed, IsOwn, AreOwn, IsSending, IsRequest}
+use Rattle.client_laws.specs.Part.{Requests, IsPlan, RestsOn, Rests, Runs, IsAt, ClientPart}
 
 -- ---- the version of a row's last item
 

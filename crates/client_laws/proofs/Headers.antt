@@ -17,7 +17,8 @@ use Rattle.step_tables.specs.Facts as facts
 use Rattle.step_tables.specs.Members.{Among, put, put_at}
 use Rattle.step_tables.specs.Messages.{Header, Pair}
 use Rattle.step_tables.specs.Sayings.{Saying, SaysAck, SaysRead, SaysConflict, SaysPosition, RowHeard, Heard, saying, write_of, row_acked, row_met, row_saw, at_row, own, own_all, open_of, open_in}
-use Rattle.step_tables.specs.ClientMoves.{Slots, TableDisk, Plan, ClientDisk, slots_at, slots_in, slots_of, table_at, position_in, position_of, applied, top, slots_plan, freed, without, shadow_of, reads_over, Placed, placed, row_placed, row_plan, position_plan, read_new, read_conflict}
+use Rattle.step_tables.specs.ClientMoves.{Slots, TableDisk, Plan, ClientDisk, slots_at, slots_in, slots_of, table_at, position_in, position_of, applied, top, slots_plan, freed, without, shadow_of}
+use Rattle.step_tables.specs.ClientMoves.{reads_over, Placed, placed, row_placed, row_plan, position_plan, read_new, read_conflict}
 use Rattle.step_tables.specs.Items.{latest, IsItemOf, IsItemAt, IsYours, IsChange}
 use Rattle.step_tables.proofs.Lists.{same_row_tells}
 use Rattle.step_tables.proofs.Maps.{place_here, place_twice, put_twice}

@@ -18,9 +18,15 @@ use Rattle.step_tables.specs.Members.{Among}
 use Rattle.step_tables.specs.Messages.{Send, Message, Luck, Response, Pulled, Header, Outcome, SyncRequest, SyncResponse, PullRequest, PullResponse}
 use Rattle.step_tables.specs.Messages as messages
 use Rattle.step_tables.specs.Sayings.{Heard, own_all}
-use Rattle.step_tables.specs.ClientMoves.{Slots, TableDisk, RowPut, Plan, ClientDisk, ClientTask, Client, Choice, Mine, Theirs, Another, ClientMove, Write, Show, Sync, Next, Resolve, Take, Work, Crash, Start, ClientStep, Keep, quiet, refused, ignored, seen, planned_in, slots_at, slots_in, slots_of, table_at, put_row, changed, applied, done, crashed, worked, told, retold, rest_of, begun, slots_plan, resumed, started, request_for, pull_from, main_of, out_of, write_plan, strong_plan, first_out, write_strong, write_by, write_free, write_idle, write_fitting, write_to, write_step, shown_in, show_answer, show_in, show_step, resent, RowOut, first_to_send, send_plan, sync_first, sync_in, sync_step, next_in, next_step, choose, over_fitting, over_plan, theirs_plan, resolve_over, resolve_in, resolve_step, ack_plan, lost_plan, outcome_taken, response_taken, response_in, row_placed, next_pull, row_plan, position_plan, top, row_taken, pulled_taken, pulled_in, take_step, client_step}
+use Rattle.step_tables.specs.ClientMoves.{Slots, TableDisk, RowPut, Plan, ClientDisk, ClientTask, Client, Choice, Mine, Theirs, Another, ClientMove, Write, Show, Sync, Next, Resolve, Take, Work}
+use Rattle.step_tables.specs.ClientMoves.{Crash, Start, ClientStep, Keep, quiet, refused, ignored, seen, planned_in, slots_at, slots_in, slots_of, table_at, put_row, changed, applied, done, crashed}
+use Rattle.step_tables.specs.ClientMoves.{worked, told, retold, rest_of, begun, slots_plan, resumed, started, request_for, pull_from, main_of, out_of, write_plan, strong_plan, first_out, write_strong}
+use Rattle.step_tables.specs.ClientMoves.{write_by, write_free, write_idle, write_fitting, write_to, write_step, shown_in, show_answer, show_in, show_step, resent, RowOut, first_to_send, send_plan}
+use Rattle.step_tables.specs.ClientMoves.{sync_first, sync_in, sync_step, next_in, next_step, choose, over_fitting, over_plan, theirs_plan, resolve_over, resolve_in, resolve_step, ack_plan, lost_plan}
+use Rattle.step_tables.specs.ClientMoves.{outcome_taken, response_taken, response_in, row_placed, next_pull, row_plan, position_plan, top, row_taken, pulled_taken, pulled_in, take_step, client_step}
 use Rattle.step_tables.specs.Items.{IsItemOf, IsChange}
-use Rattle.client_laws.specs.Part.{Items, Sending, sendings, Ours, RowTied, Tied, IsOpened, AreOwn, Requests, IsPlan, RestsOn, Rests, Runs, IsAt, ClientPart, IsRefused, IsOutcome, IsHeader, IsMessage, IsFair, ShowsRow, IsShown, IsAnswer, ClientLaw}
+use Rattle.client_laws.specs.Part.{Items, Sending, sendings, Ours, RowTied, Tied, IsOpened, AreOwn, Requests, IsPlan, RestsOn, Rests, Runs, IsAt, ClientPart, IsRefused, IsOutcome, IsHeader, IsMessage}
+use Rattle.client_laws.specs.Part.{IsFair, ShowsRow, IsShown, IsAnswer, ClientLaw}
 use Rattle.client_laws.proofs.Grows.{some_is}
 use Rattle.client_laws.proofs.Disks.{opened_by, applied_at, applied_last, put_row_slots}
 use Rattle.client_laws.proofs.PlanRuns.{own-retold, are_own-retold, rest_runs, plan_runs, told_plan}

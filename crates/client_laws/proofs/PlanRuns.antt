@@ -7,7 +7,8 @@ use Rattle.step_tables.specs.Facts.{ClientFact, Fact}
 use Rattle.step_tables.specs.Facts as facts
 use Rattle.step_tables.specs.Messages.{Send}
 use Rattle.step_tables.specs.Sayings.{client_says, saying, Heard, own, own_all}
-use Rattle.step_tables.specs.ClientMoves.{RowPut, Plan, ClientDisk, ClientTask, Commit, PutRow, PutTable, Finish, row_put, table_put, applied, planned_in, seen, changed, told, retold, row_task, table_task, rest_of}
+use Rattle.step_tables.specs.ClientMoves.{RowPut, Plan, ClientDisk, ClientTask, Commit, PutRow, PutTable, Finish, row_put, table_put, applied, planned_in, seen, changed, told, retold, row_task}
+use Rattle.step_tables.specs.ClientMoves.{table_task, rest_of}
 use Rattle.client_laws.specs.Part.{Items, Sending, sendings, Tied, AreOwn, Requests, IsPlan, RestsOn, Rests, Runs}
 use Rattle.client_laws.proofs.Disks.{Alike, tied_alike, alike_row, alike_table, alike_plan, alike_itself, row_put_plan, table_put_plan}
 

@@ -17,10 +17,12 @@ use Rattle.step_tables.specs.Facts as facts
 use Rattle.step_tables.specs.Members.{Among, put, put_at}
 use Rattle.step_tables.specs.Messages.{Send}
 use Rattle.step_tables.specs.Sayings.{RowHeard, Heard, write_of, row_wrote, row_acked, row_lost, row_met, row_resolved, row_saw, at_row, wrote, own, own_all, if_open, open_of, open_in}
-use Rattle.step_tables.specs.ClientMoves.{Slots, TableDisk, Plan, ClientDisk, slots_at, slots_in, slots_of, table_at, applied, top, told, main_of, out_of, slots_plan, write_plan, strong_plan, send_plan, ack_plan, lost_plan, over_plan, theirs_plan, RowOut, freed, without, request_for}
+use Rattle.step_tables.specs.ClientMoves.{Slots, TableDisk, Plan, ClientDisk, slots_at, slots_in, slots_of, table_at, applied, top, told, main_of, out_of, slots_plan, write_plan, strong_plan}
+use Rattle.step_tables.specs.ClientMoves.{send_plan, ack_plan, lost_plan, over_plan, theirs_plan, RowOut, freed, without, request_for}
 use Rattle.step_tables.specs.Items.{latest, IsItemOf, IsItemAt, IsBase}
 use Rattle.step_tables.proofs.Maps.{place_here, place_cases, place_twice, put_twice}
-use Rattle.client_laws.specs.Part.{Items, Sending, sendings, IsFresh, OfTable, Ours, IsContent, Spans, IsAbove, write_for, main_for, IsOut, Fit, RowTied, Tied, IsLapsed, IsPassed, IsOwn, AreOwn, IsSending, Requests, IsPlan, IsRefused}
+use Rattle.client_laws.specs.Part.{Items, Sending, sendings, IsFresh, OfTable, Ours, IsContent, Spans, IsAbove, write_for, main_for, IsOut, Fit, RowTied, Tied, IsLapsed, IsPassed, IsOwn, AreOwn}
+use Rattle.client_laws.specs.Part.{IsSending, Requests, IsPlan, IsRefused}
 use Rattle.client_laws.proofs.Grows.{some_is, added}
 use Rattle.client_laws.proofs.RowFits.{write_of-push, without_is, own_only, freed_fit, raise_fit, write_fit, strong_fit, send_fit, lost_fit, settled_fit, heard_fit, sent_fit, sent_apart_fit}
 use Rattle.client_laws.proofs.Ties.{Elsewhere, tied_row}

@@ -19,7 +19,8 @@ use Rattle.step_tables.specs.Client.{row_cmp, version_in}
 use Rattle.step_tables.specs.Members.{Among}
 use Rattle.step_tables.specs.Messages.{Send, Message, SyncRequest}
 use Rattle.step_tables.specs.Sayings.{RowHeard, Heard, write_of}
-use Rattle.step_tables.specs.ClientMoves.{Slots, TableDisk, Plan, ClientDisk, RowOut, slots_at, slots_in, slots_of, table_at, or_none, main_of, out_of, request_for, resent, to_send, or_later, first_to_send}
+use Rattle.step_tables.specs.ClientMoves.{Slots, TableDisk, Plan, ClientDisk, RowOut, slots_at, slots_in, slots_of, table_at, or_none, main_of, out_of, request_for, resent, to_send, or_later}
+use Rattle.step_tables.specs.ClientMoves.{first_to_send}
 use Rattle.step_tables.proofs.Lists.{among_left, among_here, among_next, among_cons, among_cases, same_row_tells}
 use Rattle.client_laws.specs.Part.{Items, Sending, sendings, sending_in, OfTable, Ours, write_for, IsOut, Fit, RowTied, Tied, Rising, IsSending, IsRequest, Requests}
 use Rattle.client_laws.proofs.RowFits.{sent_fit, sent_apart_fit}

@@ -1,6 +1,7 @@
--- What holds of a client c beside the items `h` of each table, what it has sent, and what its own lines say, `t`. `g` is the
--- scheme of each table.
-use Rattle.std.specs.Prelude.{◌≡◌, ◌≢◌, ◌⊎◌, ℕ, Bool, true, false, ◌+◌, ◌≤◌, ◌<◌, List, [], ◌∷◌, ◌++◌, length, map, Option, Some, None, option_map}
+-- What holds of a client c beside the items `h` of each table, what it has sent, and what its own lines say, `t`. `g`
+-- is the scheme of each table.
+use Rattle.std.specs.Prelude.{◌≡◌, ◌≢◌, ◌⊎◌, ℕ, Bool, true, false, ◌+◌, ◌≤◌, ◌<◌, List, [], ◌∷◌, ◌++◌, length, map}
+use Rattle.std.specs.Prelude.{Option, Some, None, option_map}
 use Rattle.std.specs.declared.cmp.Ordering.{Ordering}
 use Rattle.std.specs.declared.cmp.Ordering.TheVariants.{Less}
 use Rattle.row_value.specs.declared.content.Content.{Content}
@@ -15,10 +16,15 @@ use Rattle.step_tables.specs.Client.{row_cmp, version_in}
 use Rattle.step_tables.specs.Facts.{Fact, Answer, Shown}
 use Rattle.step_tables.specs.Facts as facts
 use Rattle.step_tables.specs.Members.{Among}
-use Rattle.step_tables.specs.Messages.{Request, Response, Pull, Pulled, Header, Outcome, Message, Send, SyncRequest, SyncResponse, PullRequest, PullResponse}
+use Rattle.step_tables.specs.Messages.{Request, Response, Pull, Pulled, Header, Outcome, Message, Send, SyncRequest}
+use Rattle.step_tables.specs.Messages.{SyncResponse, PullRequest, PullResponse}
 use Rattle.step_tables.specs.Messages as messages
-use Rattle.step_tables.specs.Sayings.{Saying, SaysNothing, SaysWrite, SaysEntry, SaysBack, SaysAck, SaysLoss, SaysConflict, SaysResolved, SaysRead, SaysPosition, saying, RowHeard, Heard, own, own_all, write_of, open_of, open_in}
-use Rattle.step_tables.specs.ClientMoves.{Slots, TableDisk, Plan, ClientDisk, ClientTask, Client, ClientStep, ClientMove, Take, Show, seen, applied, changed, told, slots_at, slots_of, table_at, position_of, top, shown_in}
+use Rattle.step_tables.specs.Sayings.{Saying, SaysNothing, SaysWrite, SaysEntry, SaysBack, SaysAck, SaysLoss}
+use Rattle.step_tables.specs.Sayings.{SaysConflict, SaysResolved, SaysRead, SaysPosition, saying, RowHeard, Heard, own}
+use Rattle.step_tables.specs.Sayings.{own_all, write_of, open_of, open_in}
+use Rattle.step_tables.specs.ClientMoves.{Slots, TableDisk, Plan, ClientDisk, ClientTask, Client, ClientStep}
+use Rattle.step_tables.specs.ClientMoves.{ClientMove, Take, Show, seen, applied, changed, told, slots_at, slots_of}
+use Rattle.step_tables.specs.ClientMoves.{table_at, position_of, top, shown_in}
 use Rattle.step_tables.specs.Items.{latest, IsItemOf, IsItemAt, IsBase, IsChange}
 
 -- the items of each table
@@ -54,22 +60,27 @@ pub record IsFresh (x : RowHeard) (number : ℕ) : Type 0 where
   pub conflict : x.conflict number ≡ None
 
 -- of the items of one table
-pub record OfTable (g : Scheme) (c : ℕ) (h : List Stored) (table : ℕ) (writes : List Write) (sent : List Sending) : Type 0 where
+pub record OfTable (g : Scheme) (c : ℕ) (h : List Stored) (table : ℕ) (writes : List Write)
+    (sent : List Sending) : Type 0 where
   pub first : (i : Stored) → Among h i → 1 ≤ i.entry.version
   pub up_to : (i : Stored) → Among h i → i.entry.version ≤ length h
   pub one : (i o : Stored) → Among h i → Among h o → i.entry.version ≡ o.entry.version → i ≡ o
   pub last : (i : Stored) → Among h i → i.entry.version ≤ latest h i.entry.row
-  pub over : g ≢ Eventual → (i o : Stored) → Among h i → Among h o → o.entry.row ≡ i.entry.row → o.entry.version < i.entry.version
+  pub over : g ≢ Eventual → (i o : Stored) → Among h i → Among h o → o.entry.row ≡ i.entry.row
+      → o.entry.version < i.entry.version
       → o.entry.version ≤ i.entry.base
   pub wrote : (i : Stored) → Among h i → i.entry.client ≡ c
-      → (w : Write) × (write_of i.entry.number writes ≡ Some w) × (w.table ≡ table) × (w.row ≡ i.entry.row) × (w.content ≡ i.content)
+      → (w : Write) × (write_of i.entry.number writes ≡ Some w) × (w.table ≡ table) × (w.row ≡ i.entry.row)
+      × (w.content ≡ i.content)
   pub sends : (i : Stored) → Among h i → i.entry.client ≡ c
       → Among sent (record { table = table; row = i.entry.row; number = i.entry.number; base = i.entry.base })
 
 pub record Ours (g : ℕ → Scheme) (c : ℕ) (h : Items) (sent : List Sending) (t : Heard) : Type 0 where
-  pub numbered : (n : ℕ) (w : Write) → write_of n t.writes ≡ Some w → (w.number ≡ n) × (w.client ≡ c) × (1 ≤ n) × (n ≤ length t.writes)
+  pub numbered : (n : ℕ) (w : Write) → write_of n t.writes ≡ Some w
+      → (w.number ≡ n) × (w.client ≡ c) × (1 ≤ n) × (n ≤ length t.writes)
   pub fresh : (table : ℕ) (row : List ℕ) (n : ℕ) → length t.writes < n → IsFresh (t.at table row) n
-  pub requested : (r : Sending) → Among sent r → (w : Write) × (write_of r.number t.writes ≡ Some w) × (w.table ≡ r.table) × (w.row ≡ r.row)
+  pub requested : (r : Sending) → Among sent r → (w : Write) × (write_of r.number t.writes ≡ Some w)
+      × (w.table ≡ r.table) × (w.row ≡ r.row)
   pub of_table : (table : ℕ) → OfTable (g table) c (h table) table t.writes sent
 
 -- ---- a row
@@ -78,11 +89,12 @@ pub record Ours (g : ℕ → Scheme) (c : ℕ) (h : Items) (sent : List Sending)
 abbrev pub IsContent : List Stored → List ℕ → Shadow → Type 0
 IsContent h row x = (i : Stored) × IsItemAt h row x.version i × (i.content ≡ x.content)
 
--- THE SCHEME'S RULE of a request. Causal: between its write's read position and its base the row has entries of c alone, with
--- lower numbers. Strong: both are one
+-- THE SCHEME'S RULE of a request. Causal: between its write's read position and its base the row has entries of c
+-- alone, with lower numbers. Strong: both are one
 abbrev pub Spans : Scheme → ℕ → ℕ → List Stored → List ℕ → ℕ → ℕ → Type 0
 Spans Causal c n h row read base =
-    (i : Stored) → Among h i → i.entry.row ≡ row → read < i.entry.version → i.entry.version ≤ base → (i.entry.client ≡ c) × (i.entry.number < n)
+    (i : Stored) → Among h i → i.entry.row ≡ row → read < i.entry.version → i.entry.version ≤ base
+    → (i.entry.client ≡ c) × (i.entry.number < n)
 Spans Strong c n h row read base = read ≡ base
 Spans Eventual c n h row read base = Unit {0}
 
@@ -93,14 +105,17 @@ IsAbove c h row n version =
 
 -- Main as the write that the lines tell
 abbrev pub write_for : ℕ → ℕ → List ℕ → Main → Write
-write_for c table row m = record { client = c; number = m.number; table = table; row = row; read = m.read; content = m.content }
+write_for c table row m =
+    record { client = c; number = m.number; table = table; row = row; read = m.read; content = m.content }
 
 abbrev pub main_for : Write → Main
 main_for w = record { number = w.number; read = w.read; content = w.content }
 
 -- what waits for its answer: a write over a base that isn't above Shadow's version; it has no item up to it
-pub record IsOut (g : Scheme) (c : ℕ) (h : List Stored) (table : ℕ) (row : List ℕ) (slots : Slots) (writes : List Write) (x : RowHeard) (o : InFlight) : Type 0 where
-  pub written : write_of o.number writes ≡ Some (write_for c table row (record { number = o.number; read = o.read; content = o.content }))
+pub record IsOut (g : Scheme) (c : ℕ) (h : List Stored) (table : ℕ) (row : List ℕ) (slots : Slots) (writes : List Write)
+    (x : RowHeard) (o : InFlight) : Type 0 where
+  pub written : write_of o.number writes
+      ≡ Some (write_for c table row (record { number = o.number; read = o.read; content = o.content }))
   pub low : o.base ≤ version_in slots.shadow
   pub base : IsBase h row o.base
   pub spans : Spans g c o.number h row o.read o.base
@@ -111,7 +126,8 @@ pub record IsOut (g : Scheme) (c : ℕ) (h : List Stored) (table : ℕ) (row : L
   pub order : (m : Main) → slots.main ≡ Some m → o.number ≤ m.number
 
 -- a conflict: an item above Shadow, beside a write that has no item up to it
-pub record IsConflict (g : Scheme) (c : ℕ) (h : List Stored) (row : List ℕ) (slots : Slots) (x : RowHeard) (y : Shadow) : Type 0 where
+pub record IsConflict (g : Scheme) (c : ℕ) (h : List Stored) (row : List ℕ) (slots : Slots) (x : RowHeard)
+    (y : Shadow) : Type 0 where
   pub causal : g ≡ Causal
   pub content : IsContent h row y
   pub above : version_in slots.shadow < y.version
@@ -122,24 +138,30 @@ pub record IsConflict (g : Scheme) (c : ℕ) (h : List Stored) (row : List ℕ) 
   pub idle : slots.out ≡ None
 
 -- the slots of a row beside the items, what was written and sent, and what was told as lost
-pub record Fit (g : Scheme) (c : ℕ) (h : List Stored) (table : ℕ) (row : List ℕ) (slots : Slots) (writes : List Write) (x : RowHeard) (sent : List Sending) : Type 0 where
-  pub mine : (m : Main) → slots.main ≡ Some m → (write_of m.number writes ≡ Some (write_for c table row m)) × (m.read ≤ version_in slots.shadow)
-  pub clear : (m : Main) → slots.main ≡ Some m → (x.lost m.number ≡ false) × (slots.conflict ≡ None → x.conflict m.number ≡ None)
+pub record Fit (g : Scheme) (c : ℕ) (h : List Stored) (table : ℕ) (row : List ℕ) (slots : Slots) (writes : List Write)
+    (x : RowHeard) (sent : List Sending) : Type 0 where
+  pub mine : (m : Main) → slots.main ≡ Some m → (write_of m.number writes ≡ Some (write_for c table row m))
+      × (m.read ≤ version_in slots.shadow)
+  pub clear : (m : Main) → slots.main ≡ Some m → (x.lost m.number ≡ false)
+      × (slots.conflict ≡ None → x.conflict m.number ≡ None)
   pub weak : (m : Main) → slots.main ≡ Some m → g ≢ Strong
   pub shadow : (y : Shadow) → slots.shadow ≡ Some y → IsContent h row y
   pub low : version_in slots.shadow ≤ length h
   pub out : (o : InFlight) → slots.out ≡ Some o → IsOut g c h table row slots writes x o
   pub conflict : (y : Shadow) → slots.conflict ≡ Some y → IsConflict g c h row slots x y
-  pub own : g ≡ Causal → (m : Main) → slots.main ≡ Some m → slots.conflict ≡ None → (i : Stored) → Among h i → i.entry.row ≡ row
+  pub own : g ≡ Causal → (m : Main) → slots.main ≡ Some m → slots.conflict ≡ None → (i : Stored) → Among h i
+      → i.entry.row ≡ row
       → m.read < i.entry.version → i.entry.version ≤ version_in slots.shadow → i.entry.client ≡ c
-  pub lower : (r : Sending) → Among sent r → r.table ≡ table → r.row ≡ row → (r.number ≤ length writes) × (r.base ≤ version_in slots.shadow)
+  pub lower : (r : Sending) → Among sent r → r.table ≡ table → r.row ≡ row
+      → (r.number ≤ length writes) × (r.base ≤ version_in slots.shadow)
   pub sent_out : (o : InFlight) (r : Sending) → slots.out ≡ Some o → Among sent r → r.table ≡ table → r.row ≡ row
       → (r.number ≤ o.number) × (r.number ≡ o.number → r.base ≡ o.base)
   pub unsent : (m : Main) (r : Sending) → slots.out ≡ None → slots.conflict ≡ None → slots.main ≡ Some m → Among sent r
       → r.table ≡ table → r.row ≡ row → r.number < m.number
 
 -- the slots of a row show what the lines say of it
-pub record RowTied (g : Scheme) (c : ℕ) (h : List Stored) (table : ℕ) (row : List ℕ) (slots : Slots) (writes : List Write) (x : RowHeard) (sent : List Sending) : Type 0 where
+pub record RowTied (g : Scheme) (c : ℕ) (h : List Stored) (table : ℕ) (row : List ℕ) (slots : Slots)
+    (writes : List Write) (x : RowHeard) (sent : List Sending) : Type 0 where
   pub fit : Fit g c h table row slots writes x sent
   pub main : slots.main ≡ option_map main_for (open_in g (open_of x))
   pub read : top slots.conflict slots.shadow ≡ x.read
@@ -167,28 +189,38 @@ pub record IsOpened (g : Scheme) (opened : TableDisk) : Type 0 where
 
 pub record Tied (g : ℕ → Scheme) (c : ℕ) (h : Items) (sent : List Sending) (d : ClientDisk) (t : Heard) : Type 0 where
   pub last : d.last ≡ length t.writes
-  pub rows : (table : ℕ) (row : List ℕ) → RowTied (g table) c (h table) table row (slots_of d table row) t.writes (t.at table row) sent
+  pub rows : (table : ℕ) (row : List ℕ)
+      → RowTied (g table) c (h table) table row (slots_of d table row) t.writes (t.at table row) sent
   pub tables : (table : ℕ) → TableTied (h table) table (position_of d table) t
   pub opened : (table : ℕ) (opened : TableDisk) → table_at d table ≡ Some opened → IsOpened (g table) opened
 
 -- ---- what is told and sent
 
--- a write that comes too late for good: each request of it is over an older version than the row's last, and it has no item
+-- a write that comes too late for good: each request of it is over an older version than the row's last, and it has no
+-- item
 pub record IsLapsed (c : ℕ) (h : Items) (sent : List Sending) (n : ℕ) : Type 0 where
   pub below : (r : Sending) → Among sent r → r.number ≡ n → r.base < latest (h r.table) r.row
   pub none : (table : ℕ) (i : Stored) → Among (h table) i → i.entry.client ≡ c → i.entry.number ≢ n
 
--- the item that comes next in a table is another client's, or is of a write that was told on its table and row, and, where
--- the table isn't eventual, was sent over the row's last version
-pub record Fits (g : ℕ → Scheme) (c : ℕ) (h : Items) (sent : List Sending) (t : Heard) (table : ℕ) (i : Stored) : Type 0 where
+-- the item that comes next in a table is another client's, or is of a write that was told on its table and row, and,
+-- where the table isn't eventual, was sent over the row's last version
+pub record Fits (g : ℕ → Scheme) (c : ℕ) (h : Items) (sent : List Sending) (t : Heard) (table : ℕ)
+    (i : Stored) : Type 0 where
   pub next : i.entry.version ≡ length (h table) + 1
   pub bound : (row : List ℕ) → latest (h table) row ≤ length (h table)
-  pub written : i.entry.client ≡ c → (w : Write) × (write_of i.entry.number t.writes ≡ Some w) × (w.table ≡ table) × (w.row ≡ i.entry.row)
+  pub written : i.entry.client ≡ c → (w : Write) × (write_of i.entry.number t.writes ≡ Some w) × (w.table ≡ table)
+      × (w.row ≡ i.entry.row)
   pub over : g table ≢ Eventual → i.entry.client ≡ c
-      → Among sent (record { table = table; row = i.entry.row; number = i.entry.number; base = latest (h table) i.entry.row })
+      → Among sent (record {
+        table = table;
+        row = i.entry.row;
+        number = i.entry.number;
+        base = latest (h table) i.entry.row;
+      })
 
 -- an item above the write's read position, and no item of the write, ever
-pub record IsPassed (c : ℕ) (h : Items) (sent : List Sending) (t : Heard) (n table : ℕ) (row : List ℕ) (version : ℕ) : Type 0 where
+pub record IsPassed (c : ℕ) (h : Items) (sent : List Sending) (t : Heard) (n table : ℕ) (row : List ℕ)
+    (version : ℕ) : Type 0 where
   pub write : Write
   pub written : write_of n t.writes ≡ Some write
   pub by : write.client ≡ c
@@ -204,12 +236,15 @@ abbrev pub IsOwn : (ℕ → Scheme) → ℕ → Items → List Sending → Heard
 IsOwn g c h sent t SaysNothing = Unit {0}
 IsOwn g c h sent t (SaysWrite write) =
     (write.client ≡ c)
-    × (((write.number ≡ length t.writes + 1) × (write.read ≡ (t.at write.table write.row).shadow)) ⊎ (write_of write.number t.writes ≡ Some write))
+    × (((write.number ≡ length t.writes + 1) × (write.read ≡ (t.at write.table write.row).shadow))
+    ⊎ (write_of write.number t.writes ≡ Some write))
 IsOwn g c h sent t (SaysEntry table entry) = ⊥
 IsOwn g c h sent t (SaysBack table version) = ⊥
 IsOwn g c h sent t (SaysAck client n table row version) =
-    (client ≡ c) × ((i : Stored) × IsItemOf (h table) c n row version i) × (((t.at table row).acked n ≡ true) ⊎ ((t.at table row).read ≤ version))
-IsOwn g c h sent t (SaysLoss client n table row version) = (client ≡ c) × (g table ≡ Strong) × IsPassed c h sent t n table row version
+    (client ≡ c) × ((i : Stored) × IsItemOf (h table) c n row version i)
+    × (((t.at table row).acked n ≡ true) ⊎ ((t.at table row).read ≤ version))
+IsOwn g c h sent t (SaysLoss client n table row version) =
+    (client ≡ c) × (g table ≡ Strong) × IsPassed c h sent t n table row version
 IsOwn g c h sent t (SaysConflict client n table row version) =
     (client ≡ c) × (g table ≡ Causal)
     × ((p : IsPassed c h sent t n table row version) × (p.item.entry.client ≢ c)) × ((t.at table row).read ≤ version)
@@ -254,9 +289,10 @@ Requests g c h t (send ∷ more) = IsRequest g c h t send send.message × Reques
 
 -- ---- the part
 
--- a plan whose facts may be told now, and told again then, and behind which the slots show what is said. Whether they were
--- told already isn't asked
-pub record IsPlan (g : ℕ → Scheme) (c : ℕ) (h : Items) (sent : List Sending) (d : ClientDisk) (t : Heard) (p : Plan) : Type 0 where
+-- a plan whose facts may be told now, and told again then, and behind which the slots show what is said. Whether they
+-- were told already isn't asked
+pub record IsPlan (g : ℕ → Scheme) (c : ℕ) (h : Items) (sent : List Sending) (d : ClientDisk) (t : Heard)
+    (p : Plan) : Type 0 where
   pub now : AreOwn g c h sent t (told p)
   pub again : AreOwn g c h sent (own_all t (told p)) (told p)
   pub same : own_all (own_all t (told p)) (told p) ≡ own_all t (told p)
@@ -270,8 +306,8 @@ RestsOn g c h sent d t (Some p) = IsPlan g c h sent d t p
 abbrev pub Rests : (ℕ → Scheme) → ℕ → Items → List Sending → ClientDisk → Heard → Type 0
 Rests g c h sent d t = RestsOn g c h sent d t d.plan
 
--- an agenda that goes well from here: the client shows what its lines say; a crash may come before the write at its head or
--- behind it; what it tells and sends is so, and the rest goes well from there
+-- an agenda that goes well from here: the client shows what its lines say; a crash may come before the write at its
+-- head or behind it; what it tells and sends is so, and the rest goes well from there
 abbrev pub Runs : (ℕ → Scheme) → ℕ → Items → List Sending → ClientDisk → Heard → List ClientTask → Type 0
 Runs g c h sent d t [] = Tied g c h sent d t × (d.plan ≡ None)
 Runs g c h sent d t (task ∷ more) =
@@ -323,7 +359,8 @@ IsFair g c h sent other = Unit {0}
 -- an answer that shows a row shows what slots do that are tied to the lines; so does one that nothing is shown
 abbrev pub ShowsRow : (ℕ → Scheme) → ℕ → Items → List Sending → Heard → ℕ → List ℕ → Option Shown → Type 0
 ShowsRow g c h sent t table row what =
-    (slots : Slots) × RowTied (g table) c (h table) table row slots t.writes (t.at table row) sent × (what ≡ shown_in slots.main slots.conflict slots.shadow)
+    (slots : Slots) × RowTied (g table) c (h table) table row slots t.writes (t.at table row) sent
+    × (what ≡ shown_in slots.main slots.conflict slots.shadow)
 
 abbrev pub IsShown : (ℕ → Scheme) → ℕ → Items → List Sending → Heard → ℕ → List ℕ → Answer → Type 0
 IsShown g c h sent t table row (facts.Shows what) = ShowsRow g c h sent t table row (Some what)
@@ -334,7 +371,8 @@ abbrev pub IsAnswer : (ℕ → Scheme) → ℕ → Items → List Sending → He
 IsAnswer g c h sent t (Show table row) answer = IsShown g c h sent t table row answer
 IsAnswer g c h sent t other answer = Unit {0}
 
-pub record ClientLaw (g : ℕ → Scheme) (c : ℕ) (h : Items) (sent : List Sending) (t : Heard) (move : ClientMove) (s : ClientStep) : Type 0 where
+pub record ClientLaw (g : ℕ → Scheme) (c : ℕ) (h : Items) (sent : List Sending) (t : Heard) (move : ClientMove)
+    (s : ClientStep) : Type 0 where
   pub answer : IsAnswer g c h sent t move s.answer
   pub facts : AreOwn g c h sent t s.facts
   pub sends : Requests g c h (own_all t s.facts) s.sends

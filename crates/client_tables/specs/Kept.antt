@@ -15,7 +15,8 @@ use Rattle.held_value.specs.declared.tell.Tell.TheVariants as tell
 use Rattle.client_tables.specs.declared.change.Change.{Change}
 use Rattle.client_tables.specs.declared.resolving.HeldChoice.{HeldChoice}
 use Rattle.client_tables.specs.Change.{after, version_in}
-use Rattle.client_tables.specs.Transitions.{written, written_strong, can_send, sent, answered, is_eventual, taken, resolved}
+use Rattle.client_tables.specs.Transitions.{written, written_strong, can_send, sent, answered, is_eventual, taken}
+use Rattle.client_tables.specs.Transitions.{resolved}
 
 -- what comes to a row
 pub data SlotEvent : Type 0 where

@@ -1,7 +1,9 @@
 ghost use Rattle.std.specs.Prelude.{◌≡◌, ◌&&◌, not, OnOk, IfOk, map};
 ghost use Rattle.std.specs.List.Sorted.{IsStrictlySortedBy};
 ghost use Rattle.held_value.specs.declared.local_name.LocalName.{LocalName};
-ghost use Rattle.client_tables.specs.Drops.{is_among, names_in, names_of, names_of_pieces, names_of_objects, names_of_main, names_of_shadow, names_of_out, Notes, Forgets, has, pair_cmp, pair_of};
+ghost use Rattle.client_tables.specs.Drops.{is_among, names_in, names_of, names_of_pieces, names_of_objects};
+ghost use Rattle.client_tables.specs.Drops.{names_of_main, names_of_shadow, names_of_out, Notes, Forgets, has};
+ghost use Rattle.client_tables.specs.Drops.{pair_cmp, pair_of};
 
 use held_value::{
     HeldContent, HeldObject, HeldPiece, LocalName, LocalNames, Main, Out, Shadow, Slots,

@@ -1,6 +1,7 @@
 ghost use Rattle.std.specs.Prelude.{◌≡◌, IfOk};
 ghost use Rattle.client_tables.specs.Change.{seen_in};
-ghost use Rattle.client_tables.specs.Transitions.{acknowledged, read_row, number_in, in_conflict, is_eventual, is_read, taken};
+ghost use Rattle.client_tables.specs.Transitions.{acknowledged, read_row, number_in, in_conflict, is_eventual, is_read};
+ghost use Rattle.client_tables.specs.Transitions.{taken};
 
 use crate::change::{Change, Sending, one_tell, unchanged};
 use crate::response::without;

@@ -3,7 +3,8 @@ ghost use Rattle.std.specs.Prelude.{◌≡◌, ◌≤◌};
 ghost use Rattle.row_value.specs.declared.schema.Scheme.{Scheme};
 ghost use Rattle.held_value.specs.declared.slots.Slots.{Slots};
 ghost use Rattle.client_tables.specs.Change.{version_in, seen_in};
-ghost use Rattle.client_tables.specs.Kept.{SlotEvent, change_of, slots_behind, IsInOrder, MayCome, StaysOpen, StaysSent};
+ghost use Rattle.client_tables.specs.Kept.{SlotEvent, change_of, slots_behind, IsInOrder, MayCome, StaysOpen};
+ghost use Rattle.client_tables.specs.Kept.{StaysSent};
 
 /// A row in conflict is newer than the one that was read, a write that waits rests on what was read or on an earlier
 /// version, and none waits in a conflict, where one is open. (Does nothing: its clause is a law.)

@@ -1,5 +1,6 @@
 ghost use Rattle.std.specs.Prelude.{◌≡◌, IfOk, ◌<◌, ◌^◌, length, take, drop};
-ghost use Rattle.client_tables.specs.Names.{name_at, named_piece, named_pieces, named_object, named_objects, named, fresh_from};
+ghost use Rattle.client_tables.specs.Names.{name_at, named_piece, named_pieces, named_object, named_objects, named};
+ghost use Rattle.client_tables.specs.Names.{fresh_from};
 
 use held_value::{HeldContent, HeldObject, HeldObjects, HeldPiece, HeldPieces};
 use row_value::{Piece, Pieces};

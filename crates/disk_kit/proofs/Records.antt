@@ -23,7 +23,8 @@ rewind-more (c ∷ calls) pool more held all =
     ∙ ap (λ (l : List ℕ). undo c l (rewind calls (drop (share c) pool ++ more) held)) (take-append-le (share c) pool more le)
     ∙ ap (λ (h : Held). undo c (take (share c) pool) h) (rewind-more calls (drop (share c) pool) more held left)
 
-rewind-push : (calls : List Call) (pool : List ℕ) (call : Call) (saved : List ℕ) (held : Held) → used calls ≡ length pool → share call ≡ length saved → rewind (calls ++ call ∷ []) (pool ++ saved) held ≡ rewind calls pool (undo call saved held)
+rewind-push : (calls : List Call) (pool : List ℕ) (call : Call) (saved : List ℕ) (held : Held) → used calls ≡ length pool → share call ≡ length saved
+    → rewind (calls ++ call ∷ []) (pool ++ saved) held ≡ rewind calls pool (undo call saved held)
 rewind-push [] [] call saved held all fits = ap (λ (l : List ℕ). undo call l held) (take_all (share call) saved (omega arith))
 rewind-push [] (x ∷ pool) call saved held all fits = absurd (omega arith)
 rewind-push (c ∷ calls) pool call saved held all fits =
@@ -42,7 +43,8 @@ noted-more p (c ∷ calls) pool more held all =
     ∙ ap (λ (h : Held). noted (note c h p) calls (drop (share c) pool ++ more) held) (rewind-more calls (drop (share c) pool) more held left)
     ∙ noted-more (note c (rewind calls (drop (share c) pool) held) p) calls (drop (share c) pool) more held left
 
-noted-push : (p : Pending) (calls : List Call) (pool : List ℕ) (call : Call) (saved : List ℕ) (held : Held) → used calls ≡ length pool → share call ≡ length saved → noted p (calls ++ call ∷ []) (pool ++ saved) held ≡ note call held (noted p calls pool (undo call saved held))
+noted-push : (p : Pending) (calls : List Call) (pool : List ℕ) (call : Call) (saved : List ℕ) (held : Held) → used calls ≡ length pool → share call ≡ length saved
+    → noted p (calls ++ call ∷ []) (pool ++ saved) held ≡ note call held (noted p calls pool (undo call saved held))
 noted-push p [] pool call saved held all fits = refl
 noted-push p (c ∷ calls) pool call saved held all fits =
     let le : share c ≤ length pool = omega arith in
@@ -104,7 +106,8 @@ module _ (calls : List Call) (pool : List ℕ) (held : Held) (calls' : List Call
       ap (λ (cs : List Call). noted (settled []) (take k calls') pool' (rewind cs (drop (used (take k calls')) pool') held')) (drop_all k calls' (omega (arith, length_pushed)))
       ∙ ap (λ (cs : List Call). noted (settled []) cs pool' held') (take_all k calls' (omega (arith, length_pushed)))
 
-  pub pushed_elapses : (old new : DiskState) → old.moment ≡ length calls → new.moment ≡ length calls' → new.pending ≡ noted (settled []) calls' pool' held' → Elapses old new (LeftSince calls pool held) (LeftSince calls' pool' held')
+  pub pushed_elapses : (old new : DiskState) → old.moment ≡ length calls → new.moment ≡ length calls' → new.pending ≡ noted (settled []) calls' pool' held'
+      → Elapses old new (LeftSince calls pool held) (LeftSince calls' pool' held')
   pushed_elapses old new was is pending = record {
     later = omega (arith, length_pushed);
     nothing_else = λ t image le left. elim (cases_lt (length calls) left.0) [

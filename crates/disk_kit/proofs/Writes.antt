@@ -6,7 +6,8 @@ use Rattle.disk_trait.specs.Image.{Pending, IsImage, is_loose, settled, touched,
 use Rattle.disk_kit.specs.Record.{covered}
 
 -- with the bytes that it overwrote a write is undone
-pub undo_write : (bytes more : List ℕ) (at : ℕ) → at ≤ length bytes → take at (overwritten bytes at more) ++ (covered at (length more) bytes ++ drop (at + length more) (overwritten bytes at more)) ≡ bytes
+pub undo_write : (bytes more : List ℕ) (at : ℕ) → at ≤ length bytes
+    → take at (overwritten bytes at more) ++ (covered at (length more) bytes ++ drop (at + length more) (overwritten bytes at more)) ≡ bytes
 undo_write bytes more at le =
     same_lists _ bytes (search (arith, rules, places)) (λ k d lt. grind (arith, places))
 

@@ -24,7 +24,8 @@ used (call ∷ calls) = share call + used calls
 
 -- what was held before the call
 abbrev pub undo : Call → List ℕ → Held → Held
-undo (Write at count over before) saved held = record { bytes = take at held.bytes ++ (saved ++ drop (at + count) held.bytes); len = before }
+undo (Write at count over before) saved held =
+    record { bytes = take at held.bytes ++ (saved ++ drop (at + count) held.bytes); len = before }
 undo (Cut before) saved held = record { bytes = held.bytes; len = before }
 undo Sync saved held = held
 
@@ -42,7 +43,8 @@ note Sync held pending = settled (file_of held)
 -- what a crash may leave after these calls
 abbrev pub noted : Pending → List Call → List ℕ → Held → Pending
 noted pending [] pool held = pending
-noted pending (call ∷ calls) pool held = noted (note call (rewind calls (drop (share call) pool) held) pending) calls (drop (share call) pool) held
+noted pending (call ∷ calls) pool held =
+    noted (note call (rewind calls (drop (share call) pool) held) pending) calls (drop (share call) pool) held
 
 -- after the first k calls
 abbrev pub held_at : List Call → List ℕ → Held → ℕ → Held
@@ -53,7 +55,8 @@ pending_at calls pool held k = noted (settled []) (take k calls) pool (held_at c
 
 -- a crash after the t-th call or later might have left this
 abbrev pub LeftSince : List Call → List ℕ → Held → ℕ → List ℕ → Type 0
-LeftSince calls pool held t image = (k : ℕ) × (t ≤ k) × (k ≤ length calls) × IsImage (pending_at calls pool held k) image
+LeftSince calls pool held t image = (k : ℕ) × (t ≤ k) × (k ≤ length calls)
+    × IsImage (pending_at calls pool held k) image
 
 -- what a write of so many bytes overwrites
 abbrev pub covered : ℕ → ℕ → List ℕ → List ℕ

@@ -54,7 +54,8 @@ impl MemDepot {
 impl Depot for MemDepot {
     type Disk = MemDisk;
 
-    ghost use Rattle.std.specs.Prelude.{◌+◌, ◌-◌, ◌^◌, ◌==◌, ◌||◌, [], None, Some, Contains, min, IfOk, OnOk, OnErr, IsErrOf};
+    ghost use Rattle.std.specs.Prelude.{◌+◌, ◌-◌, ◌^◌, ◌==◌, ◌||◌, [], None, Some, Contains, min, IfOk, OnOk, OnErr};
+    ghost use Rattle.std.specs.Prelude.{IsErrOf};
     ghost use Rattle.disk_trait.specs.Image.{settled};
     ghost use Rattle.disk_trait.specs.Calls.{IsCounted};
     ghost use Rattle.disk_trait.specs.Depots.{Tells};
@@ -69,11 +70,14 @@ impl Depot for MemDepot {
         requires { (depot_state self.old).is_out number ≡ false }
         ensures empty { IfOk result (λ disk. (memory_state disk).seen ≡ []) }
         ensures listed { IsErrOf result DepotFault.Failed → Contains (failing_of self.old) (asked_of self.old) }
-        ensures not_listed { OnOk result (Contains (failing_of self.old) (asked_of self.old) → (depot_state self.old).faults + 1 ≡ 2 ^ 64) }
+        ensures not_listed { OnOk result (Contains (failing_of self.old) (asked_of self.old)
+            → (depot_state self.old).faults + 1 ≡ 2 ^ 64) }
         ensures asked { OnOk result (asked_of self.new ≡ min (asked_of self.old + 1) (2 ^ 64 - 1)) }
-        ensures failed_asked { IsErrOf result DepotFault.Failed → asked_of self.new ≡ min (asked_of self.old + 1) (2 ^ 64 - 1) }
+        ensures failed_asked { IsErrOf result DepotFault.Failed
+            → asked_of self.new ≡ min (asked_of self.old + 1) (2 ^ 64 - 1) }
         ensures not_asked { IsErrOf result DepotFault.Memory → asked_of self.new ≡ asked_of self.old }
-        ensures out { OnOk result ((k : ℕ) → (depot_state self.new).is_out k ≡ ((k == number) || (depot_state self.old).is_out k)) }
+        ensures out { OnOk result ((k : ℕ) → (depot_state self.new).is_out k
+            ≡ ((k == number) || (depot_state self.old).is_out k)) }
         ensures told { OnOk result (Tells (Some (disk_back self.old)) (Some (disk_back self.new)) number None) }
         ensures no_faults { IfOk result (λ disk. (memory_state disk).faults ≡ 0) }
         ensures durable { IfOk result (λ disk. (memory_state disk).pending ≡ settled (memory_state disk).seen) }

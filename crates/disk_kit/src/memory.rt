@@ -43,7 +43,9 @@ pub struct MemDisk {
     ghost kept: { IsKept calls.items pool.items (record { bytes = bytes.items; len = len }) },
     ghost short: { length bytes.items ≤ 2 ^ 60 },
     ghost place: { is_settled ≡ false → vec_len calls < vec_capacity calls },
-    ghost all_synced: { is_settled ≡ true → noted (settled []) calls.items pool.items (record { bytes = bytes.items; len = len }) ≡ settled (take len bytes.items) },
+    ghost all_synced: { is_settled ≡ true
+        → noted (settled []) calls.items pool.items (record { bytes = bytes.items; len = len })
+        ≡ settled (take len bytes.items) },
 }
 
 impl MemDisk {
@@ -149,9 +151,11 @@ impl Disk for MemDisk {
         ensures landed { (memory_state self.new).seen ≡ (memory_state self.old).seen }
         ensures image { IsImage (memory_state self.old).pending (memory_state self.new).seen }
         ensures settled { (memory_state self.new).pending ≡ settled (memory_state self.new).seen }
-        ensures unchanged { (memory_state self.old).pending ≡ settled (memory_state self.old).seen → (memory_state self.new).seen ≡ (memory_state self.old).seen }
+        ensures unchanged { (memory_state self.old).pending ≡ settled (memory_state self.old).seen
+            → (memory_state self.new).seen ≡ (memory_state self.old).seen }
         ensures spent { Spends 1 0 (memory_state self.old) (memory_state self.new) }
-        ensures time { Elapses (memory_state self.old) (memory_state self.new) (memory_images self.old) (memory_images self.new) }
+        ensures time { Elapses (memory_state self.old) (memory_state self.new) (memory_images self.old)
+            (memory_images self.new) }
         ensures faults { (memory_state self.new).faults ≡ (memory_state self.old).faults }
         ensures stops { (memory_state self.new).stops ≡ (memory_state self.old).stops }
         ensures disarmed { (memory_state self.new).is_armed ≡ false }

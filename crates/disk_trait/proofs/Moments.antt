@@ -34,7 +34,8 @@ module _ {D : Type 0} (state : D → DiskState) (images : D → ℕ → List ℕ
   }
 
   -- a write or a cut, and a sync
-  pub two_calls : ((disk : D) (image : List ℕ) → images disk (state disk).moment image → IsImage (state disk).pending image) → (old mid new : D) (limit : Pending) → LeavesLess (state old).pending limit
+  pub two_calls : ((disk : D) (image : List ℕ) → images disk (state disk).moment image → IsImage (state disk).pending image) → (old mid new : D) (limit : Pending)
+      → LeavesLess (state old).pending limit
       → Elapses (state old) (state mid) (images old) (images mid) → LeavesLess (state mid).pending limit
       → Elapses (state mid) (state new) (images mid) (images new) → LeavesLess (state new).pending (state mid).pending → LeavesOnly state images old new (IsImage limit)
   two_calls only_now old mid new limit at_first time at_mid time' at_last =

@@ -23,7 +23,8 @@ pub record DiskState : Type 0 where
 -- Time goes on: a crash since t may leave what it might have left before, or what it may leave now.
 pub record Elapses (old new : DiskState) (past since : ℕ → List ℕ → Type 0) : Type 0 where
   pub later : old.moment ≤ new.moment
-  pub nothing_else : (t : ℕ) (image : List ℕ) → t ≤ old.moment → since t image → past t image ⊎ IsImage new.pending image
+  pub nothing_else : (t : ℕ) (image : List ℕ) → t ≤ old.moment → since t image
+      → past t image ⊎ IsImage new.pending image
   pub keeps : (t : ℕ) (image : List ℕ) → t ≤ old.moment → past t image → since t image
 
 -- the count of faults rises where the call fails, and else it stands
@@ -49,7 +50,8 @@ pub record Burns {T E : Type 0} (calls : ℕ) (old new : DiskState) (result : Re
   pub one : new.stops ≤ old.stops + 1
   pub unarmed : old.is_armed ≡ false → (new.is_armed ≡ false) × (new.stops ≡ old.stops)
   pub passed : old.is_armed ≡ true → calls ≤ old.passes → new.stops ≡ old.stops
-  pub passes_left : old.is_armed ≡ true → calls ≤ old.passes → OnOk result ((new.is_armed ≡ true) × (new.passes + calls ≡ old.passes) × (new.pick ≡ old.pick))
+  pub passes_left : old.is_armed ≡ true → calls ≤ old.passes
+      → OnOk result ((new.is_armed ≡ true) × (new.passes + calls ≡ old.passes) × (new.pick ≡ old.pick))
   pub stopped : old.is_armed ≡ true → old.passes < calls → OnOk result ⊥
 
 -- only the room and the faults may differ
@@ -66,7 +68,8 @@ pub record SameFile (old new : DiskState) : Type 0 where
   pub pick : new.pick ≡ old.pick
 
 -- a crash at any moment since old leaves a file that has P
-pub record LeavesOnly {D : Type 0} (state : D → DiskState) (images : D → ℕ → List ℕ → Type 0) (old new : D) (P : List ℕ → Type 0) : Type 0 where
+pub record LeavesOnly {D : Type 0} (state : D → DiskState) (images : D → ℕ → List ℕ → Type 0) (old new : D) (P : List ℕ
+    → Type 0) : Type 0 where
   pub later : (state old).moment ≤ (state new).moment
   pub each : (image : List ℕ) → images new (state old).moment image → P image
   -- for a run that began earlier

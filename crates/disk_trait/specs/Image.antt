@@ -1,5 +1,6 @@
 -- What a crash may leave of a file.
-use Rattle.std.specs.Prelude.{◌≡◌, ℕ, ◌+◌, ◌<◌, ◌≤◌, max, min, Bool, false, ◌||◌, ◌&&◌, nat_le, nat_lt, List, [], ◌∷◌, ◌++◌, length, take, drop, slice_index}
+use Rattle.std.specs.Prelude.{◌≡◌, ℕ, ◌+◌, ◌<◌, ◌≤◌, max, min, Bool, false, ◌||◌, ◌&&◌, nat_le, nat_lt, List, [], ◌∷◌}
+use Rattle.std.specs.Prelude.{◌++◌, length, take, drop, slice_index}
 
 -- what was done since the last sync that succeeded
 pub record Pending : Type 0 where
@@ -20,7 +21,8 @@ is_loose (range ∷ ranges) k = (nat_le range.0 k && nat_lt k (range.0 + range.1
 pub record IsImage (pending : Pending) (image : List ℕ) : Type 0 where
   pub no_shorter : pending.least ≤ length image
   pub no_longer : length image ≤ pending.greatest
-  pub stays : (k : ℕ) → k < pending.least → is_loose pending.ranges k ≡ false → slice_index image k ≡ slice_index pending.synced k
+  pub stays : (k : ℕ) → k < pending.least → is_loose pending.ranges k ≡ false
+      → slice_index image k ≡ slice_index pending.synced k
 
 -- all that stands there is on the disk
 abbrev pub settled : List ℕ → Pending
@@ -28,11 +30,23 @@ settled bytes = record { synced = bytes; least = length bytes; greatest = length
 
 -- after a write of so many bytes there, or of a part of them
 abbrev pub touched : ℕ → ℕ → Pending → Pending
-touched at count pending = record { synced = pending.synced; least = pending.least; greatest = max pending.greatest (at + count); ranges = (at, count) ∷ pending.ranges }
+touched at count pending =
+    record {
+      synced = pending.synced;
+      least = pending.least;
+      greatest = max pending.greatest (at + count);
+      ranges = (at, count) ∷ pending.ranges;
+    }
 
 -- after a cut to this length
 abbrev pub shortened : ℕ → Pending → Pending
-shortened len pending = record { synced = pending.synced; least = min pending.least len; greatest = pending.greatest; ranges = pending.ranges }
+shortened len pending =
+    record {
+      synced = pending.synced;
+      least = min pending.least len;
+      greatest = pending.greatest;
+      ranges = pending.ranges;
+    }
 
 -- the file with these bytes at this offset
 abbrev pub overwritten : List ℕ → ℕ → List ℕ → List ℕ

@@ -118,7 +118,8 @@ pub trait Disk {
     fn restart(&mut self, pick: u64)
         ensures image { IsImage (state self.old).pending (state self.new).seen }
         ensures settled { (state self.new).pending ≡ settled (state self.new).seen }
-        ensures unchanged { (state self.old).pending ≡ settled (state self.old).seen → (state self.new).seen ≡ (state self.old).seen }
+        ensures unchanged { (state self.old).pending ≡ settled (state self.old).seen
+            → (state self.new).seen ≡ (state self.old).seen }
         ensures spent { Spends 1 0 (state self.old) (state self.new) }
         ensures time { Elapses (state self.old) (state self.new) (images self.old) (images self.new) }
         ensures faults { (state self.new).faults ≡ (state self.old).faults }
@@ -126,10 +127,12 @@ pub trait Disk {
         ensures disarmed { (state self.new).is_armed ≡ false };
 
     /// This moment is one of those since an earlier one.
-    ghost counts_now: { (disk : Self) (t : ℕ) (image : List ℕ) → t ≤ (state disk).moment → IsImage (state disk).pending image → images disk t image };
+    ghost counts_now: { (disk : Self) (t : ℕ) (image : List ℕ) → t ≤ (state disk).moment
+        → IsImage (state disk).pending image → images disk t image };
 
     /// Since this moment there is no other.
-    ghost only_now: { (disk : Self) (image : List ℕ) → images disk (state disk).moment image → IsImage (state disk).pending image };
+    ghost only_now: { (disk : Self) (image : List ℕ) → images disk (state disk).moment image
+        → IsImage (state disk).pending image };
 
     /// A crash may leave what a read gives.
     ghost seen_left: { (disk : Self) → IsImage (state disk).pending (state disk).seen };

@@ -27,10 +27,14 @@ pub struct FuseDisk<D: Disk> {
 // The setting and the stops after one call. It answers how many bytes of a write land, if the call is stopped.
 fn burn(setting: &mut FuseSetting, stops: &mut u64) -> Option<u64>
     ensures passed { IsNone result → stops.new ≡ stops.old }
-    ensures unarmed { IsNone result → is_armed_at setting.old stops.old ≡ false → is_armed_at setting.new stops.new ≡ false }
-    ensures armed { IsNone result → is_armed_at setting.old stops.old ≡ true → is_armed_at setting.new stops.new ≡ true }
-    ensures one_less { IsNone result → is_armed_at setting.old stops.old ≡ true → passes_left setting.new + 1 ≡ passes_left setting.old }
-    ensures kept { IsNone result → is_armed_at setting.old stops.old ≡ true → landing setting.new ≡ landing setting.old }
+    ensures unarmed { IsNone result → is_armed_at setting.old stops.old ≡ false
+        → is_armed_at setting.new stops.new ≡ false }
+    ensures armed { IsNone result → is_armed_at setting.old stops.old ≡ true
+        → is_armed_at setting.new stops.new ≡ true }
+    ensures one_less { IsNone result → is_armed_at setting.old stops.old ≡ true
+        → passes_left setting.new + 1 ≡ passes_left setting.old }
+    ensures kept { IsNone result → is_armed_at setting.old stops.old ≡ true
+        → landing setting.new ≡ landing setting.old }
     ensures stopped { IfSome result (λ landed. stops.new ≡ stops.old + 1) }
     ensures was_armed { IfSome result (λ landed. is_armed_at setting.old stops.old ≡ true) }
     ensures none_left { IfSome result (λ landed. passes_left setting.old ≡ 0) }
@@ -88,7 +92,8 @@ impl<D: Disk> FuseDisk<D> {
         ensures armed { IsArmed calls pick (behind D.state self.old) (behind D.state self.new) }
         ensures inner { inner_of self.new ≡ inner_of self.old }
         ensures setting { setting_of self.new ≡ FuseSetting.Set calls pick }
-        ensures time { Elapses (behind D.state self.old) (behind D.state self.new) (D.images (inner_of self.old)) (D.images (inner_of self.new)) }
+        ensures time { Elapses (behind D.state self.old) (behind D.state self.new) (D.images (inner_of self.old))
+            (D.images (inner_of self.new)) }
     {
         self.setting = FuseSetting::Set {
             passes: calls,
@@ -136,15 +141,22 @@ impl<D: Disk> Disk for FuseDisk<D> {
         requires room { at + length bytes.now ≤ (behind D.state self.old).room }
         requires calls { 0 < (behind D.state self.old).calls }
         requires bytes { length bytes.now ≤ (behind D.state self.old).bytes }
-        ensures written { OnOk result ((behind D.state self.new).seen ≡ overwritten (behind D.state self.old).seen at bytes.now) }
-        ensures crash { LeavesLess (behind D.state self.new).pending (touched at (length bytes.now) (behind D.state self.old).pending) }
+        ensures written { OnOk result ((behind D.state self.new).seen
+            ≡ overwritten (behind D.state self.old).seen at bytes.now) }
+        ensures crash { LeavesLess (behind D.state self.new).pending
+            (touched at (length bytes.now) (behind D.state self.old).pending) }
         ensures spent { Spends 1 (length bytes.now) (behind D.state self.old) (behind D.state self.new) }
-        ensures time { Elapses (behind D.state self.old) (behind D.state self.new) (D.images (inner_of self.old)) (D.images (inner_of self.new)) }
+        ensures time { Elapses (behind D.state self.old) (behind D.state self.new) (D.images (inner_of self.old))
+            (D.images (inner_of self.new)) }
         ensures cause { HasCause (behind D.state self.old) (behind D.state self.new) result }
         ensures fuse { Burns 1 (behind D.state self.old) (behind D.state self.new) result }
-        ensures lands { Stops (behind D.state self.old) → setting_of self.old ≢ FuseSetting.Blown → (D.state (inner_of self.new)).faults ≡ (D.state (inner_of self.old)).faults → (behind D.state self.new).seen ≡ overwritten (behind D.state self.old).seen at (take (landing (setting_of self.old)) bytes.now) }
+        ensures lands { Stops (behind D.state self.old) → setting_of self.old ≢ FuseSetting.Blown
+            → (D.state (inner_of self.new)).faults ≡ (D.state (inner_of self.old)).faults
+            → (behind D.state self.new).seen ≡ overwritten (behind D.state self.old).seen at
+            (take (landing (setting_of self.old)) bytes.now) }
         ensures blown { Stops (behind D.state self.old) → setting_of self.new ≡ FuseSetting.Blown }
-        ensures nothing_more { Stops (behind D.state self.old) → setting_of self.old ≡ FuseSetting.Blown → inner_of self.new ≡ inner_of self.old }
+        ensures nothing_more { Stops (behind D.state self.old) → setting_of self.old ≡ FuseSetting.Blown
+            → inner_of self.new ≡ inner_of self.old }
     {
         match burn(&mut self.setting, &mut self.stops) {
             None => self.inner.write_at(at, bytes),
@@ -163,7 +175,8 @@ impl<D: Disk> Disk for FuseDisk<D> {
         ensures cut { OnOk result ((behind D.state self.new).seen ≡ take len (behind D.state self.old).seen) }
         ensures crash { LeavesLess (behind D.state self.new).pending (shortened len (behind D.state self.old).pending) }
         ensures spent { Spends 1 0 (behind D.state self.old) (behind D.state self.new) }
-        ensures time { Elapses (behind D.state self.old) (behind D.state self.new) (D.images (inner_of self.old)) (D.images (inner_of self.new)) }
+        ensures time { Elapses (behind D.state self.old) (behind D.state self.new) (D.images (inner_of self.old))
+            (D.images (inner_of self.new)) }
         ensures cause { HasCause (behind D.state self.old) (behind D.state self.new) result }
         ensures fuse { Burns 1 (behind D.state self.old) (behind D.state self.new) result }
         ensures blown { Stops (behind D.state self.old) → setting_of self.new ≡ FuseSetting.Blown }
@@ -181,7 +194,8 @@ impl<D: Disk> Disk for FuseDisk<D> {
         ensures durable { OnOk result ((behind D.state self.new).pending ≡ settled (behind D.state self.old).seen) }
         ensures crash { LeavesLess (behind D.state self.new).pending (behind D.state self.old).pending }
         ensures spent { Spends 1 0 (behind D.state self.old) (behind D.state self.new) }
-        ensures time { Elapses (behind D.state self.old) (behind D.state self.new) (D.images (inner_of self.old)) (D.images (inner_of self.new)) }
+        ensures time { Elapses (behind D.state self.old) (behind D.state self.new) (D.images (inner_of self.old))
+            (D.images (inner_of self.new)) }
         ensures cause { HasCause (behind D.state self.old) (behind D.state self.new) result }
         ensures fuse { Burns 1 (behind D.state self.old) (behind D.state self.new) result }
         ensures blown { Stops (behind D.state self.old) → setting_of self.new ≡ FuseSetting.Blown }

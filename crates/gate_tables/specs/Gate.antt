@@ -1,5 +1,6 @@
 -- What each event makes of a gateway. It holds sessions and timers in memory alone.
-use Rattle.std.specs.Prelude.{ℕ, ◌+◌, ◌*◌, Bool, true, false, ◌==◌, ◌&&◌, ◌||◌, nat_lt, if◌then◌else◌, List, [], ◌∷◌, ◌++◌, map, Option, Some, None, is_some, option_to_list}
+use Rattle.std.specs.Prelude.{ℕ, ◌+◌, ◌*◌, Bool, true, false, ◌==◌, ◌&&◌, ◌||◌, nat_lt, if◌then◌else◌, List, [], ◌∷◌}
+use Rattle.std.specs.Prelude.{◌++◌, map, Option, Some, None, is_some, option_to_list}
 use Rattle.std.specs.Ordering.{nat_cmp}
 use Rattle.std.specs.Map.{lookup, remove_entry}
 use Rattle.std.specs.BTreeMap.{is_at, insert_entry}
@@ -15,7 +16,8 @@ use Rattle.gate_tables.specs.declared.timer.Placed.{Placed}
 use Rattle.gate_tables.specs.declared.timer.Asked.{Asked}
 use Rattle.gate_tables.specs.declared.timer.Wish.{Wish}
 use Rattle.gate_tables.specs.declared.timer.Wish.TheVariants as wishes
-use Rattle.gate_tables.specs.Timers.{Timers, timer_of, as_counted, as_marked, each, after_firing, told, as_fired, bitmap}
+use Rattle.gate_tables.specs.Timers.{Timers, timer_of, as_counted, as_marked, each, after_firing, told, as_fired}
+use Rattle.gate_tables.specs.Timers.{bitmap}
 
 -- ---- what a gateway holds
 

@@ -1,5 +1,6 @@
 -- Timers of a client: which fire, and what is told of them.
-use Rattle.std.specs.Prelude.{ℕ, ◌+◌, ◌-◌, ◌^◌, min, Bool, true, false, ◌&&◌, nat_le, if◌then◌else◌, List, [], ◌∷◌, map, bit_or, Option, Some, None}
+use Rattle.std.specs.Prelude.{ℕ, ◌+◌, ◌-◌, ◌^◌, min, Bool, true, false, ◌&&◌, nat_le, if◌then◌else◌, List, [], ◌∷◌, map}
+use Rattle.std.specs.Prelude.{bit_or, Option, Some, None}
 use Rattle.std.specs.List.{list_any}
 use Rattle.gate_tables.specs.declared.timer.Timer.{Timer}
 

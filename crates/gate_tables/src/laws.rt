@@ -2,7 +2,8 @@
 ghost use Rattle.std.specs.Prelude.{◌≡◌, ℕ, ◌+◌, ◌<◌, List, Option, Some, None, false};
 ghost use Rattle.std.specs.List.{AllByRecursion};
 ghost use Rattle.table_model.specs.declared.message.Message.{Message};
-ghost use Rattle.gate_tables.specs.Gate.{Gateway, Running, Directory, asked, session_of, has_token, from_client, ticked, crashed, started};
+ghost use Rattle.gate_tables.specs.Gate.{Gateway, Running, Directory, asked, session_of, has_token, from_client};
+ghost use Rattle.gate_tables.specs.Gate.{ticked, crashed, started};
 ghost use Rattle.gate_tables.specs.Laws.{IsToClient, IsUnregistered, GoesToOwner, AllWait};
 
 /// A client's message with a token that no session has reaches no Store. (Does nothing: its clause is a law.)

@@ -1,5 +1,6 @@
 -- Each call and message of a client in memory is a move with its work.
-use Rattle.std.proofs.Common.{◌≡◌, ◌≢◌, ◌⊎◌, inl, inr, ℕ, suc, ◌+◌, ◌<◌, ◌≤◌, Bool, true, false, cond, List, [], ◌∷◌, ◌++◌, length, Option, Some, None, Result, Ok, Err, refl, sym, ap, ◌∙◌, subst, arith, append-nil, append_assoc, true≢false}
+use Rattle.std.proofs.Common.{◌≡◌, ◌≢◌, ◌⊎◌, inl, inr, ℕ, suc, ◌+◌, ◌<◌, ◌≤◌, Bool, true, false, cond, List, [], ◌∷◌, ◌++◌, length, Option, Some, None, Result, Ok, Err, refl, sym, ap, ◌∙◌, subst}
+use Rattle.std.proofs.Common.{arith, append-nil, append_assoc, true≢false}
 use Rattle.std.specs.Prelude.{map, option_map, option_to_list, nat_lt, nat_le, ◌==◌, if◌then◌else◌}
 use Rattle.std.specs.Map.{lookup}
 use Rattle.std.specs.declared.cmp.Ordering.{Ordering}
@@ -201,7 +202,8 @@ module _ (node : old.Client) where
           (client.outcome_taken node.number (disk_of node) r.table r.row (opened_of opened) s out (lift.outcome_of r.outcome))) (sym (slots_there node.number node r.table opened at r.row))
           (outcome_once r.table r.row opened at out r.outcome)
 
-  pub response_is_once : (r : SyncResponse) → AtOnce node.number (old.deliver_step node (kinds.SyncResponse r)) (client.client_step node.number (client_of node) (client.Take (message_of (kinds.SyncResponse r))))
+  pub response_is_once : (r : SyncResponse)
+      → AtOnce node.number (old.deliver_step node (kinds.SyncResponse r)) (client.client_step node.number (client_of node) (client.Take (message_of (kinds.SyncResponse r))))
   response_is_once r =
       subst (λ (o : Option TableDisk). AtOnce node.number (old.deliver_step node (kinds.SyncResponse r))
       (client.response_in node.number (disk_of node) (record { client = r.client; table = r.table; row = r.row; number = r.number; outcome = lift.outcome_of r.outcome }) o))
@@ -216,7 +218,8 @@ module _ (node : old.Client) where
 
   -- ---- a row from the Store
 
-  pull_same : (table : ℕ) (q : PullResponse) → packets_from (nodes.Client node.number) (client.next_pull node.number table (lift.pulled_of q)) ≡ map packet_of (sent_by node.number (old.next_pull node.number table q))
+  pull_same : (table : ℕ) (q : PullResponse) → packets_from (nodes.Client node.number) (client.next_pull node.number table (lift.pulled_of q))
+      ≡ map packet_of (sent_by node.number (old.next_pull node.number table q))
   pull_same table q = go (nat_lt q.to q.latest)
     where
       go : (b : Bool) → packets_from (nodes.Client node.number) (if b then client.pull_from node.number table q.to ∷ [] else [])
@@ -342,13 +345,15 @@ module _ (node : old.Client) where
       subst (λ (o : Option TableDisk). AtOnce node.number (old.deliver_step node (kinds.PullResponse q)) (client.pulled_in node.number (disk_of node) (lift.pulled_of q) o))
       (sym (found q.table)) (go (old.table_at node q.table) refl)
     where
-      go : (o : Option ClientTable) → old.table_at node q.table ≡ o → AtOnce node.number (old.pulled_in node q o) (client.pulled_in node.number (disk_of node) (lift.pulled_of q) (option_map opened_of o))
+      go : (o : Option ClientTable) → old.table_at node q.table ≡ o
+          → AtOnce node.number (old.pulled_in node q o) (client.pulled_in node.number (disk_of node) (lift.pulled_of q) (option_map opened_of o))
       go None at = quiet_once node.number node answers.Done
       go (Some opened) at = header_once q opened at ready q.header f
 
   -- ---- sync
 
-  resent_same : (table : ℕ) (rows : List (List ℕ × Slots)) → packets_from (nodes.Client node.number) (client.resent node.number table (map row_of rows)) ≡ map packet_of (sent_by node.number (old.resent node.number table rows))
+  resent_same : (table : ℕ) (rows : List (List ℕ × Slots))
+      → packets_from (nodes.Client node.number) (client.resent node.number table (map row_of rows)) ≡ map packet_of (sent_by node.number (old.resent node.number table rows))
   resent_same table [] = refl
   resent_same table (e ∷ rows) = go e.1.out (resent_same table rows)
     where
@@ -403,7 +408,8 @@ module _ (node : old.Client) where
       rising_found (map row_of opened.rows) (row, slots_of s) rising (among_map row_of opened.rows (row, s) a) in
       go (lookup (is_at (row_cmp row)) opened.rows) refl (sym (look_map row_cmp slots_of opened.rows row) ∙ found_is)
     where
-      go : (o : Option Slots) → lookup (is_at (row_cmp row)) opened.rows ≡ o → option_map slots_of (lookup (is_at (row_cmp row)) opened.rows) ≡ Some (slots_of s) → slots_of (slots_at opened row) ≡ slots_of s
+      go : (o : Option Slots) → lookup (is_at (row_cmp row)) opened.rows ≡ o → option_map slots_of (lookup (is_at (row_cmp row)) opened.rows) ≡ Some (slots_of s)
+          → slots_of (slots_at opened row) ≡ slots_of s
       go None at e = absurd (let both : None ≡ Some (slots_of s) = sym (ap (option_map slots_of) at) ∙ e in cc)
       go (Some x) at e = ap (λ (o : Option Slots). slots_of (old.or_none o)) at ∙ ap client.or_none (sym (ap (option_map slots_of) at) ∙ e)
 

@@ -60,7 +60,8 @@ deliver_number : (node : old.Client) (m : Message) → (old.deliver_step node m)
 deliver_number node m = grind arith
 
 -- behind a client's step
-client_numbered : (w : memory.World) (c : ℕ) (node : old.Client) → memory.client_at w c ≡ Some node → (was : old.ClientStep) → was.client.number ≡ node.number → Numbered w → Numbered (memory.after_client w c was).world
+client_numbered : (w : memory.World) (c : ℕ) (node : old.Client) → memory.client_at w c ≡ Some node → (was : old.ClientStep) → was.client.number ≡ node.number → Numbered w
+    → Numbered (memory.after_client w c was).world
 client_numbered w c node at was same n q x there = ⊎_elim
     (λ e.
     let both : Some was.client ≡ Some x = sym e.1 ∙ there in

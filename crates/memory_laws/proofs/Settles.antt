@@ -14,7 +14,8 @@ use Rattle.step_tables.specs.StoreMoves as store
 use Rattle.step_tables.specs.StoreMoves.{StoreDisk, StoreTask}
 use Rattle.step_tables.specs.ClientMoves as client
 use Rattle.step_tables.specs.ClientMoves.{ClientDisk, ClientTask, Client}
-use Rattle.world_tables.specs.World.{World, Packet, Hosted, Outbox, Moved, the_store, hosted_at, client_at, packets_from, history_on, move_hosted, move_table, move_there, move_client, table_works, client_works, and_then, lines_from, sent_lines}
+use Rattle.world_tables.specs.World.{World, Packet, Hosted, Outbox, Moved, the_store, hosted_at, client_at, packets_from, history_on, move_hosted, move_table, move_there, move_client, table_works}
+use Rattle.world_tables.specs.World.{client_works, and_then, lines_from, sent_lines}
 use Rattle.memory_laws.proofs.Maps.{put_put, look_put}
 
 -- ---- a table

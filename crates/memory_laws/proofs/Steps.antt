@@ -43,13 +43,15 @@ use Rattle.client_laws.proofs.Law.{client_law}
 use Rattle.client_laws.proofs.Grows.{client_grows, lapsed_grows}
 use Rattle.run_laws.specs.World as memory
 use Rattle.run_laws.specs.Turns as memory_turns
-use Rattle.world_tables.specs.World.{World, Packet, Hosted, WorldStep, hosted_at, client_at, schema_at, scheme_in, answered, silent, call, call_there, to_hosted, to_there, carried, delivered, row_shown, store_shows, entry_lines, history_lines, declared, opened, with_opened, open_all, new_client, joined, step, lines_of, start}
+use Rattle.world_tables.specs.World.{World, Packet, Hosted, WorldStep, hosted_at, client_at, schema_at, scheme_in, answered, silent, call, call_there, to_hosted, to_there, carried, delivered}
+use Rattle.world_tables.specs.World.{row_shown, store_shows, entry_lines, history_lines, declared, opened, with_opened, open_all, new_client, joined, step, lines_of, start}
 use Rattle.world_tables.specs.Turns.{Turn, Happening, turns_from}
 use Rattle.world_tables.specs.Sound.{IsSound, scheme_for}
 use Rattle.world_laws.proofs.Kept.{Kept, IsFairPacket, IsFairMessage}
 use Rattle.world_laws.proofs.Runs.{start_kept, step_sound, scheme_is, IsFirst, all_runs}
 use Rattle.world_laws.proofs.Fresh.{fresh_part}
-use Rattle.memory_laws.specs.Lift.{message_of, header_of, pulled_of, packet_of, row_of, opened_of, table_of, disk_of, client_of, hosted_of, named_store, named_client, world_of, answer_of, line_of, turn_of, at_once, IsEventual}
+use Rattle.memory_laws.specs.Lift.{message_of, header_of, pulled_of, packet_of, row_of, opened_of, table_of, disk_of, client_of, hosted_of, named_store, named_client, world_of, answer_of, line_of}
+use Rattle.memory_laws.specs.Lift.{turn_of, at_once, IsEventual}
 use Rattle.memory_laws.proofs.Maps.{look_map, put_map}
 use Rattle.memory_laws.proofs.Once.{AtOnce, quiet_once}
 use Rattle.memory_laws.proofs.Stores as stores
@@ -111,8 +113,10 @@ module _ (g : ℕ → Scheme) (eventual : (table : ℕ) → g table ≡ Eventual
   taken_once c node at from to (kinds.PullRequest q) fair = quiet_once node.number node answers.Done
 
   hosted_event : (table : ℕ) (from : Node) (m : Message) (o : Option (List Stored)) → memory.stored_at w table ≡ o
-      → ((stored : List Stored) → stores.AtOnce from (entries_of stored) (old_store.store_step table stored m) (store.store_step 1 Eventual table (lift.store_of stored) (store.Take from (message_of m))))
-      → (was : memory.WorldStep) → was ≡ elim o as (λ (x : Option (List Stored)). memory.WorldStep) [ None ↦ memory.answered w answers.Done | Some stored ↦ memory.after_store w table from (old_store.store_step table stored m) ]
+      → ((stored : List Stored) → stores.AtOnce from (entries_of stored) (old_store.store_step table stored m)
+      (store.store_step 1 Eventual table (lift.store_of stored) (store.Take from (message_of m))))
+      → (was : memory.WorldStep)
+      → was ≡ elim o as (λ (x : Option (List Stored)). memory.WorldStep) [ None ↦ memory.answered w answers.Done | Some stored ↦ memory.after_store w table from (old_store.store_step table stored m) ]
       → Same w (to_hosted (world_of w) table (store.Take from (message_of m)) [] (option_map hosted_of o)) was
   hosted_event table from m None at once was e = subst (λ (x : memory.WorldStep). Same w (answered (world_of w) facts.Done) x) (sym e) (answered_same w answers.Done)
   hosted_event table from m (Some stored) at once was e =
@@ -165,7 +169,8 @@ module _ (g : ℕ → Scheme) (eventual : (table : ℕ) → g table ≡ Eventual
       to_old None x = x
       to_old (Some stored) x = x
 
-  to_client_same : (c : ℕ) (p : memory.Packet) → IsFairPacket g s.heard k.items k.sent (packet_of p) → Same w (to_there (world_of w) c (message_of p.message) [] (client_at (world_of w) c)) (memory.to_client w c p (memory.client_at w c))
+  to_client_same : (c : ℕ) (p : memory.Packet) → IsFairPacket g s.heard k.items k.sent (packet_of p)
+      → Same w (to_there (world_of w) c (message_of p.message) [] (client_at (world_of w) c)) (memory.to_client w c p (memory.client_at w c))
   to_client_same c p fair =
       subst (λ (o : Option Client). Same w (to_there (world_of w) c (message_of p.message) [] o) (memory.to_client w c p (memory.client_at w c))) (sym (client_same w c)) (go (memory.client_at w c) refl)
     where
@@ -221,7 +226,8 @@ module _ (g : ℕ → Scheme) (eventual : (table : ℕ) → g table ≡ Eventual
 
   -- ---- declarations
 
-  declared_same : (table : ℕ) (schema : Schema) → Same w (silent (declared (world_of w) table schema (hosted_at (world_of w) table))) (memory.silent (memory.declared w table schema (memory.stored_at w table)))
+  declared_same : (table : ℕ) (schema : Schema)
+      → Same w (silent (declared (world_of w) table schema (hosted_at (world_of w) table))) (memory.silent (memory.declared w table schema (memory.stored_at w table)))
   declared_same table schema = subst (λ (o : Option Hosted). Same w (silent (declared (world_of w) table schema o)) (memory.silent (memory.declared w table schema (memory.stored_at w table)))) (sym (hosted_same w table)) (go (memory.stored_at w table))
     where
       go : (o : Option (List Stored)) → Same w (silent (declared (world_of w) table schema (option_map hosted_of o))) (memory.silent (memory.declared w table schema o))

@@ -104,7 +104,8 @@ module _ (from : Node) (table : ℕ) (stored : List Stored) where
       entered_is true is = sym (entries_push stored item)
       entered_is false is = absurd (grind (arith, nat_tests, is, entries_length stored))
 
-  decides_once : (q : SyncRequest) (o : Option Stored) → AtOnce from (entries_of stored) (old.decide table stored q (old.yours_in o)) (store.decided Eventual table Disk from (request_of q) (store.pair_of o))
+  decides_once : (q : SyncRequest) (o : Option Stored)
+      → AtOnce from (entries_of stored) (old.decide table stored q (old.yours_in o)) (store.decided Eventual table Disk from (request_of q) (store.pair_of o))
   decides_once q o = subst (λ (y : messages.Pair). AtOnce from (entries_of stored) (old.decide table stored q (old.yours_in o)) (store.decided Eventual table Disk from (request_of q) y)) (same o)
       (go ((old.yours_in o).number == q.number) (nat_lt q.number (old.yours_in o).number) (old.yours_in o))
     where

@@ -1,5 +1,6 @@
 -- Each event of the world in memory is the event of the moves, with all device writes done.
-use Rattle.std.proofs.Common.{◌≡◌, ◌≢◌, ◌⊎◌, inl, inr, ℕ, zero, suc, ◌+◌, ◌≤◌, Bool, true, false, List, [], ◌∷◌, ◌++◌, length, Option, Some, None, refl, sym, ap, ◌∙◌, subst, arith, append-nil, append_assoc, ⊎_elim}
+use Rattle.std.proofs.Common.{◌≡◌, ◌≢◌, ◌⊎◌, inl, inr, ℕ, zero, suc, ◌+◌, ◌≤◌, Bool, true, false, List, [], ◌∷◌, ◌++◌, length, Option, Some, None, refl, sym, ap, ◌∙◌, subst, arith, append-nil}
+use Rattle.std.proofs.Common.{append_assoc, ⊎_elim}
 use Rattle.std.specs.Prelude.{map, option_map, slice_get, if◌then◌else◌}
 use Rattle.std.specs.Ordering.{nat_cmp}
 use Rattle.std.specs.Cmp.{nat_cmp_total}
@@ -39,9 +40,13 @@ use Rattle.step_tables.proofs.Lists.{among_get}
 use Rattle.store_laws.proofs.Items.{above}
 use Rattle.client_laws.specs.Part.{IsOpened, Tied, ClientPart}
 use Rattle.run_laws.specs.World as memory
-use Rattle.world_tables.specs.World.{World, Packet, Hosted, Outbox, Moved, WorldStep, the_store, owner, schema_at, hosted_at, client_at, scheme_in, is_fault, packets_from, history_on, after_client, after_table, table_step, move_hosted, move_table, move_there, move_client, client_works, table_works, tasks_in, hosted_tasks, client_tasks, client_follows, table_follows, and_then, answering, answered, silent, call_there, call, to_hosted, to_there, carried, delivered, row_shown, store_shown, store_shows, entry_lines, history_lines, declared, opened, with_opened, open_all, new_client, joined, step, lines_of, lines_from}
+use Rattle.world_tables.specs.World.{World, Packet, Hosted, Outbox, Moved, WorldStep, the_store, owner, schema_at, hosted_at, client_at, scheme_in, is_fault, packets_from, history_on, after_client}
+use Rattle.world_tables.specs.World.{after_table, table_step, move_hosted, move_table, move_there, move_client, client_works, table_works, tasks_in, hosted_tasks, client_tasks, client_follows}
+use Rattle.world_tables.specs.World.{table_follows, and_then, answering, answered, silent, call_there, call, to_hosted, to_there, carried, delivered, row_shown, store_shown, store_shows, entry_lines}
+use Rattle.world_tables.specs.World.{history_lines, declared, opened, with_opened, open_all, new_client, joined, step, lines_of, lines_from}
 use Rattle.world_laws.proofs.Kept.{Kept, IsFairPacket}
-use Rattle.memory_laws.specs.Lift.{message_of, header_of, pulled_of, packet_of, opened_of, table_of, disk_of, client_of, store_of, hosted_of, named_store, named_client, world_of, refusal_of, answer_of, fact_of, line_of}
+use Rattle.memory_laws.specs.Lift.{message_of, header_of, pulled_of, packet_of, opened_of, table_of, disk_of, client_of, store_of, hosted_of, named_store, named_client, world_of, refusal_of}
+use Rattle.memory_laws.specs.Lift.{answer_of, fact_of, line_of}
 use Rattle.memory_laws.proofs.Maps.{look_map, put_map, put_put, look_put}
 use Rattle.memory_laws.proofs.Settles.{run_client, run_store, client_outs, store_outs, client_packets, store_packets, run_history, client_settles, table_settles}
 use Rattle.memory_laws.proofs.Once as once

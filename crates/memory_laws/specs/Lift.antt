@@ -74,7 +74,8 @@ message_of (kinds.SyncResponse r) = messages.SyncResponse (record {
   number = r.number;
   outcome = outcome_of r.outcome;
 })
-message_of (kinds.PullRequest q) = messages.PullRequest (record { client = q.client; table = q.table; position = q.position })
+message_of (kinds.PullRequest q) =
+    messages.PullRequest (record { client = q.client; table = q.table; position = q.position })
 message_of (kinds.PullResponse q) = messages.PullResponse (pulled_of q)
 
 abbrev pub packet_of : memory.Packet → world.Packet

@@ -1,5 +1,6 @@
 -- Rows, tables and subscriptions that are read as they were written.
-use Rattle.std.proofs.Common.{◌≡◌, ℕ, ◌+◌, ◌-◌, ◌^◌, ◌<◌, ◌≤◌, Bool, true, cond, List, [], ◌∷◌, ◌++◌, length, take, drop, Option, Result, Ok, Err, refl, sym, ◌∙◌, ap, subst, append_assoc, arith, length-append, length-drop, inl, inr}
+use Rattle.std.proofs.Common.{◌≡◌, ℕ, ◌+◌, ◌-◌, ◌^◌, ◌<◌, ◌≤◌, Bool, true, cond, List, [], ◌∷◌, ◌++◌, length, take, drop, Option, Result, Ok, Err, refl, sym, ◌∙◌, ap, subst, append_assoc, arith}
+use Rattle.std.proofs.Common.{length-append, length-drop, inl, inr}
 use Rattle.std.specs.Prelude.{◌&&◌, nat_lt, nat_le}
 use Rattle.std.specs.Int.{w32, w64, to_be_bytes}
 use Rattle.std.proofs.lemmas.Bool.{le-ltb}
@@ -20,14 +21,16 @@ use Rattle.row_store.specs.declared.stored.StoredRow.{StoredRow}
 use Rattle.row_store.specs.declared.stored.SubChange.{SubChange}
 use Rattle.row_store.specs.declared.stored.Terms.{Terms}
 use Rattle.row_store.specs.Spelling.{last_spelling, IsNextLast, AreLasts, all_keep, stored_spelling, HasStoredSpelling, row_payload, IsState, table_payload, IsClient, sub_payload}
-use Rattle.row_store.specs.Reading.{id_at, last_in, after_last, stored_at, table_at, terms_if, sub_at, tag_at, row_in, table_in, sub_in, SaysRow, SaysTable, SaysSub, said_sub, said_table, said_row, said_by}
+use Rattle.row_store.specs.Reading.{id_at, last_in, after_last, stored_at, table_at, terms_if, sub_at, tag_at, row_in, table_in, sub_in, SaysRow, SaysTable, SaysSub, said_sub, said_table, said_row}
+use Rattle.row_store.specs.Reading.{said_by}
 
 -- ---- ids
 
 abbrev pair : List ℕ → List ℕ → Result (List ℕ × List ℕ) ℕ
 pair a b = Ok (a, b)
 
-pub id_read : (bytes : List ℕ) (at : ℕ) (id : List ℕ) → at ≤ length bytes → id ≡ take 16 (take (length bytes - at) (drop at bytes)) → 16 ≤ length (take (length bytes - at) (drop at bytes)) → id_at (drop at bytes) ≡ Ok (id, drop (at + 16) bytes)
+pub id_read : (bytes : List ℕ) (at : ℕ) (id : List ℕ) → at ≤ length bytes → id ≡ take 16 (take (length bytes - at) (drop at bytes)) → 16 ≤ length (take (length bytes - at) (drop at bytes))
+    → id_at (drop at bytes) ≡ Ok (id, drop (at + 16) bytes)
 unfolding id_at
 id_read bytes at id within is long =
     let rest = drop at bytes in
@@ -128,7 +131,8 @@ few lasts h = omega (arith, few_from 0 lasts (omega arith) h)
 
 -- ---- rows
 
-pub spelling_parts : (stored : StoredRow) (rest : List ℕ) → stored_spelling stored ++ rest ≡ stored.row ++ (to_be_bytes w64 stored.version ++ (content_spelling stored.content ++ (list_spelling last_spelling stored.pairs ++ rest)))
+pub spelling_parts : (stored : StoredRow) (rest : List ℕ)
+    → stored_spelling stored ++ rest ≡ stored.row ++ (to_be_bytes w64 stored.version ++ (content_spelling stored.content ++ (list_spelling last_spelling stored.pairs ++ rest)))
 spelling_parts stored rest =
     let v = to_be_bytes w64 stored.version in
     let c = content_spelling stored.content in

@@ -83,5 +83,6 @@ module _ (memory : RowMemory) (ps : List (List ℕ)) (fit : Fits memory ps) wher
       not_above : (other : ℕ) (o : Ordering) → is_lt (ordering_then (nat_cmp last.version other) o) ≡ false → other ≤ last.version
       not_above other o e = grind (arith, nat_tests)
 
-pub version_or : (memory : RowMemory) (ps : List (List ℕ)) → Fits memory ps → (row : List ℕ) (found : Option Place) → found ≡ place_in memory row → version_of (data_of ps) row ≡ unwrap_or (option_map (λ place. place.version) found) 0
+pub version_or : (memory : RowMemory) (ps : List (List ℕ)) → Fits memory ps → (row : List ℕ) (found : Option Place) → found ≡ place_in memory row
+    → version_of (data_of ps) row ≡ unwrap_or (option_map (λ place. place.version) found) 0
 version_or memory ps fit row found is = ap (λ (v : Option ℕ). unwrap_or v 0) (version_is memory ps fit row found is)

@@ -39,7 +39,8 @@ row_len stored =
 -- ---- sums over lists
 
 -- an item at a place, behind those before it
-pub next_len : {X : Type 0} (spell : X → List ℕ) (i : ℕ) (xs : List X) (d : X) → i < length xs → length (flat_map spell (take (i + 1) xs)) ≡ length (flat_map spell (take i xs)) + length (spell (get_or xs i d))
+pub next_len : {X : Type 0} (spell : X → List ℕ) (i : ℕ) (xs : List X) (d : X) → i < length xs
+    → length (flat_map spell (take (i + 1) xs)) ≡ length (flat_map spell (take i xs)) + length (spell (get_or xs i d))
 next_len {X} spell i xs d lt =
     ap (λ (l : List X). length (flat_map spell l)) (take_more xs i d lt)
     ∙ (ap length (flat_map-append spell (take i xs) (get_or xs i d ∷ []))
@@ -64,7 +65,8 @@ both : (a b : Bool) → a && b ≡ true → (a ≡ true) × (b ≡ true)
 both true b h = (refl, h)
 both false b h = absurd cc
 
-pub keeps_at : (objects : List PieceObject) (i : ℕ) (d : PieceObject) → i < length objects → list_all (λ (o : PieceObject). list_all is_keep o.pieces) objects ≡ true → list_all is_keep (get_or objects i d).pieces ≡ true
+pub keeps_at : (objects : List PieceObject) (i : ℕ) (d : PieceObject) → i < length objects → list_all (λ (o : PieceObject). list_all is_keep o.pieces) objects ≡ true
+    → list_all is_keep (get_or objects i d).pieces ≡ true
 keeps_at [] i d lt h = absurd (omega arith)
 keeps_at (o ∷ objects) zero d lt h = (both (list_all is_keep o.pieces) (list_all (λ (o : PieceObject). list_all is_keep o.pieces) objects) h).0
 keeps_at (o ∷ objects) (suc i) d lt h = keeps_at objects i d (omega arith) (both (list_all is_keep o.pieces) (list_all (λ (o : PieceObject). list_all is_keep o.pieces) objects) h).1

@@ -72,7 +72,8 @@ module _ (ps : List (List ℕ)) (p : List ℕ) where
         version = ap (λ (s : StoredRow). s.version) stands ∙ sym version;
       }
 
-      pub noted_row : entries_of id_cmp new.places ≡ insert_entry id_cmp es stored.row place → (AreByVersion es (entries_of version_cmp memory.versions) → AreByVersion (entries_of id_cmp new.places) (entries_of version_cmp new.versions))
+      pub noted_row : entries_of id_cmp new.places ≡ insert_entry id_cmp es stored.row place
+          → (AreByVersion es (entries_of version_cmp memory.versions) → AreByVersion (entries_of id_cmp new.places) (entries_of version_cmp new.versions))
           → new.table.items ≡ memory.table.items → entries_of nat_cmp new.subs ≡ entries_of nat_cmp memory.subs → Fits new more
       noted_row places versions table subs =
           let held = grown ps p (SaysRow stored) says in
@@ -102,7 +103,8 @@ module _ (ps : List (List ℕ)) (p : List ℕ) where
       versions_still : AreByVersion (entries_of id_cmp new.places) (entries_of version_cmp new.versions)
       versions_still = subst (λ (fs : Places). AreByVersion fs (entries_of version_cmp new.versions)) (sym same_places) (subst (AreByVersion es) (sym same_versions) fit.versions)
 
-    pub noted_table : (schema : Schema) (state : ℕ) → said_by p ≡ SaysTable schema state → entries_of id_cmp new.places ≡ es → entries_of version_cmp new.versions ≡ entries_of version_cmp memory.versions → new.table.items ≡ p → entries_of nat_cmp new.subs ≡ entries_of nat_cmp memory.subs → Fits new more
+    pub noted_table : (schema : Schema) (state : ℕ) → said_by p ≡ SaysTable schema state → entries_of id_cmp new.places ≡ es
+        → entries_of version_cmp new.versions ≡ entries_of version_cmp memory.versions → new.table.items ≡ p → entries_of nat_cmp new.subs ≡ entries_of nat_cmp memory.subs → Fits new more
     noted_table schema state says places versions table subs =
         let held = grown ps p (SaysTable schema state) says in
         let rows = ap (λ (d : TableData). d.rows) held in
@@ -115,7 +117,8 @@ module _ (ps : List (List ℕ)) (p : List ℕ) where
           subs = ap (λ (d : TableData). d.subs) held ∙ (fit.subs ∙ sym subs);
         }
 
-    pub noted_sub : (change : SubChange) → said_by p ≡ SaysSub change → entries_of id_cmp new.places ≡ es → entries_of version_cmp new.versions ≡ entries_of version_cmp memory.versions → new.table.items ≡ memory.table.items
+    pub noted_sub : (change : SubChange) → said_by p ≡ SaysSub change → entries_of id_cmp new.places ≡ es → entries_of version_cmp new.versions ≡ entries_of version_cmp memory.versions
+        → new.table.items ≡ memory.table.items
         → entries_of nat_cmp new.subs ≡ changed nat_cmp (entries_of nat_cmp memory.subs) change.client change.terms → Fits new more
     noted_sub change says places versions table subs =
         let held = grown ps p (SaysSub change) says in

@@ -88,15 +88,18 @@ module _ (places : Places) (versions : Versions) (by : AreByVersion places versi
   pub by_new : lookup (is_at (id_cmp row)) places ≡ None → AreByVersion after_places (insert_entry version_cmp versions (at place.version row) tt)
   by_new none = record { same = λ each. here each versions (before each (is_at (id_cmp row) each.row) refl) }
     where
-      before : (each : RowVersion) (b : Bool) → is_at (id_cmp row) each.row ≡ b → is_some (lookup (is_at (version_cmp each)) versions) ≡ cond b false (is_some (lookup (is_at (version_cmp each)) versions))
+      before : (each : RowVersion) (b : Bool) → is_at (id_cmp row) each.row ≡ b
+          → is_some (lookup (is_at (version_cmp each)) versions) ≡ cond b false (is_some (lookup (is_at (version_cmp each)) versions))
       before each true same = by.same each ∙ ap (λ (v : Option Place). has_version v each.version) (same_row each same ∙ none)
       before each false same = refl
 
   -- where it had another place
-  pub by_moved : (old : Place) → lookup (is_at (id_cmp row)) places ≡ Some old → AreByVersion after_places (insert_entry version_cmp (without version_cmp versions (at old.version row)) (at place.version row) tt)
+  pub by_moved : (old : Place) → lookup (is_at (id_cmp row)) places ≡ Some old
+      → AreByVersion after_places (insert_entry version_cmp (without version_cmp versions (at old.version row)) (at place.version row) tt)
   by_moved old some = record { same = λ each. here each (without version_cmp versions (at old.version row)) (before each) }
     where
-      cases : (each : RowVersion) (b : Bool) → is_at (id_cmp row) each.row ≡ b → cond ((old.version == each.version) && b) false (is_some (lookup (is_at (version_cmp each)) versions)) ≡ cond b false (is_some (lookup (is_at (version_cmp each)) versions))
+      cases : (each : RowVersion) (b : Bool) → is_at (id_cmp row) each.row ≡ b
+          → cond ((old.version == each.version) && b) false (is_some (lookup (is_at (version_cmp each)) versions)) ≡ cond b false (is_some (lookup (is_at (version_cmp each)) versions))
       cases each true same = split (old.version == each.version) (is_some (lookup (is_at (version_cmp each)) versions)) (by.same each ∙ ap (λ (v : Option Place). has_version v each.version) (same_row each same ∙ some))
         where
           split : (v s : Bool) → s ≡ v → cond (v && true) false s ≡ false
@@ -108,7 +111,8 @@ module _ (places : Places) (versions : Versions) (by : AreByVersion places versi
           split true s = refl
           split false s = refl
 
-      before : (each : RowVersion) → is_some (lookup (is_at (version_cmp each)) (without version_cmp versions (at old.version row))) ≡ cond (is_at (id_cmp row) each.row) false (is_some (lookup (is_at (version_cmp each)) versions))
+      before : (each : RowVersion) → is_some (lookup (is_at (version_cmp each)) (without version_cmp versions (at old.version row)))
+          ≡ cond (is_at (id_cmp row) each.row) false (is_some (lookup (is_at (version_cmp each)) versions))
       before each =
           let nothing : Option (Unit {0}) = None in
           ap is_some (lookup-changed version_cmp version_cmp_total versions (at old.version row) nothing each)

@@ -33,14 +33,16 @@ abbrev pub nothing_held : TableData
 nothing_held = record { rows = []; table = None; subs = [] }
 
 abbrev pub with_row : TableData → StoredRow → TableData
-with_row held stored = record { rows = insert_entry id_cmp held.rows stored.row stored; table = held.table; subs = held.subs }
+with_row held stored =
+    record { rows = insert_entry id_cmp held.rows stored.row stored; table = held.table; subs = held.subs }
 
 abbrev pub with_table : TableData → Schema → ℕ → TableData
 with_table held schema state = record { rows = held.rows; table = Some (schema, state); subs = held.subs }
 
 -- a client's subscription, or that it has none
 abbrev pub with_sub : TableData → ℕ → Option Terms → TableData
-with_sub held client terms = record { rows = held.rows; table = held.table; subs = changed nat_cmp held.subs client terms }
+with_sub held client terms =
+    record { rows = held.rows; table = held.table; subs = changed nat_cmp held.subs client terms }
 
 abbrev pub step : TableData → Said → TableData
 step held (SaysRow stored) = with_row held stored
@@ -73,8 +75,10 @@ pub record IsTableVersion (held : TableData) (version : ℕ) : Type 0 where
 -- the rows whose version is above the position, each once, by rising version
 pub record AreChangedSince (held : TableData) (position : ℕ) (rows : List RowVersion) : Type 0 where
   pub rising : IsStrictlySortedBy version_cmp rows
-  pub only : (each : RowVersion) → Contains rows each → (position < each.version) × (version_if held each.row ≡ Some each.version)
-  pub all : (each : RowVersion) → position < each.version → version_if held each.row ≡ Some each.version → Contains rows each
+  pub only : (each : RowVersion) → Contains rows each → (position < each.version)
+      × (version_if held each.row ≡ Some each.version)
+  pub all : (each : RowVersion) → position < each.version → version_if held each.row ≡ Some each.version
+      → Contains rows each
 
 abbrev pub sub_of : ℕ × Terms → Sub
 sub_of entry = record { client = entry.0; gate = entry.1.gate; period = entry.1.period; tolerance = entry.1.tolerance }

@@ -1,6 +1,7 @@
 -- What a device of rows keeps in memory: for each row its version and the index of its payload, the rows by version,
 -- the last payload of the table, and the subscriptions.
-use Rattle.std.specs.Prelude.{◌≡◌, ℕ, ◌*◌, ◌<◌, ◌≤◌, ◌==◌, Bool, true, false, min, is_some, List, [], length, slice_index_or, Option, Some, None, Result, Ok, Err}
+use Rattle.std.specs.Prelude.{◌≡◌, ℕ, ◌*◌, ◌<◌, ◌≤◌, ◌==◌, Bool, true, false, min, is_some, List, [], length}
+use Rattle.std.specs.Prelude.{slice_index_or, Option, Some, None, Result, Ok, Err}
 use Rattle.std.specs.BTreeMap.{is_at}
 use Rattle.std.specs.Map.{lookup}
 use Rattle.std.specs.List.{Contains}
@@ -44,13 +45,16 @@ has_version (Some place) version = place.version == version
 
 -- rows by version: these are the rows of the places
 pub record AreByVersion (places : List (List ℕ × Place)) (versions : List (RowVersion × Unit {0})) : Type 0 where
-  pub same : (each : RowVersion) → is_some (lookup (is_at (version_cmp each)) versions) ≡ has_version (lookup (is_at (id_cmp each.row)) places) each.version
+  pub same : (each : RowVersion) → is_some (lookup (is_at (version_cmp each)) versions)
+      ≡ has_version (lookup (is_at (id_cmp each.row)) places) each.version
 
 -- the rows by version that are above a version, in their order
 pub record AreAbove (versions : List (RowVersion × Unit {0})) (version : ℕ) (rows : List RowVersion) : Type 0 where
   pub rising : IsStrictlySortedBy version_cmp rows
-  pub only : (each : RowVersion) → Contains rows each → (version < each.version) × (is_some (lookup (is_at (version_cmp each)) versions) ≡ true)
-  pub all : (each : RowVersion) → version < each.version → is_some (lookup (is_at (version_cmp each)) versions) ≡ true → Contains rows each
+  pub only : (each : RowVersion) → Contains rows each → (version < each.version)
+      × (is_some (lookup (is_at (version_cmp each)) versions) ≡ true)
+  pub all : (each : RowVersion) → version < each.version → is_some (lookup (is_at (version_cmp each)) versions) ≡ true
+      → Contains rows each
 
 -- the table in its last payload
 abbrev pub table_or : Result (Schema × ℕ) ℕ → Option (Schema × ℕ)

@@ -1,6 +1,7 @@
 -- What a payload says, read from left to right. A field is a value and the bytes behind it; a fault is the number of
 -- bytes from the place on at which no spelling goes on.
-use Rattle.std.specs.Prelude.{ℕ, Bool, ◌==◌, ◌&&◌, nat_lt, nat_le, if◌then◌else◌, List, length, take, drop, Option, Some, None, Result, Ok, Err}
+use Rattle.std.specs.Prelude.{ℕ, Bool, ◌==◌, ◌&&◌, nat_lt, nat_le, if◌then◌else◌, List, length, take, drop, Option}
+use Rattle.std.specs.Prelude.{Some, None, Result, Ok, Err}
 use Rattle.std.specs.Int.{w32, w64}
 use Rattle.stab_base.specs.declared.limits.TheConstants.{NUMBER_MAX}
 use Rattle.row_value.specs.declared.schema.Schema.{Schema}
@@ -23,7 +24,8 @@ last_in before bytes = do
   client ← number_at w32 bytes
   number ← number_at w64 client.1
   version ← number_at w64 number.1
-  if nat_lt before client.0 && nat_le client.0 64 then Ok (record { client = client.0; number = number.0; version = version.0 }, version.1)
+  if nat_lt before client.0 && nat_le client.0 64
+      then Ok (record { client = client.0; number = number.0; version = version.0 }, version.1)
       else Err (length bytes)
 
 abbrev pub after_last : ℕ → LastWrite → ℕ
@@ -63,7 +65,13 @@ sub_at bytes = do
   period ← number_at w32 gate.1
   tolerance ← number_at w32 period.1
   if nat_le 1 client.0 && nat_le client.0 64 then
-      Ok (record { client = client.0; terms = terms_if on.0 (record { gate = gate.0; period = period.0; tolerance = tolerance.0 }) }, tolerance.1)
+      Ok (
+        record {
+          client = client.0;
+          terms = terms_if on.0 (record { gate = gate.0; period = period.0; tolerance = tolerance.0 });
+        },
+        tolerance.1,
+      )
       else Err (length bytes)
 
 -- ---- whole payloads

@@ -41,7 +41,9 @@ all_keep contents.Gone = true
 all_keep (contents.Row some objects) = list_all (λ object. list_all is_keep object.pieces) objects
 
 abbrev pub stored_spelling : StoredRow → List ℕ
-stored_spelling stored = stored.row ++ (to_be_bytes w64 stored.version ++ (content_spelling stored.content ++ list_spelling last_spelling stored.pairs))
+stored_spelling stored =
+    stored.row ++ (to_be_bytes w64 stored.version
+    ++ (content_spelling stored.content ++ list_spelling last_spelling stored.pairs))
 
 pub record HasStoredSpelling (stored : StoredRow) : Type 0 where
   pub row : length stored.row ≡ 16
@@ -73,4 +75,7 @@ pub record IsClient (client : ℕ) : Type 0 where
 
 -- a subscription is 3, the client, whether it is one, and its terms
 abbrev pub sub_payload : ℕ → Bool → Terms → List ℕ
-sub_payload client on terms = 3 ∷ (to_be_bytes w32 client ++ (flag_spelling on ++ (to_be_bytes w32 terms.gate ++ (to_be_bytes w32 terms.period ++ to_be_bytes w32 terms.tolerance))))
+sub_payload client on terms =
+    3 ∷ (to_be_bytes w32 client
+    ++ (flag_spelling on ++ (to_be_bytes w32 terms.gate
+    ++ (to_be_bytes w32 terms.period ++ to_be_bytes w32 terms.tolerance))))

@@ -51,7 +51,8 @@ abbrev pub Stays : {D : Type 0} → (D → DiskState) → RowDev D → RowDev D 
 Stays state old new = folded.Stays state Fits HasSpare old.inner new.inner
 
 -- At every moment since the old state a crash leaves a table that has R.
-abbrev pub Leaves : {D : Type 0} → (D → DiskState) → (D → ℕ → List ℕ → Type 0) → RowDev D → RowDev D → (TableData → Type 0) → Type 0
+abbrev pub Leaves : {D : Type 0} → (D → DiskState) → (D → ℕ → List ℕ → Type 0) → RowDev D → RowDev D
+    → (TableData → Type 0) → Type 0
 Leaves state images old new R = vaults.Leaves state images (vault_of old) (vault_of new) (λ list. R (data_of list))
 
 -- ---- what the calls of a device promise of what it holds

@@ -1,5 +1,6 @@
 //! The device: what its calls promise of its table.
-ghost use Rattle.std.specs.Prelude.{◌≡◌, ◌↔◌, ◌+◌, ◌*◌, ◌<◌, ◌≤◌, false, ℕ, List, length, None, Some, OnOk, OnErr, IfOk, IfSome, IfNone, IsErrOf, Ok};
+ghost use Rattle.std.specs.Prelude.{◌≡◌, ◌↔◌, ◌+◌, ◌*◌, ◌<◌, ◌≤◌, false, ℕ, List, length, None, Some, OnOk, OnErr};
+ghost use Rattle.std.specs.Prelude.{IfOk, IfSome, IfNone, IsErrOf, Ok};
 ghost use Rattle.std.specs.Bool.{MatchBool};
 ghost use Rattle.std.specs.List.Sorted.{IsStrictlySortedBy};
 ghost use Rattle.std.specs.Ordering.{nat_cmp};
@@ -9,9 +10,11 @@ ghost use Rattle.value_codec.specs.SchemaSpelling.{HasSchemaSpelling};
 ghost use Rattle.row_store.specs.Spelling.{HasStoredSpelling, row_payload, IsState, table_payload, IsClient};
 ghost use Rattle.row_store.specs.declared.stored.StoredRow.{StoredRow};
 ghost use Rattle.row_store.specs.Reading.{row_in, terms_if};
-ghost use Rattle.row_store.specs.Data.{nothing_held, with_row, with_table, with_sub, row_of, version_of, IsTableVersion, AreChangedSince, subs_of};
+ghost use Rattle.row_store.specs.Data.{nothing_held, with_row, with_table, with_sub, row_of, version_of};
+ghost use Rattle.row_store.specs.Data.{IsTableVersion, AreChangedSince, subs_of};
 ghost use Rattle.row_store.specs.Memory.{IsPlace, row_at};
-ghost use Rattle.row_store.specs.Standing.{vault_of, held, row_reads, reads_after, IsLookedAt, IsOpened, HasRoom, Stays, Formats, Looks, Restarts, OpensWrite, Reserves, Puts, Gets};
+ghost use Rattle.row_store.specs.Standing.{vault_of, held, row_reads, reads_after, IsLookedAt, IsOpened, HasRoom};
+ghost use Rattle.row_store.specs.Standing.{Stays, Formats, Looks, Restarts, OpensWrite, Reserves, Puts, Gets};
 
 use crate::change::Change;
 use crate::fault::{RowFault, told};
@@ -141,7 +144,8 @@ impl<D: Disk + Drop> RowDev<D> {
         requires spelled { HasStoredSpelling stored }
         requires short { length (row_payload stored) ≤ payload_most }
         requires room { IsUp (vault_of self.old) → HasRoom D.state self.old 0 1 (length (row_payload stored)) }
-        ensures puts { Puts D.state D.images (length (row_payload stored)) (with_row (held D.state self.old) stored) self.old self.new result }
+        ensures puts { Puts D.state D.images (length (row_payload stored))
+            (with_row (held D.state self.old) stored) self.old self.new result }
         ensures reads { row_reads self.new ≡ row_reads self.old }
     {
         if self.inner.is_down() {
@@ -161,7 +165,8 @@ impl<D: Disk + Drop> RowDev<D> {
         requires spelled { HasSchemaSpelling schema.now }
         requires state { IsState state }
         requires short { length (table_payload schema.now state) ≤ payload_most }
-        requires room { IsUp (vault_of self.old) → HasRoom D.state self.old 0 1 (length (table_payload schema.now state)) }
+        requires room { IsUp (vault_of self.old)
+            → HasRoom D.state self.old 0 1 (length (table_payload schema.now state)) }
         ensures puts { Puts D.state D.images (length (table_payload schema.now state))
             (with_table (held D.state self.old) schema.now state) self.old self.new result }
         ensures reads { row_reads self.new ≡ row_reads self.old }
@@ -187,7 +192,8 @@ impl<D: Disk + Drop> RowDev<D> {
         requires client { IsClient client }
         requires room { IsUp (vault_of self.old) → HasRoom D.state self.old 0 1 18 }
         ensures puts { Puts D.state D.images 18
-            (with_sub (held D.state self.old) client (terms_if on (record { gate = gate; period = period; tolerance = tolerance })))
+            (with_sub (held D.state self.old) client
+            (terms_if on (record { gate = gate; period = period; tolerance = tolerance })))
             self.old self.new result }
         ensures reads { row_reads self.new ≡ row_reads self.old }
     {
@@ -223,7 +229,8 @@ impl<D: Disk + Drop> RowDev<D> {
         requires ready { IsUp (vault_of self.old) → IsLookedAt D.state self.old }
         ensures row { IfOk result (λ stored. row_of (held D.state self.old) row.now ≡ Some stored) }
         ensures spelled { IfOk result HasStoredSpelling }
-        ensures no_row { IsErrOf result RowFault.NoRow ↔ (IsUp (vault_of self.old) × (row_of (held D.state self.old) row.now ≡ None)) }
+        ensures no_row { IsErrOf result RowFault.NoRow
+            ↔ (IsUp (vault_of self.old) × (row_of (held D.state self.old) row.now ≡ None)) }
         ensures no_row_unchanged { IsErrOf result RowFault.NoRow → self.new ≡ self.old }
         ensures reads { Gets D.state D.images self.old self.new result }
         // The count is that of the payloads that it reads.

@@ -65,8 +65,10 @@ impl RowMemory {
 
     // A row stands at this place.
     fn put_row(&mut self, row: RowId, place: Place) -> Result<(), AllocError>
-        ensures places { OnOk result (entries_of id_cmp self.new.places ≡ insert_entry id_cmp (entries_of id_cmp self.old.places) row place) }
-        ensures versions { OnOk result (AreByVersion (entries_of id_cmp self.old.places) (entries_of version_cmp self.old.versions)
+        ensures places { OnOk result (entries_of id_cmp self.new.places
+            ≡ insert_entry id_cmp (entries_of id_cmp self.old.places) row place) }
+        ensures versions { OnOk result (AreByVersion (entries_of id_cmp self.old.places)
+            (entries_of version_cmp self.old.versions)
             → AreByVersion (entries_of id_cmp self.new.places) (entries_of version_cmp self.new.versions)) }
         ensures no_memory { 1 ≤ spare_of self.old.places → 2 ≤ spare_of self.old.versions → IsOk result }
         ensures spare { spare_of self.old.places ≤ spare_of self.new.places + 1 }
@@ -105,7 +107,8 @@ impl RowMemory {
 
     // A client subscribes, or no more.
     fn put_sub(&mut self, change: SubChange) -> Result<(), AllocError>
-        ensures subs { OnOk result (entries_of nat_cmp self.new.subs ≡ changed nat_cmp (entries_of nat_cmp self.old.subs) change.client change.terms) }
+        ensures subs { OnOk result (entries_of nat_cmp self.new.subs
+            ≡ changed nat_cmp (entries_of nat_cmp self.old.subs) change.client change.terms) }
         ensures no_memory { 1 ≤ spare_of self.old.subs → IsOk result }
         ensures spare { spare_of self.old.subs ≤ spare_of self.new.subs + 1 }
         ensures places { self.new.places ≡ self.old.places }

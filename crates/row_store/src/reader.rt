@@ -5,7 +5,8 @@ ghost use Rattle.value_codec.specs.Reading.{Gives, content_at, items_at, list_at
 ghost use Rattle.value_codec.specs.SchemaReading.{schema_at};
 ghost use Rattle.value_codec.specs.FirstBad.{TellsPlace};
 ghost use Rattle.row_store.specs.Spelling.{is_keep, all_keep};
-ghost use Rattle.row_store.specs.Reading.{id_at, last_in, after_last, is_allowed, stored_at, table_at, terms_if, sub_at, tag_at, row_in, table_in, sub_in};
+ghost use Rattle.row_store.specs.Reading.{id_at, last_in, after_last, is_allowed, stored_at, table_at, terms_if};
+ghost use Rattle.row_store.specs.Reading.{sub_at, tag_at, row_in, table_in, sub_in};
 
 use crate::stored::{LastWrite, LastWrites, StoredRow, SubChange, Terms};
 use row_value::{Piece, PieceContent, PieceObject, Schema};

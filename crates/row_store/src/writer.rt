@@ -3,7 +3,8 @@ ghost use Rattle.std.specs.Prelude.{◌≡◌, ◌+◌, ◌*◌, ◌<◌, ◌≤
 ghost use Rattle.std.specs.Vec.{vec_capacity, vec_len};
 ghost use Rattle.value_codec.specs.Spelling.{list_spelling};
 ghost use Rattle.value_codec.specs.SchemaSpelling.{HasSchemaSpelling};
-ghost use Rattle.row_store.specs.Spelling.{last_spelling, HasStoredSpelling, row_payload, IsState, table_payload, sub_payload};
+ghost use Rattle.row_store.specs.Spelling.{last_spelling, HasStoredSpelling, row_payload, IsState, table_payload};
+ghost use Rattle.row_store.specs.Spelling.{sub_payload};
 
 use crate::stored::{LastWrite, StoredRow, Terms};
 use row_value::Schema;

@@ -1,5 +1,7 @@
 -- When a content is a row of a table.
-use Rattle.std.specs.Prelude.{ℕ, Bool, true, false, List, length, Option, Some, None, min, not, ◌==◌, ◌&&◌, nat_lt, nat_le, ◌+◌, ◌-◌, ◌^◌, take, unwrap_or, position, slice_get, sum_by, Result, Ok, Err, if◌then◌else◌}
+use Rattle.std.specs.Prelude.{ℕ, Bool, true, false, List, length, Option, Some, None, min, not, ◌==◌, ◌&&◌, nat_lt}
+use Rattle.std.specs.Prelude.{nat_le, ◌+◌, ◌-◌, ◌^◌, take, unwrap_or, position, slice_get, sum_by, Result, Ok, Err}
+use Rattle.std.specs.Prelude.{if◌then◌else◌}
 use Rattle.std.specs.List.{range_with_len}
 use Rattle.std.specs.Int.{div_ceil}
 use Rattle.std.specs.Str.{is_utf8}
@@ -69,7 +71,8 @@ spelled_len (cells.Text t) = 5 + length t
 
 -- what is left of a room behind the spelling of a cell of this kind of column
 abbrev pub room_behind : ℕ → ColumnKind → Cell → Option ℕ
-room_behind room kind cell = if is_of kind cell && nat_le (spelled_len cell) room then Some (room - spelled_len cell) else None
+room_behind room kind cell = if is_of kind cell && nat_le (spelled_len cell) room then Some (room - spelled_len cell)
+    else None
 
 abbrev pub room_at : ℕ → ColumnKind → Option Cell → Option ℕ
 room_at room kind None = None
@@ -89,7 +92,8 @@ is_cell_of (Some column) (Some cell) = is_of column.kind cell
 -- whether the cell at a place is there, is of its column, and the cells up to it are within their limit
 unfoldable pub has_cell : List Column → List Cell → ℕ → Bool
 has_cell columns some place =
-    is_cell_of (slice_get columns place) (slice_get some place) && nat_le (sum_by spelled_len (take (place + 1) some)) spelled_most
+    is_cell_of (slice_get columns place) (slice_get some place)
+    && nat_le (sum_by spelled_len (take (place + 1) some)) spelled_most
 
 -- ---- objects
 
@@ -141,7 +145,8 @@ size_fit size some objects =
 
 abbrev pub objects_fit : Schema → List Cell → List (List ℕ) → Option ℕ → Result (Unit {0}) FitFault
 objects_fit schema some objects None = size_fit schema.chunk some objects
-objects_fit schema some objects (Some place) = Err (BadObject (cell_count schema.columns + place) (len_of (slice_get objects place)))
+objects_fit schema some objects (Some place) =
+    Err (BadObject (cell_count schema.columns + place) (len_of (slice_get objects place)))
 
 abbrev pub cells_fit : Schema → List Cell → List (List ℕ) → Option ℕ → Result (Unit {0}) FitFault
 cells_fit schema some objects None =
@@ -151,4 +156,5 @@ cells_fit schema some objects (Some place) = Err (BadCell place)
 -- cells first, then objects, then the size, then the chunks
 unfoldable pub fit_of : Schema → Content → Result (Unit {0}) FitFault
 fit_of schema Gone = Ok tt
-fit_of schema (Row some objects) = cells_fit schema some objects (misfit (take (cell_count schema.columns) schema.columns) some)
+fit_of schema (Row some objects) =
+    cells_fit schema some objects (misfit (take (cell_count schema.columns) schema.columns) some)

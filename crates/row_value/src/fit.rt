@@ -1,6 +1,9 @@
-ghost use Rattle.std.specs.Prelude.{◌≡◌, ◌↔◌, ◌<◌, ◌≤◌, ◌+◌, ◌-◌, ◌^◌, IfSome, IsTrue, IsUtf8, length, min, sum_by, position, slice_get};
-ghost use Rattle.row_value.specs.Fit.{is_text, is_of, is_object, cell_count, room_behind, room_at, has_cell, has_object, wrong_in};
-ghost use Rattle.row_value.specs.Fit.{or_surplus, misfit, object_misfit, cell_len, len_of, chunk_count, chunks_of, size_fit, fit_of};
+ghost use Rattle.std.specs.Prelude.{◌≡◌, ◌↔◌, ◌<◌, ◌≤◌, ◌+◌, ◌-◌, ◌^◌, IfSome, IsTrue, IsUtf8, length, min, sum_by};
+ghost use Rattle.std.specs.Prelude.{position, slice_get};
+ghost use Rattle.row_value.specs.Fit.{is_text, is_of, is_object, cell_count, room_behind, room_at, has_cell};
+ghost use Rattle.row_value.specs.Fit.{has_object, wrong_in};
+ghost use Rattle.row_value.specs.Fit.{or_surplus, misfit, object_misfit, cell_len, len_of, chunk_count, chunks_of};
+ghost use Rattle.row_value.specs.Fit.{size_fit, fit_of};
 
 use crate::content::{Cell, Cells, Content, Objects};
 use crate::schema::{Column, ColumnKind, Schema};

@@ -20,7 +20,8 @@ use Rattle.step_tables.specs.declared.message.SyncRequest.{SyncRequest}
 use Rattle.step_tables.specs.declared.message.SyncResponse.{SyncResponse}
 use Rattle.step_tables.specs.declared.slots.InFlight.{InFlight}
 use Rattle.step_tables.specs.Store.{Stored, next_changed, header_for, version_or}
-use Rattle.step_tables.specs.Client.{Client, ClientTable, ClientStep, Taken, table_at, slots_at, with_slots, with_table, version_in, without, shadow_of, ignored, deliver_step, response_in, take_response, take_outcome, take_accepted, pulled_in, take_pulled, take_header, newer, next_pull, pull_from}
+use Rattle.step_tables.specs.Client.{Client, ClientTable, ClientStep, Taken, table_at, slots_at, with_slots, with_table, version_in, without, shadow_of, ignored, deliver_step, response_in}
+use Rattle.step_tables.specs.Client.{take_response, take_outcome, take_accepted, pulled_in, take_pulled, take_header, newer, next_pull, pull_from}
 use Rattle.run_laws.specs.World.{World, Packet, the_store, packets_of}
 use Rattle.run_laws.specs.Sound.{Among, HasEntryOf}
 use Rattle.run_laws.proofs.Kept.{WritesKept, Requested, OutcomeKept, AnswerKept, MessageKept, TableKept, ClientKept, stored_in}

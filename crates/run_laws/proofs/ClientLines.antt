@@ -11,7 +11,8 @@ use Rattle.table_model.specs.History.{history_of}
 use Rattle.table_model.specs.Writes.{all_writes, writes_of}
 use Rattle.run_laws.specs.World.{Packet, told, sent_from, answer_lines}
 use Rattle.run_laws.specs.Lines.{read_of, position_of, is_acked}
-use Rattle.run_laws.proofs.Appends.{history_of-append, all_writes-append, read_of-append, position_of-append, is_acked-append, told-append, sent_writes, sent_history, sent_reads, sent_positions, sent_acks}
+use Rattle.run_laws.proofs.Appends.{history_of-append, all_writes-append, read_of-append, position_of-append, is_acked-append, told-append, sent_writes, sent_history, sent_reads, sent_positions}
+use Rattle.run_laws.proofs.Appends.{sent_acks}
 
 -- what lines have behind lines before, where they add these facts
 pub record AddsFacts (before after : List TextLine) (some : List Fact) : Type 0 where

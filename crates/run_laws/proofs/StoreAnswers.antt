@@ -39,7 +39,8 @@ module _ (w : World) (before : List TextLine) (table : ℕ) (from : Node) (store
   unchanged_kept sends kept answers = quiet_kept w (after_store w table from (unchanged stored sends)).world before
       (answer_lines Done (sent_from (length w.packets) (packets_of the_store from sends))) (packets_of the_store from sends) quiet k
     where
-      quiet : IsQuiet w (after_store w table from (unchanged stored sends)).world before (answer_lines Done (sent_from (length w.packets) (packets_of the_store from sends))) (packets_of the_store from sends)
+      quiet : IsQuiet w (after_store w table from (unchanged stored sends)).world before (answer_lines Done (sent_from (length w.packets) (packets_of the_store from sends)))
+          (packets_of the_store from sends)
       quiet = record {
         packets = refl;
         silent = λ client. silent_step client Done [] (length w.packets) (packets_of the_store from sends) tt;

@@ -1,5 +1,6 @@
 -- What every transcript keeps, said of whole lists of turns and of lines.
-use Rattle.std.specs.Prelude.{◌≡◌, ◌≢◌, ◌⊎◌, ℕ, ◌+◌, ◌<◌, ◌≤◌, Bool, true, false, List, [], ◌∷◌, ◌++◌, length, Some, None, MatchBool}
+use Rattle.std.specs.Prelude.{◌≡◌, ◌≢◌, ◌⊎◌, ℕ, ◌+◌, ◌<◌, ◌≤◌, Bool, true, false, List, [], ◌∷◌, ◌++◌, length, Some}
+use Rattle.std.specs.Prelude.{None, MatchBool}
 use Rattle.std.specs.List.{AllByRecursion}
 use Rattle.row_value.specs.declared.content.Content.{Content}
 use Rattle.table_model.specs.declared.entry.Entry.{Entry}
@@ -84,7 +85,8 @@ OfFact P (text.Fact fact) = P fact
 -- the write of this number of a client stands in the lines, on this row of this table
 abbrev pub HasWrite : List TextLine → ℕ → ℕ → ℕ → List ℕ → Type 0
 HasWrite before client number table row =
-    (write : Write) × Among (all_writes before) write × (write.client ≡ client) × (write.number ≡ number) × (write.table ≡ table) × (write.row ≡ row)
+    (write : Write) × Among (all_writes before) write × (write.client ≡ client) × (write.number ≡ number)
+    × (write.table ≡ table) × (write.row ≡ row)
 
 -- an entry of a row at a version
 abbrev pub HasEntry : List TextLine → ℕ → List ℕ → ℕ → Type 0
@@ -94,21 +96,23 @@ HasEntry before table row version =
 -- the same, of this write
 abbrev pub HasEntryOf : List TextLine → ℕ → List ℕ → ℕ → ℕ → ℕ → Type 0
 HasEntryOf before table row version client number =
-    (entry : Entry) × Among (history_of table before) entry × (entry.row ≡ row) × (entry.version ≡ version) × (entry.client ≡ client) × (entry.number ≡ number)
+    (entry : Entry) × Among (history_of table before) entry × (entry.row ≡ row) × (entry.version ≡ version)
+    × (entry.client ≡ client) × (entry.number ≡ number)
 
 -- History. A new entry's version is one above the last version, from 1.
 abbrev pub IsNext : List TextLine → Fact → Type 0
 IsNext before (facts.Accepted table entry) = entry.version ≡ length (history_of table before) + 1
 IsNext before fact = Unit {0}
 
--- Origin, of writes. The numbers of a client's writes are 1, 2, 3 and so on, and a number named twice is the same write.
+-- Origin, of writes. The numbers of a client's writes are 1, 2, 3 and so on, and a number named twice is the same
+-- write.
 abbrev pub IsNumbered : List TextLine → Fact → Type 0
 IsNumbered before (facts.Wrote write) =
     (write.number ≡ length (writes_of write.client before) + 1) ⊎ Among (all_writes before) write
 IsNumbered before fact = Unit {0}
 
--- Origin, of entries. An entry's write stands before it, on its table and row. No write has two entries, and the numbers
--- of one client's entries on a row rise.
+-- Origin, of entries. An entry's write stands before it, on its table and row. No write has two entries, and the
+-- numbers of one client's entries on a row rise.
 pub record HasOrigin (before : List TextLine) (table : ℕ) (entry : Entry) : Type 0 where
   pub written : HasWrite before entry.client entry.number table entry.row
   pub once : (other : ℕ) (earlier : Entry) → Among (history_of other before) earlier
@@ -130,11 +134,13 @@ HasBase before fact = Unit {0}
 abbrev pub IsRead : List TextLine → Fact → Type 0
 IsRead before (facts.Acked client number table row version) =
     HasEntry before table row version × (read_of client table row before ≤ version)
-IsRead before (facts.New client table row version) = HasEntry before table row version × (read_of client table row before ≤ version)
+IsRead before (facts.New client table row version) =
+    HasEntry before table row version × (read_of client table row before ≤ version)
 IsRead before (facts.Wrote write) = write.read ≡ read_of write.client write.table write.row before
 IsRead before (facts.Position client table position) =
     (position_of client table before ≤ position)
-    × ((row : List ℕ) → current (history_of table before) row ≤ position → read_of client table row before ≡ current (history_of table before) row)
+    × ((row : List ℕ) → current (history_of table before) row ≤ position
+    → read_of client table row before ≡ current (history_of table before) row)
 IsRead before (facts.Sent packet from to name) = Unit {0}
 IsRead before (facts.Accepted table entry) = Unit {0}
 
@@ -157,12 +163,13 @@ IsShown before (events.Show client table row) lines =
     × (Among lines (text.Answer (answers.Refused refusals.NoRow)) → shown_of client table row before ≡ None)
 IsShown before event lines = Unit {0}
 
--- Current. The Store shows the row's last entry with its content, and says that there is none exactly there. The lines of
--- a history are the entries that were accepted.
+-- Current. The Store shows the row's last entry with its content, and says that there is none exactly there. The lines
+-- of a history are the entries that were accepted.
 abbrev pub IsCurrent : List TextLine → Event → List TextLine → Type 0
 IsCurrent before (events.StoreShow table row) lines =
     ((version : ℕ) (content : Content) → Among lines (text.Answer (answers.Stored version content))
-    → (0 < version) × (current (history_of table before) row ≡ version) × (content_at table version before ≡ Some content))
+    → (0 < version) × (current (history_of table before) row ≡ version)
+    × (content_at table version before ≡ Some content))
     × (Among lines (text.Answer (answers.Refused refusals.NoRow)) → current (history_of table before) row ≡ 0)
 IsCurrent before (events.History table) lines =
     (number : ℕ) → Among lines (text.Answer (answers.Number number))

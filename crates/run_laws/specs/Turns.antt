@@ -16,7 +16,8 @@ lines_of turns = flat_map (λ (turn : Turn). turn.lines) turns
 
 abbrev pub turns_from : World → List Event → List Turn
 turns_from w [] = []
-turns_from w (event ∷ more) = record { event = event; lines = (step w event).lines } ∷ turns_from (step w event).world more
+turns_from w (event ∷ more) = record { event = event; lines = (step w event).lines }
+    ∷ turns_from (step w event).world more
 
 abbrev pub world_from : World → List Event → World
 world_from w [] = w

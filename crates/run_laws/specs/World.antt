@@ -21,7 +21,8 @@ use Rattle.step_tables.specs.declared.message.Message.{Message}
 use Rattle.step_tables.specs.declared.message.Message.TheVariants as messages
 use Rattle.step_tables.specs.Names.{name_of}
 use Rattle.step_tables.specs.Store.{Stored, StoreStep, entries_of, current_of, store_step}
-use Rattle.step_tables.specs.Client.{Client, ClientStep, opened, write_step, show_step, sync_step, pull_step, deliver_step}
+use Rattle.step_tables.specs.Client.{Client, ClientStep, opened, write_step, show_step, sync_step, pull_step}
+use Rattle.step_tables.specs.Client.{deliver_step}
 
 -- a message that was sent
 pub record Packet : Type 0 where
@@ -72,7 +73,8 @@ declared w table schema (Some stored) = w
 
 abbrev pub with_opened : Client → ℕ → Option Schema → Client
 with_opened client table None = client
-with_opened client table (Some schema) = record client { tables = insert_entry nat_cmp client.tables table (opened schema) }
+with_opened client table (Some schema) =
+    record client { tables = insert_entry nat_cmp client.tables table (opened schema) }
 
 -- the client opens these tables, each with its declared schema
 abbrev pub open_all : World → Client → List ℕ → Client
@@ -82,7 +84,10 @@ open_all w client (table ∷ tables) = open_all w (with_opened client table (sch
 abbrev pub joined : World → ℕ → List ℕ → Option Client → World
 joined w client tables (Some node) = w
 joined w client tables None =
-    record w { clients = insert_entry nat_cmp w.clients client (open_all w (record { number = client; last = 0; tables = [] }) tables) }
+    record w {
+      clients = insert_entry nat_cmp w.clients client
+          (open_all w (record { number = client; last = 0; tables = [] }) tables);
+    }
 
 -- ---- the lines of an event: its answer, the facts, and the packets that were sent
 

@@ -3,7 +3,8 @@ ghost use Rattle.std.specs.Prelude.{◌≡◌, IfOk, option_copied, option_to_li
 ghost use Rattle.table_model.specs.Last.{last_where};
 ghost use Rattle.table_model.specs.History.{entry_in, history_of};
 ghost use Rattle.table_model.specs.Writes.{told, is_on, last_write};
-ghost use Rattle.run_laws.specs.Lines.{of_fact, read_by, read_of, acks, is_acked, open_write, is_write, write_of, entry_at, content_of, content_at, shown_by, shown_of};
+ghost use Rattle.run_laws.specs.Lines.{of_fact, read_by, read_of, acks, is_acked, open_write, is_write, write_of};
+ghost use Rattle.run_laws.specs.Lines.{entry_at, content_of, content_at, shown_by, shown_of};
 
 use row_value::{ClientNo, Content, RowId, Sequence, TableNo, Version, WriteNo};
 use std::alloc::{AllocError, Global};

@@ -142,7 +142,8 @@ all_numbers : (m : ℕ) (ns : List ℕ) → AllByRecursion (λ y. bytes_eq (tabl
 all_numbers m [] h = tt
 all_numbers m (n ∷ ns) h = (apart_numbers m n h.0, all_numbers m ns h.1)
 
-all_words : (m : ℕ) (ns : List ℕ) → m < 2 ^ 64 → AllByRecursion (λ n. n < 2 ^ 64) ns → AllByRecursion (λ n. eqb m n ≡ false) ns → AllByRecursion (λ y. bytes_eq (table_word m) y ≡ false) (map table_word ns)
+all_words : (m : ℕ) (ns : List ℕ) → m < 2 ^ 64 → AllByRecursion (λ n. n < 2 ^ 64) ns → AllByRecursion (λ n. eqb m n ≡ false) ns
+    → AllByRecursion (λ y. bytes_eq (table_word m) y ≡ false) (map table_word ns)
 all_words m [] p q h = tt
 all_words m (n ∷ ns) p q h = (apart_words m n p q.0 h.0, all_words m ns p q.1 h.1)
 

@@ -15,13 +15,15 @@ use Rattle.script_text.specs.Faults.{bad}
 use Rattle.script_text.specs.Verbs.{name_of}
 use Rattle.script_text.specs.Names.{Names, has_no_store}
 use Rattle.script_text.specs.Places.{◌>>=◌, names_of, new_store_at, new_table_at, new_client_at, tables_at, new_name_at, scheme_at, chunk_at}
-use Rattle.script_text.specs.Reading.{placed, made_store, made_table, made_client, store_in, table_in, client_in, content_in, some_columns_in, write_in, show_in, client_table_in, sync_in, pull_in, deliver_in, store_show_in, history_in, next_in}
+use Rattle.script_text.specs.Reading.{placed, made_store, made_table, made_client, store_in, table_in, client_in, content_in, some_columns_in, write_in, show_in, client_table_in, sync_in, pull_in}
+use Rattle.script_text.specs.Reading.{deliver_in, store_show_in, history_in, next_in}
 use Rattle.script_text.specs.Grammar.{SpelledBy, AreColumns, client_word, table_word, tables_word, IsClient, IsTable, limit_of}
 use Rattle.script_text.proofs.Steps.{ok_err, bind-ok, word_in-ok, end-ok}
 use Rattle.script_text.proofs.Numbers.{packet_at-ok}
 use Rattle.script_text.proofs.Distinct.{new-distinct}
 use Rattle.script_text.proofs.ColumnLemmas.{some_columns-ok, same_count}
-use Rattle.script_text.proofs.PlaceLemmas.{client_at-ok, table_at-ok, new_store_at-ok, new_store_at-within, new_store_at-limit, new_table_at-ok, new_table_at-within, new_table_at-limit, new_client_at-ok, new_client_at-within, new_client_at-limit, gate_at-ok, new_name_at-ok, scheme_at-ok, chunk_at-ok, row_at-ok}
+use Rattle.script_text.proofs.PlaceLemmas.{client_at-ok, table_at-ok, new_store_at-ok, new_store_at-within, new_store_at-limit, new_table_at-ok, new_table_at-within, new_table_at-limit}
+use Rattle.script_text.proofs.PlaceLemmas.{new_client_at-ok, new_client_at-within, new_client_at-limit, gate_at-ok, new_name_at-ok, scheme_at-ok, chunk_at-ok, row_at-ok}
 use Rattle.script_words.specs.Columns.{column_word}
 use Rattle.script_text.proofs.ContentLemmas.{content-ok}
 use Rattle.script_text.proofs.TableLemmas.{tables_at-ok, tables_at-within, tables_at-limit}
@@ -45,7 +47,8 @@ module _ (names : Names) where
       let p = new_store_at-ok names w n h in
       ((ap (λ (v : List ℕ). codes "store" ∷ v ∷ []) p.0, p.1, early, p.2), new_store_at-within names w n h)
 
-  client-told : (w u v : List ℕ) (o : Option ℕ) (t : Option (List ℕ)) → names.started ≡ false → new_client_at names w ≡ Ok o → u ≡ codes "-" → tables_at names v ≡ Ok t → Told names verbs.Client (w ∷ u ∷ v ∷ []) (made_client o t)
+  client-told : (w u v : List ℕ) (o : Option ℕ) (t : Option (List ℕ)) → names.started ≡ false → new_client_at names w ≡ Ok o → u ≡ codes "-" → tables_at names v ≡ Ok t
+      → Told names verbs.Client (w ∷ u ∷ v ∷ []) (made_client o t)
   client-told w u v None t early h q k = rw (new_client_at-limit names w h) refl
   client-told w u v (Some n) None early h q k = rw (new_client_at-within names w n h, tables_at-limit names v k) refl
   client-told w u v (Some n) (Some tables) early h q k =
@@ -54,7 +57,8 @@ module _ (names : Names) where
       let words : codes "client" ∷ w ∷ u ∷ v ∷ [] ≡ codes "client" ∷ client_word n ∷ codes "-" ∷ tables_word tables ∷ [] = rw (p.0, q, s.0) refl in
       ((words, p.1, refl, s.1, s.2, early, p.2), (rw (new_client_at-within names w n h, tables_at-within names v tables k) refl))
 
-  table-picked : (ws : List (List ℕ)) (e : Event) (many : Bool) → (many ≡ true → limit_of verbs.Table ws ≡ Some 8) → (many ≡ false → SpelledBy names (codes "table" ∷ ws) e × (limit_of verbs.Table ws ≡ None)) → Told names verbs.Table ws (cond many (Err 8) (Ok e))
+  table-picked : (ws : List (List ℕ)) (e : Event) (many : Bool) → (many ≡ true → limit_of verbs.Table ws ≡ Some 8)
+      → (many ≡ false → SpelledBy names (codes "table" ∷ ws) e × (limit_of verbs.Table ws ≡ None)) → Told names verbs.Table ws (cond many (Err 8) (Ok e))
   table-picked ws e true h k = h refl
   table-picked ws e false h k = k refl
 

@@ -1,5 +1,6 @@
 -- What a word is that is right at its place.
-use Rattle.std.proofs.Common.{◌≡◌, ℕ, ◌<◌, ◌^◌, Bool, true, false, not, ◌||◌, eqb, ltb, cond, List, ◌∷◌, ◌++◌, length, get_or, codes, Option, Some, None, Result, Ok, Err, ℤ, refl, sym, ap, ◌∙◌, subst, inl, inr, arith, true≢false}
+use Rattle.std.proofs.Common.{◌≡◌, ℕ, ◌<◌, ◌^◌, Bool, true, false, not, ◌||◌, eqb, ltb, cond, List, ◌∷◌, ◌++◌, length, get_or, codes, Option, Some, None, Result, Ok, Err, ℤ, refl, sym, ap, ◌∙◌, subst}
+use Rattle.std.proofs.Common.{inl, inr, arith, true≢false}
 use Rattle.std.specs.Int.Signed.{mag}
 use Rattle.std.specs.Fmt.{decimal, signed_decimal, digits}
 use Rattle.std.proofs.lemmas.List.Sums.{split_at_first, passes_at_first}
@@ -15,7 +16,8 @@ use Rattle.script_words.specs.declared.code.Code.{Code}
 use Rattle.script_words.specs.declared.code.Code.TheVariants.{NoNumber, NoName, NoRow, NoValue, NotDeclared, Twice, Unbuilt}
 use Rattle.script_text.specs.Names.{Names, has_store, has_table, has_name, has_client}
 use Rattle.script_words.specs.Words.{is_name}
-use Rattle.script_text.specs.Places.{◌>>=◌, node_at, built, known, limited_at, passed, fresh, opened, opened_at, client_at, table_at, store_number, table_number, client_number, new_store_at, new_table_at, new_client_at, gate_at, new_name_at, scheme_at, chunk_at, row_at, found_row}
+use Rattle.script_text.specs.Places.{◌>>=◌, node_at, built, known, limited_at, passed, fresh, opened, opened_at, client_at, table_at, store_number, table_number, client_number, new_store_at}
+use Rattle.script_text.specs.Places.{new_table_at, new_client_at, gate_at, new_name_at, scheme_at, chunk_at, row_at, found_row}
 use Rattle.script_text.specs.Grammar.{IsChunk, IsUpTo, client_word, table_word, IsClient, IsTable}
 use Rattle.script_text.proofs.Steps.{ok_err, bind-ok}
 use Rattle.script_text.proofs.Numbers.{if-ok, unless-ok, some_same, ok_same, none_some, node-some, limited-some}
@@ -77,7 +79,8 @@ module _ (judge : Option ℕ → Result (Option ℕ) Code) (P : ℕ → Type 0) 
       let q = limited-some letter most word n p.0 in
       (q.0, (q.1, q.2), p.1)
 
-above : (judge : Option ℕ → Result (Option ℕ) Code) (letter most : ℕ) (word : List ℕ) (limit : ℕ) → ((o : Option ℕ) → judge o ≡ Ok None → o ≡ None) → (limited_at letter most word >>= judge) ≡ Ok None → passed limit (limited_at letter most word) ≡ Some limit
+above : (judge : Option ℕ → Result (Option ℕ) Code) (letter most : ℕ) (word : List ℕ) (limit : ℕ) → ((o : Option ℕ) → judge o ≡ Ok None → o ≡ None) → (limited_at letter most word >>= judge) ≡ Ok None
+    → passed limit (limited_at letter most word) ≡ Some limit
 above judge letter most word limit none e =
     let p = bind-ok (limited_at letter most word) judge None e in
     ap (passed limit) (p.1 ∙ ap Ok (none p.0 p.2))

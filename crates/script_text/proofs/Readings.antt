@@ -15,7 +15,8 @@ use Rattle.script_text.proofs.Steps.{ok_err, bind-ok, bind-err}
 use Rattle.script_text.proofs.Numbers.{some_same, none_some}
 use Rattle.script_text.proofs.VerbWords.{verb-some, verb-none, verb-again}
 use Rattle.script_text.proofs.Goods.{Told, store-ok, table-ok, client-ok, write-ok, show-ok, sync-ok, pull-ok, deliver-ok, store_show-ok, history-ok}
-use Rattle.script_text.proofs.Stops.{store-err, table-err, client-err, write-err, show-err, sync-err, pull-err, deliver-err, store_show-err, history-err, store-fault, table-fault, client-fault, write-fault, show-fault, sync-fault, pull-fault, deliver-fault, store_show-fault, history-fault}
+use Rattle.script_text.proofs.Stops.{store-err, table-err, client-err, write-err, show-err, sync-err, pull-err, deliver-err, store_show-err, history-err, store-fault, table-fault, client-fault}
+use Rattle.script_text.proofs.Stops.{write-fault, show-fault, sync-fault, pull-fault, deliver-fault, store_show-fault, history-fault}
 
 unless : {X : Type 0} (b : Bool) (r : Result X BadLine) (f : BadLine) (x : X) → cond b (Err f) r ≡ Ok x → (b ≡ false) × (r ≡ Ok x)
 unless false r f x e = (refl, e)
@@ -24,19 +25,23 @@ unless true r f x e = absurd (ok_err x f (sym e))
 ok_told : {X E : Type 0} {x y : X} → ◌≡◌ {A = Result X E} (Ok x) (Ok y) → x ≡ y
 ok_told e = cc
 
-early : {P : Type 0} (b : Bool) {r : Result (Result Event ℕ) BadLine} (f : BadLine) → cond b (Err (bad Late 0)) r ≡ Err f → (r ≡ Err f → P) → MatchOption (cond b (Some Late) None) P (λ code. f ≡ bad code 0)
+early : {P : Type 0} (b : Bool) {r : Result (Result Event ℕ) BadLine} (f : BadLine) → cond b (Err (bad Late 0)) r ≡ Err f → (r ≡ Err f → P)
+    → MatchOption (cond b (Some Late) None) P (λ code. f ≡ bad code 0)
 early true f h go = cc
 early false f h go = go h
 
-stored : {P : Type 0} (a b : Bool) {r : Result (Result Event ℕ) BadLine} (f : BadLine) → cond a (Err (bad NotDeclared 0)) (cond b (Err (bad Late 0)) r) ≡ Err f → (r ≡ Err f → P) → MatchOption (cond a (Some NotDeclared) (cond b (Some Late) None)) P (λ code. f ≡ bad code 0)
+stored : {P : Type 0} (a b : Bool) {r : Result (Result Event ℕ) BadLine} (f : BadLine) → cond a (Err (bad NotDeclared 0)) (cond b (Err (bad Late 0)) r) ≡ Err f → (r ≡ Err f → P)
+    → MatchOption (cond a (Some NotDeclared) (cond b (Some Late) None)) P (λ code. f ≡ bad code 0)
 stored true b f h go = cc
 stored false b f h go = early b f h go
 
-early-fault : {P : Type 0} (b : Bool) {r : Result (Result Event ℕ) BadLine} (f : BadLine) → MatchOption (cond b (Some Late) None) P (λ code. f ≡ bad code 0) → (P → r ≡ Err f) → cond b (Err (bad Late 0)) r ≡ Err f
+early-fault : {P : Type 0} (b : Bool) {r : Result (Result Event ℕ) BadLine} (f : BadLine) → MatchOption (cond b (Some Late) None) P (λ code. f ≡ bad code 0) → (P → r ≡ Err f)
+    → cond b (Err (bad Late 0)) r ≡ Err f
 early-fault true f h go = cc
 early-fault false f h go = go h
 
-stored-fault : {P : Type 0} (a b : Bool) {r : Result (Result Event ℕ) BadLine} (f : BadLine) → MatchOption (cond a (Some NotDeclared) (cond b (Some Late) None)) P (λ code. f ≡ bad code 0) → (P → r ≡ Err f) → cond a (Err (bad NotDeclared 0)) (cond b (Err (bad Late 0)) r) ≡ Err f
+stored-fault : {P : Type 0} (a b : Bool) {r : Result (Result Event ℕ) BadLine} (f : BadLine) → MatchOption (cond a (Some NotDeclared) (cond b (Some Late) None)) P (λ code. f ≡ bad code 0)
+    → (P → r ≡ Err f) → cond a (Err (bad NotDeclared 0)) (cond b (Err (bad Late 0)) r) ≡ Err f
 stored-fault true b f h go = cc
 stored-fault false b f h go = early-fault b f h go
 
@@ -65,7 +70,8 @@ module _ (names : Names) (first : List ℕ) (ws : List (List ℕ)) where
   in_time-ok r told h = unless (names.started) r (bad Late 0) told h
 
   -- of a line that names no number above a limit
-  plain-built : (verb : Verb) (r : Result Event BadLine) (told : Result Event ℕ) → limit_of verb ws ≡ None → ((e : Event) → r ≡ Ok e → SpelledBy names (name_of verb ∷ ws) e) → unlimited r ≡ Ok told → Told names verb ws told
+  plain-built : (verb : Verb) (r : Result Event BadLine) (told : Result Event ℕ) → limit_of verb ws ≡ None → ((e : Event) → r ≡ Ok e → SpelledBy names (name_of verb ∷ ws) e) → unlimited r ≡ Ok told
+      → Told names verb ws told
   plain-built verb r told clear go h =
       let p = unlimited-ok r told h in
       subst (λ (t : Result Event ℕ). Told names verb ws t) p.2 (go p.0 p.1, clear)

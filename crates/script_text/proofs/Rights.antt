@@ -1,5 +1,6 @@
 -- Words that are right at their places.
-use Rattle.std.proofs.Common.{◌≡◌, ◌≢◌, ℕ, suc, ◌+◌, ◌<◌, ◌≤◌, ◌^◌, true, false, ◌&&◌, ◌||◌, eqb, ltb, leb, cond, List, [], ◌∷◌, ◌++◌, length, get_or, take, drop, map, codes, Option, Some, None, Ok, ℤ, pos, negsuc, neg_ℤ, length-append, refl, sym, ap, ◌∙◌, subst, inl, inr, arith, true≢false, All}
+use Rattle.std.proofs.Common.{◌≡◌, ◌≢◌, ℕ, suc, ◌+◌, ◌<◌, ◌≤◌, ◌^◌, true, false, ◌&&◌, ◌||◌, eqb, ltb, leb, cond, List, [], ◌∷◌, ◌++◌, length, get_or, take, drop, map, codes, Option, Some, None, Ok}
+use Rattle.std.proofs.Common.{ℤ, pos, negsuc, neg_ℤ, length-append, refl, sym, ap, ◌∙◌, subst, inl, inr, arith, true≢false, All}
 use Rattle.std.specs.Int.Signed.{mag}
 use Rattle.std.specs.Fmt.{decimal, signed_decimal}
 use Rattle.std.specs.List.{AllByRecursion, IsDistinct, list_all, position_or_len}
@@ -16,7 +17,8 @@ use Rattle.stab_base.specs.Row.{row_of}
 use Rattle.row_value.specs.declared.schema.Scheme.TheVariants as schemes
 use Rattle.script_text.specs.Names.{Names, has_store, has_table, has_name, has_client}
 use Rattle.script_words.specs.Words.{is_number, is_name, is_name_byte, is_lower, is_among}
-use Rattle.script_text.specs.Places.{small, node_at, limited_at, store_number, is_comma, parts_at, opened_at, tables_in, client_at, table_at, new_store_at, new_table_at, new_client_at, gate_at, tables_at, new_name_at, scheme_at, chunk_at, row_at, found_row}
+use Rattle.script_text.specs.Places.{small, node_at, limited_at, store_number, is_comma, parts_at, opened_at, tables_in, client_at, table_at, new_store_at, new_table_at, new_client_at, gate_at}
+use Rattle.script_text.specs.Places.{tables_at, new_name_at, scheme_at, chunk_at, row_at, found_row}
 use Rattle.script_text.specs.Grammar.{IsChunk, IsUpTo, client_word, table_word, tables_word, IsClient, IsTable}
 use Rattle.script_words.proofs.WordLemmas.{both}
 use Rattle.script_text.proofs.Numbers.{node-right, limited-right}
@@ -82,13 +84,15 @@ module _ (names : Names) where
   unfolding new_store_at
   new_store_at-right has = rw (store-number, has) refl
 
-  tables_in-right : (before : List (List ℕ)) (tables : List ℕ) → AllByRecursion (λ n. IsUpTo 64 n × (has_table names n ≡ true)) tables → NewTo before (map table_word tables) → tables_in names before (map table_word tables) ≡ Ok (Some tables)
+  tables_in-right : (before : List (List ℕ)) (tables : List ℕ) → AllByRecursion (λ n. IsUpTo 64 n × (has_table names n ≡ true)) tables → NewTo before (map table_word tables)
+      → tables_in names before (map table_word tables) ≡ Ok (Some tables)
   unfolding tables_in
   tables_in-right before [] h new = refl
   tables_in-right before (n ∷ tables) h new =
       rw (opened_at-right names n h.0.0 h.0.1, new.0, tables_in-right (before ++ table_word n ∷ []) tables h.1 new.1) refl
 
-  pub tables_at-right : (tables : List ℕ) → AllByRecursion (λ n. IsUpTo 64 n × (has_table names n ≡ true)) tables → IsDistinct (λ m n. eqb m n) tables → tables_at names (tables_word tables) ≡ Ok (Some tables)
+  pub tables_at-right : (tables : List ℕ) → AllByRecursion (λ n. IsUpTo 64 n × (has_table names n ≡ true)) tables → IsDistinct (λ m n. eqb m n) tables
+      → tables_at names (tables_word tables) ≡ Ok (Some tables)
   unfolding tables_at
   tables_at-right [] h d = refl
   tables_at-right (n ∷ tables) h d =

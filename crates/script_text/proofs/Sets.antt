@@ -31,7 +31,8 @@ absent true e = absurd (true≢false e)
 absent false e = refl
 
 module _ {K : Type 0} (cmp : K → K → Ordering) (k : K) (same : cmp k k ≡ Equal) where
-  kept : (x : K) (xs : List K) (o : Ordering) → cmp k x ≡ o → is_at (cmp k) x ≡ false → remove_key (is_at (cmp k)) (insert_key cmp xs k) ≡ xs → remove_key (is_at (cmp k)) (match_ordering o (k ∷ x ∷ xs) (x ∷ xs) (x ∷ insert_key cmp xs k)) ≡ x ∷ xs
+  kept : (x : K) (xs : List K) (o : Ordering) → cmp k x ≡ o → is_at (cmp k) x ≡ false → remove_key (is_at (cmp k)) (insert_key cmp xs k) ≡ xs
+      → remove_key (is_at (cmp k)) (match_ordering o (k ∷ x ∷ xs) (x ∷ xs) (x ∷ insert_key cmp xs k)) ≡ x ∷ xs
   kept x xs Less is away more = rw same refl
   kept x xs Equal is away more = absurd (true≢false (rw is at away))
   kept x xs Greater is away more = rw away (ap (λ ys. x ∷ ys) more)
@@ -49,6 +50,7 @@ remove_key-map p h (x ∷ xs) = elim (p (h x)) as (λ (b : Bool). map h (cond b 
   | false ↦ ap (λ ys. h x ∷ ys) (remove_key-map p h xs)
 ]
 
-pub put_back : {K : Type 0} (cmp : K → K → Ordering) (k : K) (same : cmp k k ≡ Equal) (xs ys zs : List K) (added : Bool) → added ≡ not (list_any (is_at (cmp k)) xs) → ys ≡ insert_key cmp xs k → OnFalse added (ys ≡ xs) → zs ≡ cond added (remove_key (is_at (cmp k)) ys) ys → zs ≡ xs
+pub put_back : {K : Type 0} (cmp : K → K → Ordering) (k : K) (same : cmp k k ≡ Equal) (xs ys zs : List K) (added : Bool) → added ≡ not (list_any (is_at (cmp k)) xs) → ys ≡ insert_key cmp xs k
+    → OnFalse added (ys ≡ xs) → zs ≡ cond added (remove_key (is_at (cmp k)) ys) ys → zs ≡ xs
 put_back cmp k same xs ys zs true new put kept after = after ∙ (rw put (remove_key-insert_key cmp k same xs (absent (list_any (is_at (cmp k)) xs) new)))
 put_back cmp k same xs ys zs false new put kept after = after ∙ kept

@@ -20,16 +20,20 @@ use Rattle.script_text.specs.Names.{Names, has_no_store}
 use Rattle.script_words.specs.Words.{is_name}
 use Rattle.script_text.specs.Places.{names_of}
 use Rattle.script_words.specs.Columns.{column_word}
-use Rattle.script_text.specs.Reading.{next_in, word_in, end_in, store_in, made_table, table_in, client_in, write_in, show_in, client_table_in, sync_in, pull_in, deliver_in, store_show_in, history_in, unlimited, in_time, built_in, event_in, words_in}
-use Rattle.script_text.specs.Grammar.{SpelledBy, SpellsStore, SpellsTable, SpellsClient, SpellsWrite, SpellsShow, SpellsSync, SpellsPull, SpellsDeliver, SpellsStoreShow, SpellsHistory, client_word, table_word, tables_word, IsClient, IsTable}
+use Rattle.script_text.specs.Reading.{next_in, word_in, end_in, store_in, made_table, table_in, client_in, write_in, show_in, client_table_in, sync_in, pull_in, deliver_in, store_show_in, history_in}
+use Rattle.script_text.specs.Reading.{unlimited, in_time, built_in, event_in, words_in}
+use Rattle.script_text.specs.Grammar.{SpelledBy, SpellsStore, SpellsTable, SpellsClient, SpellsWrite, SpellsShow, SpellsSync, SpellsPull, SpellsDeliver, SpellsStoreShow, SpellsHistory, client_word}
+use Rattle.script_text.specs.Grammar.{table_word, tables_word, IsClient, IsTable}
 use Rattle.script_text.proofs.Numbers.{packet_at-right}
 use Rattle.script_text.proofs.Distinct.{distinct-new}
 use Rattle.script_text.proofs.ColumnLemmas.{some_columns_in-right}
 use Rattle.script_text.proofs.ContentLemmas.{content-right}
 use Rattle.script_text.proofs.VerbWords.{verb-again}
-use Rattle.script_text.proofs.Rights.{client_at-right, table_at-right, new_store_at-right, new_table_at-right, new_client_at-right, tables_at-right, new_name_at-right, gate_at-right, scheme_at-right, chunk_at-right, row_at-right}
+use Rattle.script_text.proofs.Rights.{client_at-right, table_at-right, new_store_at-right, new_table_at-right, new_client_at-right, tables_at-right, new_name_at-right, gate_at-right, scheme_at-right}
+use Rattle.script_text.proofs.Rights.{chunk_at-right, row_at-right}
 
-word_in-right : {X Y : Type 0} (at : ℕ) (place : List ℕ → Result X Code) (w : List ℕ) (ws : List (List ℕ)) (next : X → List (List ℕ) → Result Y BadLine) (x : X) → place w ≡ Ok x → word_in at place (w ∷ ws) next ≡ next x ws
+word_in-right : {X Y : Type 0} (at : ℕ) (place : List ℕ → Result X Code) (w : List ℕ) (ws : List (List ℕ)) (next : X → List (List ℕ) → Result Y BadLine) (x : X) → place w ≡ Ok x
+    → word_in at place (w ∷ ws) next ≡ next x ws
 unfolding word_in next_in
 word_in-right at place w ws next x e = rw e refl
 
@@ -109,7 +113,8 @@ module _ (names : Names) where
       in
       rw h.1 (event_in-right names verbs.Show (client_word client ∷ table_word table ∷ h.0 ∷ []) (events.Show client table row) (ap unlimited read))
 
-  write-right : (ws : List (List ℕ)) (client table : ℕ) (row : List ℕ) (content : Content) → SpellsWrite names ws client table row content → words_in names ws ≡ Ok (Ok (Some (events.Write client table row content)))
+  write-right : (ws : List (List ℕ)) (client table : ℕ) (row : List ℕ) (content : Content) → SpellsWrite names ws client table row content
+      → words_in names ws ≡ Ok (Ok (Some (events.Write client table row content)))
   unfolding write_in
   write-right ws client table row content h =
       let read : write_in names (client_word client ∷ table_word table ∷ h.0 ∷ h.1) ≡ Ok (events.Write client table row content) =
@@ -120,7 +125,8 @@ module _ (names : Names) where
       in
       rw h.2 (event_in-right names verbs.Write (client_word client ∷ table_word table ∷ h.0 ∷ h.1) (events.Write client table row content) (ap unlimited read))
 
-  client-right : (ws : List (List ℕ)) (client : ℕ) (gate : Option ℕ) (tables : List ℕ) → SpellsClient names ws client gate tables → words_in names ws ≡ Ok (Ok (Some (events.Client client gate tables)))
+  client-right : (ws : List (List ℕ)) (client : ℕ) (gate : Option ℕ) (tables : List ℕ) → SpellsClient names ws client gate tables
+      → words_in names ws ≡ Ok (Ok (Some (events.Client client gate tables)))
   unfolding client_in
   client-right ws client gate tables h =
       rw (h.0, h.2)

@@ -33,20 +33,25 @@ module _ {X Y : Type 0} (at : ℕ) (place : List ℕ → Result X Code) (next : 
   word_in-ok (w ∷ rest) y e = let p = met w rest y (place w) refl e in (w, rest, p.0, refl, p.1, p.2)
 
   module _ (places : List (List ℕ → Option Code)) (more : Rest) (f : BadLine) where
-    stop : (w : List ℕ) (rest : List (List ℕ)) (r : Result X Code) → place w ≡ r → (placed at r >>= λ x. next x rest) ≡ Err f → ((x : X) → place w ≡ Ok x → next x rest ≡ Err f → FirstFault (at + 1) places more rest f) → MatchOption (fault_of r) (FirstFault (at + 1) places more rest f) (λ code. f ≡ bad code at)
+    stop : (w : List ℕ) (rest : List (List ℕ)) (r : Result X Code) → place w ≡ r → (placed at r >>= λ x. next x rest) ≡ Err f
+        → ((x : X) → place w ≡ Ok x → next x rest ≡ Err f → FirstFault (at + 1) places more rest f) → MatchOption (fault_of r) (FirstFault (at + 1) places more rest f) (λ code. f ≡ bad code at)
     stop w rest (Ok x) is e go = go x is e
     stop w rest (Err code) is e go = cc
 
-    pub word_in-err : (ws : List (List ℕ)) → word_in at place ws next ≡ Err f → ((w : List ℕ) (rest : List (List ℕ)) (x : X) → ws ≡ w ∷ rest → place w ≡ Ok x → next x rest ≡ Err f → FirstFault (at + 1) places more rest f) → FirstFault at ((λ w. fault_of (place w)) ∷ places) more ws f
+    pub word_in-err : (ws : List (List ℕ)) → word_in at place ws next ≡ Err f
+        → ((w : List ℕ) (rest : List (List ℕ)) (x : X) → ws ≡ w ∷ rest → place w ≡ Ok x → next x rest ≡ Err f → FirstFault (at + 1) places more rest f)
+        → FirstFault at ((λ w. fault_of (place w)) ∷ places) more ws f
     unfolding word_in next_in
     word_in-err [] e go = cc
     word_in-err (w ∷ rest) e go = stop w rest (place w) refl e (λ x is more. go w rest x refl is more)
 
-    refused : (w : List ℕ) (rest : List (List ℕ)) (r : Result X Code) → place w ≡ r → MatchOption (fault_of r) (FirstFault (at + 1) places more rest f) (λ code. f ≡ bad code at) → ((x : X) → place w ≡ Ok x → FirstFault (at + 1) places more rest f → next x rest ≡ Err f) → (placed at r >>= λ x. next x rest) ≡ Err f
+    refused : (w : List ℕ) (rest : List (List ℕ)) (r : Result X Code) → place w ≡ r → MatchOption (fault_of r) (FirstFault (at + 1) places more rest f) (λ code. f ≡ bad code at)
+        → ((x : X) → place w ≡ Ok x → FirstFault (at + 1) places more rest f → next x rest ≡ Err f) → (placed at r >>= λ x. next x rest) ≡ Err f
     refused w rest (Ok x) is h go = go x is h
     refused w rest (Err code) is h go = cc
 
-    pub word_in-fault : (ws : List (List ℕ)) → FirstFault at ((λ w. fault_of (place w)) ∷ places) more ws f → ((w : List ℕ) (rest : List (List ℕ)) (x : X) → ws ≡ w ∷ rest → place w ≡ Ok x → FirstFault (at + 1) places more rest f → next x rest ≡ Err f) → word_in at place ws next ≡ Err f
+    pub word_in-fault : (ws : List (List ℕ)) → FirstFault at ((λ w. fault_of (place w)) ∷ places) more ws f
+        → ((w : List ℕ) (rest : List (List ℕ)) (x : X) → ws ≡ w ∷ rest → place w ≡ Ok x → FirstFault (at + 1) places more rest f → next x rest ≡ Err f) → word_in at place ws next ≡ Err f
     unfolding word_in next_in
     word_in-fault [] h go = cc
     word_in-fault (w ∷ rest) h go = refused w rest (place w) refl h (λ x is more. go w rest x refl is more)

@@ -1,5 +1,6 @@
 -- Lists of tables that a client opens.
-use Rattle.std.proofs.Common.{◌≡◌, ◌≢◌, ℕ, ◌+◌, ◌<◌, ◌≤◌, true, false, cond, eqb, List, [], ◌∷◌, ◌++◌, codes, map, length, take, drop, get_or, Option, Some, None, Result, Ok, Err, refl, sym, ap, ◌∙◌, subst, inl, inr, arith, append_assoc, append-nil, add-one, zero, suc}
+use Rattle.std.proofs.Common.{◌≡◌, ◌≢◌, ℕ, ◌+◌, ◌<◌, ◌≤◌, true, false, cond, eqb, List, [], ◌∷◌, ◌++◌, codes, map, length, take, drop, get_or, Option, Some, None, Result, Ok, Err, refl, sym, ap, ◌∙◌}
+use Rattle.std.proofs.Common.{subst, inl, inr, arith, append_assoc, append-nil, add-one, zero, suc}
 use Rattle.std.specs.Borrow.{Bor}
 use Rattle.std.specs.List.{AllByRecursion, IsDistinct, join_with_byte}
 use Rattle.std.specs.Ordering.{nat_cmp}
@@ -42,7 +43,8 @@ joined-end (Some a) = ap Some (append-nil a)
 
 module _ (names : Names) where
   next : (before words : List (List ℕ)) (word : List ℕ) (r : Option (List ℕ)) → tables_in names before (word ∷ words) ≡ Ok r
-      → (t : Option ℕ) × (more : Option (List ℕ)) × (opened_at names word ≡ Ok t) × (is_among word before ≡ false) × (tables_in names (before ++ word ∷ []) words ≡ Ok more) × (joined (alone t) more ≡ r)
+      → (t : Option ℕ) × (more : Option (List ℕ)) × (opened_at names word ≡ Ok t) × (is_among word before ≡ false) × (tables_in names (before ++ word ∷ []) words ≡ Ok more)
+      × (joined (alone t) more ≡ r)
   unfolding tables_in
   next before words word r e =
       let a = bind-ok (opened_at names word) (λ table. cond (is_among word before) (Err Twice) (tables_in names (before ++ word ∷ []) words >>= λ more. Ok (joined (alone table) more))) r e in
@@ -83,7 +85,8 @@ module _ (names : Names) where
       let q = alone-some s.0 p.0 p.2 in
       rw (opened_at-within names w q.0 (s.2 ∙ ap Ok q.1)) (tables_in-within (before ++ w ∷ []) ws p.1 (s.4 ∙ ap Ok p.3))
 
-  tables_in-above : (words : List (List ℕ)) (word : List ℕ) (t : Option ℕ) (more : Option (List ℕ)) → opened_at names word ≡ Ok t → joined (alone t) more ≡ None → (more ≡ None → tables_passed words ≡ Some 4) → tables_passed (word ∷ words) ≡ Some 4
+  tables_in-above : (words : List (List ℕ)) (word : List ℕ) (t : Option ℕ) (more : Option (List ℕ)) → opened_at names word ≡ Ok t → joined (alone t) more ≡ None
+      → (more ≡ None → tables_passed words ≡ Some 4) → tables_passed (word ∷ words) ≡ Some 4
   tables_in-above words word None more opened e go = rw (opened_at-limit names word opened) refl
   tables_in-above words word (Some n) None opened e go = rw (opened_at-within names word n opened) (go refl)
   tables_in-above words word (Some n) (Some b) opened e go = absurd (none_some (n ∷ b) (sym e))
@@ -162,7 +165,8 @@ begun (Ok None) = refl
 begun (Ok (Some tables)) = refl
 begun (Err code) = refl
 
-regrouped : (front middle : Option (List ℕ)) (r : Result (Option (List ℕ)) Code) → ((r >>= λ more. Ok (joined middle more)) >>= λ more. Ok (joined front more)) ≡ (r >>= λ more. Ok (joined (joined front middle) more))
+regrouped : (front middle : Option (List ℕ)) (r : Result (Option (List ℕ)) Code)
+    → ((r >>= λ more. Ok (joined middle more)) >>= λ more. Ok (joined front more)) ≡ (r >>= λ more. Ok (joined (joined front middle) more))
 regrouped front middle (Ok more) = ap Ok (joins front middle more)
 regrouped front middle (Err code) = refl
 
@@ -170,7 +174,8 @@ module _ (names : Names) where
   pub tables_in-init : (words : List (Bor (List ℕ))) (front : List ℕ) → front ≡ [] → tables_in names [] (texts words) ≡ left names words 0 (Some front)
   tables_in-init words front none = rw none (begun (tables_in names [] (texts words)))
 
-  one : (before words : List (List ℕ)) (word : List ℕ) (t : Option ℕ) → opened_at names word ≡ Ok t → is_among word before ≡ false → tables_in names before (word ∷ words) ≡ (tables_in names (before ++ word ∷ []) words >>= λ more. Ok (joined (alone t) more))
+  one : (before words : List (List ℕ)) (word : List ℕ) (t : Option ℕ) → opened_at names word ≡ Ok t → is_among word before ≡ false
+      → tables_in names before (word ∷ words) ≡ (tables_in names (before ++ word ∷ []) words >>= λ more. Ok (joined (alone t) more))
   unfolding tables_in
   one before words word t opened fresh = rw (opened, fresh) refl
 
@@ -190,7 +195,8 @@ module _ (names : Names) where
     at_word : tables_in names [] (texts words) ≡ (tables_in names (take i (texts words)) ((get_or words i d).now ∷ drop (i + 1) (texts words)) >>= λ more. Ok (joined front more))
     at_word = before ∙ ap (λ (t : List (List ℕ)). tables_in names (take i (texts words)) t >>= λ more. Ok (joined front more)) (dropped_next words i d h)
 
-    pub tables_in-turn : (t : Option ℕ) → opened_at names (get_or words i d).now ≡ Ok t → is_among (get_or words i d).now (take i (texts words)) ≡ false → tables_in names [] (texts words) ≡ left names words (i + 1) (joined front (alone t))
+    pub tables_in-turn : (t : Option ℕ) → opened_at names (get_or words i d).now ≡ Ok t → is_among (get_or words i d).now (take i (texts words)) ≡ false
+        → tables_in names [] (texts words) ≡ left names words (i + 1) (joined front (alone t))
     tables_in-turn t opened fresh =
         at_word
         ∙ ap (λ (r : Result (Option (List ℕ)) Code). r >>= λ more. Ok (joined front more)) (one (take i (texts words)) (drop (i + 1) (texts words)) (get_or words i d).now t opened fresh)
@@ -205,7 +211,8 @@ module _ (names : Names) where
     tables_in-fault code opened =
         at_word ∙ ap (λ (r : Result (Option (List ℕ)) Code). r >>= λ more. Ok (joined front more)) (refused (take i (texts words)) (drop (i + 1) (texts words)) (get_or words i d).now code opened)
 
-  pub tables_in-end : (words : List (Bor (List ℕ))) (i : ℕ) (front : Option (List ℕ)) → length words ≤ i → tables_in names [] (texts words) ≡ left names words i front → tables_in names [] (texts words) ≡ Ok front
+  pub tables_in-end : (words : List (Bor (List ℕ))) (i : ℕ) (front : Option (List ℕ)) → length words ≤ i → tables_in names [] (texts words) ≡ left names words i front
+      → tables_in names [] (texts words) ≡ Ok front
   tables_in-end words i front h before =
       before
       ∙ ap (λ (t : List (List ℕ)). tables_in names (take i (texts words)) t >>= λ more. Ok (joined front more)) (dropped words i h)

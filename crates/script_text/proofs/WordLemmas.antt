@@ -34,7 +34,8 @@ node_none letter (c ∷ digits) h = elim (cases_Bool (eqb c letter)) [
   | inr other ↦ rw other refl
 ]
 
-pub text-test : {E : Type 0} (line : List ℕ) (r : Result (Bor (List ℕ)) E) (Q : E → Type 0) → MatchResult r (λ s. (s.now ≡ line) × IsUtf8 line) (λ e. (IsUtf8 line → ⊥) × Q e) → MatchOption (result_ok r) (is_utf8 line ≡ false) (λ t. (t.now ≡ line) × (is_utf8 line ≡ true))
+pub text-test : {E : Type 0} (line : List ℕ) (r : Result (Bor (List ℕ)) E) (Q : E → Type 0) → MatchResult r (λ s. (s.now ≡ line) × IsUtf8 line) (λ e. (IsUtf8 line → ⊥) × Q e)
+    → MatchOption (result_ok r) (is_utf8 line ≡ false) (λ t. (t.now ≡ line) × (is_utf8 line ≡ true))
 text-test line (Ok s) Q h = (h.0, is_utf8-from_IsUtf8 line h.1)
 text-test line (Err e) Q h = elim (cases_Bool (is_utf8 line)) [
   | inl is ↦ absurd (h.0 (IsUtf8-from_is_utf8 line is))

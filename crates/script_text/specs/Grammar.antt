@@ -1,5 +1,7 @@
 -- The lines of a script: which are passed over, which spell an event, and what is the first word at fault.
-use Rattle.std.specs.Prelude.{◌≡◌, ◌≢◌, ◌⊎◌, ℕ, ◌==◌, ◌+◌, ◌<◌, ◌≤◌, ◌^◌, nat_lt, true, false, List, [], ◌∷◌, ◌++◌, length, drop, map, codes, Option, Some, None, MatchOption, Result, Ok, Err, MatchResult, if◌then◌else◌}
+use Rattle.std.specs.Prelude.{◌≡◌, ◌≢◌, ◌⊎◌, ℕ, ◌==◌, ◌+◌, ◌<◌, ◌≤◌, ◌^◌, nat_lt, true, false, List, [], ◌∷◌, ◌++◌}
+use Rattle.std.specs.Prelude.{length, drop, map, codes, Option, Some, None, MatchOption, Result, Ok, Err, MatchResult}
+use Rattle.std.specs.Prelude.{if◌then◌else◌}
 use Rattle.std.specs.List.{AllByRecursion, IsDistinct, join_with_byte}
 use Rattle.std.specs.Fmt.{decimal}
 use Rattle.std.specs.Str.{IsUtf8, bytes_eq}
@@ -15,7 +17,8 @@ use Rattle.script_words.specs.Values.{SpellsCell, SpellsObject}
 use Rattle.table_model.specs.declared.event.Event.{Event}
 use Rattle.table_model.specs.declared.event.Event.TheVariants as events
 use Rattle.script_words.specs.declared.code.Code.{Code}
-use Rattle.script_words.specs.declared.code.Code.TheVariants.{NoVerb, Missing, Surplus, NotDeclared, NotUtf8, Late, Unbuilt}
+use Rattle.script_words.specs.declared.code.Code.TheVariants.{NoVerb, Missing, Surplus, NotDeclared, NotUtf8, Late}
+use Rattle.script_words.specs.declared.code.Code.TheVariants.{Unbuilt}
 use Rattle.script_text.specs.declared.fault.BadLine.{BadLine}
 use Rattle.script_text.specs.declared.fault.ScriptFault.{ScriptFault}
 use Rattle.script_text.specs.declared.fault.ScriptFault.TheVariants as faults
@@ -24,8 +27,12 @@ use Rattle.script_text.specs.declared.verb.Verb.TheVariants as verbs
 use Rattle.script_text.specs.Faults.{bad}
 use Rattle.script_words.specs.Words.{words_of, is_name, is_comment}
 use Rattle.script_text.specs.Verbs.{name_of, is_unbuilt}
-use Rattle.script_text.specs.Places.{client_at, table_at, new_store_at, new_table_at, new_client_at, gate_at, tables_at, new_name_at, scheme_at, chunk_at, names_of, new_column_at, with_column, row_at, value_behind, with_value, packet_at, passed, or_else, store_number, table_number, client_number, tables_passed, parts_at}
-pub use Rattle.script_text.specs.Names.{Names, no_names, with_event, has_store, has_table, has_name, has_client, has_no_store}
+use Rattle.script_text.specs.Places.{client_at, table_at, new_store_at, new_table_at, new_client_at, gate_at, tables_at}
+use Rattle.script_text.specs.Places.{new_name_at, scheme_at, chunk_at, names_of, new_column_at, with_column, row_at}
+use Rattle.script_text.specs.Places.{value_behind, with_value, packet_at, passed, or_else, store_number, table_number}
+use Rattle.script_text.specs.Places.{client_number, tables_passed, parts_at}
+pub use Rattle.script_text.specs.Names.{Names, no_names, with_event, has_store, has_table, has_name, has_client}
+pub use Rattle.script_text.specs.Names.{has_no_store}
 
 -- a line that begins with `#`, and a line without a word
 abbrev pub IsPassed : List ℕ → Type 0
@@ -72,10 +79,12 @@ pub record AreColumns (columns : List Column) : Type 0 where
 -- `table T NAME eventual CHUNK COLUMN:KIND ..`
 abbrev pub SpellsTable : Names → List (List ℕ) → ℕ → Schema → Type 0
 SpellsTable names words table schema =
-    (words ≡ codes "table" ∷ table_word table ∷ schema.name ∷ codes "eventual" ∷ decimal schema.chunk ∷ map column_word schema.columns)
+    (words ≡ codes "table" ∷ table_word table ∷ schema.name ∷ codes "eventual" ∷ decimal schema.chunk
+    ∷ map column_word schema.columns)
     × IsUpTo 64 table × (schema.scheme ≡ schemes.Eventual) × IsChunk schema.chunk
     × AreColumns schema.columns × (is_name schema.name ≡ true)
-    × IsEarly names × (has_no_store names ≡ false) × (has_table names table ≡ false) × (has_name names schema.name ≡ false)
+    × IsEarly names × (has_no_store names ≡ false) × (has_table names table ≡ false)
+    × (has_name names schema.name ≡ false)
 
 -- TABLES: names joined by commas, or `-` for none
 abbrev pub tables_word : List ℕ → List ℕ
@@ -87,7 +96,8 @@ abbrev pub SpellsClient : Names → List (List ℕ) → ℕ → Option ℕ → L
 SpellsClient names words client gate tables =
     (words ≡ codes "client" ∷ client_word client ∷ codes "-" ∷ tables_word tables ∷ [])
     × IsUpTo 64 client × (gate ≡ None)
-    × AllByRecursion (λ table. IsUpTo 64 table × (has_table names table ≡ true)) tables × IsDistinct (λ m n. m == n) tables
+    × AllByRecursion (λ table. IsUpTo 64 table × (has_table names table ≡ true)) tables
+    × IsDistinct (λ m n. m == n) tables
     × IsEarly names × (has_client names client ≡ false)
 
 -- a word for each item
@@ -176,7 +186,8 @@ NoMore at (word ∷ words) fault = fault ≡ bad Surplus at
 abbrev pub EachFault : {R X : Type 0} → (R → List ℕ → Result X Code) → (R → X → R) → R → Rest
 EachFault judge add row at [] fault = ⊥
 EachFault judge add row at (word ∷ words) fault =
-    MatchResult (judge row word) (λ x. EachFault judge add (add row x) (at + 1) words fault) (λ code. fault ≡ bad code at)
+    MatchResult (judge row word) (λ x. EachFault judge add (add row x) (at + 1) words fault)
+    (λ code. fault ≡ bad code at)
 
 abbrev pub ColumnsFault : Rest
 ColumnsFault = EachFault new_column_at with_column []
@@ -200,14 +211,18 @@ FirstFault at (place ∷ places) more (word ∷ words) fault =
 abbrev pub places_of : Names → Verb → List (List ℕ → Option Code)
 places_of names verbs.Store = (λ word. fault_of (new_store_at names word)) ∷ []
 places_of names verbs.Table =
-    (λ word. fault_of (new_table_at names word)) ∷ (λ word. fault_of (new_name_at names word)) ∷ (λ word. fault_of (scheme_at word))
+    (λ word. fault_of (new_table_at names word)) ∷ (λ word. fault_of (new_name_at names word))
+    ∷ (λ word. fault_of (scheme_at word))
     ∷ (λ word. fault_of (chunk_at word)) ∷ []
 places_of names verbs.Client =
-    (λ word. fault_of (new_client_at names word)) ∷ (λ word. fault_of (gate_at word)) ∷ (λ word. fault_of (tables_at names word)) ∷ []
+    (λ word. fault_of (new_client_at names word)) ∷ (λ word. fault_of (gate_at word))
+    ∷ (λ word. fault_of (tables_at names word)) ∷ []
 places_of names verbs.Write =
-    (λ word. fault_of (client_at names word)) ∷ (λ word. fault_of (table_at names word)) ∷ (λ word. fault_of (row_at word)) ∷ []
+    (λ word. fault_of (client_at names word)) ∷ (λ word. fault_of (table_at names word))
+    ∷ (λ word. fault_of (row_at word)) ∷ []
 places_of names verbs.Show =
-    (λ word. fault_of (client_at names word)) ∷ (λ word. fault_of (table_at names word)) ∷ (λ word. fault_of (row_at word)) ∷ []
+    (λ word. fault_of (client_at names word)) ∷ (λ word. fault_of (table_at names word))
+    ∷ (λ word. fault_of (row_at word)) ∷ []
 places_of names verbs.Sync = (λ word. fault_of (client_at names word)) ∷ (λ word. fault_of (table_at names word)) ∷ []
 places_of names verbs.Pull = (λ word. fault_of (client_at names word)) ∷ (λ word. fault_of (table_at names word)) ∷ []
 places_of names verbs.Deliver = (λ word. fault_of (packet_at word)) ∷ []
@@ -230,7 +245,8 @@ more_of verbs.History = NoMore
 -- a fault of the verb at its place: a `table` without a Store, and a declaration behind an event
 abbrev pub verb_fault : Names → Verb → Option Code
 verb_fault names verbs.Store = if names.started then Some Late else None
-verb_fault names verbs.Table = if has_no_store names then Some NotDeclared else (if names.started then Some Late else None)
+verb_fault names verbs.Table = if has_no_store names then Some NotDeclared
+    else (if names.started then Some Late else None)
 verb_fault names verbs.Client = if names.started then Some Late else None
 verb_fault names verbs.Write = None
 verb_fault names verbs.Show = None
@@ -242,7 +258,8 @@ verb_fault names verbs.History = None
 
 abbrev pub VerbFault : Names → Verb → List (List ℕ) → BadLine → Type 0
 VerbFault names verb words fault =
-    MatchOption (verb_fault names verb) (FirstFault 1 (places_of names verb) (more_of verb) words fault) (λ code. fault ≡ bad code 0)
+    MatchOption (verb_fault names verb) (FirstFault 1 (places_of names verb) (more_of verb) words fault)
+    (λ code. fault ≡ bad code 0)
 
 -- a verb that is built, one that isn't, and no verb
 abbrev pub WordsFault : Names → List (List ℕ) → BadLine → Type 0
@@ -265,7 +282,8 @@ columns_passed columns = if nat_lt 32 (length columns) then Some 8 else None
 abbrev pub limit_of : Verb → List (List ℕ) → Option ℕ
 limit_of verbs.Store (store ∷ words) = passed 7 (store_number store)
 limit_of verbs.Table (table ∷ words) = or_else (passed 4 (table_number table)) (columns_passed (drop 3 words))
-limit_of verbs.Client (client ∷ gate ∷ tables ∷ words) = or_else (passed 5 (client_number client)) (tables_passed (parts_at tables))
+limit_of verbs.Client (client ∷ gate ∷ tables ∷ words) =
+    or_else (passed 5 (client_number client)) (tables_passed (parts_at tables))
 limit_of verb words = None
 
 abbrev pub WordsLimit : List (List ℕ) → ℕ → Type 0
@@ -275,7 +293,8 @@ WordsLimit (first ∷ words) limit = (verb : Verb) × (first ≡ name_of verb) �
 -- no word of the line is at fault, and the leftmost word whose number is above its limit passes this one
 abbrev pub PassesLimit : Names → List ℕ → ℕ → Type 0
 PassesLimit names line limit =
-    (IsPassed line → ⊥) × IsUtf8 line × ((fault : BadLine) → IsFault names line fault → ⊥) × WordsLimit (words_of line) limit
+    (IsPassed line → ⊥) × IsUtf8 line × ((fault : BadLine) → IsFault names line fault → ⊥)
+    × WordsLimit (words_of line) limit
 
 -- an error that blames the line; want of memory doesn't
 abbrev pub Blames : Names → List ℕ → ScriptFault → Type 0

@@ -34,7 +34,10 @@ no_names = record { stores = []; tables = []; names = []; clients = []; started 
 abbrev pub with_event : Names → Event → Names
 with_event n (events.Store store) = record n { stores = insert_key nat_cmp n.stores store }
 with_event n (events.Table table schema) =
-    record n { tables = insert_entry nat_cmp n.tables table schema; names = insert_key (slice_cmp nat_cmp) n.names schema.name }
+    record n {
+      tables = insert_entry nat_cmp n.tables table schema;
+      names = insert_key (slice_cmp nat_cmp) n.names schema.name;
+    }
 with_event n (events.Client client gate tables) = record n { clients = insert_key nat_cmp n.clients client }
 with_event n (events.Write client table row content) = record n { started = true }
 with_event n (events.Show client table row) = record n { started = true }

@@ -1,5 +1,6 @@
 -- Words read from left to right: the event that they spell, or the first word at fault.
-use Rattle.std.specs.Prelude.{◌≡◌, ℕ, ◌+◌, nat_lt, List, [], ◌∷◌, ◌++◌, length, Option, Some, None, Result, Ok, Err, if◌then◌else◌}
+use Rattle.std.specs.Prelude.{◌≡◌, ℕ, ◌+◌, nat_lt, List, [], ◌∷◌, ◌++◌, length, Option, Some, None, Result, Ok, Err}
+use Rattle.std.specs.Prelude.{if◌then◌else◌}
 use Rattle.std.specs.Str.{is_utf8}
 use Rattle.row_value.specs.declared.schema.Column.{Column}
 use Rattle.row_value.specs.declared.content.Content.{Content}
@@ -7,7 +8,8 @@ use Rattle.row_value.specs.declared.content.Content.TheVariants.{Row}
 use Rattle.table_model.specs.declared.event.Event.{Event}
 use Rattle.table_model.specs.declared.event.Event.TheVariants as events
 use Rattle.script_words.specs.declared.code.Code.{Code}
-use Rattle.script_words.specs.declared.code.Code.TheVariants.{NoVerb, Missing, Surplus, NotDeclared, NotUtf8, Late, Unbuilt}
+use Rattle.script_words.specs.declared.code.Code.TheVariants.{NoVerb, Missing, Surplus, NotDeclared, NotUtf8, Late}
+use Rattle.script_words.specs.declared.code.Code.TheVariants.{Unbuilt}
 use Rattle.script_text.specs.declared.fault.BadLine.{BadLine}
 use Rattle.script_text.specs.declared.fault.ScriptFault.{ScriptFault}
 use Rattle.script_text.specs.declared.fault.ScriptFault.TheVariants as faults
@@ -19,14 +21,17 @@ use Rattle.script_text.specs.Verbs.{verb_of, is_unbuilt}
 use Rattle.script_text.specs.Names.{Names, has_no_store}
 use Rattle.std.specs.Borrow.{Bor}
 use Rattle.script_words.specs.Words.{texts, words_of, is_comment}
-use Rattle.script_text.specs.Places.{◌>>=◌, client_at, table_at, new_store_at, new_table_at, new_client_at, gate_at, tables_at, new_name_at, scheme_at, chunk_at, new_column_at, with_column, row_at, Values, value_behind, with_value, packet_at}
+use Rattle.script_text.specs.Places.{◌>>=◌, client_at, table_at, new_store_at, new_table_at, new_client_at, gate_at}
+use Rattle.script_text.specs.Places.{tables_at, new_name_at, scheme_at, chunk_at, new_column_at, with_column, row_at}
+use Rattle.script_text.specs.Places.{Values, value_behind, with_value, packet_at}
 
 -- the next word and the words behind it
 unfoldable pub next_in : ℕ → List (List ℕ) → Result (List ℕ × List (List ℕ)) BadLine
 next_in at [] = Err (bad Missing at)
 next_in at (word ∷ words) = Ok (word, words)
 
-abbrev pub seen_next : Result (Bor (List ℕ) × Bor (List (Bor (List ℕ)))) BadLine → Result (List ℕ × List (List ℕ)) BadLine
+abbrev pub seen_next : Result (Bor (List ℕ) × Bor (List (Bor (List ℕ)))) BadLine
+    → Result (List ℕ × List (List ℕ)) BadLine
 seen_next (Ok next) = Ok (next.0.now, texts next.1.now)
 seen_next (Err fault) = Err fault
 
@@ -36,7 +41,8 @@ placed at (Ok x) = Ok x
 placed at (Err code) = Err (bad code at)
 
 -- the next word at its place, and then what follows
-unfoldable pub word_in : {X Y : Type 0} → ℕ → (List ℕ → Result X Code) → List (List ℕ) → (X → List (List ℕ) → Result Y BadLine) → Result Y BadLine
+unfoldable pub word_in : {X Y : Type 0} → ℕ → (List ℕ → Result X Code) → List (List ℕ)
+    → (X → List (List ℕ) → Result Y BadLine) → Result Y BadLine
 word_in at place words next = do
   a ← next_in at words
   x ← placed at (place a.0)
@@ -57,9 +63,11 @@ store_in names words =
     end_in 2 a >>= λ done. Ok (made_store store))
 
 -- each word judged by what stands before it, and added to that
-unfoldable pub each_in : {R X : Type 0} → (R → List ℕ → Result X Code) → (R → X → R) → ℕ → R → List (List ℕ) → Result R BadLine
+unfoldable pub each_in : {R X : Type 0} → (R → List ℕ → Result X Code) → (R → X → R) → ℕ → R → List (List ℕ)
+    → Result R BadLine
 each_in judge add at row [] = Ok row
-each_in judge add at row (word ∷ words) = placed at (judge row word) >>= λ x. each_in judge add (at + 1) (add row x) words
+each_in judge add at row (word ∷ words) =
+    placed at (judge row word) >>= λ x. each_in judge add (at + 1) (add row x) words
 
 abbrev pub columns_in : ℕ → List Column → List (List ℕ) → Result (List Column) BadLine
 columns_in at before words = each_in new_column_at with_column at before words
@@ -177,7 +185,8 @@ in_time names read = if names.started then Err (bad Late 0) else read
 
 abbrev pub built_in : Names → Verb → List (List ℕ) → Result (Result Event ℕ) BadLine
 built_in names verbs.Store words = in_time names (store_in names words)
-built_in names verbs.Table words = if has_no_store names then Err (bad NotDeclared 0) else in_time names (table_in names words)
+built_in names verbs.Table words = if has_no_store names then Err (bad NotDeclared 0)
+    else in_time names (table_in names words)
 built_in names verbs.Client words = in_time names (client_in names words)
 built_in names verbs.Write words = unlimited (write_in names words)
 built_in names verbs.Show words = unlimited (show_in names words)

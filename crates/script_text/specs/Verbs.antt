@@ -34,7 +34,9 @@ verb_of word =
 
 -- lines that set things up that aren't built
 unfoldable pub is_setting_verb : List ℕ → Bool
-is_setting_verb word = is_among word (codes "gate" ∷ codes "draft" ∷ codes "link" ∷ codes "create" ∷ codes "drop" ∷ codes "subscribe" ∷ codes "unsubscribe" ∷ codes "writesync" ∷ [])
+is_setting_verb word =
+    is_among word (codes "gate" ∷ codes "draft" ∷ codes "link" ∷ codes "create" ∷ codes "drop" ∷ codes "subscribe"
+    ∷ codes "unsubscribe" ∷ codes "writesync" ∷ [])
 
 -- lines of rows that aren't built
 unfoldable pub is_row_verb : List ℕ → Bool
@@ -42,11 +44,14 @@ is_row_verb word = is_among word (codes "update" ∷ codes "patch" ∷ codes "de
 
 -- lines of conflicts that aren't built
 unfoldable pub is_conflict_verb : List ℕ → Bool
-is_conflict_verb word = is_among word (codes "begin_cr" ∷ codes "conflicts" ∷ codes "end_cr" ∷ codes "resolve" ∷ codes "resolve_all" ∷ [])
+is_conflict_verb word =
+    is_among word (codes "begin_cr" ∷ codes "conflicts" ∷ codes "end_cr" ∷ codes "resolve" ∷ codes "resolve_all" ∷ [])
 
 -- lines of nodes that aren't built
 unfoldable pub is_node_verb : List ℕ → Bool
-is_node_verb word = is_among word (codes "hold" ∷ codes "free" ∷ codes "work" ∷ codes "do" ∷ codes "crash" ∷ codes "start" ∷ codes "tick" ∷ codes "settle" ∷ codes "chunks" ∷ [])
+is_node_verb word =
+    is_among word (codes "hold" ∷ codes "free" ∷ codes "work" ∷ codes "do" ∷ codes "crash" ∷ codes "start"
+    ∷ codes "tick" ∷ codes "settle" ∷ codes "chunks" ∷ [])
 
 unfoldable pub is_unbuilt : List ℕ → Bool
 is_unbuilt word = is_setting_verb word || is_row_verb word || is_conflict_verb word || is_node_verb word

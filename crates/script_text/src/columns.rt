@@ -42,8 +42,10 @@ fn new_column(
     objects: bool,
     word: &str,
 ) -> Result<Column, ValueFault>
-    ensures judged { (before : List Column) → IsSetOf (texts_of named.old) (names_of before) → objects ≡ has_object before → Judges result (new_column_at before word.now) }
-    ensures named { (before : List Column) → IsSetOf (texts_of named.old) (names_of before) → IfOk result (λ column. IsSetOf (texts_of named.new) (names_of (before ++ column ∷ []))) }
+    ensures judged { (before : List Column) → IsSetOf (texts_of named.old) (names_of before)
+        → objects ≡ has_object before → Judges result (new_column_at before word.now) }
+    ensures named { (before : List Column) → IsSetOf (texts_of named.old) (names_of before)
+        → IfOk result (λ column. IsSetOf (texts_of named.new) (names_of (before ++ column ∷ []))) }
 {
     let Some((name, kind)) = column_of(word) else {
         return Err(Code::NoName.into());
@@ -65,8 +67,10 @@ fn column_at(
     word: &str,
     at: usize,
 ) -> Result<Column, ScriptFault>
-    ensures read { (before : List Column) → IsSetOf (texts_of named.old) (names_of before) → objects ≡ has_object before → Reads result (placed at (new_column_at before word.now)) }
-    ensures named { (before : List Column) → IsSetOf (texts_of named.old) (names_of before) → IfOk result (λ column. IsSetOf (texts_of named.new) (names_of (before ++ column ∷ []))) }
+    ensures read { (before : List Column) → IsSetOf (texts_of named.old) (names_of before) → objects ≡ has_object before
+        → Reads result (placed at (new_column_at before word.now)) }
+    ensures named { (before : List Column) → IsSetOf (texts_of named.old) (names_of before)
+        → IfOk result (λ column. IsSetOf (texts_of named.new) (names_of (before ++ column ∷ []))) }
 {
     match new_column(alloc, named, objects, word) {
         Ok(column) => Ok(column),

@@ -7,7 +7,8 @@ ghost use Rattle.std.specs.Set.{remove_key};
 ghost use Rattle.std.specs.BTreeMap.{is_at};
 ghost use Rattle.std.specs.BTreeSet.{insert_key};
 ghost use Rattle.table_model.specs.declared.event.Event.TheVariants as events;
-ghost use Rattle.script_text.specs.Names.{texts_of, no_names, with_event, has_store, has_table, has_name, has_client, has_no_store};
+ghost use Rattle.script_text.specs.Names.{texts_of, no_names, with_event, has_store, has_table, has_name, has_client};
+ghost use Rattle.script_text.specs.Names.{has_no_store};
 
 use row_value::Schema;
 use std::alloc::{AllocError, Global};
@@ -47,7 +48,8 @@ pub(crate) fn put_name(
     names: &mut BTreeSet<Vec<u8>>,
     name: &[u8],
 ) -> Result<bool, AllocError>
-    ensures added { IfOk result (λ added. added ≡ not (list_any (is_at (slice_cmp nat_cmp name.now)) (texts_of names.old))) }
+    ensures added { IfOk result (λ added. added
+        ≡ not (list_any (is_at (slice_cmp nat_cmp name.now)) (texts_of names.old))) }
     ensures put { OnOk result (texts_of names.new ≡ insert_key (slice_cmp nat_cmp) (texts_of names.old) name.now) }
     ensures kept { IfOk result (λ added. OnFalse added (texts_of names.new ≡ texts_of names.old)) }
     ensures err { OnErr result (texts_of names.new ≡ texts_of names.old) }
@@ -59,7 +61,8 @@ pub(crate) fn put_name(
 
 // Takes a name out again that was new.
 fn take_name(names: &mut BTreeSet<Vec<u8>>, name: &[u8], added: bool)
-    ensures { texts_of names.new ≡ (if added then remove_key (is_at (slice_cmp nat_cmp name.now)) (texts_of names.old) else texts_of names.old) }
+    ensures { texts_of names.new ≡ (if added then remove_key (is_at (slice_cmp nat_cmp name.now)) (texts_of names.old)
+        else texts_of names.old) }
 {
     if added {
         let _removed = names.remove(name);

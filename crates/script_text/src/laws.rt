@@ -17,14 +17,17 @@ pub fn passed_apart()
 
 /// A line that spells an event has no word at fault.
 pub fn fault_apart()
-    ensures { (names : Names) (line : List ℕ) (e : Event) (f : BadLine) → Spells names line e → IsFault names line f → ⊥ }
+    ensures { (names : Names) (line : List ℕ) (e : Event) (f : BadLine) → Spells names line e → IsFault names line f
+        → ⊥ }
 {}
 
 /// A line that passes a limit is not passed over, spells no event and has no word at fault.
 pub fn limit_apart()
     ensures passed { (names : Names) (line : List ℕ) (limit : ℕ) → IsPassed line → PassesLimit names line limit → ⊥ }
-    ensures event { (names : Names) (line : List ℕ) (e : Event) (limit : ℕ) → Spells names line e → PassesLimit names line limit → ⊥ }
-    ensures fault { (names : Names) (line : List ℕ) (f : BadLine) (limit : ℕ) → IsFault names line f → PassesLimit names line limit → ⊥ }
+    ensures event { (names : Names) (line : List ℕ) (e : Event) (limit : ℕ) → Spells names line e
+        → PassesLimit names line limit → ⊥ }
+    ensures fault { (names : Names) (line : List ℕ) (f : BadLine) (limit : ℕ) → IsFault names line f
+        → PassesLimit names line limit → ⊥ }
 {}
 
 /// A line passes at most one limit first.

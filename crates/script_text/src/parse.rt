@@ -19,7 +19,8 @@ fn is_comment(line: &[u8]) -> bool
 }
 
 fn text_of(line: &[u8]) -> Option<&str>
-    ensures { MatchOption result (is_utf8 line.now ≡ false) (λ text. (text.now ≡ line.now) × (is_utf8 line.now ≡ true)) }
+    ensures { MatchOption result (is_utf8 line.now ≡ false)
+        (λ text. (text.now ≡ line.now) × (is_utf8 line.now ≡ true)) }
 {
     str::from_utf8(line).ok()
 }

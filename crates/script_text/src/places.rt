@@ -2,7 +2,10 @@ ghost use Rattle.std.specs.Prelude.{◌≡◌, ◌<◌, IsTrue, IfOk, []};
 ghost use Rattle.std.specs.List.{slice_split};
 ghost use Rattle.script_words.specs.Words.{is_number, texts};
 ghost use Rattle.script_words.specs.Codes.{Judges};
-ghost use Rattle.script_text.specs.Places.{small, node_at, limited_at, built, opened_at, joined, alone, client_at, table_at, new_store_at, new_table_at, new_client_at, gate_at, tables_in, tables_at, is_comma, seen, new_name_at, scheme_at, chunk_at, row_at, packet_at};
+ghost use Rattle.script_text.specs.Places.{small, node_at, limited_at, built, opened_at, joined, alone, client_at};
+ghost use Rattle.script_text.specs.Places.{table_at, new_store_at, new_table_at, new_client_at, gate_at, tables_in};
+ghost use Rattle.script_text.specs.Places.{tables_at, is_comma, seen, new_name_at, scheme_at, chunk_at, row_at};
+ghost use Rattle.script_text.specs.Places.{packet_at};
 
 use crate::declared::{Declared, put_name};
 use crate::fault::{MOST_CLIENTS, MOST_STORES, MOST_TABLES};

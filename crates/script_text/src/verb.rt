@@ -1,5 +1,6 @@
 ghost use Rattle.std.specs.Prelude.{◌≡◌};
-ghost use Rattle.script_text.specs.Verbs.{verb_of, is_setting_verb, is_row_verb, is_conflict_verb, is_node_verb, is_unbuilt};
+ghost use Rattle.script_text.specs.Verbs.{verb_of, is_setting_verb, is_row_verb, is_conflict_verb, is_node_verb};
+ghost use Rattle.script_text.specs.Verbs.{is_unbuilt};
 
 /// The first word of a line that is built.
 #[derive(Debug, Clone, Copy, PartialEq, Eq)]

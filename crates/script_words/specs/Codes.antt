@@ -1,7 +1,8 @@
 -- The codes of a word's faults, as numbers, and a word's judgement.
 use Rattle.std.specs.Prelude.{◌≡◌, ℕ, Result, Ok, Err}
 use Rattle.script_words.specs.declared.code.Code.{Code}
-use Rattle.script_words.specs.declared.code.Code.TheVariants.{NoVerb, Missing, Surplus, NoNumber, NoName, NoRow, NoValue, NotDeclared, Twice, NotUtf8, Late, Unbuilt}
+use Rattle.script_words.specs.declared.code.Code.TheVariants.{NoVerb, Missing, Surplus, NoNumber, NoName, NoRow}
+use Rattle.script_words.specs.declared.code.Code.TheVariants.{NoValue, NotDeclared, Twice, NotUtf8, Late, Unbuilt}
 use Rattle.script_words.specs.declared.code.ValueFault.{ValueFault}
 use Rattle.script_words.specs.declared.code.ValueFault.TheVariants as faults
 

@@ -1,7 +1,8 @@
 ghost use Rattle.std.specs.Prelude.{◌≡◌, ◌==◌, ◌&&◌, nat_le, IfOk, MatchResult, [], ◌∷◌};
 ghost use Rattle.std.specs.List.{list_all};
 ghost use Rattle.std.specs.Char.{is_ascii_digit};
-ghost use Rattle.script_words.specs.Words.{texts, words_of, is_number, is_length, is_name, is_name_byte, seen_parts, parts_of};
+ghost use Rattle.script_words.specs.Words.{texts, words_of, is_number, is_length, is_name, is_name_byte, seen_parts};
+ghost use Rattle.script_words.specs.Words.{parts_of};
 
 use std::alloc::{AllocError, Global};
 

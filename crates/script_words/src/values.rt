@@ -4,7 +4,8 @@ ghost use Rattle.percent_encoding.specs.Percent.{percent_decode};
 ghost use Rattle.hex.specs.Hex.{decode_of};
 ghost use Rattle.script_words.specs.Words.{seen_parts, parts_of};
 ghost use Rattle.script_words.specs.Codes.{Judges};
-ghost use Rattle.script_words.specs.Values.{int_of, length_in, text_in, hex_in, object_in, repeated, repeat_in, repeat_of, long_of, word_of, value_at};
+ghost use Rattle.script_words.specs.Values.{int_of, length_in, text_in, hex_in, object_in, repeated, repeat_in};
+ghost use Rattle.script_words.specs.Values.{repeat_of, long_of, word_of, value_at};
 
 use crate::code::{Code, ValueFault};
 use crate::forms::{is_length, parts_of};

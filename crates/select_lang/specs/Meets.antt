@@ -8,7 +8,8 @@ use Rattle.row_value.specs.declared.content.Cell.TheVariants as cells
 use Rattle.row_value.specs.declared.content.Content.{Content}
 use Rattle.row_value.specs.declared.content.Content.TheVariants.{Gone, Row}
 use Rattle.select_lang.specs.declared.predicate.Comparison.{Comparison}
-use Rattle.select_lang.specs.declared.predicate.Comparison.TheVariants.{Equal, NotEqual, Less, LessOrEqual, Greater, GreaterOrEqual}
+use Rattle.select_lang.specs.declared.predicate.Comparison.TheVariants.{Equal, NotEqual, Less, LessOrEqual, Greater}
+use Rattle.select_lang.specs.declared.predicate.Comparison.TheVariants.{GreaterOrEqual}
 use Rattle.select_lang.specs.declared.predicate.Predicate.{Predicate}
 use Rattle.select_lang.specs.declared.predicate.Predicate.TheOpen.{Predicate-F}
 use Rattle.select_lang.specs.declared.predicate.Predicate.TheFolds.{fold-Predicate}

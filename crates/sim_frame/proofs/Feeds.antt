@@ -18,7 +18,8 @@ fed_by old held piece frames left is r = subst (λ (l : Left). IsFed l piece fra
 opened : (old : Left) (broken : Option ℕ) (held : List ℕ) → left_of broken held ≡ old → broken ≡ None → Open held ≡ old
 opened old broken held is none = ap (λ (b : Option ℕ). left_of b held) (sym none) ∙ is
 
-pub front_fed : (old : Left) (broken : Option ℕ) (held more piece : List ℕ) (frames : List Frame) → left_of broken held ≡ old → broken ≡ None → more ≡ held ++ piece → IsFront (held ++ piece) → frames ≡ []
+pub front_fed : (old : Left) (broken : Option ℕ) (held more piece : List ℕ) (frames : List Frame) → left_of broken held ≡ old → broken ≡ None → more ≡ held ++ piece → IsFront (held ++ piece)
+    → frames ≡ []
     → IsFed old piece frames (left_of broken more)
 front_fed old broken held more piece frames is none kept front none_yet =
     let nothing : List Frame = [] in

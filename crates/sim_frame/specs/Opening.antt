@@ -9,7 +9,8 @@ use Rattle.sim_frame.specs.declared.whole.First.TheVariants as firsts
 use Rattle.sim_frame.specs.declared.part.Part.{Part}
 use Rattle.sim_frame.specs.declared.part.Next.{Next}
 use Rattle.sim_frame.specs.declared.part.Next.TheVariants as nexts
-use Rattle.sim_frame.specs.Stream.{frame_spelling, HasFrameSpelling, IsLength, length_at, IsFront, IsBroken, Left, IsLeft}
+use Rattle.sim_frame.specs.Stream.{frame_spelling, HasFrameSpelling, IsLength, length_at, IsFront, IsBroken, Left}
+use Rattle.sim_frame.specs.Stream.{IsLeft}
 use Rattle.sim_frame.specs.Stream.Left.{Open, Broken}
 
 -- a frame's length stands at the front

@@ -59,8 +59,8 @@ fn texts_of(alloc: Global, short: usize, last: usize) -> Result<Vec<u8>, Fail> {
     Ok(script)
 }
 
-/// Seven texts, the eighth one, and how the answer begins: a text has up to 65,535 bytes, and the cells up to 524,288 as
-/// they are spelled, five bytes and the text each and nine for the number.
+/// Seven texts, the eighth one, and how the answer begins: a text has up to 65,535 bytes, and the cells up to 524,288
+/// as they are spelled, five bytes and the text each and nine for the number.
 const TEXTS: [(usize, usize, &[u8]); 5] = [
     (65_531, 65_522, b"ok 1\nwrote "),
     (65_531, 65_523, b"no 10 8\n"),

@@ -42,9 +42,9 @@ abbrev pub IsFull : List ℕ → List ℕ → Type 0
 IsFull input rest = length input - length rest ≡ INPUT_LIMIT
 
 -- the line behind these is the first that passes a limit: 1 the input's bytes, 2 its lines, 3 the bytes of a line,
--- 9 the rows that a script names in a table, 11 versions and the numbers of a client's writes, where the event passes no
--- limit on rows, or one on what the line declares. The first byte past a limit decides, so behind the most lines any byte
--- does, whatever is behind it
+-- 9 the rows that a script names in a table, 11 versions and the numbers of a client's writes, where the event passes
+-- no limit on rows, or one on what the line declares. The first byte past a limit decides, so behind the most lines any
+-- byte does, whatever is behind it
 abbrev pub Passes : List ℕ → List Event → ℕ → Names → List ℕ → ℕ → Type 0
 Passes input script count names rest limit =
     ((limit ≡ 1) × (next_in (length input) rest ≡ InputTooLong) × ((count < MOST_LINES) ⊎ IsFull input rest))
@@ -89,13 +89,16 @@ Tells script before after = IsSoundRun script × Appends before after (text_of_r
 
 -- the same, with the line that says why the run stopped
 abbrev pub TellsStop : List Event → ℕ → ℕ → ℕ → Option (List ℕ) → Option (List ℕ) → Type 0
-TellsStop script status line code before after = IsSoundRun script × Appends before after (stopped_text script status line code)
+TellsStop script status line code before after =
+    IsSoundRun script × Appends before after (stopped_text script status line code)
 
 -- a text that a run over this input may write: the transcript of its first lines, with its stop line where it has one
 abbrev pub IsTextOf : List ℕ → List ℕ → Type 0
 IsTextOf input text = (script : List Event) × IsSoundRun script × (
-    ((count : ℕ) × (names : Names) × (rest : List ℕ) × IsFront input script count names rest × (text ≡ text_of_run script))
-    ⊎ (((count : ℕ) × (fault : BadLine) × IsBadAt input script count fault × (text ≡ stopped_text script 3 (count + 1) fault.code))
+    ((count : ℕ) × (names : Names) × (rest : List ℕ) × IsFront input script count names rest
+    × (text ≡ text_of_run script))
+    ⊎ (((count : ℕ) × (fault : BadLine) × IsBadAt input script count fault
+    × (text ≡ stopped_text script 3 (count + 1) fault.code))
     ⊎ ((count limit : ℕ) × IsLimitAt input script count limit × (text ≡ stopped_text script 7 (count + 1) limit))))
 
 -- the words are the one word `run`

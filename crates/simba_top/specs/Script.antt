@@ -15,14 +15,16 @@ next_in total bytes = next_of (record { line = LINE_LIMIT; input = INPUT_LIMIT }
 -- these lines come next in an input of this length, and then these bytes are left
 abbrev pub Behind : ℕ → List ℕ → List (List ℕ) → List ℕ → Type 0
 Behind total bytes [] rest = rest ≡ bytes
-Behind total bytes (line ∷ lines) rest = (left : List ℕ) × (next_in total bytes ≡ Line line left) × Behind total left lines rest
+Behind total bytes (line ∷ lines) rest =
+    (left : List ℕ) × (next_in total bytes ≡ Line line left) × Behind total left lines rest
 
 -- the events that lines spell behind what was declared, and what is declared behind them
 abbrev pub Spelled : Names → List (List ℕ) → List Event → Names → Type 0
 Spelled names [] script after = (script ≡ []) × (after ≡ names)
 Spelled names (line ∷ lines) script after =
     (IsPassed line × Spelled names lines script after)
-    ⊎ ((event : Event) × (more : List Event) × (script ≡ event ∷ more) × Spells names line event × Spelled (with_event names event) lines more after)
+    ⊎ ((event : Event) × (more : List Event) × (script ≡ event ∷ more) × Spells names line event
+    × Spelled (with_event names event) lines more after)
 
 -- the first lines of an input, as many as `count`, spell this script, which names no more rows than it may; then these
 -- names are declared and these bytes left

@@ -34,7 +34,8 @@ pub record Stands (input : List ℕ) (script : List Event) (run : Run) (left : O
   pub rows : HasRows script run.rows
 
 -- the same, where a line has been read that isn't carried out
-pub record HasLine (input : List ℕ) (script : List Event) (line : List ℕ) (run : Run) (left : Option (List ℕ)) : Type 0 where
+pub record HasLine (input : List ℕ) (script : List Event) (line : List ℕ) (run : Run)
+    (left : Option (List ℕ)) : Type 0 where
   pub before : List ℕ
   pub front : IsFront input script run.count run.names before
   pub rest : List ℕ
@@ -47,7 +48,8 @@ pub record HasLine (input : List ℕ) (script : List Event) (line : List ℕ) (r
 -- the run goes on to a longer script, whose transcript goes on by these texts
 abbrev pub GoesOn : List ℕ → List Event → Run → Option (List ℕ) → List (List ℕ) → Type 0
 GoesOn input script run left texts =
-    (longer : List Event) × Stands input longer run left × (text_of_run longer ≡ text_of_run script ++ flat_map (λ (text : List ℕ). text) texts)
+    (longer : List Event) × Stands input longer run left
+    × (text_of_run longer ≡ text_of_run script ++ flat_map (λ (text : List ℕ). text) texts)
 
 -- why a run stops behind `count` lines that spell the script
 abbrev pub IsCause : Stop → List ℕ → List Event → ℕ → Option (List ℕ) → Type 0
@@ -60,7 +62,8 @@ IsCause (Limit limit) input script count left = IsLimitAt input script count lim
 -- and what it has written then; `before` and `after` are the bytes of the sink
 abbrev pub EndedBy : Stop → List ℕ → ℕ → Option (List ℕ) → Option (List ℕ) → Option (List ℕ) → Type 0
 EndedBy Put input count left before after = (text : List ℕ) × IsTextOf input text × AppendsFront before after text
-EndedBy stop input count left before after = (script : List Event) × IsCause stop input script count left × Appends before after (text_of_run script)
+EndedBy stop input count left before after =
+    (script : List Event) × IsCause stop input script count left × Appends before after (text_of_run script)
 
 -- the same at the end, where the line that says why the run stopped is written too
 abbrev pub Stopped : Stop → List ℕ → Option (List ℕ) → Option (List ℕ) → Option (List ℕ) → Type 0
@@ -74,7 +77,8 @@ Stopped (Limit limit) input left before after = (script : List Event) × (count 
 
 -- the transcript of the lines so far has been added to the bytes of the sink
 abbrev pub Goes : List ℕ → Run → Option (List ℕ) → Option (List ℕ) → Option (List ℕ) → Type 0
-Goes input run left before now = (script : List Event) × Stands input script run left × Appends before now (text_of_run script)
+Goes input run left before now = (script : List Event) × Stands input script run left
+    × Appends before now (text_of_run script)
 
 -- the input was read to its end, and its transcript written
 abbrev pub IsDone : List ℕ → Option (List ℕ) → Option (List ℕ) → Type 0

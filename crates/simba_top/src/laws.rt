@@ -30,7 +30,8 @@ pub fn one_script()
 pub fn one_end()
     ensures whole_bad { (input : List ℕ) (a b : List AnEvent) (count : ℕ) (fault : ABadLine)
         → IsWhole input a → IsBadAt input b count fault → ⊥ }
-    ensures whole_limit { (input : List ℕ) (a b : List AnEvent) (count limit : ℕ) → IsWhole input a → IsLimitAt input b count limit → ⊥ }
+    ensures whole_limit { (input : List ℕ) (a b : List AnEvent) (count limit : ℕ) → IsWhole input a
+        → IsLimitAt input b count limit → ⊥ }
     ensures bad_limit { (input : List ℕ) (a b : List AnEvent) (n m : ℕ) (fault : ABadLine) (limit : ℕ)
         → IsBadAt input a n fault → IsLimitAt input b m limit → ⊥ }
     ensures one_bad { (input : List ℕ) (a b : List AnEvent) (n m : ℕ) (f g : ABadLine)

@@ -51,7 +51,8 @@ impl RowNames {
 
     // Adds a row of a table: how many rows the table has then.
     fn insert(&mut self, table: TableNo, row: RowId) -> Result<usize, Stop>
-        ensures rows { OnOk result ((q : ℕ) → rows_in self.new q ≡ with_row (Some (table, row)) q (rows_in self.old q)) }
+        ensures rows { OnOk result ((q : ℕ) → rows_in self.new q
+            ≡ with_row (Some (table, row)) q (rows_in self.old q)) }
         ensures count { IfOk result (λ count. count ≡ length (rows_in self.new table)) }
         ensures memory { IfErr result (λ stop. stop ≡ Stop.Memory) }
     {
@@ -68,11 +69,13 @@ impl RowNames {
 
     // Adds a row of a table. Limit 9 where the table has too many then.
     fn add_row(&mut self, table: TableNo, row: &RowId) -> Result<(), Stop>
-        ensures rows { OnOk result ((q : ℕ) → rows_in self.new q ≡ with_row (Some (table, row.now)) q (rows_in self.old q)) }
+        ensures rows { OnOk result ((q : ℕ) → rows_in self.new q
+            ≡ with_row (Some (table, row.now)) q (rows_in self.old q)) }
         ensures few { OnOk result (length (rows_in self.new table) ≤ MOST_ROWS) }
         ensures fault { IfErr result (λ stop. (stop ≢ Stop.Read) × (stop ≢ Stop.Put)) }
         ensures cause { IfErr result (λ stop. (stop ≡ Stop.Memory)
-            ⊎ ((stop ≡ Stop.Limit 9) × (MOST_ROWS < length (with_row (Some (table, row.now)) table (rows_in self.old table))))) }
+            ⊎ ((stop ≡ Stop.Limit 9)
+            × (MOST_ROWS < length (with_row (Some (table, row.now)) table (rows_in self.old table))))) }
     {
         if self.insert(table, *row)? > MOST_ROWS {
             return Err(Stop::Limit(9));
@@ -82,8 +85,10 @@ impl RowNames {
 
     /// Adds the row that an event names. Limit 9 where its table has too many then.
     pub(crate) fn add(&mut self, event: &Event) -> Result<(), Stop>
-        ensures rows { (script : List AnEvent) → HasRows script self.old → OnOk result (HasRows (script ++ event.now ∷ []) self.new) }
-        ensures few { (script : List AnEvent) → HasRows script self.old → FewRows script → OnOk result (FewRows (script ++ event.now ∷ [])) }
+        ensures rows { (script : List AnEvent) → HasRows script self.old
+            → OnOk result (HasRows (script ++ event.now ∷ []) self.new) }
+        ensures few { (script : List AnEvent) → HasRows script self.old → FewRows script
+            → OnOk result (FewRows (script ++ event.now ∷ [])) }
         ensures cause { (script : List AnEvent) → HasRows script self.old → IfErr result (IsRowCause script event.now) }
         ensures fault { IfErr result (λ stop. (stop ≢ Stop.Read) × (stop ≢ Stop.Put)) }
     {

@@ -1,4 +1,5 @@
-ghost use Rattle.std.specs.Prelude.{◌≡◌, ◌≢◌, ◌⊎◌, ◌↔◌, ◌+◌, ◌-◌, ◌<◌, ◌^◌, ℕ, List, map, IfSome, IsTrue, OnOk, IfErr, MatchResult};
+ghost use Rattle.std.specs.Prelude.{◌≡◌, ◌≢◌, ◌⊎◌, ◌↔◌, ◌+◌, ◌-◌, ◌<◌, ◌^◌, ℕ, List, map, IfSome, IsTrue, OnOk, IfErr};
+ghost use Rattle.std.specs.Prelude.{MatchResult};
 ghost use Rattle.std.specs.String.{string_bytes};
 ghost use Rattle.std.specs.Io.KnownBytes.{IsAtEnd};
 ghost use Rattle.table_model.specs.declared.event.Event.{Event as AnEvent};
@@ -64,16 +65,19 @@ pub fn run_simba<S: Source, K: Sink>(
 
     // 6: memory was refused; what was written is the transcript of the first lines.
     ensures memory { result ≡ 6 → IfSome (S.left source.old) (λ input.
-        (script : List AnEvent) × (count : ℕ) × (names : Names) × (rest : List ℕ) × IsFront input script count names rest
+        (script : List AnEvent) × (count : ℕ) × (names : Names) × (rest : List ℕ)
+        × IsFront input script count names rest
         × Tells script (K.holds sink.old) (K.holds sink.new)) }
 
     // There is no other status, and no other fault.
-    ensures statuses { (result ≡ 0) ⊎ ((result ≡ 2) ⊎ ((result ≡ 3) ⊎ ((result ≡ 4) ⊎ ((result ≡ 5) ⊎ ((result ≡ 6) ⊎ (result ≡ 7)))))) }
+    ensures statuses { (result ≡ 0)
+        ⊎ ((result ≡ 2) ⊎ ((result ≡ 3) ⊎ ((result ≡ 4) ⊎ ((result ≡ 5) ⊎ ((result ≡ 6) ⊎ (result ≡ 7)))))) }
     ensures source_faults { result ≢ 4 → S.faults source.new ≡ S.faults source.old }
     ensures sink_faults { result ≢ 5 → K.faults sink.new ≡ K.faults sink.old }
 
     // Valid input, where no fault came, gives 0 or want of memory.
-    ensures complete { AreRun (map string_bytes words.now) → IfSome (S.left source.old) (λ input. (script : List AnEvent) → IsWhole input script
+    ensures complete { AreRun (map string_bytes words.now)
+        → IfSome (S.left source.old) (λ input. (script : List AnEvent) → IsWhole input script
         → S.faults source.new ≡ S.faults source.old → S.faults source.old < 2 ^ 64 - 1
         → K.faults sink.new ≡ K.faults sink.old → K.faults sink.old < 2 ^ 64 - 1
         → (result ≡ 0) ⊎ (result ≡ 6)) }
@@ -109,8 +113,10 @@ fn status_of(ended: Result<(), Stop>) -> u8
 // Carries out the script of the source, and says why it stopped.
 fn run_whole<S: Source, K: Sink>(alloc: Global, source: &mut S, sink: &mut K) -> Result<(), Stop>
     ensures end { OnOk result (IsAtEnd (S.left source.new)) }
-    ensures done { OnOk result (IfSome (S.left source.old) (λ input. IsDone input (K.holds sink.old) (K.holds sink.new))) }
-    ensures stopped { IfErr result (λ stop. IfSome (S.left source.old) (λ input. Stopped stop input (S.left source.new) (K.holds sink.old) (K.holds sink.new))) }
+    ensures done { OnOk result (IfSome (S.left source.old)
+        (λ input. IsDone input (K.holds sink.old) (K.holds sink.new))) }
+    ensures stopped { IfErr result (λ stop. IfSome (S.left source.old)
+        (λ input. Stopped stop input (S.left source.new) (K.holds sink.old) (K.holds sink.new))) }
     ensures reads { MatchResult result (λ _. S.faults source.new ≡ S.faults source.old)
         (λ stop. CountsReads stop (S.faults source.old) (S.faults source.new)) }
     ensures puts { MatchResult result (λ _. K.faults sink.new ≡ K.faults sink.old)

@@ -1,4 +1,5 @@
-ghost use Rattle.std.specs.Prelude.{◌≡◌, ◌≢◌, ◌⊎◌, ◌+◌, ◌<◌, ◌≤◌, ◌++◌, ◌∷◌, [], ℕ, List, Option, Some, map, OnOk, OnErr, IfOk, IfErr, IfSome, IfNone, MatchResult, MatchOption, MatchBool};
+ghost use Rattle.std.specs.Prelude.{◌≡◌, ◌≢◌, ◌⊎◌, ◌+◌, ◌<◌, ◌≤◌, ◌++◌, ◌∷◌, [], ℕ, List, Option, Some, map, OnOk};
+ghost use Rattle.std.specs.Prelude.{OnErr, IfOk, IfErr, IfSome, IfNone, MatchResult, MatchOption, MatchBool};
 ghost use Rattle.std.specs.List.{flat_map};
 ghost use Rattle.std.specs.Io.KnownBytes.{Appends, IsAtEnd};
 ghost use Rattle.table_model.specs.declared.event.Event.{Event as AnEvent};
@@ -8,7 +9,8 @@ ghost use Rattle.transcript_text.specs.Text.{text_of, stop_text};
 ghost use Rattle.stab_io.specs.Faults.{Rose, AppendsFront};
 ghost use Rattle.simba_top.specs.Script.{IsWhole};
 ghost use Rattle.simba_top.specs.Ends.{text_of_run};
-ghost use Rattle.simba_top.specs.Stands.{IsReady, Stands, HasLine, Goes, GoesOn, IsCause, EndedBy, Stopped, IsDone, CountsReads, CountsPuts};
+ghost use Rattle.simba_top.specs.Stands.{IsReady, Stands, HasLine, Goes, GoesOn, IsCause, EndedBy, Stopped, IsDone};
+ghost use Rattle.simba_top.specs.Stands.{CountsReads, CountsPuts};
 
 use crate::row_names::RowNames;
 use crate::run::MOST_LINES;
@@ -52,7 +54,8 @@ fn texts_of(alloc: Global, lines: &Lines) -> Result<Vec<Bytes>, AllocError>
 
 fn put_all<K: Sink>(sink: &mut K, texts: &[Bytes]) -> Result<(), Failed>
     ensures ok { OnOk result (Appends (K.holds sink.old) (K.holds sink.new) (flat_map (λ text. text) texts.now)) }
-    ensures err { OnErr result (AppendsFront (K.holds sink.old) (K.holds sink.new) (flat_map (λ text. text) texts.now)) }
+    ensures err { OnErr result (AppendsFront (K.holds sink.old) (K.holds sink.new)
+        (flat_map (λ text. text) texts.now)) }
     ensures counted { MatchResult result (λ _. K.faults sink.new ≡ K.faults sink.old)
         (λ _. Rose (K.faults sink.old) (K.faults sink.new)) }
 {
@@ -86,7 +89,8 @@ impl Run {
         requires { IsReady self.old }
         ensures end { OnOk result (IsAtEnd (S.left source.new)) }
         ensures few { self.new.count ≤ MOST_LINES }
-        ensures done { (input : List ℕ) → Stands input [] self.old (S.left source.old) → OnOk result (IsDone input (K.holds sink.old) (K.holds sink.new)) }
+        ensures done { (input : List ℕ) → Stands input [] self.old (S.left source.old)
+            → OnOk result (IsDone input (K.holds sink.old) (K.holds sink.new)) }
         ensures ends { (input : List ℕ) → Stands input [] self.old (S.left source.old) → IfErr result (λ stop.
             EndedBy stop input self.new.count (S.left source.new) (K.holds sink.old) (K.holds sink.new)) }
         ensures reads { MatchResult result (λ _. S.faults source.new ≡ S.faults source.old)
@@ -101,7 +105,8 @@ impl Run {
     /// Writes the line that says why the run stopped, where it has one. The answer is why the run ends then.
     pub(crate) fn end<K: Sink>(&self, sink: &mut K, stop: Stop) -> Stop
         requires { self.now.count ≤ MOST_LINES }
-        ensures ends { (input : List ℕ) (left before : Option (List ℕ)) → EndedBy stop input self.now.count left before (K.holds sink.old)
+        ensures ends { (input : List ℕ) (left before : Option (List ℕ))
+            → EndedBy stop input self.now.count left before (K.holds sink.old)
             → Stopped result input left before (K.holds sink.new) }
         ensures reads { (old new : ℕ) → CountsReads stop old new → CountsReads result old new }
         ensures puts { (old : ℕ) → CountsPuts stop old (K.faults sink.old) → CountsPuts result old (K.faults sink.new) }
@@ -115,9 +120,11 @@ impl Run {
 
     fn put_stop<K: Sink>(&self, sink: &mut K, status: u8, code: u32) -> Result<(), Stop>
         requires { self.now.count ≤ MOST_LINES }
-        ensures ok { OnOk result (Appends (K.holds sink.old) (K.holds sink.new) (stop_text status (self.now.count + 1) code ++ 10 ∷ [])) }
+        ensures ok { OnOk result (Appends (K.holds sink.old) (K.holds sink.new)
+            (stop_text status (self.now.count + 1) code ++ 10 ∷ [])) }
         ensures err { IfErr result (λ stop. ((stop ≡ Stop.Memory) × (K.holds sink.new ≡ K.holds sink.old))
-            ⊎ ((stop ≡ Stop.Put) × AppendsFront (K.holds sink.old) (K.holds sink.new) (stop_text status (self.now.count + 1) code ++ 10 ∷ []))) }
+            ⊎ ((stop ≡ Stop.Put) × AppendsFront (K.holds sink.old) (K.holds sink.new)
+            (stop_text status (self.now.count + 1) code ++ 10 ∷ []))) }
         ensures puts { MatchResult result (λ _. K.faults sink.new ≡ K.faults sink.old)
             (λ stop. CountsPuts stop (K.faults sink.old) (K.faults sink.new)) }
     {
@@ -130,12 +137,15 @@ impl Run {
     // Carries out one line. False at the end.
     fn turn<S: Source, K: Sink>(&mut self, source: &mut S, sink: &mut K) -> Result<bool, Stop>
         requires { IsReady self.old }
-        ensures ready { IfOk result (λ more. MatchBool more (IsReady self.new × (self.new.count ≡ self.old.count + 1)) (IsAtEnd (S.left source.new))) }
+        ensures ready { IfOk result (λ more. MatchBool more (IsReady self.new × (self.new.count ≡ self.old.count + 1))
+            (IsAtEnd (S.left source.new))) }
         ensures few { self.new.count ≤ MOST_LINES }
-        ensures goes { (input : List ℕ) (before : Option (List ℕ)) → Goes input self.old (S.left source.old) before (K.holds sink.old) → IfOk result (λ more. MatchBool more
+        ensures goes { (input : List ℕ) (before : Option (List ℕ))
+            → Goes input self.old (S.left source.old) before (K.holds sink.old) → IfOk result (λ more. MatchBool more
             (Goes input self.new (S.left source.new) before (K.holds sink.new))
             (IsDone input before (K.holds sink.new))) }
-        ensures ends { (input : List ℕ) (before : Option (List ℕ)) → Goes input self.old (S.left source.old) before (K.holds sink.old) → IfErr result (λ stop.
+        ensures ends { (input : List ℕ) (before : Option (List ℕ))
+            → Goes input self.old (S.left source.old) before (K.holds sink.old) → IfErr result (λ stop.
             EndedBy stop input self.new.count (S.left source.new) before (K.holds sink.new)) }
         ensures reads { MatchResult result (λ _. S.faults source.new ≡ S.faults source.old)
             (λ stop. CountsReads stop (S.faults source.old) (S.faults source.new)) }
@@ -157,8 +167,10 @@ impl Run {
         ensures few { IfOk result (λ found. IfSome found (λ _. self.new.count < MOST_LINES)) }
         ensures same { self.new ≡ record self.old { reader = self.new.reader } }
         ensures end { IfOk result (λ found. IfNone found (IsAtEnd (S.left source.new))) }
-        ensures found { (input : List ℕ) (script : List AnEvent) → Stands input script self.old (S.left source.old) → MatchResult result
-            (λ found. MatchOption found (IsWhole input script) (λ line. HasLine input script line.items self.new (S.left source.new)))
+        ensures found { (input : List ℕ) (script : List AnEvent) → Stands input script self.old (S.left source.old)
+            → MatchResult result
+            (λ found. MatchOption found (IsWhole input script)
+            (λ line. HasLine input script line.items self.new (S.left source.new)))
             (λ stop. IsCause stop input script self.old.count (S.left source.new)) }
         ensures reads { MatchResult result (λ _. S.faults source.new ≡ S.faults source.old)
             (λ stop. (stop ≢ Stop.Put) × CountsReads stop (S.faults source.old) (S.faults source.new)) }
@@ -177,7 +189,8 @@ impl Run {
         ensures ready { OnOk result (IsReady self.new) }
         ensures same { self.new ≡ record self.old { reader = self.new.reader } }
         ensures end { OnOk result (IsAtEnd (S.left source.new)) }
-        ensures found { (input : List ℕ) (script : List AnEvent) → Stands input script self.old (S.left source.old) → MatchResult result
+        ensures found { (input : List ℕ) (script : List AnEvent) → Stands input script self.old (S.left source.old)
+            → MatchResult result
             (λ _. IsWhole input script)
             (λ stop. IsCause stop input script self.old.count (S.left source.new)) }
         ensures reads { MatchResult result (λ _. S.faults source.new ≡ S.faults source.old)
@@ -195,8 +208,10 @@ impl Run {
         requires few { self.old.count < MOST_LINES }
         ensures ready { OnOk result (IsReady self.new × (self.new.count ≡ self.old.count + 1)) }
         ensures few { OnErr result (self.new.count ≡ self.old.count) }
-        ensures texts { (input : List ℕ) (script : List AnEvent) (left : Option (List ℕ)) → HasLine input script line.now self.old left
-            → MatchResult result (λ texts. GoesOn input script self.new left texts.items) (λ stop. IsCause stop input script self.old.count left) }
+        ensures texts { (input : List ℕ) (script : List AnEvent) (left : Option (List ℕ))
+            → HasLine input script line.now self.old left
+            → MatchResult result (λ texts. GoesOn input script self.new left texts.items)
+            (λ stop. IsCause stop input script self.old.count left) }
         ensures fault { IfErr result (λ stop. (stop ≢ Stop.Read) × (stop ≢ Stop.Put)) }
     {
         match parse_line(self.alloc, line, &self.names)? {
@@ -213,9 +228,11 @@ impl Run {
         requires few { self.old.count < MOST_LINES }
         ensures ready { OnOk result (IsReady self.new × (self.new.count ≡ self.old.count + 1)) }
         ensures few { OnErr result (self.new.count ≡ self.old.count) }
-        ensures texts { (input : List ℕ) (script : List AnEvent) (line : List ℕ) (left : Option (List ℕ)) → HasLine input script line self.old left
+        ensures texts { (input : List ℕ) (script : List AnEvent) (line : List ℕ) (left : Option (List ℕ))
+            → HasLine input script line self.old left
             → Spells self.old.names line event.now
-            → MatchResult result (λ texts. GoesOn input script self.new left texts.items) (λ stop. IsCause stop input script self.old.count left) }
+            → MatchResult result (λ texts. GoesOn input script self.new left texts.items)
+            (λ stop. IsCause stop input script self.old.count left) }
         ensures fault { IfErr result (λ stop. (stop ≢ Stop.Read) × (stop ≢ Stop.Put)) }
     {
         self.names.add(event)?;

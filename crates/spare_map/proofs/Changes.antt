@@ -83,7 +83,8 @@ module _ {K V : Type 0} (R : K → K → Ordering) (o : IsTotalOrder R) where
 
   -- a look-up after all changes gives what the last change of the key says, or what was there before
   pub lookup_late : (q : K) (es fs : List (K × V)) (found : Option (Option V)) (changes : List (Change K V)) → lookup (is_at (R q)) fs ≡ unwrap_or found (lookup (is_at (R q)) es)
-      → lookup (is_at (R q)) (fold (λ (entries : List (K × V)) (change : Change K V). changed R entries change.key change.value) fs changes) ≡ unwrap_or (fold (λ (late : Option (Option V)) (change : Change K V). if is_at (R q) change.key then Some change.value else late) found changes) (lookup (is_at (R q)) es)
+      → lookup (is_at (R q)) (fold (λ (entries : List (K × V)) (change : Change K V). changed R entries change.key change.value) fs changes)
+      ≡ unwrap_or (fold (λ (late : Option (Option V)) (change : Change K V). if is_at (R q) change.key then Some change.value else late) found changes) (lookup (is_at (R q)) es)
   lookup_late q es fs found [] h = h
   lookup_late q es fs found (c ∷ cs) h =
       lookup_late q es (changed R fs c.key c.value) (if is_at (R q) c.key then Some c.value else found) cs

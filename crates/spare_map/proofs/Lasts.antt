@@ -113,7 +113,8 @@ module _ {K V : Type 0} (R : K → K → Ordering) (o : IsTotalOrder R) where
   abbrev made : List (K × V) → List (Change K V) → List (K × V)
   made fs changes = fold (λ (entries : List (K × V)) (change : Change K V). changed R entries change.key change.value) fs changes
 
-  pub last_of_all : (fs : List (K × V)) (changes : List (Change K V)) (last : Option K) → IsLastOf R (made fs changes) (keys_of fs ++ map (λ (c : Change K V). c.key) changes) last → IsLast R (made fs changes) last
+  pub last_of_all : (fs : List (K × V)) (changes : List (Change K V)) (last : Option K) → IsLastOf R (made fs changes) (keys_of fs ++ map (λ (c : Change K V). c.key) changes) last
+      → IsLast R (made fs changes) last
   last_of_all fs changes None h = λ q there.
       let P : K → Type 0 = λ k. HasValue R (made fs changes) k → ⊥ in
       let hit : (k : K) → P k → is_at (R q) k ≡ true → ⊥ = λ k none at. none (valued q k at (made fs changes) there) in
@@ -129,7 +130,8 @@ module _ {K V : Type 0} (R : K → K → Ordering) (o : IsTotalOrder R) where
         in_late q P G hit changes fs parts.1 (in_tree q P G hit fs parts.0) there,
   )
 
-pub keys_push : {K V : Type 0} (keys : List K) (seen : List (Change K V)) (change : Change K V) → (keys ++ map (λ (c : Change K V). c.key) seen) ++ change.key ∷ [] ≡ keys ++ map (λ (c : Change K V). c.key) (seen ++ change ∷ [])
+pub keys_push : {K V : Type 0} (keys : List K) (seen : List (Change K V)) (change : Change K V)
+    → (keys ++ map (λ (c : Change K V). c.key) seen) ++ change.key ∷ [] ≡ keys ++ map (λ (c : Change K V). c.key) (seen ++ change ∷ [])
 keys_push {K} {V} keys seen change = append_assoc keys (map (λ (c : Change K V). c.key) seen) (change.key ∷ []) ∙ ap (λ (ks : List K). keys ++ ks) (more seen)
   where
     more : (cs : List (Change K V)) → map (λ (c : Change K V). c.key) cs ++ change.key ∷ [] ≡ map (λ (c : Change K V). c.key) (cs ++ change ∷ [])

@@ -21,7 +21,8 @@ module _ {K V : Type 0} (cmp : K → K → Ordering) where
 
   -- what the last of these changes made of a key
   abbrev pub latest : K → List (Change K V) → Option (Option V)
-  latest key changes = fold (λ found change. if is_at (cmp key) change.key then Some change.value else found) None changes
+  latest key changes =
+      fold (λ found change. if is_at (cmp key) change.key then Some change.value else found) None changes
 
   -- the tree's entries, with the changes in the queue made in turn
   abbrev pub entries_of : SpareMap K V → List (K × V)
@@ -33,7 +34,8 @@ module _ {K V : Type 0} (cmp : K → K → Ordering) where
   -- the greatest of those of these keys that have a value
   abbrev pub IsLastOf : List (K × V) → List K → Option K → Type 0
   IsLastOf entries keys None = AllByRecursion (λ key. HasValue entries key → ⊥) keys
-  IsLastOf entries keys (Some last) = HasValue entries last × AllByRecursion (λ key. HasValue entries key → is_lt (cmp last key) ≡ false) keys
+  IsLastOf entries keys (Some last) = HasValue entries last
+      × AllByRecursion (λ key. HasValue entries key → is_lt (cmp last key) ≡ false) keys
 
   -- the greatest key that has a value
   abbrev pub IsLast : List (K × V) → Option K → Type 0

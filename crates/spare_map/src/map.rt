@@ -1,4 +1,5 @@
-ghost use Rattle.std.specs.Prelude.{◌≡◌, ◌+◌, ◌≤◌, [], ◌++◌, ◌∷◌, false, fold, filter, option_copied, option_map, map, List, IfOk, OnOk, OnErr, slice_get};
+ghost use Rattle.std.specs.Prelude.{◌≡◌, ◌+◌, ◌≤◌, [], ◌++◌, ◌∷◌, false, fold, filter, option_copied, option_map, map};
+ghost use Rattle.std.specs.Prelude.{List, IfOk, OnOk, OnErr, slice_get};
 ghost use Rattle.std.specs.BTreeMap.{insert_entry, is_at};
 ghost use Rattle.std.specs.Map.{lookup, keys_of};
 ghost use Rattle.std.specs.List.Sorted.{IsStrictlySortedBy};
@@ -114,7 +115,8 @@ impl<K: Ord + Copy, V: Copy> SpareMap<K, V> {
 
     /// Gives a key this value. With room it takes no memory, and uses up one place of the room at most.
     pub fn insert(&mut self, key: K, value: V) -> Result<(), AllocError>
-        ensures ok { OnOk result (entries_of K.cmp self.new ≡ insert_entry K.cmp (entries_of K.cmp self.old) key value) }
+        ensures ok { OnOk result (entries_of K.cmp self.new
+            ≡ insert_entry K.cmp (entries_of K.cmp self.old) key value) }
         ensures err { OnErr result (entries_of K.cmp self.new ≡ entries_of K.cmp self.old) }
         ensures full { OnErr result (spare_of self.old ≡ 0) }
         ensures spare { spare_of self.old ≤ spare_of self.new + 1 }
@@ -203,7 +205,8 @@ impl<K: Ord + Copy, V: Copy> SpareMap<K, V> {
 
     // The greatest key of the tree and of the queue that has a value.
     fn last_in_all(&self) -> Option<K>
-        ensures { IsLastOf K.cmp (entries_of K.cmp self.now) (keys_of self.now.tree.entries ++ map (λ change. change.key) self.now.late.items) result }
+        ensures { IsLastOf K.cmp (entries_of K.cmp self.now)
+            (keys_of self.now.tree.entries ++ map (λ change. change.key) self.now.late.items) result }
     {
         let mut last = self.last_in_tree();
         for change in self.late.iter() {
@@ -227,7 +230,8 @@ impl<K: Ord + Copy, V: Copy> SpareMap<K, V> {
 
     /// The keys from this one on with their values, in rising order.
     pub fn from(&mut self, key: K) -> Result<Vec<(K, V)>, AllocError>
-        ensures found { IfOk result (λ found. found.items ≡ filter (λ e. is_le (K.cmp key e.0)) (entries_of K.cmp self.old)) }
+        ensures found { IfOk result (λ found. found.items
+            ≡ filter (λ e. is_le (K.cmp key e.0)) (entries_of K.cmp self.old)) }
         ensures rising { IfOk result (λ found. IsStrictlySortedBy K.cmp (keys_of found.items)) }
         ensures same { entries_of K.cmp self.new ≡ entries_of K.cmp self.old }
         ensures spare { spare_of self.old ≤ spare_of self.new }
@@ -242,7 +246,8 @@ impl<K: Ord + Copy, V: Copy> SpareMap<K, V> {
 
     /// The first key from this one on, with its value. It is logarithmic, besides what `reserve` left in the queue.
     pub fn first_from(&mut self, key: K) -> Result<Option<(K, V)>, AllocError>
-        ensures first { IfOk result (λ first. first ≡ slice_get (filter (λ e. is_le (K.cmp key e.0)) (entries_of K.cmp self.old)) 0) }
+        ensures first { IfOk result (λ first. first
+            ≡ slice_get (filter (λ e. is_le (K.cmp key e.0)) (entries_of K.cmp self.old)) 0) }
         ensures same { entries_of K.cmp self.new ≡ entries_of K.cmp self.old }
         ensures spare { spare_of self.old ≤ spare_of self.new }
     {

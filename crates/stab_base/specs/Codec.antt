@@ -1,5 +1,6 @@
 -- Numbers and counted bytes at the front of a list of bytes, with the first fault that is met.
-use Rattle.std.specs.Prelude.{◌≡◌, ℕ, List, [], ◌∷◌, ◌++◌, ◌<◌, length, slice_index, take, drop, Result, Ok, Err, nat_lt, if◌then◌else◌}
+use Rattle.std.specs.Prelude.{◌≡◌, ℕ, List, [], ◌∷◌, ◌++◌, ◌<◌, length, slice_index, take, drop, Result, Ok, Err}
+use Rattle.std.specs.Prelude.{nat_lt, if◌then◌else◌}
 use Rattle.std.specs.Int.{Width, w32, byte_len, from_be_bytes, to_be_bytes}
 use Rattle.stab_base.specs.declared.codec.TakeFault.{TakeFault}
 use Rattle.stab_base.specs.declared.codec.TakeFault.TheVariants.{Short, TooLong}

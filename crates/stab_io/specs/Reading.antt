@@ -1,4 +1,5 @@
-use Rattle.std.specs.Prelude.{◌≡◌, ℕ, ◌+◌, ◌≤◌, ◌<◌, Bool, List, [], ◌++◌, length, Option, None, Some, Result, Ok, Err, IfSome, IsSomeAnd, IsOkAnd, MatchBool}
+use Rattle.std.specs.Prelude.{◌≡◌, ℕ, ◌+◌, ◌≤◌, ◌<◌, Bool, List, [], ◌++◌, length, Option, None, Some, Result, Ok, Err}
+use Rattle.std.specs.Prelude.{IfSome, IsSomeAnd, IsOkAnd, MatchBool}
 use Rattle.std.specs.Global.{Vec}
 use Rattle.std.specs.Io.KnownBytes.{prepend_known}
 use Rattle.stab_io.specs.declared.limits.Limits.{Limits}
@@ -21,7 +22,8 @@ ahead reader left = prepend_known reader.held left
 -- where the bytes ahead were told, this line came next in them, and the bytes behind it are ahead now
 abbrev pub IsNextLine : Reading → Option (List ℕ) → List ℕ → Reading → Option (List ℕ) → Type 0
 IsNextLine before left line after left_after =
-    IfSome (ahead before left) (λ bytes. IsSomeAnd (ahead after left_after) (λ rest. next_of before.limits before.used bytes ≡ Line line rest))
+    IfSome (ahead before left) (λ bytes. IsSomeAnd (ahead after left_after)
+    (λ rest. next_of before.limits before.used bytes ≡ Line line rest))
 
 -- where the bytes ahead are told, this comes next in them
 abbrev pub ComesNext : Reading → Option (List ℕ) → Next → Type 0
@@ -30,12 +32,14 @@ ComesNext reader left next = IfSome (ahead reader left) (λ bytes. next_of reade
 -- the bytes before those ahead, and those ahead, are as many as they were
 abbrev pub CountsAll : Reading → Option (List ℕ) → Reading → Option (List ℕ) → Type 0
 CountsAll before left after left_after =
-    IfSome (ahead before left) (λ bytes. IfSome (ahead after left_after) (λ rest. after.used + length rest ≡ before.used + length bytes))
+    IfSome (ahead before left) (λ bytes. IfSome (ahead after left_after)
+    (λ rest. after.used + length rest ≡ before.used + length bytes))
 
 -- every line that was held whole has been answered, and what is held passes no limit
 abbrev pub IsUnfinished : Reading → Type 0
 IsUnfinished reader =
-    HasNoNewline reader.held × (length reader.held ≤ reader.limits.line) × (reader.used + length reader.held ≤ reader.limits.input)
+    HasNoNewline reader.held × (length reader.held ≤ reader.limits.line)
+    × (reader.used + length reader.held ≤ reader.limits.input)
 
 -- the refusal that a reader answers again behind this one
 abbrev pub stop_of : LineFault → Option LineFault
@@ -63,8 +67,10 @@ CutsLine before line after =
 abbrev pub Refuses : Reading → LineFault → Type 0
 Refuses reader Memory = Unit {0}
 Refuses reader Read = ⊥
-Refuses reader (LineLimit len) = (len ≡ reader.limits.line + 1) × ((more : List ℕ) → next_of reader.limits reader.used (reader.held ++ more) ≡ LineTooLong)
-Refuses reader (InputLimit len) = (len ≡ reader.limits.input + 1) × ((more : List ℕ) → next_of reader.limits reader.used (reader.held ++ more) ≡ InputTooLong)
+Refuses reader (LineLimit len) = (len ≡ reader.limits.line + 1)
+    × ((more : List ℕ) → next_of reader.limits reader.used (reader.held ++ more) ≡ LineTooLong)
+Refuses reader (InputLimit len) = (len ≡ reader.limits.input + 1)
+    × ((more : List ℕ) → next_of reader.limits reader.used (reader.held ++ more) ≡ InputTooLong)
 
 -- the answer that is due where that comes next
 abbrev pub IsDue : Limits → Next → Result (Option (Vec ℕ)) LineFault → Type 0

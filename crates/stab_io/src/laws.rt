@@ -10,8 +10,10 @@ pub fn lines_of_next()
         → (bytes ≡ text ++ 10 ∷ rest) ⊎ ((bytes ≡ text) × (rest ≡ [])) }
     ensures fits { (limits : Limits) (used : ℕ) (bytes text rest : List ℕ) → next_of limits used bytes ≡ Line text rest
         → (length text ≤ limits.line) × (used + (length bytes - length rest) ≤ limits.input) }
-    ensures end { (limits : Limits) (used : ℕ) (bytes : List ℕ) → next_of limits used bytes ≡ End → lines_of bytes ≡ [] }
-    ensures no_lines { (limits : Limits) (used : ℕ) (bytes : List ℕ) → lines_of bytes ≡ [] → next_of limits used bytes ≡ End }
+    ensures end { (limits : Limits) (used : ℕ) (bytes : List ℕ) → next_of limits used bytes ≡ End
+        → lines_of bytes ≡ [] }
+    ensures no_lines { (limits : Limits) (used : ℕ) (bytes : List ℕ) → lines_of bytes ≡ []
+        → next_of limits used bytes ≡ End }
     ensures line_limit { (limits : Limits) (used : ℕ) (bytes : List ℕ) → next_of limits used bytes ≡ LineTooLong
         → (line : List ℕ) × (lines : List (List ℕ)) × (lines_of bytes ≡ line ∷ lines) × (limits.line < length line) }
     ensures input_limit { (limits : Limits) (used : ℕ) (bytes : List ℕ) → next_of limits used bytes ≡ InputTooLong

@@ -1,10 +1,13 @@
-ghost use Rattle.std.specs.Prelude.{◌≡◌, ◌≢◌, ◌≤◌, ◌<◌, ◌+◌, ◌++◌, ◌==◌, ◌⊎◌, ◌^◌, [], ◌∷◌, ℕ, Option, List, Some, None, Ok, length, vec_len, take, drop, IfOk, IfSome, IfNone, IfErr, MatchResult, OnOk, OnErr, OnSome, MatchOption, MatchBool};
+ghost use Rattle.std.specs.Prelude.{◌≡◌, ◌≢◌, ◌≤◌, ◌<◌, ◌+◌, ◌++◌, ◌==◌, ◌⊎◌, ◌^◌, [], ◌∷◌, ℕ, Option, List, Some};
+ghost use Rattle.std.specs.Prelude.{None, Ok, length, vec_len, take, drop, IfOk, IfSome, IfNone, IfErr, MatchResult};
+ghost use Rattle.std.specs.Prelude.{OnOk, OnErr, OnSome, MatchOption, MatchBool};
 ghost use Rattle.std.specs.List.{position};
 ghost use Rattle.std.specs.Io.KnownBytes.{Keeps, Consumes, IsAtEnd};
 ghost use Rattle.stab_io.specs.declared.line_fault.LineFault.TheVariants as faults;
 ghost use Rattle.stab_io.specs.Faults.{Rose};
 ghost use Rattle.stab_io.specs.Lines.{HasNoNewline, Line, End, LineTooLong, InputTooLong, next_of};
-ghost use Rattle.stab_io.specs.Reading.{ahead, IsNextLine, ComesNext, CountsAll, IsUnfinished, stop_of, stop_after, CutsLine, Refuses, IsDue, HasMore, IsFirstPast, IsMoreDue};
+ghost use Rattle.stab_io.specs.Reading.{ahead, IsNextLine, ComesNext, CountsAll, IsUnfinished, stop_of, stop_after};
+ghost use Rattle.stab_io.specs.Reading.{CutsLine, Refuses, IsDue, HasMore, IsFirstPast, IsMoreDue};
 
 use crate::limits::{INPUT_LIMIT, LINE_LIMIT, Limits};
 use crate::line_fault::LineFault;
@@ -47,7 +50,12 @@ impl Model for LineReader {
 
 impl LineReader {
     pub fn new(alloc: Global) -> LineReader
-        ensures { result ≡ record { used = 0; held = []; stopped = None; limits = record { line = LINE_LIMIT; input = INPUT_LIMIT } } }
+        ensures { result ≡ record {
+          used = 0;
+          held = [];
+          stopped = None;
+          limits = record { line = LINE_LIMIT; input = INPUT_LIMIT };
+        } }
     {
         LineReader::with_limits(
             alloc,
@@ -95,7 +103,8 @@ impl LineReader {
         ensures short { IfOk result (λ found. IfSome found (λ line. length line.items ≤ self.old.limits.line)) }
         ensures used { IfOk result (λ found. MatchOption found (self.new.used ≡ self.old.used) (λ line.
             (self.new.used ≡ self.old.used + length line.items + 1)
-            ⊎ ((self.new.used ≡ self.old.used + length line.items) × (self.new.held ≡ []) × IsAtEnd (S.left source.new)))) }
+            ⊎ ((self.new.used ≡ self.old.used + length line.items) × (self.new.held ≡ [])
+            × IsAtEnd (S.left source.new)))) }
         ensures counted { CountsAll self.old (S.left source.old) self.new (S.left source.new) }
         ensures within { self.new.used ≤ self.new.limits.input }
     {
@@ -112,11 +121,13 @@ impl LineReader {
         }
     }
 
-    /// Whether another byte comes; no byte is lost, and none is answered. `InputLimit` where that byte is the first past
-    /// the input's limit. It takes no memory. After a refusal every call answers it again, and so does `next_line`.
+    /// Whether another byte comes; no byte is lost, and none is answered. `InputLimit` where that byte is the first
+    /// past the input's limit. It takes no memory. After a refusal every call answers it again, and so does
+    /// `next_line`.
     pub fn goes_on<S: Source>(&mut self, source: &mut S) -> Result<bool, LineFault>
         // Another byte, and the end.
-        ensures more { IfOk result (λ more. IfSome (ahead self.old (S.left source.old)) (λ bytes. HasMore self.old bytes more)) }
+        ensures more { IfOk result (λ more. IfSome (ahead self.old (S.left source.old))
+            (λ bytes. HasMore self.old bytes more)) }
         ensures more_left { IfOk result (λ more. MatchBool more (0 < length self.new.held)
             ((self.new.held ≡ []) × IsAtEnd (S.left source.new))) }
 
@@ -189,7 +200,8 @@ impl LineReader {
         ensures more { IfOk result (λ more. MatchBool more (0 < length self.new.held)
             ((self.new.held ≡ []) × IsAtEnd (S.left source.new))) }
         ensures ok { OnOk result (self.new ≡ record self.old { held = self.new.held }) }
-        ensures err { IfErr result (λ fault. (fault ≡ LineFault.Read) × (self.new ≡ record self.old { stopped = Some LineFault.Read })) }
+        ensures err { IfErr result (λ fault. (fault ≡ LineFault.Read)
+            × (self.new ≡ record self.old { stopped = Some LineFault.Read })) }
         ensures cause { MatchResult result (λ _. S.faults source.new ≡ S.faults source.old)
             (λ _. Rose (S.faults source.old) (S.faults source.new)) }
     {
@@ -199,7 +211,8 @@ impl LineReader {
     // Refuses a byte more where the input has no room for it.
     fn check_room(&mut self) -> Result<(), LineFault>
         ensures ok { OnOk result ((self.old.used < self.old.limits.input) × (self.new ≡ self.old)) }
-        ensures err { IfErr result (λ fault. (fault ≡ LineFault.InputLimit (self.old.limits.input + 1)) × (self.old.used ≡ self.old.limits.input)
+        ensures err { IfErr result (λ fault. (fault ≡ LineFault.InputLimit (self.old.limits.input + 1))
+            × (self.old.used ≡ self.old.limits.input)
             × (self.new ≡ record self.old { stopped = Some fault })) }
     {
         if self.used < self.limits.input {
@@ -249,7 +262,8 @@ impl LineReader {
         ensures keeps { Keeps (ahead self.old (S.left source.old)) (ahead self.new (S.left source.new)) }
         ensures more { IfOk result (λ more. MatchBool more (length self.old.held < length self.new.held)
             ((self.new.held ≡ self.old.held) × IsAtEnd (S.left source.new))) }
-        ensures ok { OnOk result ((self.new.used ≡ self.old.used) × (self.new.limits ≡ self.old.limits) × (self.new.stopped ≡ None)) }
+        ensures ok { OnOk result ((self.new.used ≡ self.old.used) × (self.new.limits ≡ self.old.limits)
+            × (self.new.stopped ≡ None)) }
         ensures err { IfErr result (λ fault. self.new ≡ record self.old { stopped = stop_of fault }) }
         ensures cause { MatchResult result (λ _. S.faults source.new ≡ S.faults source.old)
             (λ fault. ((fault ≡ LineFault.Memory) × (S.faults source.new ≡ S.faults source.old))
@@ -286,7 +300,8 @@ fn take_piece<S: Source>(
     source: &mut S,
 ) -> Result<bool, LineFault>
     ensures taken { IfOk result (λ more. Consumes (S.left source.old) (S.left source.new) piece.new
-        × MatchBool more (0 < length piece.new) ((piece.new ≡ []) × IsAtEnd (S.left source.new)) × (stopped.new ≡ stopped.old)) }
+        × MatchBool more (0 < length piece.new) ((piece.new ≡ []) × IsAtEnd (S.left source.new))
+        × (stopped.new ≡ stopped.old)) }
     ensures err { IfErr result (λ fault. Keeps (S.left source.old) (S.left source.new) × (piece.new ≡ [])
         × (fault ≡ LineFault.Read) × (stopped.new ≡ Some LineFault.Read)) }
     ensures counted { MatchResult result (λ _. S.faults source.new ≡ S.faults source.old)
@@ -315,8 +330,10 @@ fn limit_passed(limits: Limits, used: u64, text: u64, taken: u64) -> Option<Line
     requires limits { (limits.line < 2 ^ 62) × (limits.input < 2 ^ 62) }
     ensures passed { MatchOption result
         ((text ≤ limits.line) × (used + taken ≤ limits.input))
-        (λ fault. ((fault ≡ LineFault.LineLimit (limits.line + 1)) × (limits.line < text) × (used + limits.line ≤ limits.input))
-        ⊎ ((fault ≡ LineFault.InputLimit (limits.input + 1)) × (limits.input < used + taken) × (limits.line < text → limits.input < used + limits.line))) }
+        (λ fault. ((fault ≡ LineFault.LineLimit (limits.line + 1)) × (limits.line < text)
+        × (used + limits.line ≤ limits.input))
+        ⊎ ((fault ≡ LineFault.InputLimit (limits.input + 1)) × (limits.input < used + taken)
+        × (limits.line < text → limits.input < used + limits.line))) }
 {
     let room = limits.input - used;
     if text > limits.line && limits.line <= room {

@@ -1,4 +1,5 @@
-ghost use Rattle.std.specs.Prelude.{◌≡◌, ◌+◌, ◌-◌, ◌^◌, ◌<◌, ◌≤◌, ◌/◌, ◌⊎◌, ◌↔◌, ◌++◌, [], ℕ, Some, length, take, drop, min, Contains, IfOk, OnOk, OnErr, IsErr, MatchResult};
+ghost use Rattle.std.specs.Prelude.{◌≡◌, ◌+◌, ◌-◌, ◌^◌, ◌<◌, ◌≤◌, ◌/◌, ◌⊎◌, ◌↔◌, ◌++◌, [], ℕ, Some, length, take, drop};
+ghost use Rattle.std.specs.Prelude.{min, Contains, IfOk, OnOk, OnErr, IsErr, MatchResult};
 ghost use Rattle.std.specs.Io.KnownBytes.{ReadConsumes, Appends};
 ghost use Rattle.stab_io.specs.Faults.{Rose, AppendsFront};
 

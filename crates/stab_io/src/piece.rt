@@ -62,7 +62,8 @@ impl Piece {
     // Takes the next piece of the source in place of this one.
     pub fn take_from<S: Source>(&mut self, source: &mut S) -> Result<usize, Failed>
         ensures taken { MatchResult result
-            (λ n. Consumes (S.left source.old) (S.left source.new) self.new × (length self.new ≡ n) × (n ≡ 0 → IsAtEnd (S.left source.new)))
+            (λ n. Consumes (S.left source.old) (S.left source.new) self.new × (length self.new ≡ n)
+            × (n ≡ 0 → IsAtEnd (S.left source.new)))
             (λ _. Keeps (S.left source.old) (S.left source.new) × (self.new ≡ [])) }
         ensures counted { MatchResult result (λ _. S.faults source.new ≡ S.faults source.old)
             (λ _. Rose (S.faults source.old) (S.faults source.new)) }

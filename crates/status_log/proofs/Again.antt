@@ -1,5 +1,6 @@
 -- Payloads that are read as they were written.
-use Rattle.std.proofs.Common.{◌≡◌, ℕ, ◌*◌, ◌^◌, ◌<◌, ◌≤◌, Bool, true, cond, List, [], ◌∷◌, ◌++◌, length, take, drop, Option, Some, None, Result, Ok, Err, refl, sym, ◌∙◌, ap, arith, append_assoc, length-append}
+use Rattle.std.proofs.Common.{◌≡◌, ℕ, ◌*◌, ◌^◌, ◌<◌, ◌≤◌, Bool, true, cond, List, [], ◌∷◌, ◌++◌, length, take, drop, Option, Some, None, Result, Ok, Err, refl, sym, ◌∙◌, ap, arith, append_assoc}
+use Rattle.std.proofs.Common.{length-append}
 use Rattle.std.specs.Prelude.{◌==◌, ◌&&◌, nat_le}
 use Rattle.std.specs.Int.{w32, w64, to_be_bytes}
 use Rattle.std.specs.List.{flat_map}

@@ -14,7 +14,8 @@ use Rattle.status_log.proofs.Twelves.{length-names}
 pub all_behind : (at : ℕ) (bytes : List ℕ) → take (length bytes - at) (drop at bytes) ≡ drop at bytes
 all_behind at bytes = take_all (length bytes - at) (drop at bytes) (omega (arith, length-drop at bytes))
 
-pub id_read : (bytes : List ℕ) (at : ℕ) (id : List ℕ) → id ≡ take 16 (take (length bytes - at) (drop at bytes)) → 16 ≤ length (take (length bytes - at) (drop at bytes)) → id_at (drop at bytes) ≡ Ok (id, drop (at + 16) bytes)
+pub id_read : (bytes : List ℕ) (at : ℕ) (id : List ℕ) → id ≡ take 16 (take (length bytes - at) (drop at bytes)) → 16 ≤ length (take (length bytes - at) (drop at bytes))
+    → id_at (drop at bytes) ≡ Ok (id, drop (at + 16) bytes)
 id_read bytes at id is long =
     let rest = drop at bytes in
     let whole = all_behind at bytes in

@@ -74,7 +74,8 @@ step_within pending (Some entry) closed h o = o
 step_within pending None (Some version) h o = without_within pending version h
 step_within pending None None h o = h
 
-fold_within : (ps : List (List ℕ)) (pending : Option Entry) → IsWithin pending → IsWithin (fold (λ (pending : Option Entry) (payload : List ℕ). step pending (opens payload) (closes payload)) pending ps)
+fold_within : (ps : List (List ℕ)) (pending : Option Entry) → IsWithin pending
+    → IsWithin (fold (λ (pending : Option Entry) (payload : List ℕ). step pending (opens payload) (closes payload)) pending ps)
 fold_within [] pending h = h
 fold_within (p ∷ ps) pending h = fold_within ps (step pending (opens p) (closes p)) (step_within pending (opens p) (closes p) h (opens_within p))
 

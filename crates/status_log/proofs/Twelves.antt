@@ -46,7 +46,8 @@ names_again (name ∷ names) h =
     ∙ ap (λ (l : List ChunkName). name ∷ l) (ap (names_in (length names)) rest ∙ names_again names h.1)
 
 -- one name more is written
-pub spelled_more : (names : List ChunkName) (i : ℕ) (name : ChunkName) → i < length names → get_or names i name ≡ name → flat_map name_spelling (take (i + 1) names) ≡ flat_map name_spelling (take i names) ++ name_spelling name
+pub spelled_more : (names : List ChunkName) (i : ℕ) (name : ChunkName) → i < length names → get_or names i name ≡ name
+    → flat_map name_spelling (take (i + 1) names) ≡ flat_map name_spelling (take i names) ++ name_spelling name
 spelled_more names i name lt is =
     ap (flat_map name_spelling) (take_more names i name lt)
     ∙ (flat_map-append name_spelling (take i names) (get_or names i name ∷ [])

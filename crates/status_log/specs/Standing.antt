@@ -39,7 +39,8 @@ abbrev pub Stays : {D : Type 0} → (D → DiskState) → StatusLog D → Status
 Stays state old new = folded.Stays state Fits HasSpare old.inner new.inner
 
 -- At every moment since the old state a crash leaves an open entry, or none, that has R.
-abbrev pub Leaves : {D : Type 0} → (D → DiskState) → (D → ℕ → List ℕ → Type 0) → StatusLog D → StatusLog D → (Option Entry → Type 0) → Type 0
+abbrev pub Leaves : {D : Type 0} → (D → DiskState) → (D → ℕ → List ℕ → Type 0) → StatusLog D → StatusLog D
+    → (Option Entry → Type 0) → Type 0
 Leaves state images old new R = vaults.Leaves state images (vault_of old) (vault_of new) (λ list. R (pending_of list))
 
 -- ---- what the calls of a device promise of what it holds
@@ -85,7 +86,8 @@ Gets state images old new result =
     calls.Reads state images Fits HasSpare pending_of fault_of old.inner new.inner old new result
 
 abbrev pub Stops :
-    {D : Type 0} → (D → DiskState) → (D → ℕ → List ℕ → Type 0) → ℕ → ℕ → StatusLog (FuseDisk D) → StatusLog (FuseDisk D) →
+    {D : Type 0} → (D → DiskState) → (D → ℕ → List ℕ → Type 0) → ℕ → ℕ → StatusLog (FuseDisk D)
+    → StatusLog (FuseDisk D) →
     Type 0
 Stops state images count pick old new = stops.Stops state images Fits HasSpare pending_of count pick old.inner new.inner
 

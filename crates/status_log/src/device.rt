@@ -1,9 +1,11 @@
 //! The log: what its calls promise of its open entry.
-ghost use Rattle.std.specs.Prelude.{◌≡◌, ◌↔◌, ◌+◌, ◌*◌, ◌<◌, ◌≤◌, false, [], ℕ, List, length, None, Some, option_map, OnOk, OnErr, IsErrOf, IsTrue, IsSome};
+ghost use Rattle.std.specs.Prelude.{◌≡◌, ◌↔◌, ◌+◌, ◌*◌, ◌<◌, ◌≤◌, false, [], ℕ, List, length, None, Some, option_map};
+ghost use Rattle.std.specs.Prelude.{OnOk, OnErr, IsErrOf, IsTrue, IsSome};
 ghost use Rattle.std.specs.Bool.{MatchBool};
 ghost use Rattle.vault.specs.Standing.{disk_of, IsDown, IsUp, IsSynced};
 ghost use Rattle.status_log.specs.Entry.{entry_of, size_of, HasSpelling};
-ghost use Rattle.status_log.specs.Standing.{vault_of, entry_open, IsLookedAt, IsOpened, HasRoom, Formats, Looks, Restarts, OpensWrite, Reserves, Puts, Refuses};
+ghost use Rattle.status_log.specs.Standing.{vault_of, entry_open, IsLookedAt, IsOpened, HasRoom, Formats, Looks};
+ghost use Rattle.status_log.specs.Standing.{Restarts, OpensWrite, Reserves, Puts, Refuses};
 
 use crate::entry::LogEntry;
 use crate::fault::{LogFault, told};
@@ -103,7 +105,8 @@ impl<D: Disk + Drop> StatusLog<D> {
         requires spelled { HasSpelling (entry_of entry.now) }
         requires room { IsUp (vault_of self.old) → HasRoom D.state self.old 0 1 (size_of (entry_of entry.now)) }
         ensures opens { entry_open D.state self.old ≡ None
-            → Puts D.state D.images (size_of (entry_of entry.now)) (Some (entry_of entry.now)) self.old self.new result }
+            → Puts D.state D.images (size_of (entry_of entry.now))
+            (Some (entry_of entry.now)) self.old self.new result }
         ensures refuses { Refuses D.state self.old self.new result }
         ensures pending { (version : ℕ) → IsErrOf result (LogFault.Pending version)
             ↔ (IsUp (vault_of self.old) × (option_map (λ e. e.version) (entry_open D.state self.old) ≡ Some version)) }

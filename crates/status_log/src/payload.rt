@@ -3,7 +3,8 @@ ghost use Rattle.std.specs.Prelude.{◌≡◌, ◌+◌, ◌*◌, ◌<◌, ◌≤
 ghost use Rattle.std.specs.Vec.{vec_capacity};
 ghost use Rattle.stab_base.specs.Codec.{Reads, byte_at};
 ghost use Rattle.status_log.specs.Entry.{entry_of, size_of, HasSpelling};
-ghost use Rattle.status_log.specs.Payload.{open_payload, close_payload, opening_of, id_at, opening_at, is_whole, opens, closes};
+ghost use Rattle.status_log.specs.Payload.{open_payload, close_payload, opening_of, id_at, opening_at, is_whole, opens};
+ghost use Rattle.status_log.specs.Payload.{closes};
 ghost use Rattle.status_log.specs.Memory.{Says};
 
 use crate::LogEntry;

@@ -1,5 +1,6 @@
 -- The client's step table: what a call or a message makes of it, what it answers, and what is sent and told.
-use Rattle.std.specs.Prelude.{ℕ, ◌+◌, ◌==◌, nat_lt, nat_le, List, [], ◌∷◌, ◌++◌, length, Option, Some, None, option_map, option_to_list, Result, Ok, Err, if◌then◌else◌}
+use Rattle.std.specs.Prelude.{ℕ, ◌+◌, ◌==◌, nat_lt, nat_le, List, [], ◌∷◌, ◌++◌, length, Option, Some, None, option_map}
+use Rattle.std.specs.Prelude.{option_to_list, Result, Ok, Err, if◌then◌else◌}
 use Rattle.std.specs.declared.cmp.Ordering.{Ordering}
 use Rattle.std.specs.Ordering.{nat_cmp}
 use Rattle.std.specs.Cmp.Lexicographic.{slice_cmp}
@@ -107,7 +108,8 @@ written client number table row content =
     let slots : Slots = slots_at table row in
     let main : Main = main_for (client.last + 1) slots content in
     record {
-      client = with_table (record client { last = main.number }) number (with_slots table row (record slots { main = Some main }));
+      client = with_table (record client { last = main.number }) number
+          (with_slots table row (record slots { main = Some main }));
       answer = answers.Number main.number;
       messages = [];
       facts = facts.Wrote (record {
@@ -126,7 +128,8 @@ write_fitting client number table row content (Err fault) = refused client (refu
 
 abbrev pub write_to : Client → ℕ → List ℕ → Content → Option ClientTable → ClientStep
 write_to client number row content None = refused client refusals.NoTable
-write_to client number row content (Some table) = write_fitting client number table row content (fit_of table.schema content)
+write_to client number row content (Some table) =
+    write_fitting client number table row content (fit_of table.schema content)
 
 abbrev pub write_step : Client → ℕ → List ℕ → Content → ClientStep
 write_step client number row content = write_to client number row content (table_at client number)
@@ -145,7 +148,8 @@ show_answer (Some what) = answers.Shown what
 
 abbrev pub show_in : Client → List ℕ → Option ClientTable → ClientStep
 show_in client row None = refused client refusals.NoTable
-show_in client row (Some table) = let slots : Slots = slots_at table row in answered client (show_answer (shown_in slots.main slots.shadow))
+show_in client row (Some table) = let slots : Slots = slots_at table row in
+    answered client (show_answer (shown_in slots.main slots.shadow))
 
 abbrev pub show_step : Client → ℕ → List ℕ → ClientStep
 show_step client number row = show_in client row (table_at client number)
@@ -166,11 +170,13 @@ request_for client table row out = messages.SyncRequest (record {
 -- the requests that wait for their answers are sent again, by rising row
 abbrev pub resent : ℕ → ℕ → List (List ℕ × Slots) → List Message
 resent client table [] = []
-resent client table (entry ∷ rows) = option_to_list (option_map (request_for client table entry.0) entry.1.out) ++ resent client table rows
+resent client table (entry ∷ rows) =
+    option_to_list (option_map (request_for client table entry.0) entry.1.out) ++ resent client table rows
 
 -- Main as it is sent
 abbrev pub out_for : Option Shadow → Main → InFlight
-out_for shadow main = record { number = main.number; read = main.read; base = version_in shadow; content = main.content }
+out_for shadow main =
+    record { number = main.number; read = main.read; base = version_in shadow; content = main.content }
 
 -- what a row sends next: its Main, where nothing of it waits for an answer
 abbrev pub to_send : Option InFlight → Option Main → Option Shadow → Option InFlight
@@ -198,7 +204,8 @@ sync_first client number table again (Some first) = record {
 
 abbrev pub sync_in : Client → ℕ → Option ClientTable → ClientStep
 sync_in client number None = refused client refusals.NoTable
-sync_in client number (Some table) = sync_first client number table (resent client.number number table.rows) (first_to_send table.rows)
+sync_in client number (Some table) =
+    sync_first client number table (resent client.number number table.rows) (first_to_send table.rows)
 
 abbrev pub sync_step : Client → ℕ → ClientStep
 sync_step client number = sync_in client number (table_at client number)
@@ -245,8 +252,10 @@ take_accepted client number table row slots out version = record {
 }
 
 abbrev pub take_outcome : Client → ℕ → ClientTable → List ℕ → Slots → InFlight → Outcome → ClientStep
-take_outcome client number table row slots out (outcomes.Accepted version) = take_accepted client number table row slots out version
-take_outcome client number table row slots out (outcomes.Again version) = take_accepted client number table row slots out version
+take_outcome client number table row slots out (outcomes.Accepted version) =
+    take_accepted client number table row slots out version
+take_outcome client number table row slots out (outcomes.Again version) =
+    take_accepted client number table row slots out version
 take_outcome client number table row slots out (outcomes.Late last) = ignored client
 
 abbrev pub take_response : Client → ClientTable → SyncResponse → Option InFlight → ClientStep
@@ -280,7 +289,8 @@ newer client table header slots (Some out) =
     if nat_le out.number header.yours.number
     then record {
       slots = record { main = without out.number slots.main; shadow = Some (shadow_of header); out = None };
-      facts = acked client table header.row out.number header.yours.version ∷ facts.New client table header.row header.version ∷ [];
+      facts = acked client table header.row out.number header.yours.version
+          ∷ facts.New client table header.row header.version ∷ [];
     }
     else record {
       slots = record slots { shadow = Some (shadow_of header) };
@@ -294,7 +304,8 @@ take_header client table header slots =
     else newer client table header slots slots.out
 
 abbrev pub next_pull : ℕ → ℕ → PullResponse → List Message
-next_pull client table response = if nat_lt response.to response.latest then pull_from client table response.to ∷ [] else []
+next_pull client table response = if nat_lt response.to response.latest then pull_from client table response.to ∷ []
+    else []
 
 abbrev pub take_row : Client → ℕ → ClientTable → PullResponse → RowHeader → Taken → ClientStep
 take_row client number table response header taken = record {
@@ -309,7 +320,8 @@ abbrev pub take_pulled : Client → ClientTable → PullResponse → Option RowH
 take_pulled client table response None = ignored client
 take_pulled client table response (Some header) =
     if response.from == table.position
-    then take_row client response.table table response header (take_header client.number response.table header (slots_at table header.row))
+    then take_row client response.table table response header
+    (take_header client.number response.table header (slots_at table header.row))
     else ignored client
 
 abbrev pub pulled_in : Client → PullResponse → Option ClientTable → ClientStep

@@ -1,6 +1,7 @@
 -- A client's step table: what a move makes of it, what it answers, and what is told and sent. Its state is what its
 -- devices stand for, and the device writes that it has begun.
-use Rattle.std.specs.Prelude.{ℕ, ◌+◌, ◌==◌, nat_lt, nat_le, Bool, true, List, [], ◌∷◌, ◌++◌, length, map, Option, Some, None, option_map, option_to_list, Result, Ok, Err, if◌then◌else◌}
+use Rattle.std.specs.Prelude.{ℕ, ◌+◌, ◌==◌, nat_lt, nat_le, Bool, true, List, [], ◌∷◌, ◌++◌, length, map, Option, Some}
+use Rattle.std.specs.Prelude.{None, option_map, option_to_list, Result, Ok, Err, if◌then◌else◌}
 use Rattle.std.specs.Ordering.{nat_cmp}
 use Rattle.std.specs.Map.{lookup}
 use Rattle.std.specs.BTreeMap.{is_at, insert_entry}
@@ -16,7 +17,8 @@ use Rattle.step_tables.specs.declared.slots.Shadow.{Shadow}
 use Rattle.step_tables.specs.Client.{row_cmp, version_in}
 use Rattle.step_tables.specs.Facts.{ClientFact, Fact, Answer, Refusal, Shown}
 use Rattle.step_tables.specs.Facts as facts
-use Rattle.step_tables.specs.Messages.{Response, Pulled, Header, Pair, Outcome, Message, Send, Luck, SyncRequest, SyncResponse, PullRequest, PullResponse}
+use Rattle.step_tables.specs.Messages.{Response, Pulled, Header, Pair, Outcome, Message, Send, Luck, SyncRequest}
+use Rattle.step_tables.specs.Messages.{SyncResponse, PullRequest, PullResponse}
 use Rattle.step_tables.specs.Messages as messages
 
 -- ---- state
@@ -39,7 +41,8 @@ pub record RowPut : Type 0 where
   pub row : List ℕ
   pub slots : Slots
 
--- a change that is carried out whole: the client's last number, a row of a table, the table's position, and what is told
+-- a change that is carried out whole: the client's last number, a row of a table, the table's position, and what is
+-- told
 pub record Plan : Type 0 where
   pub last : ℕ
   pub table : ℕ
@@ -47,15 +50,15 @@ pub record Plan : Type 0 where
   pub position : Option ℕ
   pub facts : List ClientFact
 
--- what the devices stand for: the number of the client's last write, the opened tables by their numbers, and the plan that
--- is committed and not done
+-- what the devices stand for: the number of the client's last write, the opened tables by their numbers, and the plan
+-- that is committed and not done
 pub record ClientDisk : Type 0 where
   pub last : ℕ
   pub tables : List (ℕ × TableDisk)
   pub plan : Option Plan
 
--- one device write: a plan is committed, its row or its table is put, it is done; or nothing of what the devices stand for
--- changes
+-- one device write: a plan is committed, its row or its table is put, it is done; or nothing of what the devices stand
+-- for changes
 pub data ClientChange : Type 0 where
   Commit : (plan : Plan) → ClientChange
   PutRow : (plan : Plan) → ClientChange
@@ -97,7 +100,8 @@ pub record ClientStep : Type 0 where
   pub sends : List Send
 
 abbrev pub quiet : ClientDisk → Option (List ClientTask) → Answer → ClientStep
-quiet d agenda answer = record { client = record { disk = d; agenda = agenda }; answer = answer; facts = []; sends = [] }
+quiet d agenda answer =
+    record { client = record { disk = d; agenda = agenda }; answer = answer; facts = []; sends = [] }
 
 abbrev pub down : ClientDisk → ClientStep
 down d = quiet d None (facts.Refuses facts.Down)
@@ -223,20 +227,29 @@ table_task p None = []
 table_task p (Some position) = record { change = PutTable p; facts = []; sends = [] } ∷ []
 
 abbrev pub rest_of : Plan → List Fact → List Send → List ClientTask
-rest_of p some sends = row_task p p.row ++ (table_task p p.position ++ record { change = Finish; facts = some; sends = sends } ∷ [])
+rest_of p some sends =
+    row_task p p.row ++ (table_task p p.position ++ record { change = Finish; facts = some; sends = sends } ∷ [])
 
 abbrev pub begun : ClientDisk → Answer → Plan → List Send → ClientStep
-begun d answer p sends = quiet d (Some (record { change = Commit p; facts = told p; sends = [] } ∷ rest_of p [] sends)) answer
+begun d answer p sends =
+    quiet d (Some (record { change = Commit p; facts = told p; sends = [] } ∷ rest_of p [] sends)) answer
 
 -- a plan that changes the slots of a row, and no number
 abbrev pub slots_plan : ClientDisk → ℕ → List ℕ → Slots → List ClientFact → Plan
 slots_plan d table row slots some =
-    record { last = d.last; table = table; row = Some (record { row = row; slots = slots }); position = None; facts = some }
+    record {
+      last = d.last;
+      table = table;
+      row = Some (record { row = row; slots = slots });
+      position = None;
+      facts = some;
+    }
 
 -- ---- a start
 
 abbrev pub resumed : ℕ → ClientDisk → Option Plan → ClientStep
-resumed c d None = quiet d (Some (record { change = Keep; facts = facts.ClientRecovered c ∷ []; sends = [] } ∷ [])) facts.Done
+resumed c d None =
+    quiet d (Some (record { change = Keep; facts = facts.ClientRecovered c ∷ []; sends = [] } ∷ [])) facts.Done
 resumed c d (Some p) = record {
   client = record { disk = d; agenda = Some (rest_of p (facts.ClientRecovered c ∷ []) []) };
   answer = facts.Done;
@@ -286,7 +299,8 @@ wrote c table row main = facts.Wrote (record {
 abbrev pub write_plan : ℕ → ClientDisk → ℕ → List ℕ → Slots → Content → Plan
 write_plan c d table row slots content =
     let main : Main = main_of (d.last + 1) (version_in slots.shadow) content in
-    record (slots_plan d table row (record slots { main = Some main }) (wrote c table row main ∷ [])) { last = main.number }
+    record (slots_plan d table row (record slots { main = Some main }) (wrote c table row main ∷ []))
+    { last = main.number }
 
 abbrev pub out_of : Main → ℕ → InFlight
 out_of main base = record { number = main.number; read = main.read; base = base; content = main.content }
@@ -295,7 +309,8 @@ out_of main base = record { number = main.number; read = main.read; base = base;
 abbrev pub strong_plan : ℕ → ClientDisk → ℕ → List ℕ → Slots → Content → Plan
 strong_plan c d table row slots content =
     let main : Main = main_of (d.last + 1) (version_in slots.shadow) content in
-    record (slots_plan d table row (record slots { out = Some (out_of main main.read) }) (wrote c table row main ∷ [])) { last = main.number }
+    record (slots_plan d table row (record slots { out = Some (out_of main main.read) }) (wrote c table row main ∷ []))
+    { last = main.number }
 
 -- the first row of a table whose write waits for its answer
 abbrev pub first_out : List (List ℕ × Slots) → Option InFlight
@@ -315,8 +330,10 @@ write_strong c d table row slots content None =
 
 abbrev pub write_by : Scheme → ℕ → ClientDisk → ℕ → List ℕ → TableDisk → Slots → Content → ClientStep
 write_by Strong c d table row opened slots content = write_strong c d table row slots content (first_out opened.rows)
-write_by Causal c d table row opened slots content = begun d (facts.Number (d.last + 1)) (write_plan c d table row slots content) []
-write_by Eventual c d table row opened slots content = begun d (facts.Number (d.last + 1)) (write_plan c d table row slots content) []
+write_by Causal c d table row opened slots content =
+    begun d (facts.Number (d.last + 1)) (write_plan c d table row slots content) []
+write_by Eventual c d table row opened slots content =
+    begun d (facts.Number (d.last + 1)) (write_plan c d table row slots content) []
 
 -- a row in conflict isn't written
 abbrev pub write_free : Scheme → ℕ → ClientDisk → ℕ → List ℕ → TableDisk → Slots → Content → Option Shadow → ClientStep
@@ -329,9 +346,11 @@ write_idle g c d (task ∷ more) table row opened content = quiet d (Some (task 
 write_idle g c d [] table row opened content =
     let slots : Slots = slots_at opened row in write_free g c d table row opened slots content slots.conflict
 
-abbrev pub write_fitting : Scheme → ℕ → ClientDisk → List ClientTask → ℕ → List ℕ → TableDisk → Content → Result (Unit {0}) FitFault → ClientStep
+abbrev pub write_fitting : Scheme → ℕ → ClientDisk → List ClientTask → ℕ → List ℕ → TableDisk → Content
+    → Result (Unit {0}) FitFault → ClientStep
 write_fitting g c d agenda table row opened content (Ok fits) = write_idle g c d agenda table row opened content
-write_fitting g c d agenda table row opened content (Err fault) = quiet d (Some agenda) (facts.Refuses (facts.Unfit fault))
+write_fitting g c d agenda table row opened content (Err fault) =
+    quiet d (Some agenda) (facts.Refuses (facts.Unfit fault))
 
 abbrev pub write_to : ℕ → ClientDisk → List ClientTask → ℕ → List ℕ → Content → Option TableDisk → ClientStep
 write_to c d agenda table row content None = quiet d (Some agenda) (facts.Refuses facts.NoTable)
@@ -357,7 +376,8 @@ show_answer (Some what) = facts.Shows what
 
 abbrev pub show_in : List ℕ → Option TableDisk → Answer
 show_in row None = facts.Refuses facts.NoTable
-show_in row (Some table) = let slots : Slots = slots_at table row in show_answer (shown_in slots.main slots.conflict slots.shadow)
+show_in row (Some table) = let slots : Slots = slots_at table row in
+    show_answer (shown_in slots.main slots.conflict slots.shadow)
 
 abbrev pub show_step : ClientDisk → Option (List ClientTask) → ℕ → List ℕ → ClientStep
 show_step d None table row = down d
@@ -368,7 +388,8 @@ show_step d (Some agenda) table row = quiet d (Some agenda) (show_in row (table_
 -- the requests that wait for their answers are sent again, by rising row
 abbrev pub resent : ℕ → ℕ → List (List ℕ × Slots) → List Send
 resent c table [] = []
-resent c table (entry ∷ rows) = option_to_list (option_map (request_for c table entry.0) entry.1.out) ++ resent c table rows
+resent c table (entry ∷ rows) =
+    option_to_list (option_map (request_for c table entry.0) entry.1.out) ++ resent c table rows
 
 -- what a row sends next: its Main, where nothing of it waits for an answer and nothing is in conflict
 abbrev pub to_send : Slots → Option InFlight → Option Main → Option Shadow → Option InFlight
@@ -389,7 +410,8 @@ or_later row slots (Some out) later = Some (record { row = row; slots = slots; o
 -- the first row that has something to send
 abbrev pub first_to_send : List (List ℕ × Slots) → Option RowOut
 first_to_send [] = None
-first_to_send (entry ∷ rows) = or_later entry.0 entry.1 (to_send entry.1 entry.1.out entry.1.main entry.1.conflict) (first_to_send rows)
+first_to_send (entry ∷ rows) =
+    or_later entry.0 entry.1 (to_send entry.1 entry.1.out entry.1.main entry.1.conflict) (first_to_send rows)
 
 abbrev pub send_plan : ClientDisk → ℕ → RowOut → Plan
 send_plan d table x = slots_plan d table x.row (record x.slots { out = Some x.out }) []
@@ -397,7 +419,8 @@ send_plan d table x = slots_plan d table x.row (record x.slots { out = Some x.ou
 abbrev pub sync_first : ℕ → ClientDisk → ℕ → List Send → Option RowOut → ClientStep
 sync_first c d table again None = record (quiet d (Some []) (facts.Number (length again))) { sends = again }
 sync_first c d table again (Some x) =
-    record (begun d (facts.Number (length again + 1)) (send_plan d table x) (request_for c table x.row x.out ∷ [])) { sends = again }
+    record (begun d (facts.Number (length again + 1)) (send_plan d table x) (request_for c table x.row x.out ∷ []))
+    { sends = again }
 
 abbrev pub sync_in : ℕ → ClientDisk → List ClientTask → ℕ → Option TableDisk → ClientStep
 sync_in c d agenda table None = quiet d (Some agenda) (facts.Refuses facts.NoTable)
@@ -429,33 +452,42 @@ over_plan c d table row slots main x content =
 
 abbrev pub theirs_plan : ℕ → ClientDisk → ℕ → List ℕ → Slots → Main → Shadow → Plan
 theirs_plan c d table row slots main x =
-    slots_plan d table row (record slots { main = None; shadow = Some x; conflict = None }) (facts.Resolved c main.number table row x.version ∷ [])
+    slots_plan d table row (record slots { main = None; shadow = Some x; conflict = None })
+    (facts.Resolved c main.number table row x.version ∷ [])
 
-abbrev pub over_fitting : ℕ → ClientDisk → ℕ → List ℕ → Slots → Main → Shadow → Content → Result (Unit {0}) FitFault → ClientStep
-over_fitting c d table row slots main x content (Ok fits) = begun d (facts.Number (d.last + 1)) (over_plan c d table row slots main x content) []
+abbrev pub over_fitting : ℕ → ClientDisk → ℕ → List ℕ → Slots → Main → Shadow → Content → Result (Unit {0}) FitFault
+    → ClientStep
+over_fitting c d table row slots main x content (Ok fits) =
+    begun d (facts.Number (d.last + 1)) (over_plan c d table row slots main x content) []
 over_fitting c d table row slots main x content (Err fault) = refused d (facts.Unfit fault)
 
 abbrev pub choose : ℕ → ClientDisk → ℕ → List ℕ → Schema → Slots → Main → Shadow → Choice → ClientStep
-choose c d table row schema slots main x Mine = begun d (facts.Number (d.last + 1)) (over_plan c d table row slots main x main.content) []
+choose c d table row schema slots main x Mine =
+    begun d (facts.Number (d.last + 1)) (over_plan c d table row slots main x main.content) []
 choose c d table row schema slots main x Theirs = begun d (facts.Number 0) (theirs_plan c d table row slots main x) []
 choose c d table row schema slots main x (Another content) =
     over_fitting c d table row slots main x content (fit_of schema content)
 
-abbrev pub resolve_over : ℕ → ClientDisk → ℕ → List ℕ → Schema → Slots → ℕ → Choice → Option Main → Option Shadow → ClientStep
+abbrev pub resolve_over : ℕ → ClientDisk → ℕ → List ℕ → Schema → Slots → ℕ → Choice → Option Main → Option Shadow
+    → ClientStep
 resolve_over c d table row schema slots version choice (Some main) (Some x) =
-    if x.version == version then choose c d table row schema slots main x choice else refused d (facts.Moved version x.version)
+    if x.version == version then choose c d table row schema slots main x choice
+    else refused d (facts.Moved version x.version)
 resolve_over c d table row schema slots version choice None conflict = refused d facts.NoConflict
 resolve_over c d table row schema slots version choice (Some main) None = refused d facts.NoConflict
 
 abbrev pub resolve_in : ℕ → ClientDisk → List ClientTask → ℕ → List ℕ → ℕ → Choice → Option TableDisk → ClientStep
 resolve_in c d agenda table row version choice None = quiet d (Some agenda) (facts.Refuses facts.NoTable)
-resolve_in c d (task ∷ more) table row version choice (Some opened) = quiet d (Some (task ∷ more)) (facts.Refuses facts.Busy)
+resolve_in c d (task ∷ more) table row version choice (Some opened) =
+    quiet d (Some (task ∷ more)) (facts.Refuses facts.Busy)
 resolve_in c d [] table row version choice (Some opened) =
-    let slots : Slots = slots_at opened row in resolve_over c d table row opened.schema slots version choice slots.main slots.conflict
+    let slots : Slots = slots_at opened row in
+    resolve_over c d table row opened.schema slots version choice slots.main slots.conflict
 
 abbrev pub resolve_step : ℕ → ClientDisk → Option (List ClientTask) → ℕ → List ℕ → ℕ → Choice → ClientStep
 resolve_step c d None table row version choice = down d
-resolve_step c d (Some agenda) table row version choice = resolve_in c d agenda table row version choice (table_at (seen d) table)
+resolve_step c d (Some agenda) table row version choice =
+    resolve_in c d agenda table row version choice (table_at (seen d) table)
 
 -- ---- the answer to a request
 
@@ -470,20 +502,25 @@ freed slots number = record slots { main = without number slots.main; out = None
 
 abbrev pub ack_plan : ℕ → ClientDisk → ℕ → List ℕ → Slots → InFlight → ℕ → Plan
 ack_plan c d table row slots out version =
-    slots_plan d table row (record (freed slots out.number) { shadow = Some (record { version = version; content = out.content }) })
+    slots_plan d table row (record (freed slots out.number)
+    { shadow = Some (record { version = version; content = out.content }) })
     (facts.Acked c out.number table row version ∷ [])
 
 -- what waited is refused for good
 abbrev pub lost_plan : ℕ → ClientDisk → ℕ → List ℕ → Slots → InFlight → ℕ → Plan
-lost_plan c d table row slots out latest = slots_plan d table row (record slots { out = None }) (facts.Refused c out.number table row latest ∷ [])
+lost_plan c d table row slots out latest =
+    slots_plan d table row (record slots { out = None }) (facts.Refused c out.number table row latest ∷ [])
 
 abbrev pub outcome_taken : ℕ → ClientDisk → ℕ → List ℕ → TableDisk → Slots → InFlight → Outcome → ClientStep
-outcome_taken c d table row opened slots out (messages.Accepted version) = begun d facts.Done (ack_plan c d table row slots out version) []
-outcome_taken c d table row opened slots out (messages.Again version) = begun d facts.Done (ack_plan c d table row slots out version) []
+outcome_taken c d table row opened slots out (messages.Accepted version) =
+    begun d facts.Done (ack_plan c d table row slots out version) []
+outcome_taken c d table row opened slots out (messages.Again version) =
+    begun d facts.Done (ack_plan c d table row slots out version) []
 outcome_taken c d table row opened slots out (messages.Late last) = ignored d
 outcome_taken c d table row opened slots out (messages.Stale latest) =
     begun d facts.Done (lost_plan c d table row slots out latest) (pull_from c table opened.position ∷ [])
-outcome_taken c d table row opened slots out (messages.Conflict latest) = record (ignored d) { sends = pull_from c table opened.position ∷ [] }
+outcome_taken c d table row opened slots out (messages.Conflict latest) =
+    record (ignored d) { sends = pull_from c table opened.position ∷ [] }
 
 abbrev pub response_taken : ℕ → ClientDisk → Response → TableDisk → Option InFlight → ClientStep
 response_taken c d response opened None = ignored d
@@ -537,7 +574,8 @@ abbrev pub row_placed : Scheme → ℕ → ℕ → Header → Slots → Option I
 row_placed g c table header slots None = placed g c table header slots [] slots.main slots.conflict
 row_placed g c table header slots (Some out) =
     if nat_le out.number header.yours.number
-    then placed g c table header (freed slots out.number) (facts.Acked c out.number table header.row header.yours.version ∷ []) (without out.number slots.main) slots.conflict
+    then placed g c table header (freed slots out.number)
+    (facts.Acked c out.number table header.row header.yours.version ∷ []) (without out.number slots.main) slots.conflict
     else placed g c table header slots [] slots.main slots.conflict
 
 -- the version of a row that a client has read: Conflict's, else Shadow's, else 0
@@ -550,25 +588,34 @@ next_pull c table pulled = if nat_lt pulled.to pulled.latest then pull_from c ta
 
 abbrev pub row_plan : ℕ → ClientDisk → ℕ → List ℕ → ℕ → Placed → Plan
 row_plan c d table row position x =
-    record (slots_plan d table row x.slots (x.facts ++ facts.Position c table position ∷ [])) { position = Some position }
+    record (slots_plan d table row x.slots (x.facts ++ facts.Position c table position ∷ []))
+    { position = Some position }
 
 abbrev pub position_plan : ℕ → ClientDisk → ℕ → ℕ → Plan
 position_plan c d table position =
-    record { last = d.last; table = table; row = None; position = Some position; facts = facts.Position c table position ∷ [] }
+    record {
+      last = d.last;
+      table = table;
+      row = None;
+      position = Some position;
+      facts = facts.Position c table position ∷ [];
+    }
 
 -- a row that isn't newer than the one read changes no slot
 abbrev pub row_taken : ℕ → ClientDisk → Pulled → TableDisk → Header → Slots → ClientStep
 row_taken c d pulled opened header slots =
     if nat_le header.version (top slots.conflict slots.shadow)
     then begun d facts.Done (position_plan c d pulled.table pulled.to) (next_pull c pulled.table pulled)
-    else begun d facts.Done (row_plan c d pulled.table header.row pulled.to (row_placed opened.schema.scheme c pulled.table header slots slots.out))
+    else begun d facts.Done (row_plan c d pulled.table header.row pulled.to
+    (row_placed opened.schema.scheme c pulled.table header slots slots.out))
     (next_pull c pulled.table pulled)
 
 -- an answer to another position than the client's is dropped, and one without a row changes nothing
 abbrev pub pulled_taken : ℕ → ClientDisk → Pulled → TableDisk → Option Header → ClientStep
 pulled_taken c d pulled opened None = ignored d
 pulled_taken c d pulled opened (Some header) =
-    if pulled.from == opened.position then row_taken c d pulled opened header (slots_at opened header.row) else ignored d
+    if pulled.from == opened.position then row_taken c d pulled opened header (slots_at opened header.row)
+    else ignored d
 
 abbrev pub pulled_in : ℕ → ClientDisk → Pulled → Option TableDisk → ClientStep
 pulled_in c d pulled None = ignored d

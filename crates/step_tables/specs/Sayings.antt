@@ -1,6 +1,7 @@
--- What the lines so far say, as one fold that every definition over lines reads. What is told again adds nothing: only a
--- number, or a version, above the last is new.
-use Rattle.std.specs.Prelude.{ℕ, ◌==◌, nat_lt, Bool, true, false, ◌||◌, max, List, [], ◌∷◌, ◌++◌, length, Option, Some, None, if◌then◌else◌}
+-- What the lines so far say, as one fold that every definition over lines reads. What is told again adds nothing: only
+-- a number, or a version, above the last is new.
+use Rattle.std.specs.Prelude.{ℕ, ◌==◌, nat_lt, Bool, true, false, ◌||◌, max, List, [], ◌∷◌, ◌++◌, length, Option, Some}
+use Rattle.std.specs.Prelude.{None, if◌then◌else◌}
 use Rattle.std.specs.List.{find}
 use Rattle.row_value.specs.declared.schema.Scheme.{Scheme}
 use Rattle.row_value.specs.declared.schema.Scheme.TheVariants.{Strong, Causal, Eventual}
@@ -124,7 +125,8 @@ own t (SaysLoss client number table row latest) = at_row t table row (row_lost n
 own t (SaysConflict client number table row version) = at_row t table row (row_met number version)
 own t (SaysResolved client number table row version) = at_row t table row (row_resolved number version)
 own t (SaysRead client table row version) = at_row t table row (row_saw version)
-own t (SaysPosition client table position) = record t { position = put t.position table (max (t.position table) position) }
+own t (SaysPosition client table position) =
+    record t { position = put t.position table (max (t.position table) position) }
 
 abbrev pub own_all : Heard → List Fact → Heard
 own_all t [] = t
@@ -154,8 +156,10 @@ hear s (SaysEntry table entry) = record s { history = put s.history table (enter
 hear s (SaysBack table version) = s
 hear s (SaysAck client number table row version) = at_client s client (SaysAck client number table row version)
 hear s (SaysLoss client number table row latest) = at_client s client (SaysLoss client number table row latest)
-hear s (SaysConflict client number table row version) = at_client s client (SaysConflict client number table row version)
-hear s (SaysResolved client number table row version) = at_client s client (SaysResolved client number table row version)
+hear s (SaysConflict client number table row version) =
+    at_client s client (SaysConflict client number table row version)
+hear s (SaysResolved client number table row version) =
+    at_client s client (SaysResolved client number table row version)
 hear s (SaysRead client table row version) = at_client s client (SaysRead client table row version)
 hear s (SaysPosition client table position) = at_client s client (SaysPosition client table position)
 
@@ -176,7 +180,8 @@ write_of number writes = find (λ (write : Write). write.number == number) write
 -- the last write, where no line names it as acknowledged, refused or resolved
 abbrev pub if_open : RowHeard → Option Write → Option Write
 if_open x None = None
-if_open x (Some write) = if (x.acked write.number || x.lost write.number) || x.resolved write.number then None else Some write
+if_open x (Some write) = if (x.acked write.number || x.lost write.number) || x.resolved write.number then None
+    else Some write
 
 abbrev pub open_of : RowHeard → Option Write
 open_of x = if_open x x.last

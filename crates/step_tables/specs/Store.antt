@@ -1,5 +1,6 @@
 -- The Store's step table, for one table: what a message makes of its history, and what is sent and told.
-use Rattle.std.specs.Prelude.{ℕ, ◌+◌, ◌==◌, Bool, ◌&&◌, nat_lt, not, List, [], ◌∷◌, ◌++◌, length, map, Option, Some, None, option_map, if◌then◌else◌}
+use Rattle.std.specs.Prelude.{ℕ, ◌+◌, ◌==◌, Bool, ◌&&◌, nat_lt, not, List, [], ◌∷◌, ◌++◌, length, map, Option, Some}
+use Rattle.std.specs.Prelude.{None, option_map, if◌then◌else◌}
 use Rattle.std.specs.List.{list_any}
 use Rattle.row_value.specs.declared.content.Content.{Content}
 use Rattle.table_model.specs.declared.entry.Entry.{Entry}
@@ -88,7 +89,8 @@ decide table stored request last =
 abbrev pub next_changed : ℕ → List Stored → Option Stored
 next_changed position [] = None
 next_changed position (s ∷ later) =
-    if nat_lt position s.entry.version && not (list_any (is_of_row s.entry.row) later) then Some s else next_changed position later
+    if nat_lt position s.entry.version && not (list_any (is_of_row s.entry.row) later) then Some s
+    else next_changed position later
 
 abbrev pub header_for : List Stored → ℕ → Stored → RowHeader
 header_for stored client s = record {
@@ -118,7 +120,8 @@ pull_answer client table position stored = answer_for client table position stor
 
 -- what a message makes of a table; one that no rule takes is dropped
 abbrev pub store_step : ℕ → List Stored → Message → StoreStep
-store_step table stored (messages.SyncRequest request) = decide table stored request (yours_of stored request.client request.row)
+store_step table stored (messages.SyncRequest request) =
+    decide table stored request (yours_of stored request.client request.row)
 store_step table stored (messages.PullRequest request) =
     unchanged stored (messages.PullResponse (pull_answer request.client request.table request.position stored) ∷ [])
 store_step table stored (messages.SyncResponse response) = unchanged stored []

@@ -1,6 +1,7 @@
--- The Store's step table, for one table: what a move makes of it, and what is told and sent. Its state is what its devices
--- stand for, and the device writes that it has begun.
-use Rattle.std.specs.Prelude.{ℕ, ◌+◌, ◌==◌, nat_lt, not, Bool, true, ◌&&◌, List, [], ◌∷◌, ◌++◌, length, Option, Some, None, option_map, if◌then◌else◌}
+-- The Store's step table, for one table: what a move makes of it, and what is told and sent. Its state is what its
+-- devices stand for, and the device writes that it has begun.
+use Rattle.std.specs.Prelude.{ℕ, ◌+◌, ◌==◌, nat_lt, not, Bool, true, ◌&&◌, List, [], ◌∷◌, ◌++◌, length, Option, Some}
+use Rattle.std.specs.Prelude.{None, option_map, if◌then◌else◌}
 use Rattle.std.specs.List.{find, list_any}
 use Rattle.row_value.specs.declared.schema.Scheme.{Scheme}
 use Rattle.row_value.specs.declared.schema.Scheme.TheVariants.{Strong, Causal, Eventual}
@@ -11,7 +12,8 @@ use Rattle.table_model.specs.Last.{last_where}
 use Rattle.step_tables.specs.Store.{Stored, current_of, next_changed, version_or}
 use Rattle.step_tables.specs.Facts.{Fact, Answer}
 use Rattle.step_tables.specs.Facts as facts
-use Rattle.step_tables.specs.Messages.{Request, Response, Pull, Pair, Header, Pulled, Outcome, Message, Send, Luck, SyncRequest, SyncResponse, PullRequest, PullResponse}
+use Rattle.step_tables.specs.Messages.{Request, Response, Pull, Pair, Header, Pulled, Outcome, Message, Send, Luck}
+use Rattle.step_tables.specs.Messages.{SyncRequest, SyncResponse, PullRequest, PullResponse}
 use Rattle.step_tables.specs.Messages as messages
 
 -- ---- state
@@ -151,7 +153,8 @@ responded from request outcome = record {
 }
 
 abbrev pub sending : StoreDisk → List Send → StoreStep
-sending d sends = record { store = record { disk = d; agenda = Some [] }; answer = facts.Done; facts = []; sends = sends }
+sending d sends =
+    record { store = record { disk = d; agenda = Some [] }; answer = facts.Done; facts = []; sends = sends }
 
 -- the item that a request makes: its version is the next
 abbrev pub item_for : List Stored → Request → Stored
@@ -199,7 +202,8 @@ yours_in items client row = pair_of (last_where (is_by client row) items)
 abbrev pub decided : Scheme → ℕ → StoreDisk → Node → Request → Pair → StoreStep
 decided g table d from request yours =
     if yours.number == request.number then sending d (responded from request (messages.Again yours.version) ∷ [])
-    else (if nat_lt request.number yours.number then sending d (responded from request (messages.Late yours.number) ∷ [])
+    else (if nat_lt request.number yours.number
+    then sending d (responded from request (messages.Late yours.number) ∷ [])
     else judged g table d from request (version_of (current_of d.items request.row)))
 
 -- ---- a pull
@@ -224,14 +228,18 @@ pulled_for items pull found = record {
 
 abbrev pub answered : StoreDisk → Node → Pull → StoreStep
 answered d from pull =
-    sending d (record { to = Some from; message = PullResponse (pulled_for d.items pull (next_changed pull.position d.items)) } ∷ [])
+    sending d (record {
+      to = Some from;
+      message = PullResponse (pulled_for d.items pull (next_changed pull.position d.items));
+    } ∷ [])
 
 -- ---- a message; a table at work doesn't take it, and one that no rule takes is dropped
 
 abbrev pub taken : Scheme → ℕ → StoreDisk → Option (List StoreTask) → Node → Message → StoreStep
 taken g table d None from message = down d
 taken g table d (Some (task ∷ more)) from message = quiet d (Some (task ∷ more)) (facts.Refuses facts.Busy)
-taken g table d (Some []) from (SyncRequest request) = decided g table d from request (yours_in d.items request.client request.row)
+taken g table d (Some []) from (SyncRequest request) =
+    decided g table d from request (yours_in d.items request.client request.row)
 taken g table d (Some []) from (PullRequest pull) = answered d from pull
 taken g table d (Some []) from (SyncResponse response) = quiet d (Some []) facts.Done
 taken g table d (Some []) from (PullResponse pulled) = quiet d (Some []) facts.Done

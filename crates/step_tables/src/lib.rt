@@ -1,5 +1,5 @@
-//! What each event makes of a node's state, as functions of plain values: which state it leaves, which messages it sends
-//! and which facts it tells. The nodes are proved to do this, and the laws are proved of it.
+//! What each event makes of a node's state, as functions of plain values: which state it leaves, which messages it
+//! sends and which facts it tells. The nodes are proved to do this, and the laws are proved of it.
 #![tactic(auto)]
 
 mod message;

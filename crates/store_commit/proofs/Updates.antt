@@ -104,7 +104,8 @@ module _ (meaning : ChunkName → List ℕ) (d : Devs) (entry : Entry) (fresh : 
         absurd (omega (arith, new.version));
   }
 
-  put_next : (cs : List (ChunkName × List ℕ)) (k : ℕ) (bytes : List ℕ) → IsPutting cs k → k < length fresh → bytes ≡ get_or fresh k [] → IsPutting (insert_entry name_cmp cs (fresh_name v k) bytes) (k + 1)
+  put_next : (cs : List (ChunkName × List ℕ)) (k : ℕ) (bytes : List ℕ) → IsPutting cs k → k < length fresh → bytes ≡ get_or fresh k []
+      → IsPutting (insert_entry name_cmp cs (fresh_name v k) bytes) (k + 1)
   put_next cs k bytes p lt is = record {
     most = omega arith;
     old = λ q other. chunk_put_other cs (fresh_name v k) bytes q (λ same. other (sym (ap (λ (x : ChunkName). x.version) same))) ∙ p.old q other;
@@ -132,7 +133,8 @@ module _ (meaning : ChunkName → List ℕ) (d : Devs) (entry : Entry) (fresh : 
   putting_moment : (cs : List (ChunkName × List ℕ)) (k : ℕ) (more : List (List ℕ)) (rest : List Write) → IsPutting cs k → R (puts v k more ++ (PutRow stored ∷ rest)) (putting cs)
   putting_moment cs k more rest p = record { named = putting_named cs k p; rows = sym (ap (λ (b : Bool). if b then d.held else after) (to_come k more rest)) }
 
-  putting_runs : (cs : List (ChunkName × List ℕ)) (k : ℕ) (more : List (List ℕ)) (rest : List Write) → IsPutting cs k → k + length more ≡ length fresh → ((i : ℕ) → get_or more i [] ≡ get_or fresh (k + i) [])
+  putting_runs : (cs : List (ChunkName × List ℕ)) (k : ℕ) (more : List (List ℕ)) (rest : List Write) → IsPutting cs k → k + length more ≡ length fresh
+      → ((i : ℕ) → get_or more i [] ≡ get_or fresh (k + i) [])
       → ((ds : List (ChunkName × List ℕ)) → IsPutting ds (length fresh) → Runs R (putting ds) (PutRow stored ∷ rest)) → Runs R (putting cs) (puts v k more ++ (PutRow stored ∷ rest))
   putting_runs cs k [] rest p size each last = last cs (subst (IsPutting cs) (omega (arith, size)) p)
   putting_runs cs k (bytes ∷ more) rest p size each last =
@@ -296,7 +298,8 @@ module _ (meaning : ChunkName → List ℕ) (d : Devs) (entry : Entry) (fresh : 
       left_old : (name : ChunkName) → IsNamed d.held name → IsNamed after name ⊎ Among name entry.old
       left_old name a = pick (cases_id stored.row a.row) (cases_among name (names_of stored.content))
         where
-          pick : (stored.row ≡ a.row) ⊎ (is_at (id_cmp stored.row) a.row ≡ false) → Among name (names_of stored.content) ⊎ (Among name (names_of stored.content) → ⊥) → IsNamed after name ⊎ Among name entry.old
+          pick : (stored.row ≡ a.row) ⊎ (is_at (id_cmp stored.row) a.row ≡ false) → Among name (names_of stored.content) ⊎ (Among name (names_of stored.content) → ⊥)
+              → IsNamed after name ⊎ Among name entry.old
           pick (inl same) (inl among) = inl (in_new name among)
           pick (inl same) (inr gone) = inr (r.all_old name a.stored (subst (λ (q : List ℕ). row_of d.held q ≡ Some a.stored) (sym same ∙ r.row) a.there) a.among gone)
           pick (inr other) some = inl (record { row = a.row; stored = a.stored; there = row_put_other d.held stored a.row other ∙ a.there; among = a.among })

@@ -43,7 +43,8 @@ use Rattle.store_commit.specs.Fault.{disk_or}
 use Rattle.store_commit.specs.declared.fault.CommitFault.{CommitFault}
 use Rattle.store_commit.specs.declared.fault.CommitFault.TheVariants.{Disk, Down}
 use Rattle.store_commit.specs.Devs.{Devs, Write, OpenChunks, OpenRows, OpenLog, OpenEntry, PutChunk, PutRow, DropChunk, CloseEntry, PutTable, PutSub, changed_by, IsBeforeOrAfter}
-use Rattle.store_commit.specs.Standing.{devs, AreUp, IsOneDown, chunk_opens, chunk_puts, chunk_bytes, row_opens, row_puts, row_bytes, log_opens, log_puts, log_bytes, chunk_opened, row_opened, log_opened, MayDoAll, IsReady, DevsLeave, Works, AreSound, AreSynced, AreBlank, nothing}
+use Rattle.store_commit.specs.Standing.{devs, AreUp, IsOneDown, chunk_opens, chunk_puts, chunk_bytes, row_opens, row_puts, row_bytes, log_opens, log_puts, log_bytes, chunk_opened, row_opened}
+use Rattle.store_commit.specs.Standing.{log_opened, MayDoAll, IsReady, DevsLeave, Works, AreSound, AreSynced, AreBlank, nothing}
 
 -- a device that is up and takes no memory fails by its disk alone
 must_be_disk : {D X T E : Type 0} (state : D → DiskState) (fault : VaultFault → E) (old new : Vault D) (before after : X) (x : E) → Refuses {T = T} state fault old new before after (Err x) → RefusesOnly {T = T} fault (Err x) → (IsErrOf {T = T} (Err x) (fault causes.Memory) → ⊥) → IsUp old
@@ -99,7 +100,9 @@ all_log opened (PutSub client terms ∷ ws) h = all_log opened ws h
 
 module _ {D : Type 0} (state : D → DiskState) (images : D → ℕ → List ℕ → Type 0) (only_now : (disk : D) (image : List ℕ) → images disk (state disk).moment image → IsImage (state disk).pending image) where
   leave : (old new : TableDevs D) (P : List (ChunkName × List ℕ) → Type 0) (Q : TableData → Type 0) (S : Option Entry → Type 0) (R : Devs → Type 0)
-      → vaults.Leaves state images (chunks.vault_of old.chunks) (chunks.vault_of new.chunks) (λ l. P (chunks_of l)) → vaults.Leaves state images (rows.vault_of old.rows) (rows.vault_of new.rows) (λ l. Q (data_of l)) → vaults.Leaves state images (logs.vault_of old.log) (logs.vault_of new.log) (λ l. S (pending_of l))
+      → vaults.Leaves state images (chunks.vault_of old.chunks) (chunks.vault_of new.chunks) (λ l. P (chunks_of l))
+      → vaults.Leaves state images (rows.vault_of old.rows) (rows.vault_of new.rows) (λ l. Q (data_of l))
+      → vaults.Leaves state images (logs.vault_of old.log) (logs.vault_of new.log) (λ l. S (pending_of l))
       → ((c : List (ChunkName × List ℕ)) (h : TableData) (p : Option Entry) → P c → Q h → S p → R (record { chunks = c; held = h; pending = p })) → DevsLeave state images old new R
   leave old new P Q S R a b c to = record {
     each = λ x y z ix iy iz.
@@ -109,13 +112,16 @@ module _ {D : Type 0} (state : D → DiskState) (images : D → ℕ → List ℕ
         (x'.0, y'.0, z'.0, x'.1, y'.1, z'.1, to (chunks_of x'.0) (data_of y'.0) (pending_of z'.0) x'.2 y'.2 z'.2);
   }
 
-  still_chunk : (dev : ChunkDev D) → vaults.IsLookedAt state (chunks.vault_of dev) → IsSound state (chunks.vault_of dev) → vaults.Leaves state images (chunks.vault_of dev) (chunks.vault_of dev) (λ l. chunks_of l ≡ chunks.chunks state dev)
+  still_chunk : (dev : ChunkDev D) → vaults.IsLookedAt state (chunks.vault_of dev) → IsSound state (chunks.vault_of dev)
+      → vaults.Leaves state images (chunks.vault_of dev) (chunks.vault_of dev) (λ l. chunks_of l ≡ chunks.chunks state dev)
   still_chunk dev looked sound = runs_weaker state images (chunks.vault_of dev) (chunks.vault_of dev) (λ l. l ≡ payloads state (chunks.vault_of dev)) (λ l. chunks_of l ≡ chunks.chunks state dev) (looked_leaves state images only_now (chunks.vault_of dev) looked sound) (λ l is. ap chunks_of is)
 
-  still_row : (dev : RowDev D) → vaults.IsLookedAt state (rows.vault_of dev) → IsSound state (rows.vault_of dev) → vaults.Leaves state images (rows.vault_of dev) (rows.vault_of dev) (λ l. data_of l ≡ rows.held state dev)
+  still_row : (dev : RowDev D) → vaults.IsLookedAt state (rows.vault_of dev) → IsSound state (rows.vault_of dev)
+      → vaults.Leaves state images (rows.vault_of dev) (rows.vault_of dev) (λ l. data_of l ≡ rows.held state dev)
   still_row dev looked sound = runs_weaker state images (rows.vault_of dev) (rows.vault_of dev) (λ l. l ≡ payloads state (rows.vault_of dev)) (λ l. data_of l ≡ rows.held state dev) (looked_leaves state images only_now (rows.vault_of dev) looked sound) (λ l is. ap data_of is)
 
-  still_log : (dev : StatusLog D) → vaults.IsLookedAt state (logs.vault_of dev) → IsSound state (logs.vault_of dev) → vaults.Leaves state images (logs.vault_of dev) (logs.vault_of dev) (λ l. pending_of l ≡ logs.entry_open state dev)
+  still_log : (dev : StatusLog D) → vaults.IsLookedAt state (logs.vault_of dev) → IsSound state (logs.vault_of dev)
+      → vaults.Leaves state images (logs.vault_of dev) (logs.vault_of dev) (λ l. pending_of l ≡ logs.entry_open state dev)
   still_log dev looked sound = runs_weaker state images (logs.vault_of dev) (logs.vault_of dev) (λ l. l ≡ payloads state (logs.vault_of dev)) (λ l. pending_of l ≡ logs.entry_open state dev) (looked_leaves state images only_now (logs.vault_of dev) looked sound) (λ l is. ap pending_of is)
 
   module _ (old : TableDevs D) (dev : ChunkDev D) (ws : List Write) (up : AreUp old) (ready : IsReady state old (OpenChunks ∷ ws)) where
@@ -599,20 +605,25 @@ module _ {D : Type 0} (state : D → DiskState) (images : D → ℕ → List ℕ
 
 module _ {D : Type 0} (state : D → DiskState) (images : D → ℕ → List ℕ → Type 0) (only_now : (disk : D) (image : List ℕ) → images disk (state disk).moment image → IsImage (state disk).pending image) where
   -- while nothing is done, a crash of what is synced and sound leaves it
-  synced_leaves : (vault : Vault D) → (state (disk_of vault)).pending ≡ settled (state (disk_of vault)).seen → IsSound state vault → vaults.Leaves state images vault vault (λ list. list ≡ payloads state vault)
+  synced_leaves : (vault : Vault D) → (state (disk_of vault)).pending ≡ settled (state (disk_of vault)).seen → IsSound state vault
+      → vaults.Leaves state images vault vault (λ list. list ≡ payloads state vault)
   synced_leaves vault synced sound =
       let file = (state (disk_of vault)).seen in
       let P : List ℕ → Type 0 = StandsForOne (λ list. list ≡ payloads state vault) in
       let here : P file = (payloads state vault, sound, refl) in
       started state images (disk_of vault) P (λ image left. subst P (sym (settled_only file image (subst (λ q. IsImage q image) synced (only_now (disk_of vault) image left)))) here)
 
-  synced_rows : (dev : RowDev D) → IsUp (rows.vault_of dev) → IsSynced state (rows.vault_of dev) → IsSound state (rows.vault_of dev) → vaults.Leaves state images (rows.vault_of dev) (rows.vault_of dev) (λ l. data_of l ≡ rows.held state dev)
+  synced_rows : (dev : RowDev D) → IsUp (rows.vault_of dev) → IsSynced state (rows.vault_of dev) → IsSound state (rows.vault_of dev)
+      → vaults.Leaves state images (rows.vault_of dev) (rows.vault_of dev) (λ l. data_of l ≡ rows.held state dev)
   synced_rows dev up synced sound = runs_weaker state images (rows.vault_of dev) (rows.vault_of dev) (λ l. l ≡ payloads state (rows.vault_of dev)) (λ l. data_of l ≡ rows.held state dev) (synced_leaves (rows.vault_of dev) (synced up) sound) (λ l is. ap data_of is)
 
-  synced_log : (dev : StatusLog D) → IsUp (logs.vault_of dev) → IsSynced state (logs.vault_of dev) → IsSound state (logs.vault_of dev) → vaults.Leaves state images (logs.vault_of dev) (logs.vault_of dev) (λ l. pending_of l ≡ logs.entry_open state dev)
+  synced_log : (dev : StatusLog D) → IsUp (logs.vault_of dev) → IsSynced state (logs.vault_of dev) → IsSound state (logs.vault_of dev)
+      → vaults.Leaves state images (logs.vault_of dev) (logs.vault_of dev) (λ l. pending_of l ≡ logs.entry_open state dev)
   synced_log dev up synced sound = runs_weaker state images (logs.vault_of dev) (logs.vault_of dev) (λ l. l ≡ payloads state (logs.vault_of dev)) (λ l. pending_of l ≡ logs.entry_open state dev) (synced_leaves (logs.vault_of dev) (synced up) sound) (λ l is. ap pending_of is)
 
-  pub all_same : (old new : TableDevs D) → vaults.Leaves state images (chunks.vault_of old.chunks) (chunks.vault_of new.chunks) (λ l. chunks_of l ≡ chunks.chunks state old.chunks) → vaults.Leaves state images (rows.vault_of old.rows) (rows.vault_of new.rows) (λ l. data_of l ≡ rows.held state old.rows) → vaults.Leaves state images (logs.vault_of old.log) (logs.vault_of new.log) (λ l. pending_of l ≡ logs.entry_open state old.log)
+  pub all_same : (old new : TableDevs D) → vaults.Leaves state images (chunks.vault_of old.chunks) (chunks.vault_of new.chunks) (λ l. chunks_of l ≡ chunks.chunks state old.chunks)
+      → vaults.Leaves state images (rows.vault_of old.rows) (rows.vault_of new.rows) (λ l. data_of l ≡ rows.held state old.rows)
+      → vaults.Leaves state images (logs.vault_of old.log) (logs.vault_of new.log) (λ l. pending_of l ≡ logs.entry_open state old.log)
       → DevsLeave state images old new (λ d. d ≡ devs state old)
   all_same old new a b c = leave state images only_now old new (λ here. here ≡ chunks.chunks state old.chunks) (λ here. here ≡ rows.held state old.rows) (λ here. here ≡ logs.entry_open state old.log) (λ d. d ≡ devs state old) a b c (λ x y z px py pz. cc)
 
@@ -621,7 +632,9 @@ module _ {D : Type 0} (state : D → DiskState) (images : D → ℕ → List ℕ
   one_looked old cs up synced sound a = let new : TableDevs D = record old { chunks = cs } in all_same old new a (synced_rows old.rows up.rows synced.rows sound.rows) (synced_log old.log up.log synced.log sound.log)
 
   -- where that at the rows was tried too
-  pub two_looked : (old : TableDevs D) (cs : ChunkDev D) (rs : RowDev D) → AreUp old → AreSynced state old → AreSound state old → vaults.Leaves state images (chunks.vault_of old.chunks) (chunks.vault_of cs) (λ l. chunks_of l ≡ chunks.chunks state old.chunks) → vaults.Leaves state images (rows.vault_of old.rows) (rows.vault_of rs) (λ l. data_of l ≡ rows.held state old.rows)
+  pub two_looked : (old : TableDevs D) (cs : ChunkDev D) (rs : RowDev D) → AreUp old → AreSynced state old → AreSound state old
+      → vaults.Leaves state images (chunks.vault_of old.chunks) (chunks.vault_of cs) (λ l. chunks_of l ≡ chunks.chunks state old.chunks)
+      → vaults.Leaves state images (rows.vault_of old.rows) (rows.vault_of rs) (λ l. data_of l ≡ rows.held state old.rows)
       → DevsLeave state images old (record old { chunks = cs; rows = rs }) (λ d. d ≡ devs state old)
   two_looked old cs rs up synced sound a b = let new : TableDevs D = record old { chunks = cs; rows = rs } in all_same old new a b (synced_log old.log up.log synced.log sound.log)
 
@@ -654,7 +667,9 @@ module _ {D : Type 0} (state : D → DiskState) (images : D → ℕ → List ℕ
   unfolding pending_of
   no_entry = refl
 
-  pub all_blank : (old new : TableDevs D) → vaults.Leaves state images (chunks.vault_of old.chunks) (chunks.vault_of new.chunks) (λ l. chunks_of l ≡ chunks_of []) → vaults.Leaves state images (rows.vault_of old.rows) (rows.vault_of new.rows) (λ l. data_of l ≡ data_of []) → vaults.Leaves state images (logs.vault_of old.log) (logs.vault_of new.log) (λ l. pending_of l ≡ pending_of [])
+  pub all_blank : (old new : TableDevs D) → vaults.Leaves state images (chunks.vault_of old.chunks) (chunks.vault_of new.chunks) (λ l. chunks_of l ≡ chunks_of [])
+      → vaults.Leaves state images (rows.vault_of old.rows) (rows.vault_of new.rows) (λ l. data_of l ≡ data_of [])
+      → vaults.Leaves state images (logs.vault_of old.log) (logs.vault_of new.log) (λ l. pending_of l ≡ pending_of [])
       → DevsLeave state images old new (λ d. d ≡ nothing)
   all_blank old new a b c =
       leave state images only_now old new (λ here. here ≡ chunks_of []) (λ here. here ≡ data_of []) (λ here. here ≡ pending_of []) (λ d. d ≡ nothing) a b c
@@ -666,10 +681,13 @@ module _ {D : Type 0} (state : D → DiskState) (images : D → ℕ → List ℕ
   blank_log : (dev : StatusLog D) → IsBlank state (logs.vault_of dev) → vaults.Leaves state images (logs.vault_of dev) (logs.vault_of dev) (λ l. pending_of l ≡ pending_of [])
   blank_log dev blank = runs_weaker state images (logs.vault_of dev) (logs.vault_of dev) (λ l. l ≡ []) (λ l. pending_of l ≡ pending_of []) (blank_leaves (logs.vault_of dev) blank) (λ l is. ap pending_of is)
 
-  pub one_blank : (old new : TableDevs D) → new.rows ≡ old.rows → new.log ≡ old.log → AreBlank state old → vaults.Leaves state images (chunks.vault_of old.chunks) (chunks.vault_of new.chunks) (λ l. chunks_of l ≡ chunks_of []) → DevsLeave state images old new (λ d. d ≡ nothing)
+  pub one_blank : (old new : TableDevs D) → new.rows ≡ old.rows → new.log ≡ old.log → AreBlank state old
+      → vaults.Leaves state images (chunks.vault_of old.chunks) (chunks.vault_of new.chunks) (λ l. chunks_of l ≡ chunks_of []) → DevsLeave state images old new (λ d. d ≡ nothing)
   one_blank old new rs ls blank a = all_blank old new a (rw rs (blank_rows old.rows blank.rows)) (rw ls (blank_log old.log blank.log))
 
-  pub two_blank : (old new : TableDevs D) → new.log ≡ old.log → AreBlank state old → vaults.Leaves state images (chunks.vault_of old.chunks) (chunks.vault_of new.chunks) (λ l. chunks_of l ≡ chunks_of []) → vaults.Leaves state images (rows.vault_of old.rows) (rows.vault_of new.rows) (λ l. data_of l ≡ data_of [])
+  pub two_blank : (old new : TableDevs D) → new.log ≡ old.log → AreBlank state old
+      → vaults.Leaves state images (chunks.vault_of old.chunks) (chunks.vault_of new.chunks) (λ l. chunks_of l ≡ chunks_of [])
+      → vaults.Leaves state images (rows.vault_of old.rows) (rows.vault_of new.rows) (λ l. data_of l ≡ data_of [])
       → DevsLeave state images old new (λ d. d ≡ nothing)
   two_blank old new ls blank a b = all_blank old new a b (rw ls (blank_log old.log blank.log))
 
@@ -677,7 +695,8 @@ module _ {D : Type 0} (state : D → DiskState) (images : D → ℕ → List ℕ
   all_empty c h p px py pz = let a : c ≡ [] = px ∙ no_chunks in let b : h ≡ nothing_held = py ∙ no_rows in let e : p ≡ None = pz ∙ no_entry in cc
 
   -- opened devices with room for an opening each are at rest
-  pub at_rest : (table : TableDevs D) → chunks.IsOpened state table.chunks → rows.IsOpened state table.rows → logs.IsOpened state table.log → chunks.HasRoom state table.chunks 1 0 0 → rows.HasRoom state table.rows 1 0 0 → logs.HasRoom state table.log 1 0 0 → IsReady state table []
+  pub at_rest : (table : TableDevs D) → chunks.IsOpened state table.chunks → rows.IsOpened state table.rows → logs.IsOpened state table.log → chunks.HasRoom state table.chunks 1 0 0
+      → rows.HasRoom state table.rows 1 0 0 → logs.HasRoom state table.log 1 0 0 → IsReady state table []
   at_rest table a b c x y z = record {
     may = tt;
     chunk_looked = record { vault = a.vault.looked; memory = a.memory };
@@ -695,7 +714,8 @@ module _ {D : Type 0} (state : D → DiskState) (images : D → ℕ → List ℕ
   }
 
   -- room for one put of a row's device
-  pub ready_sub : (old new : TableDevs D) (client : ℕ) (terms : Option Terms) → IsClient client → new.chunks ≡ old.chunks → new.log ≡ old.log → rows.Stays state old.rows new.rows → rows.HasRoom state new.rows 1 1 18 → IsReady state old [] → IsReady state new (PutSub client terms ∷ [])
+  pub ready_sub : (old new : TableDevs D) (client : ℕ) (terms : Option Terms) → IsClient client → new.chunks ≡ old.chunks → new.log ≡ old.log → rows.Stays state old.rows new.rows
+      → rows.HasRoom state new.rows 1 1 18 → IsReady state old [] → IsReady state new (PutSub client terms ∷ [])
   ready_sub old new client terms is cs ls stays room r = record {
     may = (is, tt);
     chunk_looked = rw cs r.chunk_looked;

@@ -1,5 +1,6 @@
 -- The writes of an update and of a recovery, in their order.
-use Rattle.std.specs.Prelude.{◌≡◌, ◌⊎◌, ℕ, ◌+◌, ◌<◌, ◌==◌, Bool, true, false, if◌then◌else◌, List, [], ◌∷◌, ◌++◌, length, map, Some, slice_index_or}
+use Rattle.std.specs.Prelude.{◌≡◌, ◌⊎◌, ℕ, ◌+◌, ◌<◌, ◌==◌, Bool, true, false, if◌then◌else◌, List, [], ◌∷◌, ◌++◌}
+use Rattle.std.specs.Prelude.{length, map, Some, slice_index_or}
 use Rattle.stab_base.specs.declared.chunk_name.ChunkName.{ChunkName}
 use Rattle.row_value.specs.declared.pieces.Piece.{Piece}
 use Rattle.row_value.specs.declared.pieces.Piece.TheVariants.{Keep, Fresh}
@@ -10,7 +11,8 @@ use Rattle.chunk_store.specs.Standing.{chunk_in}
 use Rattle.row_store.specs.declared.stored.StoredRow.{StoredRow}
 use Rattle.row_store.specs.Data.{TableData, with_row, row_of}
 use Rattle.status_log.specs.Entry.{Entry}
-use Rattle.store_commit.specs.Devs.{Devs, Write, OpenChunks, OpenRows, OpenLog, OpenEntry, PutChunk, PutRow, DropChunk, CloseEntry, changed_by}
+use Rattle.store_commit.specs.Devs.{Devs, Write, OpenChunks, OpenRows, OpenLog, OpenEntry, PutChunk, PutRow, DropChunk}
+use Rattle.store_commit.specs.Devs.{CloseEntry, changed_by}
 use Rattle.store_commit.specs.NamedChunks.{Among, AreDifferent, names_of, IsNewOf, IsLeft, NamedChunks}
 
 -- ---- an update
@@ -40,9 +42,11 @@ abbrev pub drops : List ChunkName → List Write
 drops [] = []
 drops (name ∷ names) = DropChunk name ∷ drops names
 
--- opens the entry, puts each new chunk, puts the row, drops each old chunk that the new row doesn't name, closes the entry
+-- opens the entry, puts each new chunk, puts the row, drops each old chunk that the new row doesn't name, closes the
+-- entry
 abbrev pub update_writes : Entry → List (List ℕ) → StoredRow → List Write
-update_writes entry fresh stored = OpenEntry entry ∷ (puts entry.version 0 fresh ++ (PutRow stored ∷ (drops entry.old ++ CloseEntry ∷ [])))
+update_writes entry fresh stored =
+    OpenEntry entry ∷ (puts entry.version 0 fresh ++ (PutRow stored ∷ (drops entry.old ++ CloseEntry ∷ [])))
 
 -- This row, with these new chunks, may take the place of the one that stands, as the entry tells.
 pub record Replaces (d : Devs) (entry : Entry) (fresh : List (List ℕ)) (stored : StoredRow) : Type 0 where
@@ -55,17 +59,21 @@ pub record Replaces (d : Devs) (entry : Entry) (fresh : List (List ℕ)) (stored
   -- its names are different, each one of the row that stands or of a new chunk, and each new chunk's is among them
   pub different : AreDifferent (names_of stored.content)
   pub kept_or_new : (name : ChunkName) → Among name (names_of stored.content)
-      → ((old : StoredRow) × (row_of d.held entry.row ≡ Some old) × Among name (names_of old.content)) ⊎ IsNewOf entry name
+      → ((old : StoredRow) × (row_of d.held entry.row ≡ Some old) × Among name (names_of old.content))
+      ⊎ IsNewOf entry name
   pub all_new : (name : ChunkName) → IsNewOf entry name → Among name (names_of stored.content)
   -- the old chunks are those of the row that stands which this one doesn't name
   pub old_of : (name : ChunkName) → Among name entry.old
-      → ((old : StoredRow) × (row_of d.held entry.row ≡ Some old) × Among name (names_of old.content)) × (Among name (names_of stored.content) → ⊥)
-  pub all_old : (name : ChunkName) (old : StoredRow) → row_of d.held entry.row ≡ Some old → Among name (names_of old.content)
+      → ((old : StoredRow) × (row_of d.held entry.row ≡ Some old) × Among name (names_of old.content))
+      × (Among name (names_of stored.content) → ⊥)
+  pub all_old : (name : ChunkName) (old : StoredRow) → row_of d.held entry.row ≡ Some old
+      → Among name (names_of old.content)
       → (Among name (names_of stored.content) → ⊥) → Among name entry.old
 
 -- what names stand for once the new chunks have theirs
 abbrev pub meaning_with : (ChunkName → List ℕ) → ℕ → List (List ℕ) → ChunkName → List ℕ
-meaning_with meaning version fresh name = if name.version == version then slice_index_or fresh name.ordinal [] else meaning name
+meaning_with meaning version fresh name =
+    if name.version == version then slice_index_or fresh name.ordinal [] else meaning name
 
 -- ---- what holds at every moment
 
@@ -75,9 +83,10 @@ row_is_to_come [] = false
 row_is_to_come (PutRow stored ∷ ws) = true
 row_is_to_come (_ ∷ ws) = row_is_to_come ws
 
--- While these writes are still to come: named chunks, and the rows from before the update until its row was put, and those
--- with it whole from then on.
-pub record IsMoment (meaning : ChunkName → List ℕ) (before : TableData) (stored : StoredRow) (ws : List Write) (d : Devs) : Type 0 where
+-- While these writes are still to come: named chunks, and the rows from before the update until its row was put, and
+-- those with it whole from then on.
+pub record IsMoment (meaning : ChunkName → List ℕ) (before : TableData) (stored : StoredRow) (ws : List Write)
+    (d : Devs) : Type 0 where
   pub named : NamedChunks meaning d
   pub rows : d.held ≡ (if row_is_to_come ws then before else with_row before stored)
 
@@ -95,9 +104,12 @@ pub record IsRecovering (meaning : ChunkName → List ℕ) (before : TableData) 
 
 -- opens the three vaults, drops what is left of an open entry, and closes it
 abbrev pub recovery_writes : List ChunkName → Bool → List Write
-recovery_writes names is_open = OpenChunks ∷ OpenRows ∷ OpenLog ∷ (drops names ++ (if is_open then CloseEntry ∷ [] else []))
+recovery_writes names is_open =
+    OpenChunks ∷ OpenRows ∷ OpenLog ∷ (drops names ++ (if is_open then CloseEntry ∷ [] else []))
 
 -- These names are what is left of the open entry and still there.
 pub record AreLeftovers (d : Devs) (names : List ChunkName) : Type 0 where
-  pub left : (name : ChunkName) → Among name names → (entry : Entry) × (d.pending ≡ Some entry) × IsLeft d.held entry name
-  pub all : (name : ChunkName) (bytes : List ℕ) (entry : Entry) → d.pending ≡ Some entry → IsLeft d.held entry name → chunk_in d.chunks name ≡ Some bytes → Among name names
+  pub left : (name : ChunkName) → Among name names → (entry : Entry) × (d.pending ≡ Some entry)
+      × IsLeft d.held entry name
+  pub all : (name : ChunkName) (bytes : List ℕ) (entry : Entry) → d.pending ≡ Some entry → IsLeft d.held entry name
+      → chunk_in d.chunks name ≡ Some bytes → Among name names

@@ -34,12 +34,15 @@ changed_by d OpenChunks = d
 changed_by d OpenRows = d
 changed_by d OpenLog = d
 changed_by d (OpenEntry entry) = record { chunks = d.chunks; held = d.held; pending = Some entry }
-changed_by d (PutChunk name bytes) = record { chunks = insert_entry name_cmp d.chunks name bytes; held = d.held; pending = d.pending }
+changed_by d (PutChunk name bytes) =
+    record { chunks = insert_entry name_cmp d.chunks name bytes; held = d.held; pending = d.pending }
 changed_by d (PutRow stored) = record { chunks = d.chunks; held = with_row d.held stored; pending = d.pending }
 changed_by d (DropChunk name) = record { chunks = without name_cmp d.chunks name; held = d.held; pending = d.pending }
 changed_by d CloseEntry = record { chunks = d.chunks; held = d.held; pending = None }
-changed_by d (PutTable schema state) = record { chunks = d.chunks; held = with_table d.held schema state; pending = d.pending }
-changed_by d (PutSub client terms) = record { chunks = d.chunks; held = with_sub d.held client terms; pending = d.pending }
+changed_by d (PutTable schema state) =
+    record { chunks = d.chunks; held = with_table d.held schema state; pending = d.pending }
+changed_by d (PutSub client terms) =
+    record { chunks = d.chunks; held = with_sub d.held client terms; pending = d.pending }
 
 -- after all of them, one after the other
 abbrev pub changed_by_all : Devs → List Write → Devs

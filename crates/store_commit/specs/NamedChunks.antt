@@ -57,13 +57,16 @@ pub record NamedChunks (meaning : ChunkName → List ℕ) (d : Devs) : Type 0 wh
   -- each name in a row is on the device, with its bytes
   pub there : (name : ChunkName) → IsNamed d.held name → chunk_in d.chunks name ≡ Some (meaning name)
   -- the names in a row are different, none stands in two rows, and none has a version above its row's
-  pub different : (row : List ℕ) (stored : StoredRow) → row_of d.held row ≡ Some stored → AreDifferent (names_of stored.content)
+  pub different : (row : List ℕ) (stored : StoredRow) → row_of d.held row ≡ Some stored
+      → AreDifferent (names_of stored.content)
   pub once : (name : ChunkName) (a b : IsNamed d.held name) → a.row ≡ b.row
   pub below : (name : ChunkName) (a : IsNamed d.held name) → name.version ≤ a.stored.version
   -- every other chunk is left of the open entry
-  pub others : (name : ChunkName) (bytes : List ℕ) → chunk_in d.chunks name ≡ Some bytes → IsNamed d.held name ⊎ ((entry : Entry) × (d.pending ≡ Some entry) × IsLeft d.held entry name)
+  pub others : (name : ChunkName) (bytes : List ℕ) → chunk_in d.chunks name ≡ Some bytes
+      → IsNamed d.held name ⊎ ((entry : Entry) × (d.pending ≡ Some entry) × IsLeft d.held entry name)
   -- and what is left of it is named by no row
-  pub apart : (entry : Entry) (name : ChunkName) → d.pending ≡ Some entry → IsLeft d.held entry name → IsNamed d.held name → ⊥
+  pub apart : (entry : Entry) (name : ChunkName) → d.pending ≡ Some entry → IsLeft d.held entry name
+      → IsNamed d.held name → ⊥
 
 -- the row of an id with its bytes: the row, and what each of its names stands for, in order
 abbrev pub chunks_for : Devs → List ChunkName → List (Option (List ℕ))

@@ -1,5 +1,6 @@
 -- A table's devices between calls, as what they hold and the writes that are still to come.
-use Rattle.std.specs.Prelude.{◌≡◌, ◌⊎◌, ℕ, ◌+◌, ◌<◌, ◌≤◌, List, [], ◌∷◌, length, map, None, IsSome, Result, Ok, Err, OnOk, IfOk}
+use Rattle.std.specs.Prelude.{◌≡◌, ◌⊎◌, ℕ, ◌+◌, ◌<◌, ◌≤◌, List, [], ◌∷◌, length, map, None, IsSome, Result, Ok, Err}
+use Rattle.std.specs.Prelude.{OnOk, IfOk}
 use Rattle.disk_trait.specs.Calls.{DiskState}
 use Rattle.vault.specs.Limit.{payload_most}
 use Rattle.vault.specs.File.{StandsFor}
@@ -23,11 +24,17 @@ use Rattle.store_commit.specs.declared.task.Task.{Task}
 use Rattle.store_commit.specs.declared.task.Task.TheVariants as tasks
 use Rattle.store_commit.specs.declared.fault.CommitFault.{CommitFault}
 use Rattle.store_commit.specs.declared.fault.CommitFault.TheVariants as faults_of
-use Rattle.store_commit.specs.Devs.{Devs, Write, OpenChunks, OpenRows, OpenLog, OpenEntry, PutChunk, PutRow, DropChunk, CloseEntry, PutTable, PutSub, changed_by, IsBeforeOrAfter}
+use Rattle.store_commit.specs.Devs.{Devs, Write, OpenChunks, OpenRows, OpenLog, OpenEntry, PutChunk, PutRow, DropChunk}
+use Rattle.store_commit.specs.Devs.{CloseEntry, PutTable, PutSub, changed_by, IsBeforeOrAfter}
 
 -- what the devices hold
 abbrev pub devs : {D : Type 0} → (D → DiskState) → TableDevs D → Devs
-devs state table = record { chunks = chunks.chunks state table.chunks; held = rows.held state table.rows; pending = logs.entry_open state table.log }
+devs state table =
+    record {
+      chunks = chunks.chunks state table.chunks;
+      held = rows.held state table.rows;
+      pending = logs.entry_open state table.log;
+    }
 
 abbrev pub write_of : Task → Write
 write_of tasks.OpenChunks = OpenChunks
@@ -39,7 +46,8 @@ write_of (tasks.PutRow stored) = PutRow stored
 write_of (tasks.DropChunk name) = DropChunk name
 write_of tasks.CloseEntry = CloseEntry
 write_of (tasks.PutTable schema state) = PutTable schema state
-write_of (tasks.PutSub client on gate period tolerance) = PutSub client (terms_if on (record { gate = gate; period = period; tolerance = tolerance }))
+write_of (tasks.PutSub client on gate period tolerance) =
+    PutSub client (terms_if on (record { gate = gate; period = period; tolerance = tolerance }))
 
 abbrev pub step_of : Write → Step
 step_of OpenChunks = steps.OpenChunks
@@ -65,11 +73,13 @@ pub record AreUp {D : Type 0} (table : TableDevs D) : Type 0 where
 
 -- one of them is
 abbrev pub IsOneDown : {D : Type 0} → TableDevs D → Type 0
-IsOneDown table = IsDown (chunks.vault_of table.chunks) ⊎ (IsDown (rows.vault_of table.rows) ⊎ IsDown (logs.vault_of table.log))
+IsOneDown table = IsDown (chunks.vault_of table.chunks)
+    ⊎ (IsDown (rows.vault_of table.rows) ⊎ IsDown (logs.vault_of table.log))
 
 -- how often the three disks have failed
 abbrev pub all_faults : {D : Type 0} → (D → DiskState) → TableDevs D → ℕ
-all_faults state table = faults state (chunks.vault_of table.chunks) + (faults state (rows.vault_of table.rows) + faults state (logs.vault_of table.log))
+all_faults state table = faults state (chunks.vault_of table.chunks)
+    + (faults state (rows.vault_of table.rows) + faults state (logs.vault_of table.log))
 
 -- ---- what the writes need
 
@@ -127,7 +137,8 @@ log_bytes (OpenEntry entry ∷ ws) = log_bytes ws + (size_of entry)
 log_bytes (CloseEntry ∷ ws) = log_bytes ws + (9)
 log_bytes (_ ∷ ws) = log_bytes ws
 
--- each vault is opened before it is written: it is already, or it is opened by the first of these writes that is its own
+-- each vault is opened before it is written: it is already, or it is opened by the first of these writes that is its
+-- own
 abbrev pub chunk_opened : Type 0 → List Write → Type 0
 chunk_opened opened [] = opened
 chunk_opened opened (OpenChunks ∷ ws) = Unit {0}
@@ -160,7 +171,8 @@ MayDo d (PutChunk name bytes) = (name.version ≤ NUMBER_MAX) × (13 + length by
 MayDo d (PutRow stored) = HasStoredSpelling stored × (length (row_payload stored) ≤ payload_most)
 MayDo d (DropChunk name) = IsSome (chunk_in d.chunks name)
 MayDo d CloseEntry = IsSome d.pending
-MayDo d (PutTable schema state) = HasSchemaSpelling schema × IsState state × (length (table_payload schema state) ≤ payload_most)
+MayDo d (PutTable schema state) = HasSchemaSpelling schema × IsState state
+    × (length (table_payload schema state) ≤ payload_most)
 MayDo d (PutSub client terms) = IsClient client
 
 abbrev pub MayDoAll : Devs → List Write → Type 0
@@ -184,27 +196,33 @@ pub record IsReady {D : Type 0} (state : D → DiskState) (table : TableDevs D) 
   pub log_room : logs.HasRoom state table.log (log_opens ws) (log_puts ws) (log_bytes ws)
 
 -- At every moment since the old one, whatever a crash leaves of the three disks stands for devices with R.
-pub record DevsLeave {D : Type 0} (state : D → DiskState) (images : D → ℕ → List ℕ → Type 0) (old new : TableDevs D) (R : Devs → Type 0) : Type 0 where
+pub record DevsLeave {D : Type 0} (state : D → DiskState) (images : D → ℕ → List ℕ → Type 0) (old new : TableDevs D)
+    (R : Devs → Type 0) : Type 0 where
   pub each : (c r l : List ℕ)
       → images (disk_of (chunks.vault_of new.chunks)) (state (disk_of (chunks.vault_of old.chunks))).moment c
       → images (disk_of (rows.vault_of new.rows)) (state (disk_of (rows.vault_of old.rows))).moment r
       → images (disk_of (logs.vault_of new.log)) (state (disk_of (logs.vault_of old.log))).moment l
-      → (cs rs ls : List (List ℕ)) × StandsFor c cs × StandsFor r rs × StandsFor l ls × R (record { chunks = chunks_of cs; held = data_of rs; pending = pending_of ls })
+      → (cs rs ls : List (List ℕ)) × StandsFor c cs × StandsFor r rs × StandsFor l ls
+      × R (record { chunks = chunks_of cs; held = data_of rs; pending = pending_of ls })
 
 -- This write was done, and these are still to come; or a disk failed, and its device is down.
-pub record Works {D T : Type 0} (state : D → DiskState) (images : D → ℕ → List ℕ → Type 0) (w : Write) (ws : List Write) (old new : TableDevs D) (result : Result T CommitFault) : Type 0 where
+pub record Works {D T : Type 0} (state : D → DiskState) (images : D → ℕ → List ℕ → Type 0) (w : Write) (ws : List Write)
+    (old new : TableDevs D) (result : Result T CommitFault) : Type 0 where
   pub devs_are : OnOk result (devs state new ≡ changed_by (devs state old) w)
   pub ready : OnOk result (IsReady state new ws)
   pub up : OnOk result (AreUp new)
   pub counted : OnOk result (all_faults state new ≡ all_faults state old)
   -- a crash at any moment of the call leaves what was there before the write or what is there after it
   pub any_moment : DevsLeave state images old new (IsBeforeOrAfter (devs state old) w)
-  pub disk : (e : CommitFault) → result ≡ Err e → (e ≡ faults_of.Disk) × (all_faults state old < all_faults state new) × IsOneDown new
+  pub disk : (e : CommitFault) → result ≡ Err e → (e ≡ faults_of.Disk) × (all_faults state old < all_faults state new)
+      × IsOneDown new
 
 -- What the next of these writes is answered by: nothing where there is none.
-abbrev pub WorksOn : {D : Type 0} → (D → DiskState) → (D → ℕ → List ℕ → Type 0) → TableDevs D → TableDevs D → Result Step CommitFault → List Write → Type 0
+abbrev pub WorksOn : {D : Type 0} → (D → DiskState) → (D → ℕ → List ℕ → Type 0) → TableDevs D → TableDevs D
+    → Result Step CommitFault → List Write → Type 0
 WorksOn state images old new result [] = (result ≡ Ok steps.Idle) × (new ≡ old)
-WorksOn state images old new result (w ∷ ws) = Works state images w ws old new result × (writes_of new ≡ ws) × IfOk result (λ step. step ≡ step_of w)
+WorksOn state images old new result (w ∷ ws) =
+    Works state images w ws old new result × (writes_of new ≡ ws) × IfOk result (λ step. step ≡ step_of w)
 
 -- each device was formatted, or looked at since the last restart, and its file stands for what it holds
 pub record AreLookedAt {D : Type 0} (state : D → DiskState) (table : TableDevs D) : Type 0 where

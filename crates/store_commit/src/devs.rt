@@ -8,8 +8,11 @@ ghost use Rattle.row_store.specs.Spelling.{IsClient};
 ghost use Rattle.row_store.specs.Standing as rows;
 ghost use Rattle.status_log.specs.Entry.{entry_of};
 ghost use Rattle.status_log.specs.Standing as logs;
-ghost use Rattle.store_commit.specs.Devs.{Write, OpenChunks, OpenRows, OpenLog, OpenEntry, PutChunk, PutRow, DropChunk, CloseEntry, PutTable, PutSub};
-ghost use Rattle.store_commit.specs.Standing.{write_of, writes_of, AreUp, IsOneDown, IsReady, Works, WorksOn, devs, DevsLeave, AreLookedAt, AreSound, AreSynced, AreBlank, HaveOpenings, nothing};
+ghost use Rattle.store_commit.specs.Devs.{Write, OpenChunks, OpenRows, OpenLog, OpenEntry, PutChunk, PutRow, DropChunk};
+ghost use Rattle.store_commit.specs.Devs.{CloseEntry, PutTable, PutSub};
+ghost use Rattle.store_commit.specs.Standing.{write_of, writes_of, AreUp, IsOneDown, IsReady, Works, WorksOn, devs};
+ghost use Rattle.store_commit.specs.Standing.{DevsLeave, AreLookedAt, AreSound, AreSynced, AreBlank, HaveOpenings};
+ghost use Rattle.store_commit.specs.Standing.{nothing};
 
 use crate::fault::{CommitFault, told};
 use crate::task::Task;
@@ -112,7 +115,8 @@ impl<D: Disk + Drop> TableDevs<D> {
     fn open_entry(&mut self, entry: &LogEntry) -> Result<(), CommitFault>
         requires up { AreUp self.old }
         requires ready { IsReady D.state self.old (OpenEntry (entry_of entry.now) ∷ writes_of self.old) }
-        ensures works { Works D.state D.images (OpenEntry (entry_of entry.now)) (writes_of self.old) self.old self.new result }
+        ensures works { Works D.state D.images (OpenEntry (entry_of entry.now))
+            (writes_of self.old) self.old self.new result }
         ensures agenda { self.new.agenda ≡ self.old.agenda }
     {
         told(self.log.open_entry(entry))
@@ -157,7 +161,8 @@ impl<D: Disk + Drop> TableDevs<D> {
     fn put_table(&mut self, schema: &Schema, state: u8) -> Result<(), CommitFault>
         requires up { AreUp self.old }
         requires ready { IsReady D.state self.old (PutTable schema.now state ∷ writes_of self.old) }
-        ensures works { Works D.state D.images (PutTable schema.now state) (writes_of self.old) self.old self.new result }
+        ensures works { Works D.state D.images (PutTable schema.now state)
+            (writes_of self.old) self.old self.new result }
         ensures agenda { self.new.agenda ≡ self.old.agenda }
     {
         told(self.rows.put_table(schema, state))
@@ -173,9 +178,11 @@ impl<D: Disk + Drop> TableDevs<D> {
     ) -> Result<(), CommitFault>
         requires up { AreUp self.old }
         requires ready { IsReady D.state self.old
-            (PutSub client (terms_if on (record { gate = gate; period = period; tolerance = tolerance })) ∷ writes_of self.old) }
+            (PutSub client (terms_if on (record { gate = gate; period = period; tolerance = tolerance }))
+            ∷ writes_of self.old) }
         ensures works { Works D.state D.images
-            (PutSub client (terms_if on (record { gate = gate; period = period; tolerance = tolerance }))) (writes_of self.old)
+            (PutSub client (terms_if on (record { gate = gate; period = period; tolerance = tolerance })))
+            (writes_of self.old)
             self.old self.new result }
         ensures agenda { self.new.agenda ≡ self.old.agenda }
     {

@@ -6,15 +6,18 @@ ghost use Rattle.row_store.specs.Data.{with_row};
 ghost use Rattle.status_log.specs.Entry.{Entry};
 ghost use Rattle.store_commit.specs.Devs.{Devs, changed_by_all};
 ghost use Rattle.store_commit.specs.NamedChunks.{NamedChunks};
-ghost use Rattle.store_commit.specs.Agenda.{update_writes, Replaces, meaning_with, IsMoment, Runs, recovery_writes, IsRecovering, AreLeftovers};
+ghost use Rattle.store_commit.specs.Agenda.{update_writes, Replaces, meaning_with, IsMoment, Runs, recovery_writes};
+ghost use Rattle.store_commit.specs.Agenda.{IsRecovering, AreLeftovers};
 
 /// Before and behind each write of an update, the devices have named chunks, and the rows from before it until its
 /// row was put, and those with it whole from then on. Behind the last no entry is open. (Does nothing: its clauses are
 /// laws.)
 pub fn update_keeps_named_chunks()
-    ensures moments { (meaning : ChunkName → List ℕ) (d : Devs) (entry : Entry) (fresh : List (List ℕ)) (stored : StoredRow)
+    ensures moments { (meaning : ChunkName → List ℕ) (d : Devs) (entry : Entry) (fresh : List (List ℕ))
+        (stored : StoredRow)
         → NamedChunks meaning d → d.pending ≡ None → Replaces d entry fresh stored
-        → Runs (IsMoment (meaning_with meaning entry.version fresh) d.held stored) d (update_writes entry fresh stored) }
+        → Runs (IsMoment (meaning_with meaning entry.version fresh) d.held stored) d
+        (update_writes entry fresh stored) }
     ensures ends { (d : Devs) (entry : Entry) (fresh : List (List ℕ)) (stored : StoredRow)
         → (changed_by_all d (update_writes entry fresh stored)).pending ≡ None }
 {}
@@ -22,7 +25,8 @@ pub fn update_keeps_named_chunks()
 /// Before and behind each write of a recovery, the devices have named chunks, and the rows that were there at its
 /// start. Behind the last no entry is open. (Does nothing: its clauses are laws.)
 pub fn recovery_keeps_named_chunks()
-    ensures moments { (meaning : ChunkName → List ℕ) (d : Devs) (names : List ChunkName) → NamedChunks meaning d → AreLeftovers d names
+    ensures moments { (meaning : ChunkName → List ℕ) (d : Devs) (names : List ChunkName) → NamedChunks meaning d
+        → AreLeftovers d names
         → Runs (IsRecovering meaning d.held) d (recovery_writes names (is_some d.pending)) }
     ensures ends { (d : Devs) (names : List ChunkName)
         → (changed_by_all d (recovery_writes names (is_some d.pending))).pending ≡ None }

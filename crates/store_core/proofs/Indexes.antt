@@ -100,7 +100,8 @@ pub goes_on : (stored : List Stored) (s : Stored) (old new : Rows) → IsIndexed
     → old.last < NUMBER_MAX → s.entry.version ≡ old.last + 1
     → new.last ≡ s.entry.version
     → ((row : List ℕ) → tree.get (slice_cmp nat_cmp) new.current row ≡ cond (same_row s.entry.row row) (Some (row_of s)) (tree.get (slice_cmp nat_cmp) old.current row))
-    → new.by_version.entries ≡ without_version (option_map (λ (r : Row). r.version) (tree.get (slice_cmp nat_cmp) old.current s.entry.row)) (insert_entry nat_cmp old.by_version.entries s.entry.version s.entry.row)
+    → new.by_version.entries ≡ without_version (option_map (λ (r : Row). r.version) (tree.get (slice_cmp nat_cmp) old.current s.entry.row))
+    (insert_entry nat_cmp old.by_version.entries s.entry.version s.entry.row)
     → ((writer : ℕ) (written : List ℕ) → tree.get write_cmp new.yours (writer, written)
     ≡ cond (is_eq (write_cmp (s.entry.client, s.entry.row) (writer, written))) (Some (record { number = s.entry.number; version = s.entry.version })) (tree.get write_cmp old.yours (writer, written)))
     → IsIndexed (stored ++ s ∷ []) new

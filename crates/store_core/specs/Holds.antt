@@ -1,5 +1,6 @@
 -- What a table's node keeps of the table's history, and what it has gathered to send and to tell.
-use Rattle.std.specs.Prelude.{◌≡◌, ℕ, ◌+◌, ◌≤◌, List, [], ◌∷◌, ◌++◌, length, map, Option, Some, None, option_map, if◌then◌else◌}
+use Rattle.std.specs.Prelude.{◌≡◌, ℕ, ◌+◌, ◌≤◌, List, [], ◌∷◌, ◌++◌, length, map, Option, Some, None, option_map}
+use Rattle.std.specs.Prelude.{if◌then◌else◌}
 use Rattle.std.specs.List.{list_any}
 use Rattle.std.specs.BTreeMap as tree
 use Rattle.std.specs.Map.{remove_entry}
@@ -29,7 +30,8 @@ row_of s = record { version = s.entry.version; content = s.content }
 abbrev pub changes_of : List Stored → List (ℕ × List ℕ)
 changes_of [] = []
 changes_of (s ∷ later) =
-    if list_any (is_of_row s.entry.row) later then changes_of later else (s.entry.version, s.entry.row) ∷ changes_of later
+    if list_any (is_of_row s.entry.row) later then changes_of later
+    else (s.entry.version, s.entry.row) ∷ changes_of later
 
 -- the order of clients, and of the rows of one client
 abbrev pub write_cmp : ℕ × List ℕ → ℕ × List ℕ → Ordering
@@ -49,9 +51,11 @@ pub record IsIndexed (stored : List Stored) (rows : Rows) : Type 0 where
   pub numbered : IsNumberedFrom 1 stored
   pub within : length stored ≤ NUMBER_MAX
   pub last : rows.last ≡ length stored
-  pub current : (row : List ℕ) → tree.get (slice_cmp nat_cmp) rows.current row ≡ option_map row_of (current_of stored row)
+  pub current : (row : List ℕ) → tree.get (slice_cmp nat_cmp) rows.current row
+      ≡ option_map row_of (current_of stored row)
   pub by_version : rows.by_version.entries ≡ changes_of stored
-  pub yours : (client : ℕ) (row : List ℕ) → yours_or_none (tree.get write_cmp rows.yours (client, row)) ≡ yours_of stored client row
+  pub yours : (client : ℕ) (row : List ℕ) → yours_or_none (tree.get write_cmp rows.yours (client, row))
+      ≡ yours_of stored client row
 
 -- what the node holds is what this history makes of its rows
 pub record Holds (stored : List Stored) (node : TableNode) : Type 0 where

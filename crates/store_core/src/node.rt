@@ -1,5 +1,7 @@
-ghost use Rattle.std.specs.Prelude.{◌≡◌, ◌<◌, ◌↔◌, [], ◌∷◌, ◌++◌, ℕ, List, Option, Some, None, length, option_map, OnOk, OnErr, IfOk, IfErr, IsErrOf};
-ghost use Rattle.step_tables.specs.Store.{Stored, store_step, accept, decide, respond, pull_answer, header_for, next_changed, current_of, yours_of};
+ghost use Rattle.std.specs.Prelude.{◌≡◌, ◌<◌, ◌↔◌, [], ◌∷◌, ◌++◌, ℕ, List, Option, Some, None, length, option_map};
+ghost use Rattle.std.specs.Prelude.{OnOk, OnErr, IfOk, IfErr, IsErrOf};
+ghost use Rattle.step_tables.specs.Store.{Stored, store_step, accept, decide, respond, pull_answer, header_for};
+ghost use Rattle.step_tables.specs.Store.{next_changed, current_of, yours_of};
 ghost use Rattle.store_core.specs.Holds.{Holds, table_of, gathered, and_more};
 
 use crate::fault::NodeFault;
@@ -63,13 +65,15 @@ impl TableNode {
         ensures step { (stored : List Stored) → Holds stored self.old
             → OnOk result (Holds (store_step (table_of self.old) stored message.now).stored self.new) }
         ensures out { (stored : List Stored) → Holds stored self.old
-            → OnOk result (let step = store_step (table_of self.old) stored message.now in gathered self.new ≡ and_more (gathered self.old) from step.messages step.facts) }
+            → OnOk result (let step = store_step (table_of self.old) stored message.now in
+            gathered self.new ≡ and_more (gathered self.old) from step.messages step.facts) }
         ensures kept { (stored : List Stored) → Holds stored self.old → OnErr result (Holds stored self.new) }
         ensures same { OnErr result (gathered self.new ≡ gathered self.old) }
         ensures table { table_of self.new ≡ table_of self.old }
         ensures spent { (stored : List Stored) → Holds stored self.old → (last : ℕ)
             → (IsErrOf result (NodeFault.Spent last)
-            ↔ ((last ≡ NUMBER_MAX) × (NUMBER_MAX < length (store_step (table_of self.old) stored message.now).stored))) }
+            ↔ ((last ≡ NUMBER_MAX)
+            × (NUMBER_MAX < length (store_step (table_of self.old) stored message.now).stored))) }
         ensures never_no_row { IsErrOf result NodeFault.NoRow → ⊥ }
     {
         match message {
@@ -96,7 +100,8 @@ impl TableNode {
         ensures step { (stored : List Stored) → Holds stored self.old
             → OnOk result (Holds (accept self.old.table stored request.now).stored self.new) }
         ensures out { (stored : List Stored) → Holds stored self.old
-            → OnOk result (let step = accept self.old.table stored request.now in gathered self.new ≡ and_more (gathered self.old) from step.messages step.facts) }
+            → OnOk result (let step = accept self.old.table stored request.now in
+            gathered self.new ≡ and_more (gathered self.old) from step.messages step.facts) }
         ensures kept { (stored : List Stored) → Holds stored self.old → OnErr result (Holds stored self.new) }
         ensures same { OnErr result (gathered self.new ≡ gathered self.old) }
         ensures table { self.new.table ≡ self.old.table }
@@ -132,15 +137,21 @@ impl TableNode {
     // Takes a request as a new write, as one that was accepted before, or as one that comes too late.
     fn decide(&mut self, from: Node, request: &SyncRequest) -> Result<(), NodeFault>
         ensures step { (stored : List Stored) → Holds stored self.old
-            → OnOk result (Holds (decide self.old.table stored request.now (yours_of stored request.now.client request.now.row)).stored self.new) }
+            → OnOk result (Holds (decide self.old.table stored request.now
+            (yours_of stored request.now.client request.now.row)).stored self.new) }
         ensures out { (stored : List Stored) → Holds stored self.old
-            → OnOk result (let step = decide self.old.table stored request.now (yours_of stored request.now.client request.now.row) in gathered self.new ≡ and_more (gathered self.old) from step.messages step.facts) }
+            → OnOk result (let step = decide self.old.table stored request.now
+            (yours_of stored request.now.client request.now.row) in gathered self.new
+            ≡ and_more (gathered self.old) from step.messages step.facts) }
         ensures kept { (stored : List Stored) → Holds stored self.old → OnErr result (Holds stored self.new) }
         ensures same { OnErr result (gathered self.new ≡ gathered self.old) }
         ensures table { self.new.table ≡ self.old.table }
         ensures spent { (stored : List Stored) → Holds stored self.old → (last : ℕ)
             → (IsErrOf result (NodeFault.Spent last)
-            ↔ ((last ≡ NUMBER_MAX) × (NUMBER_MAX < length (decide self.old.table stored request.now (yours_of stored request.now.client request.now.row)).stored))) }
+            ↔ ((last ≡ NUMBER_MAX)
+            × (NUMBER_MAX
+            < length (decide self.old.table stored request.now
+            (yours_of stored request.now.client request.now.row)).stored))) }
         ensures never_no_row { IsErrOf result NodeFault.NoRow → ⊥ }
     {
         let yours = self.rows.yours(request.client, request.row);
@@ -182,7 +193,8 @@ impl TableNode {
         ensures table { self.new.table ≡ self.old.table }
         ensures sent { (stored : List Stored) → Holds stored self.old
             → OnOk result (gathered self.new ≡ and_more (gathered self.old) from
-            (Message.PullResponse (pull_answer request.now.client request.now.table request.now.position stored) ∷ []) []) }
+            (Message.PullResponse (pull_answer request.now.client request.now.table request.now.position stored) ∷ [])
+            []) }
         ensures same { OnErr result (gathered self.new ≡ gathered self.old) }
         ensures memory { IfErr result (λ e. e ≡ NodeFault.Memory) }
     {
@@ -205,7 +217,8 @@ impl TableNode {
     /// The row as it is now: its version, and a copy of its content. `NoRow` where it has no version.
     pub fn show(&self, row: &RowId) -> Result<(Version, Content), NodeFault>
         ensures shown { (stored : List Stored) → Holds stored self.now
-            → IfOk result (λ shown. option_map (λ s. (s.entry.version, s.content)) (current_of stored row.now) ≡ Some shown) }
+            → IfOk result (λ shown. option_map (λ s. (s.entry.version, s.content)) (current_of stored row.now)
+            ≡ Some shown) }
         ensures no_row { (stored : List Stored) → Holds stored self.now
             → (IsErrOf result NodeFault.NoRow ↔ (current_of stored row.now ≡ None)) }
         ensures never_spent { (last : ℕ) → IsErrOf result (NodeFault.Spent last) → ⊥ }

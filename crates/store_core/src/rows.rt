@@ -1,5 +1,6 @@
 //! The rows of one table, as the Store has them.
-ghost use Rattle.std.specs.Prelude.{◌≡◌, ◌+◌, ◌<◌, [], ◌∷◌, ◌++◌, cond, Some, None, slice_get, option_copied, option_map, OnOk, OnErr, IfOk, IfErr, List, ℕ};
+ghost use Rattle.std.specs.Prelude.{◌≡◌, ◌+◌, ◌<◌, [], ◌∷◌, ◌++◌, cond, Some, None, slice_get, option_copied};
+ghost use Rattle.std.specs.Prelude.{option_map, OnOk, OnErr, IfOk, IfErr, List, ℕ};
 ghost use Rattle.std.specs.BTreeMap as tree;
 ghost use Rattle.std.specs.BTreeMap.{insert_entry, is_at};
 ghost use Rattle.std.specs.BTreeMap.Range.{entries_between};
@@ -38,7 +39,8 @@ pub(crate) struct Rows {
 
 // The row of the least version above a position.
 fn first_above(by_version: &BTreeMap<Version, RowId>, position: Version) -> Option<RowId>
-    ensures { result ≡ option_map (λ e. e.1) (slice_get (entries_between nat_cmp (Excluded position) Unbounded by_version.now.entries) 0) }
+    ensures { result ≡ option_map (λ e. e.1)
+        (slice_get (entries_between nat_cmp (Excluded position) Unbounded by_version.now.entries) 0) }
 {
     by_version
         .range((Bound::Excluded(position), Bound::Unbounded))
@@ -60,7 +62,8 @@ impl Rows {
 
     /// The row as it is now.
     pub(crate) fn current(&self, row: &RowId) -> Option<&Row>
-        ensures { (stored : List Stored) → IsIndexed stored self.now → option_copied result ≡ option_map row_of (current_of stored row.now) }
+        ensures { (stored : List Stored) → IsIndexed stored self.now
+            → option_copied result ≡ option_map row_of (current_of stored row.now) }
     {
         self.current.get(row)
     }
@@ -96,10 +99,15 @@ impl Rows {
     ) -> Result<(), NodeFault>
         ensures current { self.new.current ≡ self.old.current }
         ensures last { self.new.last ≡ self.old.last }
-        ensures by_version { OnOk result (self.new.by_version.entries ≡ insert_entry nat_cmp self.old.by_version.entries version row) }
-        ensures yours { OnOk result ((writer : ℕ) (written : List ℕ) → tree.get write_cmp self.new.yours (writer, written)
-            ≡ cond (is_eq (write_cmp (client, row) (writer, written))) (Some (record { number = number; version = version })) (tree.get write_cmp self.old.yours (writer, written))) }
-        ensures same_versions { tree.get nat_cmp self.old.by_version version ≡ None → OnErr result (self.new.by_version.entries ≡ self.old.by_version.entries) }
+        ensures by_version { OnOk result (self.new.by_version.entries
+            ≡ insert_entry nat_cmp self.old.by_version.entries version row) }
+        ensures yours { OnOk result ((writer : ℕ) (written : List ℕ)
+            → tree.get write_cmp self.new.yours (writer, written)
+            ≡ cond (is_eq (write_cmp (client, row) (writer, written)))
+            (Some (record { number = number; version = version }))
+            (tree.get write_cmp self.old.yours (writer, written))) }
+        ensures same_versions { tree.get nat_cmp self.old.by_version version ≡ None
+            → OnErr result (self.new.by_version.entries ≡ self.old.by_version.entries) }
         ensures same_yours { OnErr result (self.new.yours.entries ≡ self.old.yours.entries) }
         ensures memory { IfErr result (λ e. e ≡ NodeFault.Memory) }
     {
@@ -117,9 +125,11 @@ impl Rows {
     fn unmark(&mut self, version: Version, row: RowId, client: ClientNo)
         ensures current { self.new.current ≡ self.old.current }
         ensures last { self.new.last ≡ self.old.last }
-        ensures by_version { self.new.by_version.entries ≡ remove_entry (is_at (nat_cmp version)) self.old.by_version.entries }
+        ensures by_version { self.new.by_version.entries
+            ≡ remove_entry (is_at (nat_cmp version)) self.old.by_version.entries }
         ensures yours { (writer : ℕ) (written : List ℕ) → tree.get write_cmp self.new.yours (writer, written)
-            ≡ cond (is_eq (write_cmp (client, row) (writer, written))) None (tree.get write_cmp self.old.yours (writer, written)) }
+            ≡ cond (is_eq (write_cmp (client, row) (writer, written))) None
+            (tree.get write_cmp self.old.yours (writer, written)) }
     {
         self.by_version.remove(&version);
         self.yours.remove(&(client, row));
@@ -132,7 +142,8 @@ impl Rows {
         ensures yours { self.new.yours ≡ self.old.yours }
         ensures current { OnOk result ((other : List ℕ) → tree.get (slice_cmp nat_cmp) self.new.current other
             ≡ cond (same_row row other) (Some current) (tree.get (slice_cmp nat_cmp) self.old.current other)) }
-        ensures former { IfOk result (λ former. former ≡ option_map (λ r. r.version) (tree.get (slice_cmp nat_cmp) self.old.current row)) }
+        ensures former { IfOk result (λ former. former
+            ≡ option_map (λ r. r.version) (tree.get (slice_cmp nat_cmp) self.old.current row)) }
         ensures same { OnErr result (self.new.current.entries ≡ self.old.current.entries) }
         ensures absent { OnErr result (tree.get (slice_cmp nat_cmp) self.old.current row ≡ None) }
         ensures memory { IfErr result (λ e. e ≡ NodeFault.Memory) }
@@ -161,7 +172,10 @@ impl Rows {
         requires { self.old.last < NUMBER_MAX }
         ensures version { IfOk result (λ version. version ≡ self.old.last + 1) }
         ensures added { (stored : List Stored) → IsIndexed stored self.old
-            → OnOk result (IsIndexed (stored ++ record { entry = entry_for stored request.now; content = request.now.content } ∷ []) self.new) }
+            → OnOk result (IsIndexed (stored ++ record {
+              entry = entry_for stored request.now;
+              content = request.now.content;
+            } ∷ []) self.new) }
         ensures kept { (stored : List Stored) → IsIndexed stored self.old → OnErr result (IsIndexed stored self.new) }
         ensures memory { IfErr result (λ e. e ≡ NodeFault.Memory) }
     {

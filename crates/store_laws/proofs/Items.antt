@@ -11,7 +11,8 @@ use Rattle.step_tables.specs.Members.{Among}
 use Rattle.step_tables.specs.Messages.{Pair}
 use Rattle.step_tables.specs.StoreMoves.{item_at, version_of, is_by, pair_of}
 use Rattle.step_tables.specs.Items.{latest, IsItemOf, IsItemAt, IsBase, IsYours}
-use Rattle.step_tables.proofs.Lists.{among_here, among_next, among_none, among_cons, among_found, find_some, among_last, last_some, last_where-cons, last_where-push, same_row-is, same_row-refl, same_row_tells}
+use Rattle.step_tables.proofs.Lists.{among_here, among_next, among_none, among_cons, among_found, find_some, among_last, last_some, last_where-cons, last_where-push, same_row-is, same_row-refl}
+use Rattle.step_tables.proofs.Lists.{same_row_tells}
 use Rattle.store_laws.specs.Part.{Counts}
 
 -- ---- versions

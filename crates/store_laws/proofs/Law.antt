@@ -13,11 +13,15 @@ use Rattle.step_tables.specs.Members.{Among}
 use Rattle.step_tables.specs.Messages.{Request, Response, Pull, Pulled, Header, Pair, Outcome, Message, Send, Luck, SyncRequest, SyncResponse, PullRequest, PullResponse}
 use Rattle.step_tables.specs.Messages as messages
 use Rattle.step_tables.specs.Sayings.{Saying, SaysNothing, SaysEntry, SaysBack, saying}
-use Rattle.step_tables.specs.StoreMoves.{StoreDisk, StoreTask, TableStore, StoreMove, StoreStep, Open, Put, Close, Keep, Take, Work, Crash, Start, quiet, down, changed, done, crashed, failed, worked, item_at, ends_with, recovered, recover, started, takes, outdated, responded, sending, item_for, accepting, version_of, judged, pair_of, is_by, yours_in, decided, header_for, pulled_for, answered, taken, store_step}
+use Rattle.step_tables.specs.StoreMoves.{StoreDisk, StoreTask, TableStore, StoreMove, StoreStep, Open, Put, Close, Keep, Take, Work, Crash, Start, quiet, down, changed, done, crashed, failed, worked}
+use Rattle.step_tables.specs.StoreMoves.{item_at, ends_with, recovered, recover, started, takes, outdated, responded, sending, item_for, accepting, version_of, judged, pair_of, is_by, yours_in}
+use Rattle.step_tables.specs.StoreMoves.{decided, header_for, pulled_for, answered, taken, store_step}
 use Rattle.step_tables.specs.Items.{latest, IsItemOf, IsItemAt, IsBase, IsYours, IsChange}
 use Rattle.step_tables.proofs.Lists.{among_push, among_left, among_cases}
-use Rattle.store_laws.specs.Part.{Known, Knows, Counts, IsLawful, IsNext, Tells, TellsAll, IsWayTo, IsLate, IsOutcome, IsHeader, Answers, IsTold, IsUntold, IsResting, Runs, IsAt, StorePart, IsAsked, IsFair, StoreLaw}
-use Rattle.store_laws.proofs.Items.{Counts-push, counted_up, one_version, item_at-is, item_at-none, pushed_at, current_is, latest_most, latest_item, base_low, own_is, own_none, own_last, next_is, IsNextChange}
+use Rattle.store_laws.specs.Part.{Known, Knows, Counts, IsLawful, IsNext, Tells, TellsAll, IsWayTo, IsLate, IsOutcome, IsHeader, Answers, IsTold, IsUntold, IsResting, Runs, IsAt, StorePart, IsAsked}
+use Rattle.store_laws.specs.Part.{IsFair, StoreLaw}
+use Rattle.store_laws.proofs.Items.{Counts-push, counted_up, one_version, item_at-is, item_at-none, pushed_at, current_is, latest_most, latest_item, base_low, own_is, own_none, own_last, next_is}
+use Rattle.store_laws.proofs.Items.{IsNextChange}
 
 module _ (g : Scheme) (table : ℕ) (K : Known) where
   -- ---- an item more

@@ -1,5 +1,5 @@
--- What holds of a table at the Store beside the items `h` of the history that its lines tell. K is what is known of a write
--- that was sent: its client, row, number, base and content.
+-- What holds of a table at the Store beside the items `h` of the history that its lines tell. K is what is known of a
+-- write that was sent: its client, row, number, base and content.
 use Rattle.std.specs.Prelude.{◌≡◌, ◌≢◌, ◌≤◌, ◌<◌, ◌⊎◌, ℕ, ◌+◌, List, [], ◌∷◌, ◌++◌, length, Option, Some, None}
 use Rattle.stab_base.specs.declared.node.Node.{Node}
 use Rattle.stab_base.specs.declared.node.Node.TheVariants as nodes
@@ -9,10 +9,12 @@ use Rattle.row_value.specs.declared.schema.Scheme.TheVariants.{Strong, Causal, E
 use Rattle.step_tables.specs.Store.{Stored}
 use Rattle.step_tables.specs.Facts.{Fact}
 use Rattle.step_tables.specs.Members.{Among}
-use Rattle.step_tables.specs.Messages.{Request, Response, Pull, Pulled, Header, Outcome, Message, Send, SyncRequest, SyncResponse, PullRequest, PullResponse}
+use Rattle.step_tables.specs.Messages.{Request, Response, Pull, Pulled, Header, Outcome, Message, Send, SyncRequest}
+use Rattle.step_tables.specs.Messages.{SyncResponse, PullRequest, PullResponse}
 use Rattle.step_tables.specs.Messages as messages
 use Rattle.step_tables.specs.Sayings.{Saying, SaysNothing, SaysEntry, SaysBack, saying}
-use Rattle.step_tables.specs.StoreMoves.{StoreDisk, StoreTask, TableStore, StoreStep, StoreMove, Take, Work, Crash, Start, changed}
+use Rattle.step_tables.specs.StoreMoves.{StoreDisk, StoreTask, TableStore, StoreStep, StoreMove, Take, Work, Crash}
+use Rattle.step_tables.specs.StoreMoves.{Start, changed}
 use Rattle.step_tables.specs.Items.{latest, IsItemOf, IsItemAt, IsBase, IsYours, IsChange}
 
 -- what is known of a sent write: client, row, number, base, content
@@ -33,7 +35,8 @@ pub record IsLawful (g : Scheme) (K : Known) (h : List Stored) : Type 0 where
   pub counted : Counts 0 h
   pub known : (i : Stored) → Among h i → Knows K i
   pub based : (i : Stored) → Among h i → IsBase h i.entry.row i.entry.base
-  pub over : g ≢ Eventual → (i o : Stored) → Among h i → Among h o → o.entry.row ≡ i.entry.row → o.entry.version < i.entry.version
+  pub over : g ≢ Eventual → (i o : Stored) → Among h i → Among h o → o.entry.row ≡ i.entry.row
+      → o.entry.version < i.entry.version
       → o.entry.version ≤ i.entry.base
   pub rises : (i o : Stored) → Among h i → Among h o → i.entry.client ≡ o.entry.client → i.entry.row ≡ o.entry.row
       → i.entry.version < o.entry.version → i.entry.number < o.entry.number
@@ -44,7 +47,8 @@ pub record IsNext (g : Scheme) (K : Known) (h : List Stored) (i : Stored) : Type
   pub known : Knows K i
   pub based : IsBase h i.entry.row i.entry.base
   pub over : g ≢ Eventual → i.entry.base ≡ latest h i.entry.row
-  pub rises : (o : Stored) → Among h o → o.entry.client ≡ i.entry.client → o.entry.row ≡ i.entry.row → o.entry.number < i.entry.number
+  pub rises : (o : Stored) → Among h o → o.entry.client ≡ i.entry.client → o.entry.row ≡ i.entry.row
+      → o.entry.number < i.entry.number
 
 -- ---- what is told and sent
 
@@ -84,11 +88,15 @@ pub record IsLate (K : Known) (h : List Stored) (client : ℕ) (row : List ℕ) 
   pub none : (i : Stored) → Among h i → i.entry.client ≡ client → i.entry.row ≡ row → i.entry.number ≢ number
 
 abbrev pub IsOutcome : Scheme → Known → List Stored → Response → Outcome → Type 0
-IsOutcome g K h response (messages.Accepted version) = (i : Stored) × IsItemOf h response.client response.number response.row version i
-IsOutcome g K h response (messages.Again version) = (i : Stored) × IsItemOf h response.client response.number response.row version i
+IsOutcome g K h response (messages.Accepted version) =
+    (i : Stored) × IsItemOf h response.client response.number response.row version i
+IsOutcome g K h response (messages.Again version) =
+    (i : Stored) × IsItemOf h response.client response.number response.row version i
 IsOutcome g K h response (messages.Late last) = Unit {0}
-IsOutcome g K h response (messages.Stale last) = (g ≡ Strong) × IsLate K h response.client response.row response.number last
-IsOutcome g K h response (messages.Conflict last) = (g ≡ Causal) × IsLate K h response.client response.row response.number last
+IsOutcome g K h response (messages.Stale last) =
+    (g ≡ Strong) × IsLate K h response.client response.row response.number last
+IsOutcome g K h response (messages.Conflict last) =
+    (g ≡ Causal) × IsLate K h response.client response.row response.number last
 
 abbrev pub IsHeader : List Stored → Pulled → Option Header → Type 0
 IsHeader h pulled None = Unit {0}
@@ -97,8 +105,10 @@ IsHeader h pulled (Some header) = IsChange pulled.client h pulled.from pulled.to
 abbrev pub IsAnswer : Scheme → ℕ → Known → List Stored → Option Node → Message → Type 0
 IsAnswer g table K h to (SyncRequest request) = ⊥
 IsAnswer g table K h to (PullRequest pull) = ⊥
-IsAnswer g table K h to (SyncResponse response) = (response.table ≡ table) × IsWayBy response.client to × IsOutcome g K h response response.outcome
-IsAnswer g table K h to (PullResponse pulled) = (pulled.table ≡ table) × IsWayBy pulled.client to × IsHeader h pulled pulled.header
+IsAnswer g table K h to (SyncResponse response) =
+    (response.table ≡ table) × IsWayBy response.client to × IsOutcome g K h response response.outcome
+IsAnswer g table K h to (PullResponse pulled) =
+    (pulled.table ≡ table) × IsWayBy pulled.client to × IsHeader h pulled pulled.header
 
 abbrev pub Answers : Scheme → ℕ → Known → List Stored → List Send → Type 0
 Answers g table K h [] = Unit {0}

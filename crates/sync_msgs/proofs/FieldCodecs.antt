@@ -1,5 +1,6 @@
 -- The fields of messages: each reading gives what is spelled, and tells the first bad place.
-use Rattle.std.proofs.Common.{◌≡◌, ℕ, zero, suc, ◌-◌, ◌<◌, ◌≤◌, ◌^◌, Bool, true, false, eqb, leb, ltb, List, [], ◌∷◌, ◌++◌, length, take, drop, Result, Ok, Err, Option, Some, None, refl, sym, ap, subst, ◌∙◌, arith, inl, inr, length-append}
+use Rattle.std.proofs.Common.{◌≡◌, ℕ, zero, suc, ◌-◌, ◌<◌, ◌≤◌, ◌^◌, Bool, true, false, eqb, leb, ltb, List, [], ◌∷◌, ◌++◌, length, take, drop, Result, Ok, Err, Option, Some, None, refl, sym, ap}
+use Rattle.std.proofs.Common.{subst, ◌∙◌, arith, inl, inr, length-append}
 use Rattle.std.specs.Int.{w32, w64}
 use Rattle.std.proofs.lemmas.Bool.{eqb-true, leb-true, ltb-true, ltb-false, le-ltb}
 use Rattle.std.proofs.lemmas.List.{take_at, drop_at, append-nil, length-take-le, take-append-drop}
@@ -22,7 +23,8 @@ use Rattle.table_model.specs.declared.message.TableSubscription.{TableSubscripti
 use Rattle.table_model.specs.declared.message.Outcome.{Outcome}
 use Rattle.table_model.specs.declared.message.Outcome.TheVariants as outcomes
 use Rattle.sync_msgs.specs.Fields.{Reader, client_at, period_if, bytes_at, chunk_bytes_at, value_if, inside_if, option_at, is_flag, option_if}
-use Rattle.sync_msgs.specs.Spelling.{four, eight, IsBetween, IsClient, IsPeriod, IsChunk, chunk_spelling, IsOption, option_spelling, IsOptionIf, header_spelling, HasHeaderSpelling, outcome_spelling, HasOutcomeSpelling, subscription_spelling, HasSubscriptionSpelling, AreSubscriptions, subscriptions_spelling}
+use Rattle.sync_msgs.specs.Spelling.{four, eight, IsBetween, IsClient, IsPeriod, IsChunk, chunk_spelling, IsOption, option_spelling, IsOptionIf, header_spelling, HasHeaderSpelling, outcome_spelling}
+use Rattle.sync_msgs.specs.Spelling.{HasOutcomeSpelling, subscription_spelling, HasSubscriptionSpelling, AreSubscriptions, subscriptions_spelling}
 use Rattle.sync_msgs.specs.Reading.{header_of, header_at, is_outcome, outcome_of, outcome_at, subscription_at, after_subscription, subscription_in}
 use Rattle.sync_msgs.proofs.Codecs.{Codec, both, depending, made}
 use Rattle.sync_msgs.proofs.Ranges.{Passes, one_byte, passes, ranged, both_are}

@@ -17,10 +17,13 @@ use Rattle.table_model.specs.declared.message.Message.{Message}
 use Rattle.table_model.specs.declared.message.Message.TheVariants as messages
 use Rattle.sync_msgs.specs.Fields.{Reader, then_at, ◌&◌, period_if, option_if}
 use Rattle.sync_msgs.specs.Spelling.{four, eight, IsPeriod, IsOptionIf, option_spelling, has_schema, body_spelling, HasSpelling}
-use Rattle.sync_msgs.specs.Reading.{register_device_at, create_table_at, drop_table_at, subscribe_table_at, unsubscribe_table_at, notify_at, object_fragment_at, pull_request_at, pull_response_at, sync_request_at, sync_response_at, torn_row_request_at, torn_row_response_at, operation_response_at, save_client_subscription_at, restore_client_subscriptions_at, table_version_update_notification_at, message_at}
+use Rattle.sync_msgs.specs.Reading.{register_device_at, create_table_at, drop_table_at, subscribe_table_at, unsubscribe_table_at, notify_at, object_fragment_at, pull_request_at, pull_response_at}
+use Rattle.sync_msgs.specs.Reading.{sync_request_at, sync_response_at, torn_row_request_at, torn_row_response_at, operation_response_at, save_client_subscription_at, restore_client_subscriptions_at}
+use Rattle.sync_msgs.specs.Reading.{table_version_update_notification_at, message_at}
 use Rattle.sync_msgs.proofs.Codecs.{Codec, both, depending, made}
 use Rattle.sync_msgs.proofs.Ranges.{one_byte}
-use Rattle.sync_msgs.proofs.FieldCodecs.{four_codec, eight_codec, byte_codec, id_codec, flag_codec, content_codec, schema_codec, client_codec, period_codec, chunk_codec, header_option_codec, outcome_codec, subscriptions_codec, option_if_codec}
+use Rattle.sync_msgs.proofs.FieldCodecs.{four_codec, eight_codec, byte_codec, id_codec, flag_codec, content_codec, schema_codec, client_codec, period_codec, chunk_codec, header_option_codec}
+use Rattle.sync_msgs.proofs.FieldCodecs.{outcome_codec, subscriptions_codec, option_if_codec}
 
 abbrev pub IsNamed : MessageName → Message → Type 0
 IsNamed name m = HasSpelling m × (name_of m ≡ name)
@@ -225,7 +228,8 @@ restore_client_subscriptions_codec : Codec (IsNamed names.RestoreClientSubscript
 unfolding restore_client_subscriptions_at
 restore_client_subscriptions_codec =
     made made_restore_client_subscriptions (IsNamed names.RestoreClientSubscriptions) body_spelling (λ p h. (h, refl)) (λ p h. refl) back (both client_codec (both four_codec (both flag_codec subscriptions_codec))) where
-      back : (z : Message) → IsNamed names.RestoreClientSubscriptions z → (p : ℕ × (ℕ × (Bool × List TableSubscription))) × HasSpelling (made_restore_client_subscriptions p) × (made_restore_client_subscriptions p ≡ z)
+      back : (z : Message) → IsNamed names.RestoreClientSubscriptions z
+          → (p : ℕ × (ℕ × (Bool × List TableSubscription))) × HasSpelling (made_restore_client_subscriptions p) × (made_restore_client_subscriptions p ≡ z)
       back (messages.RestoreClientSubscriptions m) h = ((m.client, (m.gate, (m.reply, m.subscriptions))), h.0, refl)
       back z h = absurd (let e = h.1 in cc)
 
@@ -236,7 +240,8 @@ table_version_update_notification_codec : Codec (IsNamed names.TableVersionUpdat
 unfolding table_version_update_notification_at
 table_version_update_notification_codec =
     made made_table_version_update_notification (IsNamed names.TableVersionUpdateNotification) body_spelling (λ p h. (h, refl)) (λ p h. refl) back (both four_codec (both four_codec eight_codec)) where
-      back : (z : Message) → IsNamed names.TableVersionUpdateNotification z → (p : ℕ × (ℕ × ℕ)) × HasSpelling (made_table_version_update_notification p) × (made_table_version_update_notification p ≡ z)
+      back : (z : Message) → IsNamed names.TableVersionUpdateNotification z
+          → (p : ℕ × (ℕ × ℕ)) × HasSpelling (made_table_version_update_notification p) × (made_table_version_update_notification p ≡ z)
       back (messages.TableVersionUpdateNotification m) h = ((m.gate, (m.table, m.version)), h.0, refl)
       back z h = absurd (let e = h.1 in cc)
 

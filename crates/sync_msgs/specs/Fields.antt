@@ -1,6 +1,7 @@
 -- Fields of messages, and readings put together of fields. A reading is of a value and the bytes behind it, up to the
 -- first place at which no spelling goes on.
-use Rattle.std.specs.Prelude.{ℕ, ◌+◌, ◌*◌, Bool, true, false, ◌==◌, ◌&&◌, nat_lt, nat_le, if◌then◌else◌, List, [], ◌∷◌, length, take, drop, Result, Ok, Err, Option, Some, None}
+use Rattle.std.specs.Prelude.{ℕ, ◌+◌, ◌*◌, Bool, true, false, ◌==◌, ◌&&◌, nat_lt, nat_le, if◌then◌else◌, List, [], ◌∷◌}
+use Rattle.std.specs.Prelude.{length, take, drop, Result, Ok, Err, Option, Some, None}
 use Rattle.std.specs.Int.{w32, w64}
 use Rattle.value_codec.specs.Reading.{◌>>=◌, byte_at, number_at, flag_at, exactly_at}
 

@@ -1,9 +1,11 @@
 -- Which messages have a spelling, and the one spelling of each: its kind, and the body, which is its fields in order.
-use Rattle.std.specs.Prelude.{◌≡◌, ℕ, ◌<◌, ◌≤◌, ◌^◌, Bool, true, false, ◌==◌, ◌&&◌, ◌||◌, List, [], ◌∷◌, ◌++◌, length, Option, Some, None}
+use Rattle.std.specs.Prelude.{◌≡◌, ℕ, ◌<◌, ◌≤◌, ◌^◌, Bool, true, false, ◌==◌, ◌&&◌, ◌||◌, List, [], ◌∷◌, ◌++◌, length}
+use Rattle.std.specs.Prelude.{Option, Some, None}
 use Rattle.std.specs.List.{AllByRecursion}
 use Rattle.std.specs.Int.{w32, w64, to_be_bytes}
 use Rattle.stab_base.specs.Codec.{counted}
-use Rattle.value_codec.specs.Spelling.{flag_spelling, list_spelling, content_spelling, HasContentSpelling, HasKeptSpelling}
+use Rattle.value_codec.specs.Spelling.{flag_spelling, list_spelling, content_spelling, HasContentSpelling}
+use Rattle.value_codec.specs.Spelling.{HasKeptSpelling}
 use Rattle.value_codec.specs.SchemaSpelling.{schema_spelling, HasSchemaSpelling}
 use Rattle.table_model.specs.declared.message_name.MessageName.{MessageName}
 use Rattle.table_model.specs.declared.message_name.MessageName.TheVariants as names

@@ -1,7 +1,8 @@
 ghost use Rattle.std.specs.Prelude.{◌≡◌, ◌≤◌, ◌<◌, ◌+◌, ◌*◌, ◌^◌, Bool, ℕ, List, length, drop, IfOk};
 ghost use Rattle.std.specs.Int.{w32, w64};
 ghost use Rattle.value_codec.specs.Reading.{Gives, number_at};
-ghost use Rattle.sync_msgs.specs.Fields.{Reader, byte_if, may_be, ranged_at, client_at, period_if, bytes_at, chunk_bytes_at};
+ghost use Rattle.sync_msgs.specs.Fields.{Reader, byte_if, may_be, ranged_at, client_at, period_if, bytes_at};
+ghost use Rattle.sync_msgs.specs.Fields.{chunk_bytes_at};
 
 use stab_base::Bytes;
 use std::alloc::Global;

@@ -1,5 +1,18 @@
 ghost use Rattle.std.specs.Prelude.{◌≡◌, ◌++◌, OnOk};
-ghost use Rattle.sync_msgs.specs.Spelling.{register_device_spelling, HasRegisterDevice, create_table_spelling, HasCreateTable, drop_table_spelling, HasDropTable, subscribe_table_spelling, HasSubscribeTable, unsubscribe_table_spelling, HasUnsubscribeTable, notify_spelling, HasNotify, object_fragment_spelling, HasObjectFragment, pull_request_spelling, HasPullRequest, pull_response_spelling, HasPullResponse, sync_request_spelling, HasSyncRequest, sync_response_spelling, HasSyncResponse, torn_row_request_spelling, HasTornRowRequest, torn_row_response_spelling, HasTornRowResponse, operation_response_spelling, HasOperationResponse, save_client_subscription_spelling, HasSaveClientSubscription, restore_client_subscriptions_spelling, HasRestoreClientSubscriptions, table_version_update_notification_spelling, HasTableVersionUpdateNotification, body_spelling, HasSpelling, four, eight, IsChunk, chunk_spelling};
+ghost use Rattle.sync_msgs.specs.Spelling.{register_device_spelling, HasRegisterDevice, create_table_spelling};
+ghost use Rattle.sync_msgs.specs.Spelling.{HasCreateTable, drop_table_spelling, HasDropTable, subscribe_table_spelling};
+ghost use Rattle.sync_msgs.specs.Spelling.{HasSubscribeTable, unsubscribe_table_spelling, HasUnsubscribeTable};
+ghost use Rattle.sync_msgs.specs.Spelling.{notify_spelling, HasNotify, object_fragment_spelling, HasObjectFragment};
+ghost use Rattle.sync_msgs.specs.Spelling.{pull_request_spelling, HasPullRequest, pull_response_spelling};
+ghost use Rattle.sync_msgs.specs.Spelling.{HasPullResponse, sync_request_spelling, HasSyncRequest};
+ghost use Rattle.sync_msgs.specs.Spelling.{sync_response_spelling, HasSyncResponse, torn_row_request_spelling};
+ghost use Rattle.sync_msgs.specs.Spelling.{HasTornRowRequest, torn_row_response_spelling, HasTornRowResponse};
+ghost use Rattle.sync_msgs.specs.Spelling.{operation_response_spelling, HasOperationResponse};
+ghost use Rattle.sync_msgs.specs.Spelling.{save_client_subscription_spelling, HasSaveClientSubscription};
+ghost use Rattle.sync_msgs.specs.Spelling.{restore_client_subscriptions_spelling, HasRestoreClientSubscriptions};
+ghost use Rattle.sync_msgs.specs.Spelling.{table_version_update_notification_spelling};
+ghost use Rattle.sync_msgs.specs.Spelling.{HasTableVersionUpdateNotification, body_spelling, HasSpelling, four, eight};
+ghost use Rattle.sync_msgs.specs.Spelling.{IsChunk, chunk_spelling};
 ghost use Rattle.value_codec.specs.Spelling.{flag_spelling};
 
 use crate::part_writer::{

@@ -1,6 +1,8 @@
 ghost use Rattle.std.specs.Prelude.{◌≡◌, ◌≤◌, length, drop, IfOk};
 ghost use Rattle.value_codec.specs.Reading.{Gives};
-ghost use Rattle.sync_msgs.specs.Reading.{subscribe_table_at, unsubscribe_table_at, notify_at, save_client_subscription_at, restore_client_subscriptions_at, table_version_update_notification_at};
+ghost use Rattle.sync_msgs.specs.Reading.{subscribe_table_at, unsubscribe_table_at, notify_at};
+ghost use Rattle.sync_msgs.specs.Reading.{save_client_subscription_at, restore_client_subscriptions_at};
+ghost use Rattle.sync_msgs.specs.Reading.{table_version_update_notification_at};
 
 use crate::field_reader::{take_client, take_period};
 use crate::part_reader::take_subscriptions;

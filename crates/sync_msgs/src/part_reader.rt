@@ -3,7 +3,8 @@ ghost use Rattle.value_codec.specs.Reading.{Gives, list_at, items_at};
 ghost use Rattle.value_codec.specs.SchemaReading.{schema_at};
 ghost use Rattle.sync_msgs.specs.Fields.{value_if, option_at, option_if, is_flag, byte_if};
 ghost use Rattle.sync_msgs.specs.Spelling.{has_schema};
-ghost use Rattle.sync_msgs.specs.Reading.{header_at, is_outcome, outcome_of, outcome_at, subscription_at, after_subscription, subscription_in};
+ghost use Rattle.sync_msgs.specs.Reading.{header_at, is_outcome, outcome_of, outcome_at, subscription_at};
+ghost use Rattle.sync_msgs.specs.Reading.{after_subscription, subscription_in};
 
 use row_value::Schema;
 use stab_base::Sequence;

@@ -1,7 +1,9 @@
 ghost use Rattle.std.specs.Prelude.{◌≡◌, ◌++◌, OnOk};
 ghost use Rattle.value_codec.specs.Spelling.{flag_spelling};
 ghost use Rattle.value_codec.specs.SchemaSpelling.{schema_spelling, HasSchemaSpelling};
-ghost use Rattle.sync_msgs.specs.Spelling.{four, eight, IsChunk, chunk_spelling, IsOption, option_spelling, header_spelling, HasHeaderSpelling, outcome_spelling, HasOutcomeSpelling, subscription_spelling, AreSubscriptions, subscriptions_spelling};
+ghost use Rattle.sync_msgs.specs.Spelling.{four, eight, IsChunk, chunk_spelling, IsOption, option_spelling};
+ghost use Rattle.sync_msgs.specs.Spelling.{header_spelling, HasHeaderSpelling, outcome_spelling, HasOutcomeSpelling};
+ghost use Rattle.sync_msgs.specs.Spelling.{subscription_spelling, AreSubscriptions, subscriptions_spelling};
 
 use row_value::Schema;
 use stab_base::{RowId, put_bytes, put_u8, put_u32, put_u64};

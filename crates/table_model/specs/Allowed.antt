@@ -19,7 +19,8 @@ is_entry_at row version before = is_of_row row before && (before.version == vers
 -- client hadn't read of the row is its own and earlier. Eventual: it rests on nothing or on an entry of the row
 abbrev pub entry_allowed : Scheme → List Entry → Entry → ℕ → Bool
 entry_allowed Strong history entry read = (entry.base == read) && (entry.base == current history entry.row)
-entry_allowed Causal history entry read = (entry.base == current history entry.row) && list_all (is_read_or_own entry read) history
+entry_allowed Causal history entry read =
+    (entry.base == current history entry.row) && list_all (is_read_or_own entry read) history
 entry_allowed Eventual history entry read = (entry.base == 0) || list_any (is_entry_at entry.row entry.base) history
 
 -- ---- the same, as relations

@@ -1,5 +1,5 @@
-//! What a script asks, what a transcript tells, what parties send to each other, and what lines say of the writes of clients and of the histories of
-//! tables.
+//! What a script asks, what a transcript tells, what parties send to each other, and what lines say of the writes of
+//! clients and of the histories of tables.
 #![tactic(auto)]
 
 mod allowed;

@@ -92,7 +92,8 @@ HasFactText (facts.Sent packet from to name) = (packet < 2 ^ 64) × HasNodeText 
 HasFactText (facts.Wrote write) = HasWriteText write
 HasFactText (facts.Acked client number table row version) =
     (client < 2 ^ 32) × (number < 2 ^ 64) × (table < 2 ^ 32) × HasRowText row × (version < 2 ^ 64)
-HasFactText (facts.New client table row version) = (client < 2 ^ 32) × (table < 2 ^ 32) × HasRowText row × (version < 2 ^ 64)
+HasFactText (facts.New client table row version) =
+    (client < 2 ^ 32) × (table < 2 ^ 32) × HasRowText row × (version < 2 ^ 64)
 HasFactText (facts.Position client table position) = (client < 2 ^ 32) × (table < 2 ^ 32) × (position < 2 ^ 64)
 HasFactText (facts.Accepted table entry) = HasEntryText table entry
 

@@ -63,8 +63,10 @@ answer_text (answers.Refused refusal) = refusal_text refusal
 
 abbrev pub write_text : Write → List ℕ
 write_text write =
-    codes "wrote C" ++ (decimal write.client ++ (codes " " ++ (decimal write.number ++ (codes " T" ++ (decimal write.table
-    ++ (codes " " ++ (hyphenated_text lower write.row ++ (codes " " ++ (decimal write.read ++ content_text write.content)))))))))
+    codes "wrote C" ++ (decimal write.client
+    ++ (codes " " ++ (decimal write.number ++ (codes " T" ++ (decimal write.table
+    ++ (codes " " ++ (hyphenated_text lower write.row
+    ++ (codes " " ++ (decimal write.read ++ content_text write.content)))))))))
 
 -- each party and each name of a message has a space before it
 abbrev pub node_text : Node → List ℕ
@@ -94,17 +96,23 @@ message_text kinds.TableVersionUpdateNotification = codes " tableVersionUpdateNo
 -- an entry of a table, behind the word that a line begins with
 abbrev pub entry_text : ℕ → Entry → List ℕ
 entry_text table entry =
-    codes " T" ++ (decimal table ++ (codes " " ++ (decimal entry.version ++ (codes " " ++ (hyphenated_text lower entry.row
-    ++ (codes " C" ++ (decimal entry.client ++ (codes " " ++ (decimal entry.number ++ (codes " " ++ decimal entry.base))))))))))
+    codes " T" ++ (decimal table
+    ++ (codes " " ++ (decimal entry.version ++ (codes " " ++ (hyphenated_text lower entry.row
+    ++ (codes " C"
+    ++ (decimal entry.client ++ (codes " " ++ (decimal entry.number ++ (codes " " ++ decimal entry.base))))))))))
 
 abbrev pub fact_text : Fact → List ℕ
-fact_text (facts.Sent packet from to name) = codes "sent " ++ (decimal packet ++ (node_text from ++ (node_text to ++ message_text name)))
+fact_text (facts.Sent packet from to name) =
+    codes "sent " ++ (decimal packet ++ (node_text from ++ (node_text to ++ message_text name)))
 fact_text (facts.Wrote write) = write_text write
 fact_text (facts.Acked client number table row version) =
     codes "acked C" ++ (decimal client ++ (codes " " ++ (decimal number ++ (codes " T" ++ (decimal table
     ++ (codes " " ++ (hyphenated_text lower row ++ (codes " " ++ decimal version))))))))
 fact_text (facts.New client table row version) =
-    codes "new C" ++ (decimal client ++ (codes " T" ++ (decimal table ++ (codes " " ++ (hyphenated_text lower row ++ (codes " " ++ decimal version))))))
+    codes "new C"
+    ++ (decimal client
+    ++ (codes " T"
+    ++ (decimal table ++ (codes " " ++ (hyphenated_text lower row ++ (codes " " ++ decimal version))))))
 fact_text (facts.Position client table position) =
     codes "position C" ++ (decimal client ++ (codes " T" ++ (decimal table ++ (codes " " ++ decimal position))))
 fact_text (facts.Accepted table entry) = codes "accepted" ++ entry_text table entry
@@ -116,7 +124,8 @@ text_of (lines.Fact fact) = fact_text fact
 
 -- the text of a line that says why a run stopped: the status that the program ends with, the line of the script, a code
 abbrev pub stop_text : ℕ → ℕ → ℕ → List ℕ
-stop_text status line code = codes "stop " ++ (decimal status ++ (codes " " ++ (decimal line ++ (codes " " ++ decimal code))))
+stop_text status line code =
+    codes "stop " ++ (decimal status ++ (codes " " ++ (decimal line ++ (codes " " ++ decimal code))))
 
 -- the text of a whole transcript: each line ends with a newline
 abbrev pub transcript_text : List TextLine → List ℕ

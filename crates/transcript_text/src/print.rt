@@ -2,7 +2,9 @@ ghost use Rattle.std.specs.Prelude.{◌≡◌, ◌++◌, IfOk, OnOk};
 ghost use Rattle.std.specs.List.{flat_map};
 ghost use Rattle.std.specs.String.{string_bytes};
 ghost use Rattle.table_model.specs.declared.line.Fact.TheVariants as facts;
-ghost use Rattle.transcript_text.specs.Text.{cell_text, object_text, content_text, refusal_text, shown_text, answer_text, write_text, node_text, message_text, entry_text, fact_text, text_of, stop_text};
+ghost use Rattle.transcript_text.specs.Text.{cell_text, object_text, content_text, refusal_text, shown_text};
+ghost use Rattle.transcript_text.specs.Text.{answer_text, write_text, node_text, message_text, entry_text, fact_text};
+ghost use Rattle.transcript_text.specs.Text.{text_of, stop_text};
 
 use percent_encoding::{AsciiSet, NON_ALPHANUMERIC, ascii_set, percent_encode};
 use row_value::{Bytes, Cell, Cells, Content, Objects, TableNo};

@@ -11,7 +11,8 @@ use Rattle.row_value.specs.declared.pieces.Piece.TheVariants.{Keep, Fresh}
 use Rattle.row_value.specs.declared.pieces.PieceObject.{PieceObject}
 use Rattle.row_value.specs.declared.pieces.PieceContent.{PieceContent}
 use Rattle.row_value.specs.declared.pieces.PieceContent.TheVariants.{Gone, Row}
-use Rattle.value_codec.specs.Spelling.{list_spelling, cell_spelling, HasCellSpelling, piece_spelling, HasPieceSpelling, fresh_in, object_spelling, HasObjectSpelling, pieces_of, CountsFrom, content_spelling, HasContentSpelling, HasKeptSpelling}
+use Rattle.value_codec.specs.Spelling.{list_spelling, cell_spelling, HasCellSpelling, piece_spelling, HasPieceSpelling, fresh_in, object_spelling, HasObjectSpelling, pieces_of, CountsFrom}
+use Rattle.value_codec.specs.Spelling.{content_spelling, HasContentSpelling, HasKeptSpelling}
 use Rattle.value_codec.specs.Reading.{byte_at, number_at, list_at, after_cell, cell_in, piece_in, after_piece, object_in, after_object, row_from, content_from, content_at, kept_content_at}
 use Rattle.value_codec.proofs.FieldReads.{bind_ok, ok_is, branch, no_fault, gives, Reads, retold, rest_fits, two_take, two_again, byte_reads, four_reads}
 use Rattle.value_codec.proofs.ListReads.{EachFrom, list_reads, each_of, each_from}

@@ -1,5 +1,6 @@
 -- A field that is read is the field that was written, and what was written is read again.
-use Rattle.std.proofs.Common.{◌≡◌, ℕ, ◌+◌, ◌-◌, ◌^◌, ◌<◌, ◌≤◌, length-drop, Bool, true, false, cond, eqb, ltb, List, [], ◌∷◌, ◌++◌, length, take, drop, Result, Ok, Err, refl, sym, ap, subst, ◌∙◌, append_assoc, arith, ◌⊎◌, inl, inr}
+use Rattle.std.proofs.Common.{◌≡◌, ℕ, ◌+◌, ◌-◌, ◌^◌, ◌<◌, ◌≤◌, length-drop, Bool, true, false, cond, eqb, ltb, List, [], ◌∷◌, ◌++◌, length, take, drop, Result, Ok, Err, refl, sym, ap, subst, ◌∙◌}
+use Rattle.std.proofs.Common.{append_assoc, arith, ◌⊎◌, inl, inr}
 use Rattle.std.specs.Int.{Width, w32, w64, byte_len, from_be_bytes, to_be_bytes}
 use Rattle.std.specs.Str.{IsUtf8}
 use Rattle.std.proofs.lemmas.Bool.{le-ltb, ltb-false, eqb-true}
@@ -63,7 +64,8 @@ pub one_again : {X Z : Type 0} (P : X → Type 0) (spell : X → List ℕ) (read
     → (x : X) (rest : List ℕ) → P x → (read (spell x ++ rest) >>= λ a. gives (f a.0) a.1) ≡ gives (f x) rest
 one_again P spell read f r x rest h = rw (r.again x rest h) refl
 
-pub two_take : {X Y Z : Type 0} (P : X → Type 0) (spell : X → List ℕ) (read : List ℕ → Result (X × List ℕ) ℕ) (Q : X → Y → Type 0) (tell : X → Y → List ℕ) (next : X → List ℕ → Result (Y × List ℕ) ℕ) (f : X → Y → Z)
+pub two_take : {X Y Z : Type 0} (P : X → Type 0) (spell : X → List ℕ) (read : List ℕ → Result (X × List ℕ) ℕ) (Q : X → Y → Type 0) (tell : X → Y → List ℕ) (next : X → List ℕ → Result (Y × List ℕ) ℕ)
+    (f : X → Y → Z)
     → Reads P spell read → ((x : X) → Reads (Q x) (tell x) (next x))
     → (bytes : List ℕ) (z : Z) (rest : List ℕ) → IsBytes bytes → (read bytes >>= λ a. next a.0 a.1 >>= λ b. gives (f a.0 b.0) b.1) ≡ gives z rest
     → (x : X) × (y : Y) × (f x y ≡ z) × P x × Q x y × (bytes ≡ (spell x ++ tell x y) ++ rest)
@@ -73,7 +75,8 @@ two_take {X} {Y} {Z} P spell read Q tell next f r q bytes z rest fits e =
     let o = one_takes (Q a.0.0) (tell a.0.0) (next a.0.0) (f a.0.0) (q a.0.0) a.0.1 z rest (rest_fits (spell a.0.0) a.0.1 bytes t.1 fits) a.2 in
     (a.0.0, o.0, o.1, t.0, o.2, t.1 ∙ ap (λ (l : List ℕ). spell a.0.0 ++ l) o.3 ∙ sym (append_assoc (spell a.0.0) (tell a.0.0 o.0) rest))
 
-pub two_again : {X Y Z : Type 0} (P : X → Type 0) (spell : X → List ℕ) (read : List ℕ → Result (X × List ℕ) ℕ) (Q : X → Y → Type 0) (tell : X → Y → List ℕ) (next : X → List ℕ → Result (Y × List ℕ) ℕ) (f : X → Y → Z)
+pub two_again : {X Y Z : Type 0} (P : X → Type 0) (spell : X → List ℕ) (read : List ℕ → Result (X × List ℕ) ℕ) (Q : X → Y → Type 0) (tell : X → Y → List ℕ) (next : X → List ℕ → Result (Y × List ℕ) ℕ)
+    (f : X → Y → Z)
     → Reads P spell read → ((x : X) → Reads (Q x) (tell x) (next x))
     → (x : X) (y : Y) (rest : List ℕ) → P x → Q x y → (read ((spell x ++ tell x y) ++ rest) >>= λ a. next a.0 a.1 >>= λ b. gives (f a.0 b.0) b.1) ≡ gives (f x y) rest
 two_again P spell read Q tell next f r q x y rest h k = rw (append_assoc (spell x) (tell x y) rest, r.again x (tell x y ++ rest) h, (q x).again y rest k) refl
@@ -134,7 +137,8 @@ id_again id rest len =
 pub id_reads : Reads (λ id. length id ≡ 16) (λ id. id) id_at
 id_reads = record { takes = id_takes; again = id_again }
 
-pub id_read : (bytes : List ℕ) (at : ℕ) (id : List ℕ) → at ≤ length bytes → id ≡ take 16 (take (length bytes - at) (drop at bytes)) → 16 ≤ length (take (length bytes - at) (drop at bytes)) → id_at (drop at bytes) ≡ gives id (drop (at + 16) bytes)
+pub id_read : (bytes : List ℕ) (at : ℕ) (id : List ℕ) → at ≤ length bytes → id ≡ take 16 (take (length bytes - at) (drop at bytes)) → 16 ≤ length (take (length bytes - at) (drop at bytes))
+    → id_at (drop at bytes) ≡ gives id (drop (at + 16) bytes)
 unfolding id_at
 id_read bytes at id within is long =
     let rest = drop at bytes in

@@ -1,5 +1,6 @@
 -- Fields and lists: where reading fails, no spelling goes on.
-use Rattle.std.proofs.Common.{◌≡◌, ℕ, zero, suc, ◌-◌, ◌^◌, ◌<◌, ◌≤◌, Bool, true, false, cond, eqb, ltb, List, [], ◌∷◌, ◌++◌, length, take, drop, get_or, Option, Some, None, Result, Err, refl, sym, ap, subst, ◌∙◌, arith, inl, inr, length-append}
+use Rattle.std.proofs.Common.{◌≡◌, ℕ, zero, suc, ◌-◌, ◌^◌, ◌<◌, ◌≤◌, Bool, true, false, cond, eqb, ltb, List, [], ◌∷◌, ◌++◌, length, take, drop, get_or, Option, Some, None, Result, Err, refl, sym, ap}
+use Rattle.std.proofs.Common.{subst, ◌∙◌, arith, inl, inr, length-append}
 use Rattle.std.specs.List.{flat_map}
 use Rattle.std.specs.Int.{Width, w32, w64, byte_len, from_be_bytes, to_be_bytes}
 use Rattle.std.specs.Str.{IsUtf8}
@@ -171,7 +172,8 @@ IsRest inside len text = (length text ≡ len) × Finishes inside text
 abbrev itself : List ℕ → List ℕ
 itself text = text
 
-rest_fails : (len : ℕ) (inside : Inside) (bytes : List ℕ) (left : ℕ) → inside.low ≤ inside.high → inside.need ≤ len → utf8_rest inside len bytes ≡ Err left → IsFirstBad (IsRest inside len) itself bytes left
+rest_fails : (len : ℕ) (inside : Inside) (bytes : List ℕ) (left : ℕ) → inside.low ≤ inside.high → inside.need ≤ len → utf8_rest inside len bytes ≡ Err left
+    → IsFirstBad (IsRest inside len) itself bytes left
 unfolding utf8_rest
 rest_fails zero inside bytes left bounds room e = absurd (not_ok bytes left e)
 rest_fails (suc len) inside [] left bounds room e =
@@ -255,7 +257,8 @@ module _ {S X : Type 0} (next : S → X → S) (P : S → X → Type 0) (spell :
       let others = items_stop n (next s first.some) in
       record { some = first.some ∷ others.some; has = (ap suc others.has.0, (first.has, others.has.1)); fails = some_fail n s (λ x. items_stop n (next s x)) }
 
-  list_fails : (s : S) (bytes : List ℕ) (left : ℕ) → IsBytes bytes → list_at next item_at s bytes ≡ Err left → IsFirstBad (λ xs. (length xs < 2 ^ 32) × EachFrom next P s xs) (list_spelling spell) bytes left
+  list_fails : (s : S) (bytes : List ℕ) (left : ℕ) → IsBytes bytes → list_at next item_at s bytes ≡ Err left
+      → IsFirstBad (λ xs. (length xs < 2 ^ 32) × EachFrom next P s xs) (list_spelling spell) bytes left
   unfolding list_at
   list_fails s bytes left fits e =
       moved {W = ℕ × List X} (λ p. (p.0 < 2 ^ 32) × IsList next P s p.0 p.1) (λ p. to_be_bytes w32 p.0 ++ flat_map spell p.1) (λ xs. (length xs < 2 ^ 32) × EachFrom next P s xs) (list_spelling spell) bytes left

@@ -18,7 +18,8 @@ pub starts : {X : Type 0} (read : Result (List X × List ℕ) ℕ) → with_fron
 starts (Ok x) = refl
 starts (Err f) = refl
 
-pub goes_on : {S X : Type 0} (next : S → X → S) (item_at : S → List ℕ → Result (X × List ℕ) ℕ) (s : S) (front : List X) (count i : ℕ) (bytes : List ℕ) (x : X) (after : List ℕ) (total : Result (List X × List ℕ) ℕ) → i < count → item_at s bytes ≡ Ok (x, after)
+pub goes_on : {S X : Type 0} (next : S → X → S) (item_at : S → List ℕ → Result (X × List ℕ) ℕ) (s : S) (front : List X) (count i : ℕ) (bytes : List ℕ) (x : X) (after : List ℕ)
+    (total : Result (List X × List ℕ) ℕ) → i < count → item_at s bytes ≡ Ok (x, after)
     → with_front front (items_at next item_at s (count - i) bytes) ≡ total → with_front (front ++ x ∷ []) (items_at next item_at (next s x) (count - (i + 1)) after) ≡ total
 unfolding items_at
 goes_on next item_at s front count i bytes x after total lt h so_far =
@@ -26,7 +27,8 @@ goes_on next item_at s front count i bytes x after total lt h so_far =
     let one : with_front front (items_at next item_at s (count - i) bytes) ≡ with_front (front ++ x ∷ []) (items_at next item_at (next s x) (count - (i + 1)) after) = rw (k, h) (regroup front x (items_at next item_at (next s x) (count - (i + 1)) after)) in
     sym one ∙ so_far
 
-pub ends : {S X : Type 0} (next : S → X → S) (item_at : S → List ℕ → Result (X × List ℕ) ℕ) (e : SpellFault) (all : List ℕ) (s : S) (front : List X) (count i : ℕ) (bytes : List ℕ) (total : Result (List X × List ℕ) ℕ) → i < count → Fails all e (item_at s bytes)
+pub ends : {S X : Type 0} (next : S → X → S) (item_at : S → List ℕ → Result (X × List ℕ) ℕ) (e : SpellFault) (all : List ℕ) (s : S) (front : List X) (count i : ℕ) (bytes : List ℕ)
+    (total : Result (List X × List ℕ) ℕ) → i < count → Fails all e (item_at s bytes)
     → with_front front (items_at next item_at s (count - i) bytes) ≡ total → Fails all e total
 unfolding items_at
 ends next item_at Memory all s front count i bytes total lt h so_far = tt
@@ -36,7 +38,8 @@ ends next item_at (Bad at) all s front count i bytes total lt h so_far =
     let one : with_front front (items_at next item_at s (count - i) bytes) ≡ Err (length all - at) = rw (k, e) refl in
     (h.0, sym so_far ∙ one)
 
-pub is_done : {S X : Type 0} (next : S → X → S) (item_at : S → List ℕ → Result (X × List ℕ) ℕ) (s : S) (front : List X) (count i : ℕ) (bytes : List ℕ) (total : Result (List X × List ℕ) ℕ) → count ≤ i → with_front front (items_at next item_at s (count - i) bytes) ≡ total → total ≡ Ok (front, bytes)
+pub is_done : {S X : Type 0} (next : S → X → S) (item_at : S → List ℕ → Result (X × List ℕ) ℕ) (s : S) (front : List X) (count i : ℕ) (bytes : List ℕ) (total : Result (List X × List ℕ) ℕ) → count ≤ i
+    → with_front front (items_at next item_at s (count - i) bytes) ≡ total → total ≡ Ok (front, bytes)
 unfolding items_at
 is_done {S} {X} next item_at s front count i bytes total le so_far =
     let k : count - i ≡ 0 = omega arith in

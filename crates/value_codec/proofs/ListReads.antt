@@ -16,7 +16,8 @@ EachFrom next P s (x ∷ xs) = P s x × EachFrom next P (next s x) xs
 abbrev pub IsList : {S X : Type 0} → (S → X → S) → (S → X → Type 0) → S → ℕ → List X → Type 0
 IsList next P s n xs = (length xs ≡ n) × EachFrom next P s xs
 
-none_again : {S X : Type 0} (next : S → X → S) (P : S → X → Type 0) (spell : X → List ℕ) (item_at : S → List ℕ → Result (X × List ℕ) ℕ) (s : S) (xs : List X) (rest : List ℕ) → IsList next P s 0 xs → items_at next item_at s 0 (flat_map spell xs ++ rest) ≡ Ok (xs, rest)
+none_again : {S X : Type 0} (next : S → X → S) (P : S → X → Type 0) (spell : X → List ℕ) (item_at : S → List ℕ → Result (X × List ℕ) ℕ) (s : S) (xs : List X) (rest : List ℕ) → IsList next P s 0 xs
+    → items_at next item_at s 0 (flat_map spell xs ++ rest) ≡ Ok (xs, rest)
 unfolding items_at
 none_again next P spell item_at s [] rest h = refl
 none_again next P spell item_at s (x ∷ xs) rest h = absurd (omega (arith, h.0))
@@ -39,13 +40,15 @@ some_take {S} {X} next P spell item_at each n s later bytes xs rest fits e =
     subst (λ (zs : List X). IsList next P s (suc n) zs × (bytes ≡ flat_map spell zs ++ rest)) t.2
     ((omega (arith, t.4.0), (t.3, t.4.1)), t.5 ∙ ap (λ (l : List ℕ). l ++ rest) (sym (flat_map-cons spell t.0 t.1)))
 
-none_take : {S X : Type 0} (next : S → X → S) (P : S → X → Type 0) (spell : X → List ℕ) (item_at : S → List ℕ → Result (X × List ℕ) ℕ) (s : S) (bytes : List ℕ) (xs : List X) (rest : List ℕ) → items_at next item_at s 0 bytes ≡ Ok (xs, rest) → IsList next P s 0 xs × (bytes ≡ flat_map spell xs ++ rest)
+none_take : {S X : Type 0} (next : S → X → S) (P : S → X → Type 0) (spell : X → List ℕ) (item_at : S → List ℕ → Result (X × List ℕ) ℕ) (s : S) (bytes : List ℕ) (xs : List X) (rest : List ℕ)
+    → items_at next item_at s 0 bytes ≡ Ok (xs, rest) → IsList next P s 0 xs × (bytes ≡ flat_map spell xs ++ rest)
 unfolding items_at
 none_take {S} {X} next P spell item_at s bytes xs rest e =
     let nothing : List X = [] in
     subst (λ (p : List X × List ℕ). IsList next P s 0 p.0 × (bytes ≡ flat_map spell p.0 ++ p.1)) (ok_is (nothing, bytes) (xs, rest) e) ((refl, tt), refl)
 
-pub items_reads : {S X : Type 0} (next : S → X → S) (P : S → X → Type 0) (spell : X → List ℕ) (item_at : S → List ℕ → Result (X × List ℕ) ℕ) → ((s : S) → Reads (P s) spell (item_at s)) → (n : ℕ) (s : S) → Reads (IsList next P s n) (flat_map spell) (items_at next item_at s n)
+pub items_reads : {S X : Type 0} (next : S → X → S) (P : S → X → Type 0) (spell : X → List ℕ) (item_at : S → List ℕ → Result (X × List ℕ) ℕ) → ((s : S) → Reads (P s) spell (item_at s))
+    → (n : ℕ) (s : S) → Reads (IsList next P s n) (flat_map spell) (items_at next item_at s n)
 items_reads next P spell item_at each zero s = record {
   takes = λ bytes xs rest fits e. none_take next P spell item_at s bytes xs rest e;
   again = none_again next P spell item_at s;
@@ -56,7 +59,8 @@ items_reads next P spell item_at each (suc n) s = record {
 }
 
 list_takes : {S X : Type 0} (next : S → X → S) (P : S → X → Type 0) (spell : X → List ℕ) (item_at : S → List ℕ → Result (X × List ℕ) ℕ) → ((s : S) → Reads (P s) spell (item_at s)) → (s : S)
-    → (bytes : List ℕ) (xs : List X) (rest : List ℕ) → IsBytes bytes → list_at next item_at s bytes ≡ Ok (xs, rest) → ((length xs < 2 ^ 32) × EachFrom next P s xs) × (bytes ≡ list_spelling spell xs ++ rest)
+    → (bytes : List ℕ) (xs : List X) (rest : List ℕ) → IsBytes bytes → list_at next item_at s bytes ≡ Ok (xs, rest)
+    → ((length xs < 2 ^ 32) × EachFrom next P s xs) × (bytes ≡ list_spelling spell xs ++ rest)
 unfolding list_at
 list_takes next P spell item_at each s bytes xs rest fits e =
     let a = bind_ok (number_at w32 bytes) (λ count. items_at next item_at s count.0 count.1) (xs, rest) e in
@@ -72,7 +76,8 @@ list_again next P spell item_at each s xs rest h =
     ap (list_at next item_at s) (append_assoc (to_be_bytes w32 (length xs)) (flat_map spell xs) rest)
     ∙ rw (four_reads.again (length xs) (flat_map spell xs ++ rest) h.0) ((items_reads next P spell item_at each (length xs) s).again xs rest (refl, h.1))
 
-pub list_reads : {S X : Type 0} (next : S → X → S) (P : S → X → Type 0) (spell : X → List ℕ) (item_at : S → List ℕ → Result (X × List ℕ) ℕ) → ((s : S) → Reads (P s) spell (item_at s)) → (s : S) → Reads (λ xs. (length xs < 2 ^ 32) × EachFrom next P s xs) (list_spelling spell) (list_at next item_at s)
+pub list_reads : {S X : Type 0} (next : S → X → S) (P : S → X → Type 0) (spell : X → List ℕ) (item_at : S → List ℕ → Result (X × List ℕ) ℕ) → ((s : S) → Reads (P s) spell (item_at s)) → (s : S)
+    → Reads (λ xs. (length xs < 2 ^ 32) × EachFrom next P s xs) (list_spelling spell) (list_at next item_at s)
 list_reads next P spell item_at each s = record { takes = list_takes next P spell item_at each s; again = list_again next P spell item_at each s }
 
 -- where nothing is left from item to item

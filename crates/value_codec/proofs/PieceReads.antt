@@ -28,7 +28,8 @@ name_reads = record { takes = name_takes; again = name_again }
 
 -- ---- a piece with any ordinal
 
-keep_takes : (bytes : List ℕ) (p : Piece) (rest : List ℕ) → IsBytes bytes → keep_at bytes ≡ Ok (p, rest) → (name : ChunkName) × (Keep name ≡ p) × HasNameSpelling name × (bytes ≡ name_spelling name ++ rest)
+keep_takes : (bytes : List ℕ) (p : Piece) (rest : List ℕ) → IsBytes bytes → keep_at bytes ≡ Ok (p, rest)
+    → (name : ChunkName) × (Keep name ≡ p) × HasNameSpelling name × (bytes ≡ name_spelling name ++ rest)
 unfolding keep_at
 keep_takes bytes p rest fits e = one_takes HasNameSpelling name_spelling name_at (λ name. Keep name) name_reads bytes p rest fits e
 

@@ -1,5 +1,6 @@
 -- Schemas: what is read is spelled so, and what is spelled so is read.
-use Rattle.std.proofs.Common.{◌≡◌, ℕ, ◌^◌, ◌<◌, ◌≤◌, ◌/◌, ◌%◌, Bool, true, false, cond, eqb, ltb, ◌||◌, List, [], ◌∷◌, ◌++◌, length, Ok, Err, refl, sym, ap, subst, ◌∙◌, append_assoc, arith, ◌⊎◌, inl, inr}
+use Rattle.std.proofs.Common.{◌≡◌, ℕ, ◌^◌, ◌<◌, ◌≤◌, ◌/◌, ◌%◌, Bool, true, false, cond, eqb, ltb, ◌||◌, List, [], ◌∷◌, ◌++◌, length, Ok, Err, refl, sym, ap, subst, ◌∙◌, append_assoc, arith, ◌⊎◌, inl}
+use Rattle.std.proofs.Common.{inr}
 use Rattle.std.specs.Prelude.{IsUtf8}
 use Rattle.std.specs.List.{flat_map, AllByRecursion}
 use Rattle.std.specs.Int.{w32, to_be_bytes}
@@ -265,7 +266,8 @@ are_each only (c ∷ cs) all objects first =
 
 -- ---- schemas
 
-joined : (bytes a b c d name chunk columns : List ℕ) (scheme : ℕ) → bytes ≡ name ++ a → a ≡ (scheme ∷ []) ++ b → b ≡ chunk ++ c → c ≡ columns ++ d → bytes ≡ (name ++ (scheme ∷ (chunk ++ columns))) ++ d
+joined : (bytes a b c d name chunk columns : List ℕ) (scheme : ℕ) → bytes ≡ name ++ a → a ≡ (scheme ∷ []) ++ b → b ≡ chunk ++ c → c ≡ columns ++ d
+    → bytes ≡ (name ++ (scheme ∷ (chunk ++ columns))) ++ d
 joined bytes a b c d name chunk columns scheme p q r t =
     let tail : b ≡ (chunk ++ columns) ++ d = r ∙ ap (λ (l : List ℕ). chunk ++ l) t ∙ sym (append_assoc chunk columns d) in
     p ∙ ap (λ (l : List ℕ). name ++ l) (q ∙ ap (λ (l : List ℕ). scheme ∷ l) tail) ∙ sym (append_assoc name (scheme ∷ (chunk ++ columns)) d)

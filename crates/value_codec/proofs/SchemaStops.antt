@@ -18,8 +18,10 @@ use Rattle.value_codec.specs.SchemaReading.{scheme_at, low_chunk_at, high_chunk_
 use Rattle.value_codec.proofs.FieldReads.{bind_ok, ok_is, branch, no_fault, gives, Reads, text_reads}
 use Rattle.value_codec.proofs.PieceReads.{exactly_takes, exactly_again}
 use Rattle.value_codec.proofs.ListReads.{IsList, items_reads}
-use Rattle.value_codec.proofs.SchemaReads.{scheme_reads, IsKindNext, kind_reads, chunk_reads, IsColumnCount, small, count_reads, IsColumnNext, column_reads, AreColumns, columns_read, each_are, are_each}
-use Rattle.value_codec.proofs.Stops.{Stops, err_is, not_ok, bind_err, branch_err, head_is, tail_is, moved, behind, no_byte, bad_byte, two_fail, two_fail_made, paired, pair_reads, pair_stop, bind_same, two_then}
+use Rattle.value_codec.proofs.SchemaReads.{scheme_reads, IsKindNext, kind_reads, chunk_reads, IsColumnCount, small, count_reads, IsColumnNext, column_reads, AreColumns, columns_read, each_are}
+use Rattle.value_codec.proofs.SchemaReads.{are_each}
+use Rattle.value_codec.proofs.Stops.{Stops, err_is, not_ok, bind_err, branch_err, head_is, tail_is, moved, behind, no_byte, bad_byte, two_fail, two_fail_made, paired, pair_reads, pair_stop, bind_same}
+use Rattle.value_codec.proofs.Stops.{two_then}
 use Rattle.value_codec.proofs.FieldStops.{exactly_fails, Given, given, IsText, text_stop, items_stop}
 use Rattle.value_codec.proofs.ValueStops.{differ}
 

@@ -100,7 +100,8 @@ no_byte P spell some h =
       stops = λ b later is x others k e. absurd cc;
     }
 
-pub bad_byte : {X : Type 0} (P : X → Type 0) (spell : X → List ℕ) (some : X) (b : ℕ) (bytes : List ℕ) → P some → ((x : X) (others : List ℕ) → P x → spell x ≡ b ∷ others → ⊥) → IsFirstBad P spell (b ∷ bytes) (suc (length bytes))
+pub bad_byte : {X : Type 0} (P : X → Type 0) (spell : X → List ℕ) (some : X) (b : ℕ) (bytes : List ℕ) → P some → ((x : X) (others : List ℕ) → P x → spell x ≡ b ∷ others → ⊥)
+    → IsFirstBad P spell (b ∷ bytes) (suc (length bytes))
 bad_byte P spell some b bytes h none =
     let nothing : List ℕ = [] in
     record {
@@ -187,7 +188,8 @@ module _ {X Y : Type 0} (P : X → Type 0) (spell : X → List ℕ) (read : List
         | inr h ↦ second_fails bytes left h.0 fits h.1 h.2
       ]
 
-  pub two_fail_made : {Z : Type 0} (f : X → Y → Z) (bytes : List ℕ) (left : ℕ) → IsBytes bytes → (read bytes >>= λ a. next a.0 a.1 >>= λ b. gives (f a.0 b.0) b.1) ≡ Err left → IsFirstBad Both tell_both bytes left
+  pub two_fail_made : {Z : Type 0} (f : X → Y → Z) (bytes : List ℕ) (left : ℕ) → IsBytes bytes → (read bytes >>= λ a. next a.0 a.1 >>= λ b. gives (f a.0 b.0) b.1) ≡ Err left
+      → IsFirstBad Both tell_both bytes left
   two_fail_made f bytes left fits e =
       elim (bind_err (read bytes) (λ a. next a.0 a.1 >>= λ b. gives (f a.0 b.0) b.1) left e) [
         | inl h ↦ first_fails bytes left fits h

@@ -21,7 +21,8 @@ moves inside next left b rest e = steps inside left b rest ∙ ap (goes left res
 pub refuses : (inside : Inside) (left b : ℕ) (rest : List ℕ) → step inside left b ≡ None → utf8_rest inside (suc left) (b ∷ rest) ≡ Err (suc (length rest))
 refuses inside left b rest e = steps inside left b rest ∙ ap (goes left rest) e
 
-at_byte : (inside : Inside) (left place : ℕ) (bytes : List ℕ) → 0 < left → place < length bytes → utf8_rest inside left (drop place bytes) ≡ utf8_rest inside (suc (left - 1)) (get_or bytes place 0 ∷ drop (suc place) bytes)
+at_byte : (inside : Inside) (left place : ℕ) (bytes : List ℕ) → 0 < left → place < length bytes
+    → utf8_rest inside left (drop place bytes) ≡ utf8_rest inside (suc (left - 1)) (get_or bytes place 0 ∷ drop (suc place) bytes)
 at_byte inside left place bytes some room =
     let k : left ≡ suc (left - 1) = omega arith in
     ap (λ (n : ℕ). utf8_rest inside n (drop place bytes)) k ∙ ap (λ (l : List ℕ). utf8_rest inside (suc (left - 1)) l) (drop-cons bytes place 0 room)

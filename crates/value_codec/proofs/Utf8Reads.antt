@@ -1,5 +1,6 @@
 -- A text that is read byte by byte is UTF-8, and what is UTF-8 is read.
-use Rattle.std.proofs.Common.{◌≡◌, ℕ, zero, suc, ◌-◌, ◌≤◌, ◌⊎◌, Bool, true, false, cond, ◌&&◌, ◌||◌, ltb, leb, List, [], ◌∷◌, ◌++◌, length, Option, Some, None, Ok, refl, sym, ap, subst, ◌∙◌, arith, inl, inr}
+use Rattle.std.proofs.Common.{◌≡◌, ℕ, zero, suc, ◌-◌, ◌≤◌, ◌⊎◌, Bool, true, false, cond, ◌&&◌, ◌||◌, ltb, leb, List, [], ◌∷◌, ◌++◌, length, Option, Some, None, Ok, refl, sym, ap, subst, ◌∙◌, arith}
+use Rattle.std.proofs.Common.{inl, inr}
 use Rattle.std.specs.Str.Lossy.{second_byte_min, second_byte_max}
 use Rattle.std.proofs.lemmas.Bool.{lt-ltb, ltb-true, leb-true, le-leb, and_from}
 use Rattle.std.proofs.lemmas.Str.{IsUtf8-nil}
@@ -45,7 +46,8 @@ some_branch false x y e = absurd cc
 
 -- ---- one byte
 
-pub first_step : (low high left b : ℕ) (next : Inside) → step (inside_of 0 low high) left b ≡ Some next → Lead b × (tail_len b ≤ left) × (inside_of (tail_len b) (second_byte_min b) (second_byte_max b) ≡ next)
+pub first_step : (low high left b : ℕ) (next : Inside) → step (inside_of 0 low high) left b ≡ Some next
+    → Lead b × (tail_len b ≤ left) × (inside_of (tail_len b) (second_byte_min b) (second_byte_max b) ≡ next)
 first_step low high left b next e =
     let s = some_branch (leads b && leb (tail_len b) left) (inside_of (tail_len b) (second_byte_min b) (second_byte_max b)) next e in
     let p = both (leads b) (leb (tail_len b) left) s.0 in
@@ -77,7 +79,8 @@ length_of zero low high text f = omega arith
 length_of (suc need) low high [] f = absurd f
 length_of (suc need) low high (b ∷ text) f = let h = length_of need 0x80 0xBF text f.2 in omega arith
 
-pub unwrap : (need low high left b : ℕ) (text : List ℕ) → length text ≡ left → Continues need low high (b ∷ text) → (next : Inside) × (step (inside_of need low high) left b ≡ Some next) × Finishes next text
+pub unwrap : (need low high left b : ℕ) (text : List ℕ) → length text ≡ left → Continues need low high (b ∷ text)
+    → (next : Inside) × (step (inside_of need low high) left b ≡ Some next) × Finishes next text
 unwrap zero low high left b text len f =
     let s = begun b text f in
     let fits : tail_len b ≤ left = omega (arith, length_of (tail_len b) (second_byte_min b) (second_byte_max b) text s.1, len) in
@@ -110,7 +113,8 @@ rest_takes zero inside bytes rest room e = none_left inside bytes rest room cc
 rest_takes (suc left) inside [] rest room e = absurd cc
 rest_takes (suc left) inside (b ∷ bytes) rest room e =
     go (step inside left b) refl (sym (steps inside left b bytes) ∙ e) (λ next. rest_takes left next bytes rest) where
-      go : (o : Option Inside) → step inside left b ≡ o → goes left bytes o ≡ Ok rest → ((next : Inside) → next.need ≤ left → utf8_rest next left bytes ≡ Ok rest → IsRead next left bytes rest) → IsRead inside (suc left) (b ∷ bytes) rest
+      go : (o : Option Inside) → step inside left b ≡ o → goes left bytes o ≡ Ok rest → ((next : Inside) → next.need ≤ left → utf8_rest next left bytes ≡ Ok rest → IsRead next left bytes rest)
+          → IsRead inside (suc left) (b ∷ bytes) rest
       go None is f again = absurd cc
       go (Some next) is f again =
           let t = again next (room_left inside.need inside.low inside.high left b next room is) f in

@@ -14,12 +14,15 @@ use Rattle.row_value.specs.declared.pieces.PieceObject.{PieceObject}
 use Rattle.row_value.specs.declared.pieces.PieceContent.{PieceContent}
 use Rattle.row_value.specs.declared.pieces.PieceContent.TheVariants.{Gone, Row}
 use Rattle.value_codec.specs.FirstBad.{IsFirstBad}
-use Rattle.value_codec.specs.Spelling.{flag_spelling, list_spelling, cell_spelling, HasCellSpelling, name_spelling, HasNameSpelling, piece_spelling, HasPieceSpelling, object_spelling, content_spelling, HasContentSpelling, HasKeptSpelling}
-use Rattle.value_codec.specs.Reading.{byte_at, number_at, flag_at, text_at, list_at, int_at, bool_at, text_cell_at, cell_at, after_cell, cell_in, name_at, keep_at, fresh_at, piece_at, exactly_at, fresh_is_at, piece_in, after_piece, object_in, after_object, row_from, content_from, content_at, kept_content_at}
+use Rattle.value_codec.specs.Spelling.{flag_spelling, list_spelling, cell_spelling, HasCellSpelling, name_spelling, HasNameSpelling, piece_spelling, HasPieceSpelling, object_spelling}
+use Rattle.value_codec.specs.Spelling.{content_spelling, HasContentSpelling, HasKeptSpelling}
+use Rattle.value_codec.specs.Reading.{byte_at, number_at, flag_at, text_at, list_at, int_at, bool_at, text_cell_at, cell_at, after_cell, cell_in, name_at, keep_at, fresh_at, piece_at, exactly_at}
+use Rattle.value_codec.specs.Reading.{fresh_is_at, piece_in, after_piece, object_in, after_object, row_from, content_from, content_at, kept_content_at}
 use Rattle.value_codec.proofs.FieldReads.{gives, four_reads, eight_reads}
 use Rattle.value_codec.proofs.CellReads.{cell_reads}
 use Rattle.value_codec.proofs.PieceReads.{IsNext, next_reads}
-use Rattle.value_codec.proofs.ContentReads.{IsObjectNext, object_reads, AreNext, pieces_read, AreCells, AreObjectsFrom, cells_read, objects_read, IsContentFrom, content_is, is_content, kept_is, is_kept}
+use Rattle.value_codec.proofs.ContentReads.{IsObjectNext, object_reads, AreNext, pieces_read, AreCells, AreObjectsFrom, cells_read, objects_read, IsContentFrom, content_is, is_content, kept_is}
+use Rattle.value_codec.proofs.ContentReads.{is_kept}
 use Rattle.value_codec.proofs.Stops.{Stops, retold_stop, err_is, not_ok, bind_err, branch_err, one_err, head_is, tail_is, moved, behind, no_byte, bad_byte, two_fail_made}
 use Rattle.value_codec.proofs.FieldStops.{four_stop, eight_stop, flag_stop, exactly_fails, Given, given, IsText, text_stop, list_stop}
 
@@ -248,7 +251,8 @@ AreParts fresh p = AreCells p.0 × AreObjectsFrom fresh p.1
 abbrev parts_spelling : List Cell × List PieceObject → List ℕ
 parts_spelling p = list_spelling cell_spelling p.0 ++ list_spelling object_spelling p.1
 
-row_back : (fresh : ℕ) (z : PieceContent) (others : List ℕ) → IsContentFrom fresh z → content_spelling z ≡ 1 ∷ others → (p : List Cell × List PieceObject) × AreParts fresh p × (parts_spelling p ≡ others)
+row_back : (fresh : ℕ) (z : PieceContent) (others : List ℕ) → IsContentFrom fresh z → content_spelling z ≡ 1 ∷ others
+    → (p : List Cell × List PieceObject) × AreParts fresh p × (parts_spelling p ≡ others)
 row_back fresh Gone others h e = differ 0 1 [] others refl e
 row_back fresh (Row some objects) others h e = ((some, objects), h, tail_is 1 1 (parts_spelling (some, objects)) others e)
 

@@ -14,13 +14,15 @@ pub record IsFirstBad {X : Type 0} (P : X → Type 0) (spell : X → List ℕ) (
   pub more : List ℕ
   pub fits : P value
   pub goes_on : spell value ≡ front ++ more
-  pub stops : (b : ℕ) (behind : List ℕ) → rest ≡ b ∷ behind → (x : X) (others : List ℕ) → P x → spell x ≡ front ++ b ∷ others → ⊥
+  pub stops : (b : ℕ) (behind : List ℕ) → rest ≡ b ∷ behind → (x : X) (others : List ℕ) → P x
+      → spell x ≡ front ++ b ∷ others → ⊥
 
 -- what a function that reads from a place on answers where no value is spelled there
 abbrev pub Refuses : {X R : Type 0} → (X → Type 0) → (X → List ℕ) → List ℕ → ℕ → Result R SpellFault → Type 0
 Refuses P spell bytes from (Ok x) = Unit {0}
 Refuses P spell bytes from (Err Memory) = Unit {0}
-Refuses P spell bytes from (Err (Bad at)) = (at ≤ length bytes) × IsFirstBad P spell (drop from bytes) (length bytes - at)
+Refuses P spell bytes from (Err (Bad at)) =
+    (at ≤ length bytes) × IsFirstBad P spell (drop from bytes) (length bytes - at)
 
 -- a fault other than want of memory
 abbrev pub TellsPlace : SpellFault → Type 0

@@ -1,6 +1,7 @@
 -- Reading from left to right, up to the first place at which no spelling goes on. A field is a value and the bytes
 -- behind it. A fault is the number of bytes from that place on, 0 where bytes are missing at the end.
-use Rattle.std.specs.Prelude.{◌≡◌, ℕ, zero, suc, ◌+◌, ◌-◌, ◌≤◌, ◌^◌, Bool, true, false, ◌==◌, ◌&&◌, nat_lt, if◌then◌else◌, List, [], ◌∷◌, length, take, drop, Result, Ok, Err}
+use Rattle.std.specs.Prelude.{◌≡◌, ℕ, zero, suc, ◌+◌, ◌-◌, ◌≤◌, ◌^◌, Bool, true, false, ◌==◌, ◌&&◌, nat_lt}
+use Rattle.std.specs.Prelude.{if◌then◌else◌, List, [], ◌∷◌, length, take, drop, Result, Ok, Err}
 use Rattle.std.specs.Int.{Width, w32, w64, byte_len, from_be_bytes, to_be_bytes, cast_signed}
 use Rattle.stab_base.specs.declared.chunk_name.ChunkName.{ChunkName}
 use Rattle.value_codec.specs.declared.spell_fault.SpellFault.{SpellFault}
@@ -63,14 +64,16 @@ text_at bytes = do
 
 -- ---- lists; what an item may be depends on what the items before it leave
 
-unfoldable pub items_at : {S X : Type 0} → (S → X → S) → (S → List ℕ → Result (X × List ℕ) ℕ) → S → ℕ → List ℕ → Result (List X × List ℕ) ℕ
+unfoldable pub items_at : {S X : Type 0} → (S → X → S) → (S → List ℕ → Result (X × List ℕ) ℕ) → S → ℕ → List ℕ
+    → Result (List X × List ℕ) ℕ
 items_at next item_at s zero bytes = Ok ([], bytes)
 items_at next item_at s (suc n) bytes = do
   first ← item_at s bytes
   others ← items_at next item_at (next s first.0) n first.1
   Ok (first.0 ∷ others.0, others.1)
 
-unfoldable pub list_at : {S X : Type 0} → (S → X → S) → (S → List ℕ → Result (X × List ℕ) ℕ) → S → List ℕ → Result (List X × List ℕ) ℕ
+unfoldable pub list_at : {S X : Type 0} → (S → X → S) → (S → List ℕ → Result (X × List ℕ) ℕ) → S → List ℕ
+    → Result (List X × List ℕ) ℕ
 list_at next item_at s bytes = do
   count ← number_at w32 bytes
   items_at next item_at s count.0 count.1

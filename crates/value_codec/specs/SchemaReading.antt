@@ -13,7 +13,8 @@ unfoldable pub scheme_at : List ℕ → Result (Scheme × List ℕ) ℕ
 scheme_at bytes = do
   code ← byte_at bytes
   if code.0 == 1 then Ok (Strong, code.1)
-      else (if code.0 == 2 then Ok (Causal, code.1) else (if code.0 == 3 then Ok (Eventual, code.1) else Err (length bytes)))
+      else (if code.0 == 2 then Ok (Causal, code.1)
+      else (if code.0 == 3 then Ok (Eventual, code.1) else Err (length bytes)))
 
 -- a chunk size whose first two bytes are 0
 unfoldable pub low_chunk_at : List ℕ → Result (ℕ × List ℕ) ℕ
@@ -58,7 +59,8 @@ kind_in only_objects bytes = do
   if code.0 == 4 then Ok (kinds.Object, code.1)
       else (if only_objects then Err (length bytes)
       else (if code.0 == 1 then Ok (kinds.Int, code.1)
-      else (if code.0 == 2 then Ok (kinds.Bool, code.1) else (if code.0 == 3 then Ok (kinds.Text, code.1) else Err (length bytes)))))
+      else (if code.0 == 2 then Ok (kinds.Bool, code.1)
+      else (if code.0 == 3 then Ok (kinds.Text, code.1) else Err (length bytes)))))
 
 unfoldable pub column_in : Bool → List ℕ → Result (Column × List ℕ) ℕ
 column_in only_objects bytes = do

@@ -41,7 +41,9 @@ CellsFirst [] = Unit {0}
 CellsFirst (column ∷ columns) = (is_object column.kind ≡ true → AreObjectColumns columns) × CellsFirst columns
 
 abbrev pub schema_spelling : Schema → List ℕ
-schema_spelling schema = counted schema.name ++ (scheme_code schema.scheme ∷ (to_be_bytes w32 schema.chunk ++ list_spelling column_spelling schema.columns))
+schema_spelling schema =
+    counted schema.name ++ (scheme_code schema.scheme
+    ∷ (to_be_bytes w32 schema.chunk ++ list_spelling column_spelling schema.columns))
 
 pub record HasSchemaSpelling (schema : Schema) : Type 0 where
   pub text : (length schema.name < 2 ^ 32) × IsUtf8 schema.name

@@ -1,6 +1,7 @@
 ghost use Rattle.std.specs.Prelude.{◌≡◌, ◌≤◌, ◌++◌, ℕ, List, length, drop, IfOk, Ok};
 ghost use Rattle.value_codec.specs.Spelling.{HasCellSpelling, cell_spelling};
-ghost use Rattle.value_codec.specs.Reading.{Gives, int_at, bool_at, text_cell_at, cell_at, after_cell, cell_in, items_at, list_at};
+ghost use Rattle.value_codec.specs.Reading.{Gives, int_at, bool_at, text_cell_at, cell_at, after_cell, cell_in};
+ghost use Rattle.value_codec.specs.Reading.{items_at, list_at};
 ghost use Rattle.value_codec.specs.FirstBad.{Refuses};
 
 use crate::field_reader::{take_byte, take_eight, take_flag, take_four, take_text};

@@ -1,6 +1,7 @@
 ghost use Rattle.std.specs.Prelude.{◌≡◌, ◌≤◌, ◌+◌, ◌^◌, ◌++◌, ℕ, List, length, drop, IfOk, Ok};
 ghost use Rattle.value_codec.specs.Spelling.{fresh_in, HasContentSpelling, HasKeptSpelling, content_spelling};
-ghost use Rattle.value_codec.specs.Reading.{Gives, object_in, after_object, row_from, content_from, content_at, kept_content_at, whole, items_at, list_at};
+ghost use Rattle.value_codec.specs.Reading.{Gives, object_in, after_object, row_from, content_from, content_at};
+ghost use Rattle.value_codec.specs.Reading.{kept_content_at, whole, items_at, list_at};
 ghost use Rattle.value_codec.specs.FirstBad.{Refuses};
 
 use crate::cell_reader::take_cells;

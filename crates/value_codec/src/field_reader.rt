@@ -1,4 +1,5 @@
-ghost use Rattle.std.specs.Prelude.{◌≡◌, ◌≤◌, ◌+◌, ◌-◌, ◌<◌, ◌^◌, ◌++◌, ◌∷◌, [], ℕ, List, length, take, drop, IfOk, IfErr, Ok};
+ghost use Rattle.std.specs.Prelude.{◌≡◌, ◌≤◌, ◌+◌, ◌-◌, ◌<◌, ◌^◌, ◌++◌, ◌∷◌, [], ℕ, List, length, take, drop, IfOk};
+ghost use Rattle.std.specs.Prelude.{IfErr, Ok};
 ghost use Rattle.std.specs.Int.{w32, w64};
 ghost use Rattle.value_codec.specs.Reading.{Gives, byte_at, number_at, flag_at, id_at, utf8_at, text_at, exactly_at};
 ghost use Rattle.value_codec.specs.FirstBad.{TellsPlace};

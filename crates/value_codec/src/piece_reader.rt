@@ -1,6 +1,8 @@
 ghost use Rattle.std.specs.Prelude.{◌≡◌, ◌≤◌, ◌<◌, ◌+◌, ◌^◌, ◌++◌, ℕ, List, length, drop, IfOk, IfErr, Ok};
-ghost use Rattle.value_codec.specs.Spelling.{fresh_in, HasNameSpelling, name_spelling, HasPieceSpelling, piece_spelling};
-ghost use Rattle.value_codec.specs.Reading.{Gives, name_at, keep_at, fresh_at, piece_at, fresh_is_at, piece_in, after_piece, items_at, list_at};
+ghost use Rattle.value_codec.specs.Spelling.{fresh_in, HasNameSpelling, name_spelling, HasPieceSpelling};
+ghost use Rattle.value_codec.specs.Spelling.{piece_spelling};
+ghost use Rattle.value_codec.specs.Reading.{Gives, name_at, keep_at, fresh_at, piece_at, fresh_is_at, piece_in};
+ghost use Rattle.value_codec.specs.Reading.{after_piece, items_at, list_at};
 ghost use Rattle.value_codec.specs.FirstBad.{Refuses, TellsPlace};
 
 use crate::field_reader::{skip_exactly, take_byte, take_eight, take_four};

@@ -1,7 +1,8 @@
 ghost use Rattle.std.specs.Prelude.{◌≡◌, ◌≤◌, ◌++◌, Bool, false, ℕ, List, length, drop, IfOk, Ok};
 ghost use Rattle.value_codec.specs.SchemaSpelling.{HasSchemaSpelling, schema_spelling};
 ghost use Rattle.value_codec.specs.Reading.{Gives, whole, items_at};
-ghost use Rattle.value_codec.specs.SchemaReading.{scheme_at, low_chunk_at, high_chunk_at, chunk_at, low_count_at, count_at, kind_in, column_in, after_column, columns_at, schema_at};
+ghost use Rattle.value_codec.specs.SchemaReading.{scheme_at, low_chunk_at, high_chunk_at, chunk_at, low_count_at};
+ghost use Rattle.value_codec.specs.SchemaReading.{count_at, kind_in, column_in, after_column, columns_at, schema_at};
 ghost use Rattle.value_codec.specs.FirstBad.{Refuses};
 
 use crate::field_reader::{skip_exactly, take_byte, take_text};

@@ -114,7 +114,8 @@ module _ {D F V : Type 0} (state : D → DiskState) (images : D → ℕ → List
 
   module _ {E : Type 0} (fault : VaultFault → E) (apart : AreApart fault) where
     module _ {X : Type 0} (old new : Folded D F) (before after : X) (whole : new ≡ old → after ≡ before) where
-      pub formats_as : (r : Result (Unit {0}) VaultFault) → Formats state images fits has_spare plain same_fault old new old new r → Formats state images fits has_spare view fault old new before after (answer_as fault r)
+      pub formats_as : (r : Result (Unit {0}) VaultFault) → Formats state images fits has_spare plain same_fault old new old new r
+          → Formats state images fits has_spare view fault old new before after (answer_as fault r)
       formats_as r k = record {
         opened = ok_as fault apart r _ k.opened;
         empty = ok_as fault apart r _ (ok_map r (λ is. ap view is) k.empty);
@@ -127,7 +128,8 @@ module _ {D F V : Type 0} (state : D → DiskState) (images : D → ℕ → List
         only = only_as fault apart r;
       }
 
-      pub looks_as : (r : Result (Unit {0}) VaultFault) → Looks state images fits has_spare plain same_fault old new old new r → Looks state images fits has_spare view fault old new before after (answer_as fault r)
+      pub looks_as : (r : Result (Unit {0}) VaultFault) → Looks state images fits has_spare plain same_fault old new old new r
+          → Looks state images fits has_spare view fault old new before after (answer_as fault r)
       looks_as r k = record {
         looked = ok_as fault apart r _ k.looked;
         same = ok_as fault apart r _ (ok_map r (λ is. ap view is) k.same);
@@ -144,7 +146,8 @@ module _ {D F V : Type 0} (state : D → DiskState) (images : D → ℕ → List
         only = only_as fault apart r;
       }
 
-      pub opens_as : (r : Result (Unit {0}) VaultFault) → OpensWrite state images fits has_spare plain same_fault old new old new r → OpensWrite state images fits has_spare view fault old new before after (answer_as fault r)
+      pub opens_as : (r : Result (Unit {0}) VaultFault) → OpensWrite state images fits has_spare plain same_fault old new old new r
+          → OpensWrite state images fits has_spare view fault old new before after (answer_as fault r)
       opens_as r k = record {
         opened = ok_as fault apart r _ k.opened;
         same = ok_as fault apart r _ (ok_map r (λ is. ap view is) k.same);
@@ -158,7 +161,8 @@ module _ {D F V : Type 0} (state : D → DiskState) (images : D → ℕ → List
         only = only_as fault apart r;
       }
 
-      pub reserves_as : (appends bytes : ℕ) (r : Result (Unit {0}) VaultFault) → Reserves state images fits has_spare plain same_fault appends bytes old new old new r → Reserves state images fits has_spare view fault appends bytes old new before after (answer_as fault r)
+      pub reserves_as : (appends bytes : ℕ) (r : Result (Unit {0}) VaultFault) → Reserves state images fits has_spare plain same_fault appends bytes old new old new r
+          → Reserves state images fits has_spare view fault appends bytes old new before after (answer_as fault r)
       reserves_as appends bytes r k = record {
         room = ok_as fault apart r _ k.room;
         stays = ok_as fault apart r _ k.stays;
@@ -172,7 +176,8 @@ module _ {D F V : Type 0} (state : D → DiskState) (images : D → ℕ → List
     -- an append of what was written into the buffer before
     module _ {X : Type 0} (old mid new : Folded D F) (before after : X) (vault : mid.vault ≡ old.vault) (memory : mid.memory ≡ old.memory) (capacity : vec_capacity old.payload ≤ vec_capacity mid.payload) (up : IsUp old.vault) where
       pub appends_as : (size : ℕ) (added : V) (r : Result (Unit {0}) VaultFault) → length mid.payload.items ≡ size → view (payloads state old.vault ++ mid.payload.items ∷ []) ≡ added
-          → Appends state images fits has_spare plain same_fault (length mid.payload.items) (payloads state mid.vault ++ mid.payload.items ∷ []) mid new mid new r → Appends state images fits has_spare view fault size added old new before after (answer_as fault r)
+          → Appends state images fits has_spare plain same_fault (length mid.payload.items) (payloads state mid.vault ++ mid.payload.items ∷ []) mid new mid new r
+          → Appends state images fits has_spare view fault size added old new before after (answer_as fault r)
       appends_as size added r size_is grown k =
           let list : payloads state mid.vault ++ mid.payload.items ∷ [] ≡ payloads state old.vault ++ mid.payload.items ∷ [] = ap (λ (v : Vault D). payloads state v ++ mid.payload.items ∷ []) vault in
           let grown_mid : view (payloads state mid.vault ++ mid.payload.items ∷ []) ≡ added = ap view list ∙ grown in
@@ -238,7 +243,8 @@ module _ {D F V : Type 0} (state : D → DiskState) (images : D → ℕ → List
 
     -- a read, and what is made of it
     module _ {X T : Type 0} (old new : Folded D F) (before after : X) (up : IsUp old.vault) where
-      pub reads_failed : (e : VaultFault) → Reads state images fits has_spare plain same_fault old new old.vault new.vault (err_at (Unit {0}) e) → Reads state images fits has_spare view fault old new before after (err_at T (fault e))
+      pub reads_failed : (e : VaultFault) → Reads state images fits has_spare plain same_fault old new old.vault new.vault (err_at (Unit {0}) e)
+          → Reads state images fits has_spare view fault old new before after (err_at T (fault e))
       reads_failed e k = record {
         stays = tt;
         any_moment = λ up sound. views_as old new (payloads state old.vault) (k.any_moment up sound);
@@ -264,7 +270,8 @@ module _ {D F V : Type 0} (state : D → DiskState) (images : D → ℕ → List
         refuses = record { down = (λ is. absurd cc, λ is. absurd cc); unchanged = λ is. absurd cc; disk = λ is. absurd cc; cause = k.refuses.cause };
       }
 
-      pub reads_short : Reads state images fits has_spare plain same_fault old new old.vault new.vault (done) → Reads state images fits has_spare view fault old new before after (err_at T (fault Memory))
+      pub reads_short : Reads state images fits has_spare plain same_fault old new old.vault new.vault (done)
+          → Reads state images fits has_spare view fault old new before after (err_at T (fault Memory))
       reads_short k = record {
         stays = tt;
         any_moment = λ up sound. views_as old new (payloads state old.vault) (k.any_moment up sound);
@@ -279,7 +286,8 @@ module _ {D F V : Type 0} (state : D → DiskState) (images : D → ℕ → List
       }
 
     -- a refusal of the device's own, before anything is read
-    pub reads_none : {X T : Type 0} → ((disk : D) (image : List ℕ) → images disk (state disk).moment image → IsImage (state disk).pending image) → (old : Folded D F) (before : X) (e : E) → ((f : VaultFault) → e ≡ fault f → ⊥) → IsUp old.vault → vaults.IsLookedAt state old.vault
+    pub reads_none : {X T : Type 0} → ((disk : D) (image : List ℕ) → images disk (state disk).moment image → IsImage (state disk).pending image) → (old : Folded D F) (before : X) (e : E)
+        → ((f : VaultFault) → e ≡ fault f → ⊥) → IsUp old.vault → vaults.IsLookedAt state old.vault
         → Reads state images fits has_spare view fault old old before before (err_at T e)
     reads_none only_now old before e other up looked = record {
       stays = tt;
@@ -296,7 +304,8 @@ module _ {D F V : Type 0} (state : D → DiskState) (images : D → ℕ → List
 
   -- ---- a restart
 
-  pub restarts_as : ((disk : D) (t : ℕ) (image : List ℕ) → t ≤ (state disk).moment → IsImage (state disk).pending image → images disk t image) → (old new : Folded D F) → vaults.IsRestarted state old.vault new.vault
+  pub restarts_as : ((disk : D) (t : ℕ) (image : List ℕ) → t ≤ (state disk).moment → IsImage (state disk).pending image → images disk t image) → (old new : Folded D F)
+      → vaults.IsRestarted state old.vault new.vault
       → Elapses (state old.vault.disk) (state new.vault.disk) (images old.vault.disk) (images new.vault.disk) → Restarts state images plain old new → Restarts state images view old new
   restarts_as counts_now old new image time k = record {
     up = k.up;

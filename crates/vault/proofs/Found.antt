@@ -1,5 +1,6 @@
 -- One record more is found.
-use Rattle.std.proofs.Common.{◌≡◌, inl, inr, ⊎_elim, ℕ, ◌+◌, ◌<◌, ◌≤◌, true, false, List, [], ◌∷◌, ◌++◌, length, take, drop, slice_index, get_or, refl, sym, ◌∙◌, ap, subst, arith, length-take, length-drop, take-append-drop}
+use Rattle.std.proofs.Common.{◌≡◌, inl, inr, ⊎_elim, ℕ, ◌+◌, ◌<◌, ◌≤◌, true, false, List, [], ◌∷◌, ◌++◌, length, take, drop, slice_index, get_or, refl, sym, ◌∙◌, ap, subst, arith, length-take}
+use Rattle.std.proofs.Common.{length-drop, take-append-drop}
 use Rattle.std.proofs.lemmas.List.{drop_more, drop-drop, take-append-drop}
 use Rattle.std.proofs.lemmas.Bool.Decides.{nat_tests}
 use Rattle.std.specs.Int.{w32, to_be_bytes}
@@ -70,7 +71,8 @@ none_found file = record {
 }
 
 -- all is found
-pub all_found : (file : List ℕ) (gate : ℕ) (places : List ℕ) → HasFound file gate places → begins_record (drop gate file) ≡ false → EndsAt file gate (payloads_of file) × (places ≡ places_from 0 (payloads_of file))
+pub all_found : (file : List ℕ) (gate : ℕ) (places : List ℕ) → HasFound file gate places → begins_record (drop gate file) ≡ false
+    → EndsAt file gate (payloads_of file) × (places ≡ places_from 0 (payloads_of file))
 all_found file gate places h last =
     let list : payloads_of file ≡ h.payloads = ends_list file gate h.payloads h.front last in (
       record { front = subst (HasFront file gate) (sym list) h.front; last = last },

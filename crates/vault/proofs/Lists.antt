@@ -1,5 +1,6 @@
 -- Bytes and the payloads that they stand for.
-use Rattle.std.proofs.Common.{◌≡◌, inl, inr, ℕ, zero, suc, ◌+◌, ◌-◌, ◌<◌, ◌≤◌, Bool, true, false, List, [], ◌∷◌, ◌++◌, length, take, drop, slice_index, refl, sym, ◌∙◌, ap, subst, arith, append_assoc, length-append, length-take, length-drop, take-append-drop, if◌then◌else◌}
+use Rattle.std.proofs.Common.{◌≡◌, inl, inr, ℕ, zero, suc, ◌+◌, ◌-◌, ◌<◌, ◌≤◌, Bool, true, false, List, [], ◌∷◌, ◌++◌, length, take, drop, slice_index, refl, sym, ◌∙◌, ap, subst, arith, append_assoc}
+use Rattle.std.proofs.Common.{length-append, length-take, length-drop, take-append-drop, if◌then◌else◌}
 use Rattle.std.proofs.lemmas.List.{take_at, drop_at, drop-drop, append-nil}
 use Rattle.std.proofs.lemmas.Bool.{cases_eq}
 use Rattle.std.proofs.lemmas.Bool.Decides.{nat_tests}
@@ -69,7 +70,8 @@ pub joined : (p : List ℕ) (ps : List (List ℕ)) (rest : List ℕ) → records
 joined p ps rest = let be = to_be_bytes w32 (length p) in ap (λ (l : List ℕ). 165 ∷ l) (append_assoc be (p ++ records ps) rest ∙ ap (λ (l : List ℕ). be ++ l) (append_assoc p (records ps) rest))
 
 -- records, and then something: their payloads are found first
-pub decode_records : (ps : List (List ℕ)) (most : ℕ) (rest : List ℕ) → AllShort ps → length ps ≤ most → (0 < length ps → 0 < length rest) → decode most (records ps ++ rest) ≡ ps ++ decode (most - length ps) rest
+pub decode_records : (ps : List (List ℕ)) (most : ℕ) (rest : List ℕ) → AllShort ps → length ps ≤ most → (0 < length ps → 0 < length rest)
+    → decode most (records ps ++ rest) ≡ ps ++ decode (most - length ps) rest
 decode_records [] most rest short enough more = let none : most ≡ most - length {A = List ℕ} [] = omega arith in ap (λ n. decode n rest) none
 decode_records (p ∷ ps) zero rest short enough more = absurd (omega arith)
 decode_records (p ∷ ps) (suc most) rest short enough more =
@@ -81,7 +83,8 @@ decode_records (p ∷ ps) (suc most) rest short enough more =
     ∙ (ap (λ (l : List (List ℕ)). p ∷ l) (decode_records ps most rest short.1 (omega arith) (λ _. some))
     ∙ ap (λ n. p ∷ (ps ++ decode n rest)) (sym fewer)))
 
-pub behind_records : (ps : List (List ℕ)) (most : ℕ) (rest : List ℕ) → AllShort ps → length ps ≤ most → (0 < length ps → 0 < length rest) → behind most (records ps ++ rest) ≡ behind (most - length ps) rest
+pub behind_records : (ps : List (List ℕ)) (most : ℕ) (rest : List ℕ) → AllShort ps → length ps ≤ most → (0 < length ps → 0 < length rest)
+    → behind most (records ps ++ rest) ≡ behind (most - length ps) rest
 behind_records [] most rest short enough more = let none : most ≡ most - length {A = List ℕ} [] = omega arith in ap (λ n. behind n rest) none
 behind_records (p ∷ ps) zero rest short enough more = absurd (omega arith)
 behind_records (p ∷ ps) (suc most) rest short enough more =
@@ -156,7 +159,8 @@ length-places at [] = refl
 length-places at (p ∷ ps) = ap suc (length-places (at + (5 + length p)) ps)
 
 -- the front grows by the record that begins at the gate
-pub front_grows : (file : List ℕ) (gate : ℕ) (ps : List (List ℕ)) (p rest : List ℕ) → HasFront file gate ps → length p ≤ payload_most → drop gate file ≡ 165 ∷ (to_be_bytes w32 (length p) ++ (p ++ rest)) → 0 < length rest
+pub front_grows : (file : List ℕ) (gate : ℕ) (ps : List (List ℕ)) (p rest : List ℕ) → HasFront file gate ps → length p ≤ payload_most
+    → drop gate file ≡ 165 ∷ (to_be_bytes w32 (length p) ++ (p ++ rest)) → 0 < length rest
     → HasFront file (gate + (5 + length p)) (ps ++ p ∷ [])
 front_grows file gate ps p rest f short is more =
     let all : file ≡ records (ps ++ p ∷ []) ++ rest = whole file gate ps f ∙ (ap (λ (l : List ℕ). records ps ++ l) is ∙ sym (records-push ps p rest)) in

@@ -1,5 +1,6 @@
 -- While the end of a file is repaired, each image stands for the same payloads.
-use Rattle.std.proofs.Common.{◌≡◌, inl, inr, ℕ, ◌+◌, ◌-◌, ◌<◌, ◌≤◌, min, List, [], ◌∷◌, ◌++◌, length, take, drop, slice_index, refl, sym, ◌∙◌, ap, subst, arith, length-drop, length-take, length-append}
+use Rattle.std.proofs.Common.{◌≡◌, inl, inr, ℕ, ◌+◌, ◌-◌, ◌<◌, ◌≤◌, min, List, [], ◌∷◌, ◌++◌, length, take, drop, slice_index, refl, sym, ◌∙◌, ap, subst, arith, length-drop, length-take}
+use Rattle.std.proofs.Common.{length-append}
 use Rattle.std.proofs.lemmas.List.{take-take, take_at, drop_at, drop_all, append-nil, places}
 use Rattle.std.proofs.lemmas.Bool.{cases_lt}
 use Rattle.disk_trait.specs.Image.{IsImage, settled, touched, shortened, overwritten}

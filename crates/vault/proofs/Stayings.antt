@@ -35,7 +35,8 @@ module _ {D : Type 0} (state : D → DiskState) where
   same_fuse_then old mid new first second = record { stops = second.stops ∙ first.stops; is_armed = second.is_armed ∙ first.is_armed; passes = second.passes ∙ first.passes; pick = second.pick ∙ first.pick }
 
   -- a crash of a vault that was looked at leaves its payloads
-  pub looked_leaves : (images : D → ℕ → List ℕ → Type 0) → ((disk : D) (image : List ℕ) → images disk (state disk).moment image → IsImage (state disk).pending image) → (vault : Vault D) → vaults.IsLookedAt state vault → vaults.IsSound state vault
+  pub looked_leaves : (images : D → ℕ → List ℕ → Type 0) → ((disk : D) (image : List ℕ) → images disk (state disk).moment image → IsImage (state disk).pending image) → (vault : Vault D)
+      → vaults.IsLookedAt state vault → vaults.IsSound state vault
       → vaults.Leaves state images vault vault (λ list. list ≡ vaults.payloads state vault)
   looked_leaves images only_now vault looked sound =
       let file = (state vault.disk).seen in

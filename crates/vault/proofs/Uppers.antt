@@ -16,7 +16,8 @@ module _ {D : Type 0} (state : D → DiskState) where
   opened_sound vault o = closed_stands (state vault.disk).seen (payloads state vault) o.file o.looked.ends.front.short
 
   -- room for more is room for less
-  pub less_room : (vault : Vault D) (openings appends bytes fewer less few : ℕ) → fewer ≤ openings → less ≤ appends → few ≤ bytes → HasRoom state vault openings appends bytes → HasRoom state vault fewer less few
+  pub less_room : (vault : Vault D) (openings appends bytes fewer less few : ℕ) → fewer ≤ openings → less ≤ appends → few ≤ bytes → HasRoom state vault openings appends bytes
+      → HasRoom state vault fewer less few
   less_room vault openings appends bytes fewer less few a b c r = record {
     len = omega (arith, r.len);
     fits = omega (arith, r.fits);
@@ -39,18 +40,21 @@ module _ {D : Type 0} (state : D → DiskState) where
     runs_weaker old new P S run to = leaves_weaker state images old.disk new.disk (StandsForOne P) (StandsForOne S) run (λ image left. (left.0, left.1, to left.0 left.2))
 
     -- a crash of an opened vault leaves its payloads
-    pub opened_leaves : ((disk : D) (image : List ℕ) → images disk (state disk).moment image → IsImage (state disk).pending image) → (vault : Vault D) → IsOpened state vault → Leaves state images vault vault (λ list. list ≡ payloads state vault)
+    pub opened_leaves : ((disk : D) (image : List ℕ) → images disk (state disk).moment image → IsImage (state disk).pending image) → (vault : Vault D) → IsOpened state vault
+        → Leaves state images vault vault (λ list. list ≡ payloads state vault)
     opened_leaves only_now vault o = still state images only_now vault.disk o.looked.synced (StandsForOne (λ list. list ≡ payloads state vault)) (payloads state vault, opened_sound vault o, refl)
 
     -- what was promised of each crash holds of the payloads after a restart
-    pub restarted : ((disk : D) (t : ℕ) (image : List ℕ) → t ≤ (state disk).moment → IsImage (state disk).pending image → images disk t image) → (old mid new : Vault D) (R : List (List ℕ) → Type 0) → Leaves state images old mid R → IsRestarted state mid new → R (payloads state new) × IsSound state new
+    pub restarted : ((disk : D) (t : ℕ) (image : List ℕ) → t ≤ (state disk).moment → IsImage (state disk).pending image → images disk t image) → (old mid new : Vault D) (R : List (List ℕ) → Type 0)
+        → Leaves state images old mid R → IsRestarted state mid new → R (payloads state new) × IsSound state new
     restarted counts_now old mid new R run image =
         let left : StandsForOne R (state new.disk).seen = run.each (state new.disk).seen (counts_now mid.disk (state old.disk).moment (state new.disk).seen run.later image) in
         let list : payloads state new ≡ left.0 = left.1.records in
         (subst R (sym list) left.2, subst (StandsFor (state new.disk).seen) (sym list) left.1)
 
     -- and of each crash from then on
-    pub restarted_leaves : ((disk : D) (t : ℕ) (image : List ℕ) → t ≤ (state disk).moment → IsImage (state disk).pending image → images disk t image) → (old mid new : Vault D) (R : List (List ℕ) → Type 0) → Leaves state images old mid R → IsRestarted state mid new → (state new.disk).pending ≡ settled (state new.disk).seen
+    pub restarted_leaves : ((disk : D) (t : ℕ) (image : List ℕ) → t ≤ (state disk).moment → IsImage (state disk).pending image → images disk t image)
+        → (old mid new : Vault D) (R : List (List ℕ) → Type 0) → Leaves state images old mid R → IsRestarted state mid new → (state new.disk).pending ≡ settled (state new.disk).seen
         → Elapses (state mid.disk) (state new.disk) (images mid.disk) (images new.disk) → Leaves state images old new R
     restarted_leaves counts_now old mid new R run image synced time =
         let left : StandsForOne R (state new.disk).seen = run.each (state new.disk).seen (counts_now mid.disk (state old.disk).moment (state new.disk).seen run.later image) in

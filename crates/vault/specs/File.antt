@@ -1,5 +1,6 @@
 -- What the bytes of a vault's file stand for.
-use Rattle.std.specs.Prelude.{◌≡◌, ◌⊎◌, ℕ, zero, suc, ◌+◌, ◌<◌, ◌≤◌, Bool, false, ◌==◌, ◌&&◌, nat_le, nat_lt, if◌then◌else◌, List, [], ◌∷◌, ◌++◌, length, take, drop, slice_index}
+use Rattle.std.specs.Prelude.{◌≡◌, ◌⊎◌, ℕ, zero, suc, ◌+◌, ◌<◌, ◌≤◌, Bool, false, ◌==◌, ◌&&◌, nat_le, nat_lt}
+use Rattle.std.specs.Prelude.{if◌then◌else◌, List, [], ◌∷◌, ◌++◌, length, take, drop, slice_index}
 use Rattle.std.specs.Int.{w32, to_be_bytes, from_be_bytes}
 use Rattle.vault.specs.Limit.{payload_most}
 
@@ -10,12 +11,14 @@ length_in file = from_be_bytes w32 (take 4 (drop 1 file))
 -- A record is there where its gate is open (165), its length is within the limit, and its length, its payload
 -- and a byte behind it are in the file.
 abbrev pub begins_record : List ℕ → Bool
-begins_record file = (slice_index file 0 == 165) && (nat_le (length_in file) payload_most && nat_lt (5 + length_in file) (length file))
+begins_record file = (slice_index file 0 == 165)
+    && (nat_le (length_in file) payload_most && nat_lt (5 + length_in file) (length file))
 
 -- the payloads of the records up to the first that isn't there, at most so many
 abbrev pub decode : ℕ → List ℕ → List (List ℕ)
 decode zero file = []
-decode (suc most) file = if begins_record file then take (length_in file) (drop 5 file) ∷ decode most (drop (5 + length_in file) file) else []
+decode (suc most) file = if begins_record file then take (length_in file) (drop 5 file)
+    ∷ decode most (drop (5 + length_in file) file) else []
 
 -- the bytes from the first gate on whose record isn't there
 abbrev pub behind : ℕ → List ℕ → List ℕ
@@ -79,7 +82,8 @@ IsBeforeOrAfter old payload new = (new ≡ old) ⊎ (new ≡ old ++ payload ∷ 
 
 -- the bytes that a crash may leave while a frame is put behind the gate at this place, and the gate is opened
 abbrev pub IsBehindGate : List ℕ → ℕ → List ℕ → List ℕ → Type 0
-IsBehindGate file gate frame image = (take (gate + 1) image ≡ file) ⊎ ((take gate image ≡ take gate file) × (drop (gate + 1) image ≡ frame) × (gate < length image))
+IsBehindGate file gate frame image = (take (gate + 1) image ≡ file)
+    ⊎ ((take gate image ≡ take gate file) × (drop (gate + 1) image ≡ frame) × (gate < length image))
 
 -- these payloads are found in the file, and maybe more behind them
 abbrev pub FindsFirst : List (List ℕ) → List ℕ → Type 0

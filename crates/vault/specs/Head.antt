@@ -5,4 +5,6 @@ use Rattle.vault.specs.Limit.{payload_most}
 
 -- a record begins with these five bytes, where so many bytes are left from there on
 abbrev pub head_opens : List ℕ → ℕ → Bool
-head_opens head left = (slice_index head 0 == 165) && (nat_le (from_be_bytes w32 (take 4 (drop 1 head))) payload_most && nat_lt (5 + from_be_bytes w32 (take 4 (drop 1 head))) left)
+head_opens head left = (slice_index head 0 == 165)
+    && (nat_le (from_be_bytes w32 (take 4 (drop 1 head))) payload_most
+    && nat_lt (5 + from_be_bytes w32 (take 4 (drop 1 head))) left)

@@ -1,5 +1,6 @@
 -- A vault between calls, in lists of payloads. Nothing above a vault needs more than these words.
-use Rattle.std.specs.Prelude.{◌≡◌, ℕ, ◌+◌, ◌-◌, ◌*◌, ◌^◌, ◌<◌, ◌≤◌, min, false, true, List, [], ◌∷◌, ◌++◌, length, Result}
+use Rattle.std.specs.Prelude.{◌≡◌, ℕ, ◌+◌, ◌-◌, ◌*◌, ◌^◌, ◌<◌, ◌≤◌, min, false, true, List, [], ◌∷◌, ◌++◌, length}
+use Rattle.std.specs.Prelude.{Result}
 use Rattle.std.specs.Vec.{vec_capacity, vec_len}
 use Rattle.disk_trait.specs.Image.{IsImage, settled}
 use Rattle.disk_trait.specs.Calls.{DiskState, LeavesOnly}
@@ -77,11 +78,13 @@ pub record HasRoom {D : Type 0} (state : D → DiskState) (vault : Vault D) (ope
   pub index : vec_len vault.places + appends ≤ vec_capacity vault.places
 
 -- At every moment since the old state a crash leaves a file that stands for a list with R.
-abbrev pub Leaves : {D : Type 0} → (D → DiskState) → (D → ℕ → List ℕ → Type 0) → Vault D → Vault D → (List (List ℕ) → Type 0) → Type 0
+abbrev pub Leaves : {D : Type 0} → (D → DiskState) → (D → ℕ → List ℕ → Type 0) → Vault D → Vault D
+    → (List (List ℕ) → Type 0) → Type 0
 Leaves state images old new R = LeavesOnly state images old.disk new.disk (StandsForOne R)
 
 -- At every moment since the old state these payloads are found in what a crash leaves, and maybe more.
-abbrev pub LeavesFound : {D : Type 0} → (D → DiskState) → (D → ℕ → List ℕ → Type 0) → Vault D → Vault D → List (List ℕ) → Type 0
+abbrev pub LeavesFound : {D : Type 0} → (D → DiskState) → (D → ℕ → List ℕ → Type 0) → Vault D → Vault D → List (List ℕ)
+    → Type 0
 LeavesFound state images old new list = LeavesOnly state images old.disk new.disk (FindsFirst list)
 
 -- The payloads are those that a crash has left.
@@ -103,7 +106,8 @@ pub record Stays {D : Type 0} (state : D → DiskState) (old new : Vault D) : Ty
   pub looked : IsLookedAt state old → IsLookedAt state new
   pub opened : IsOpened state old → IsOpened state new
   pub sound : IsSound state old → IsSound state new
-  pub room : (openings appends bytes : ℕ) → HasRoom state old openings appends bytes → HasRoom state new openings appends bytes
+  pub room : (openings appends bytes : ℕ) → HasRoom state old openings appends bytes
+      → HasRoom state new openings appends bytes
 
 -- What a fuse does to a run of so many calls.
 abbrev pub Burns : {D T E : Type 0} → (D → DiskState) → ℕ → Vault D → Vault D → Result T E → Type 0

@@ -8,8 +8,11 @@ use Rattle.vault.specs.Standing.{disk_of, IsUp, IsSynced, IsSound}
 use Rattle.vault.specs.Folded as folded
 use Rattle.vault.specs.Calls.{Views, seen}
 
-pub record Stops {D F V : Type 0} (state : D → DiskState) (images : D → ℕ → List ℕ → Type 0) (fits : F → List (List ℕ) → Type 0) (has_spare : F → ℕ → ℕ → Type 0) (view : List (List ℕ) → V) (calls count : ℕ) (old new : Folded (FuseDisk D) F) : Type 0 where
+pub record Stops {D F V : Type 0} (state : D → DiskState) (images : D → ℕ → List ℕ → Type 0) (fits : F → List (List ℕ)
+    → Type 0) (has_spare : F → ℕ → ℕ → Type 0) (view : List (List ℕ) → V) (calls count : ℕ)
+    (old new : Folded (FuseDisk D) F) : Type 0 where
   -- so many calls pass, and so many bytes of the write after them
   pub armed : IsArmed calls count (behind state (disk_of old.vault)) (behind state (disk_of new.vault))
   pub stays : folded.Stays (behind state) fits has_spare old new
-  pub any_moment : IsUp old.vault → IsSynced (behind state) old.vault → IsSound (behind state) old.vault → Views (behind state) (λ f. images (inner_of f)) view old new (λ here. here ≡ seen (behind state) view old)
+  pub any_moment : IsUp old.vault → IsSynced (behind state) old.vault → IsSound (behind state) old.vault
+      → Views (behind state) (λ f. images (inner_of f)) view old new (λ here. here ≡ seen (behind state) view old)

@@ -1,9 +1,11 @@
 //! A vault with what is kept in memory of its payloads.
-ghost use Rattle.std.specs.Prelude.{◌≡◌, ◌*◌, ◌<◌, ◌≤◌, ◌++◌, ◌∷◌, [], false, ℕ, List, length, OnOk, IfOk, IsErrOf, slice_get, Some};
+ghost use Rattle.std.specs.Prelude.{◌≡◌, ◌*◌, ◌<◌, ◌≤◌, ◌++◌, ◌∷◌, [], false, ℕ, List, length, OnOk, IfOk, IsErrOf};
+ghost use Rattle.std.specs.Prelude.{slice_get, Some};
 ghost use Rattle.std.specs.Bool.{MatchBool};
 ghost use Rattle.disk_trait.specs.Calls.{Elapses};
 ghost use Rattle.vault.specs.Limit.{payload_most};
-ghost use Rattle.vault.specs.Standing.{payloads, gets, one_more, disk_of, IsDown, IsUp, IsSynced, IsRestarted, LeavesFound};
+ghost use Rattle.vault.specs.Standing.{payloads, gets, one_more, disk_of, IsDown, IsUp, IsSynced, IsRestarted};
+ghost use Rattle.vault.specs.Standing.{LeavesFound};
 ghost use Rattle.vault.specs.Folded.{vault_of, memory_of, IsLookedAt, IsOpened, HasRoom};
 ghost use Rattle.vault.specs.Calls.{Formats, Looks, Restarts, OpensWrite, Reserves, Appends, Reads};
 
@@ -58,7 +60,8 @@ impl<D: Disk + Drop, F: Fold + Drop> Folded<D, F> {
 
     /// Makes the file that of an empty list. The vault is then opened.
     pub fn format(&mut self) -> Result<(), VaultFault>
-        ensures { Formats D.state D.images F.fits F.has_spare (λ list. list) (λ fault. fault) self.old self.new self.old self.new result }
+        ensures { Formats D.state D.images F.fits F.has_spare (λ list. list)
+            (λ fault. fault) self.old self.new self.old self.new result }
     {
         self.vault.format()?;
         self.memory = F::start(self.alloc);
@@ -69,7 +72,8 @@ impl<D: Disk + Drop, F: Fold + Drop> Folded<D, F> {
     /// writes nothing. The vault is then unopened.
     pub fn look(&mut self) -> Result<(), VaultFault>
         requires synced { IsSynced D.state (vault_of self.old) }
-        ensures { Looks D.state D.images F.fits F.has_spare (λ list. list) (λ fault. fault) self.old self.new self.old self.new result }
+        ensures { Looks D.state D.images F.fits F.has_spare (λ list. list)
+            (λ fault. fault) self.old self.new self.old self.new result }
     {
         self.vault.look()?;
         self.memory = note_all(&mut self.vault, &mut self.found, self.alloc)?;
@@ -90,9 +94,11 @@ impl<D: Disk + Drop, F: Fold + Drop> Folded<D, F> {
     pub fn open_write(&mut self) -> Result<(), VaultFault>
         requires ready { IsUp (vault_of self.old) → IsLookedAt D.state F.fits self.old }
         requires room { IsUp (vault_of self.old) → HasRoom D.state F.has_spare self.old 1 0 0 }
-        ensures opens { OpensWrite D.state D.images F.fits F.has_spare (λ list. list) (λ fault. fault) self.old self.new self.old self.new result }
+        ensures opens { OpensWrite D.state D.images F.fits F.has_spare (λ list. list)
+            (λ fault. fault) self.old self.new self.old self.new result }
         ensures keeps { IsUp (vault_of self.old)
-            → LeavesFound D.state D.images (vault_of self.old) (vault_of self.new) (payloads D.state (vault_of self.old)) }
+            → LeavesFound D.state D.images (vault_of self.old) (vault_of self.new)
+            (payloads D.state (vault_of self.old)) }
     {
         self.vault.open_write()
     }
@@ -103,7 +109,8 @@ impl<D: Disk + Drop, F: Fold + Drop> Folded<D, F> {
         requires ready { IsUp (vault_of self.old) → IsLookedAt D.state F.fits self.old }
         requires appends { appends ≤ 16777216 }
         requires bytes { bytes ≤ 8388608 * appends }
-        ensures { Reserves D.state D.images F.fits F.has_spare (λ list. list) (λ fault. fault) appends bytes self.old self.new self.old self.new result }
+        ensures { Reserves D.state D.images F.fits F.has_spare (λ list. list)
+            (λ fault. fault) appends bytes self.old self.new self.old self.new result }
     {
         if self.vault.is_down() {
             return Err(VaultFault::Down);
@@ -121,9 +128,12 @@ impl<D: Disk + Drop, F: Fold + Drop> Folded<D, F> {
         requires ready { IsUp (vault_of self.old) → IsOpened D.state F.fits self.old }
         requires change { F.says self.old.payload.items change }
         requires short { length self.old.payload.items ≤ payload_most }
-        requires room { IsUp (vault_of self.old) → HasRoom D.state F.has_spare self.old 0 1 (length self.old.payload.items) }
-        ensures appends { Appends D.state D.images F.fits F.has_spare (λ list. list) (λ fault. fault) (length self.old.payload.items)
-            (payloads D.state (vault_of self.old) ++ self.old.payload.items ∷ []) self.old self.new self.old self.new result }
+        requires room { IsUp (vault_of self.old)
+            → HasRoom D.state F.has_spare self.old 0 1 (length self.old.payload.items) }
+        ensures appends { Appends D.state D.images F.fits F.has_spare (λ list. list) (λ fault. fault)
+            (length self.old.payload.items)
+            (payloads D.state (vault_of self.old) ++ self.old.payload.items ∷ []) self.old self.new self.old self.new
+            result }
         ensures payload { self.new.payload ≡ self.old.payload }
     {
         let index = self.vault.records();
@@ -136,8 +146,10 @@ impl<D: Disk + Drop, F: Fold + Drop> Folded<D, F> {
     pub fn read(&mut self, index: u64) -> Result<(), VaultFault>
         requires ready { IsUp (vault_of self.old) → IsLookedAt D.state F.fits self.old }
         requires index { IsUp (vault_of self.old) → index < length (payloads D.state (vault_of self.old)) }
-        ensures payload { OnOk result (slice_get (payloads D.state (vault_of self.old)) index ≡ Some self.new.found.items) }
-        ensures reads { Reads D.state D.images F.fits F.has_spare (λ list. list) (λ fault. fault) self.old self.new (vault_of self.old) (vault_of self.new) result }
+        ensures payload { OnOk result (slice_get (payloads D.state (vault_of self.old)) index
+            ≡ Some self.new.found.items) }
+        ensures reads { Reads D.state D.images F.fits F.has_spare (λ list. list)
+            (λ fault. fault) self.old self.new (vault_of self.old) (vault_of self.new) result }
         ensures kept { memory_of self.new ≡ memory_of self.old }
         ensures counted { IsUp (vault_of self.old) → gets (vault_of self.new) ≡ one_more (gets (vault_of self.old)) }
     {

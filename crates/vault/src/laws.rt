@@ -8,5 +8,6 @@ pub fn what_files_stand_for()
     // Records, and then a gate that isn't open or has nothing behind it, stand for the records' payloads.
     ensures written { (payloads : List (List ℕ)) (rest : List ℕ) → AllShort payloads → 0 < length rest → IsShut rest
         → StandsFor (records payloads ++ rest) payloads }
-    ensures one { (file : List ℕ) (left right : List (List ℕ)) → StandsFor file left → StandsFor file right → left ≡ right }
+    ensures one { (file : List ℕ) (left right : List (List ℕ)) → StandsFor file left → StandsFor file right
+        → left ≡ right }
 {}

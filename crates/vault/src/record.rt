@@ -36,7 +36,8 @@ pub(crate) fn record_len(head: &[u8], left: u64) -> Option<u64>
     ensures none { IfNone result (head_opens head.now left ≡ false) }
     ensures some { IfSome result (λ n. head_opens head.now left ≡ true) }
     ensures len { IfSome result (λ n. n ≡ 5 + from_be_bytes w32 (take 4 (drop 1 head.now))) }
-    ensures spelled { IfSome result (λ n. to_be_bytes w32 (from_be_bytes w32 (take 4 (drop 1 head.now))) ≡ take 4 (drop 1 head.now)) }
+    ensures spelled { IfSome result (λ n. to_be_bytes w32 (from_be_bytes w32 (take 4 (drop 1 head.now)))
+        ≡ take 4 (drop 1 head.now)) }
 {
     let len = u32::from_be_bytes([head[1], head[2], head[3], head[4]]);
     let is_there = head[0] == OPEN && len <= PAYLOAD_MAX && 5 + (len as u64) < left;

@@ -1,5 +1,6 @@
 //! Reading a file from front to back: where its records are. Only the head of each record is read.
-ghost use Rattle.std.specs.Prelude.{◌≡◌, ◌+◌, ◌^◌, ◌<◌, ◌≤◌, ℕ, List, [], length, take, drop, slice_index, slice_index_or, OnOk, IfOk, IsErrOf};
+ghost use Rattle.std.specs.Prelude.{◌≡◌, ◌+◌, ◌^◌, ◌<◌, ◌≤◌, ℕ, List, [], length, take, drop, slice_index};
+ghost use Rattle.std.specs.Prelude.{slice_index_or, OnOk, IfOk, IsErrOf};
 ghost use Rattle.std.specs.Vec.{vec_capacity};
 ghost use Rattle.disk_trait.specs.Calls.{HasCause, IsCounted, SameFile, Elapses};
 ghost use Rattle.vault.specs.File.{payloads_of, places_from, EndsAt};

@@ -26,7 +26,8 @@ fn note_next<D: Disk + Drop, F: Fold>(
     ensures up { IsErrOf result VaultFault.Down → ⊥ }
     ensures any_moment { vaults.IsSound D.state vault.old
         → vaults.Leaves D.state D.images vault.old vault.new (λ list. list ≡ vaults.payloads D.state vault.old) }
-    ensures cause { IsCounted VaultFault.Disk (vaults.faults D.state vault.old) (vaults.faults D.state vault.new) result }
+    ensures cause { IsCounted VaultFault.Disk (vaults.faults D.state vault.old)
+        (vaults.faults D.state vault.new) result }
     ensures fuse { vaults.SameFuse D.state vault.old vault.new }
 {
     vault.get(index, found)?;
@@ -49,7 +50,8 @@ pub(crate) fn note_all<D: Disk + Drop, F: Fold + Drop>(
     ensures up { IsErrOf result VaultFault.Down → ⊥ }
     ensures any_moment { vaults.IsSound D.state vault.old
         → vaults.Leaves D.state D.images vault.old vault.new (λ list. list ≡ vaults.payloads D.state vault.old) }
-    ensures cause { IsCounted VaultFault.Disk (vaults.faults D.state vault.old) (vaults.faults D.state vault.new) result }
+    ensures cause { IsCounted VaultFault.Disk (vaults.faults D.state vault.old)
+        (vaults.faults D.state vault.new) result }
     ensures fuse { vaults.SameFuse D.state vault.old vault.new }
 {
     let count = vault.records();

@@ -1,6 +1,7 @@
 //! The runs of disk calls that a vault is made of. Before each all that is seen is on the disk, and after `Ok`
 //! again.
-ghost use Rattle.std.specs.Prelude.{◌≡◌, ◌+◌, ◌<◌, ◌≤◌, ◌++◌, ◌∷◌, [], true, List, ℕ, length, take, drop, OnOk, IsErrOf};
+ghost use Rattle.std.specs.Prelude.{◌≡◌, ◌+◌, ◌<◌, ◌≤◌, ◌++◌, ◌∷◌, [], true, List, ℕ, length, take, drop, OnOk};
+ghost use Rattle.std.specs.Prelude.{IsErrOf};
 ghost use Rattle.disk_trait.specs.Image.{settled};
 ghost use Rattle.disk_trait.specs.Calls.{HasCause, IsCounted, Spends, Burns, LeavesOnly, SameFile};
 ghost use Rattle.vault.specs.File.{payloads_of, records, StandsFor, IsShut, EndsAt, IsBehindGate, FindsFirst};
@@ -19,7 +20,8 @@ pub(crate) fn put_behind<D: Disk>(disk: &mut D, gate: u64, frame: &[u8]) -> Resu
     requires bytes { 1 + length frame.now ≤ (D.state disk.old).bytes }
     ensures written { OnOk result ((D.state disk.new).seen ≡ take gate (D.state disk.old).seen ++ 165 ∷ frame.now) }
     ensures durable { OnOk result ((D.state disk.new).pending ≡ settled (D.state disk.new).seen) }
-    ensures any_moment { LeavesOnly D.state D.images disk.old disk.new (IsBehindGate (D.state disk.old).seen gate frame.now) }
+    ensures any_moment { LeavesOnly D.state D.images disk.old disk.new
+        (IsBehindGate (D.state disk.old).seen gate frame.now) }
     // A fuse that stops one of the first two calls leaves the gate closed.
     ensures early { (D.state disk.old).is_armed ≡ true → (D.state disk.old).passes < 2
         → LeavesOnly D.state D.images disk.old disk.new (λ image. take (gate + 1) image ≡ (D.state disk.old).seen) }
@@ -42,7 +44,8 @@ pub(crate) fn close_gate<D: Disk>(disk: &mut D, gate: u64) -> Result<(), DiskFau
     ensures written { OnOk result ((D.state disk.new).seen ≡ records (payloads_of (D.state disk.old).seen) ++ 0 ∷ []) }
     ensures durable { OnOk result ((D.state disk.new).pending ≡ settled (D.state disk.new).seen) }
     ensures any_moment { IsShut (drop gate (D.state disk.old).seen)
-        → LeavesOnly D.state D.images disk.old disk.new (λ image. StandsFor image (payloads_of (D.state disk.old).seen)) }
+        → LeavesOnly D.state D.images disk.old disk.new
+        (λ image. StandsFor image (payloads_of (D.state disk.old).seen)) }
     // Also where the file stands for no list, what was found is found again.
     ensures keeps { LeavesOnly D.state D.images disk.old disk.new (FindsFirst (payloads_of (D.state disk.old).seen)) }
     ensures cause { HasCause (D.state disk.old) (D.state disk.new) result }

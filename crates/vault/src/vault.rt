@@ -1,10 +1,13 @@
 //! The vault: what its calls promise in lists of payloads.
-ghost use Rattle.std.specs.Prelude.{◌≡◌, ◌↔◌, ◌+◌, ◌*◌, ◌<◌, ◌≤◌, ◌++◌, ◌∷◌, [], false, ℕ, length, OnOk, OnErr, IsErrOf, slice_get, Some};
+ghost use Rattle.std.specs.Prelude.{◌≡◌, ◌↔◌, ◌+◌, ◌*◌, ◌<◌, ◌≤◌, ◌++◌, ◌∷◌, [], false, ℕ, length, OnOk, OnErr};
+ghost use Rattle.std.specs.Prelude.{IsErrOf, slice_get, Some};
 ghost use Rattle.std.specs.Bool.{MatchBool};
 ghost use Rattle.disk_trait.specs.Calls.{Elapses, IsCounted};
 ghost use Rattle.vault.specs.Limit.{payload_most};
 ghost use Rattle.vault.specs.File.{IsBeforeOrAfter};
-ghost use Rattle.vault.specs.Standing.{payloads, faults, stops, gets, one_more, disk_of, IsDown, IsUp, IsSound, IsSynced, IsBlank, IsLookedAt, IsOpened, HasRoom, Leaves, LeavesFound, IsRestarted, SameFuse, Stays, Burns, StopsWithin};
+ghost use Rattle.vault.specs.Standing.{payloads, faults, stops, gets, one_more, disk_of, IsDown, IsUp, IsSound};
+ghost use Rattle.vault.specs.Standing.{IsSynced, IsBlank, IsLookedAt, IsOpened, HasRoom, Leaves, LeavesFound};
+ghost use Rattle.vault.specs.Standing.{IsRestarted, SameFuse, Stays, Burns, StopsWithin};
 
 use crate::fault::VaultFault;
 use crate::record::{PAYLOAD_MAX, write_frame};
@@ -63,7 +66,8 @@ impl<D: Disk + Drop> Vault<D> {
         ensures empty { OnOk result (payloads D.state self.new ≡ []) }
         ensures durable { OnOk result (Leaves D.state D.images self.new self.new (λ list. list ≡ [])) }
         // A crash inside the format of a blank file leaves no payload.
-        ensures blank { IsUp self.old → IsBlank D.state self.old → Leaves D.state D.images self.old self.new (λ list. list ≡ []) }
+        ensures blank { IsUp self.old → IsBlank D.state self.old
+            → Leaves D.state D.images self.old self.new (λ list. list ≡ []) }
         ensures room { OnOk result (HasRoom D.state self.new 1 0 0) }
         ensures memory { IsErrOf result VaultFault.Memory → Stays D.state self.old self.new }
         ensures down { IsErrOf result VaultFault.Down ↔ IsDown self.old }
@@ -129,11 +133,13 @@ impl<D: Disk + Drop> Vault<D> {
         ensures image { IsRestarted D.state self.old self.new }
         ensures up { IsUp self.new }
         ensures synced { IsSynced D.state self.new }
-        ensures same { IsUp self.old → IsSynced D.state self.old → payloads D.state self.new ≡ payloads D.state self.old }
+        ensures same { IsUp self.old → IsSynced D.state self.old
+            → payloads D.state self.new ≡ payloads D.state self.old }
         ensures faults { faults D.state self.new ≡ faults D.state self.old }
         ensures stops { stops D.state self.new ≡ stops D.state self.old }
         ensures unset { (D.state (disk_of self.new)).is_armed ≡ false }
-        ensures time { Elapses (D.state (disk_of self.old)) (D.state (disk_of self.new)) (D.images (disk_of self.old)) (D.images (disk_of self.new)) }
+        ensures time { Elapses (D.state (disk_of self.old)) (D.state (disk_of self.new)) (D.images (disk_of self.old))
+            (D.images (disk_of self.new)) }
     {
         self.disk.restart(pick);
         self.is_down = false;
@@ -145,7 +151,8 @@ impl<D: Disk + Drop> Vault<D> {
         requires room { IsUp self.old → HasRoom D.state self.old 1 0 0 }
         ensures opened { OnOk result (IsOpened D.state self.new) }
         ensures same { OnOk result (payloads D.state self.new ≡ payloads D.state self.old) }
-        ensures durable { OnOk result (Leaves D.state D.images self.new self.new (λ list. list ≡ payloads D.state self.old)) }
+        ensures durable { OnOk result (Leaves D.state D.images self.new self.new
+            (λ list. list ≡ payloads D.state self.old)) }
         ensures room { OnOk result ((openings appends bytes : ℕ) → HasRoom D.state self.old (openings + 1) appends bytes
             → HasRoom D.state self.new openings appends bytes) }
         ensures any_moment { IsUp self.old → IsSound D.state self.old
@@ -218,7 +225,8 @@ impl<D: Disk + Drop> Vault<D> {
         ensures added { OnOk result (payloads D.state self.new ≡ payloads D.state self.old ++ payload.now ∷ []) }
         ensures durable { OnOk result (Leaves D.state D.images self.new self.new
             (λ list. list ≡ payloads D.state self.old ++ payload.now ∷ [])) }
-        ensures room { OnOk result ((openings appends bytes : ℕ) → HasRoom D.state self.old openings (appends + 1) (bytes + length payload.now)
+        ensures room { OnOk result ((openings appends bytes : ℕ)
+            → HasRoom D.state self.old openings (appends + 1) (bytes + length payload.now)
             → HasRoom D.state self.new openings appends bytes) }
         // A crash at any moment of the call leaves the payloads from before it, without the new one or with it.
         ensures any_moment { IsUp self.old

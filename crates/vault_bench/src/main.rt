@@ -1,5 +1,5 @@
-//! Measures devices in memory. `vault_bench vault COUNT BYTES` appends so many payloads of so many bytes to a vault, and
-//! then looks at it. `vault_bench rows PUTS ROWS` puts rows so often, going round so many of them, looks, and reads
+//! Measures devices in memory. `vault_bench vault COUNT BYTES` appends so many payloads of so many bytes to a vault,
+//! and then looks at it. `vault_bench rows PUTS ROWS` puts rows so often, going round so many of them, looks, and reads
 //! each.
 #![tactic(auto)]
 

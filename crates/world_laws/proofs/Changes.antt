@@ -14,7 +14,8 @@ use Rattle.step_tables.specs.Members.{Among, put, put_at}
 use Rattle.step_tables.specs.Messages.{Request, Message, Send, SyncRequest, SyncResponse, PullRequest, PullResponse}
 use Rattle.step_tables.specs.StoreMoves.{version_of}
 use Rattle.step_tables.specs.Items.{latest, IsItemOf, IsItemAt}
-use Rattle.step_tables.specs.Sayings.{Saying, SaysNothing, SaysWrite, SaysEntry, SaysBack, SaysAck, SaysLoss, SaysConflict, SaysResolved, SaysRead, SaysPosition, saying, RowHeard, Heard, own, own_all, at_row, wrote, row_wrote, row_acked, row_lost, row_met, row_resolved, row_saw, Said, hear, hear_all, at_client, write_of, open_of}
+use Rattle.step_tables.specs.Sayings.{Saying, SaysNothing, SaysWrite, SaysEntry, SaysBack, SaysAck, SaysLoss, SaysConflict, SaysResolved, SaysRead, SaysPosition, saying, RowHeard, Heard, own, own_all}
+use Rattle.step_tables.specs.Sayings.{at_row, wrote, row_wrote, row_acked, row_lost, row_met, row_resolved, row_saw, Said, hear, hear_all, at_client, write_of, open_of}
 use Rattle.step_tables.proofs.Lists.{among_push, among_left, among_right, among_cases, among_either, among_none, among_cons, among_here, among_next, among_map, among_mapped, last_where-map}
 use Rattle.step_tables.proofs.Maps.{put_here, put_apart, put_cases, place_cases}
 use Rattle.client_laws.specs.Part.{Items, Sending, sending_in, sendings, IsLapsed, IsOwn, AreOwn, IsSending, IsRequest, Requests}

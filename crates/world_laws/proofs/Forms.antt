@@ -17,7 +17,10 @@ use Rattle.stab_base.specs.declared.node.Node.{Node}
 use Rattle.step_tables.specs.Store.{current_of}
 use Rattle.step_tables.specs.StoreMoves as store
 use Rattle.step_tables.specs.StoreMoves.{StoreDisk, StoreTask}
-use Rattle.step_tables.specs.ClientMoves.{Slots, TableDisk, ClientDisk, ClientTask, Client, RowOut, slots_at, table_at, seen, shown_in, show_answer, show_in, write_step, write_to, write_fitting, write_idle, write_free, write_by, write_strong, first_out, show_step, sync_step, sync_in, sync_first, resent, first_to_send, next_step, next_in, take_step, response_in, response_taken, outcome_taken, pulled_in, pulled_taken, row_taken, top, begun, position_plan, row_plan, row_placed, next_pull, client_step, Write, Show, Sync, Next, Take}
+use Rattle.step_tables.specs.ClientMoves.{Slots, TableDisk, ClientDisk, ClientTask, Client, RowOut, slots_at, table_at, seen, shown_in, show_answer, show_in, write_step, write_to, write_fitting}
+use Rattle.step_tables.specs.ClientMoves.{write_idle, write_free, write_by, write_strong, first_out, show_step, sync_step, sync_in, sync_first, resent, first_to_send, next_step, next_in, take_step}
+use Rattle.step_tables.specs.ClientMoves.{response_in, response_taken, outcome_taken, pulled_in, pulled_taken, row_taken, top, begun, position_plan, row_plan, row_placed, next_pull, client_step}
+use Rattle.step_tables.specs.ClientMoves.{Write, Show, Sync, Next, Take}
 use Rattle.std.proofs.lemmas.Bool.Decides.{nat_tests}
 use Rattle.world_tables.specs.Sound.{IsForm}
 use Rattle.table_model.specs.declared.event.Event.{Event}
@@ -57,7 +60,8 @@ module _ (c : ℕ) (d : ClientDisk) where
   idle_form g (task ∷ more) table row opened x = tt
   idle_form g [] table row opened x = free_form g table row opened (slots_at opened row) x (slots_at opened row).conflict
 
-  fitting_form : (g : Scheme) (agenda : List ClientTask) (table : ℕ) (row : List ℕ) (opened : TableDisk) (x : Content) (fit : Result (Unit {0}) FitFault) → IsNumber (write_fitting g c d agenda table row opened x fit).answer
+  fitting_form : (g : Scheme) (agenda : List ClientTask) (table : ℕ) (row : List ℕ) (opened : TableDisk) (x : Content) (fit : Result (Unit {0}) FitFault)
+      → IsNumber (write_fitting g c d agenda table row opened x fit).answer
   fitting_form g agenda table row opened x (Ok fits) = idle_form g agenda table row opened x
   fitting_form g agenda table row opened x (Err fault) = tt
 

@@ -1,5 +1,6 @@
 -- Every event keeps the world, and every run is sound.
-use Rattle.std.proofs.Common.{◌≡◌, ◌≢◌, ◌⊎◌, ℕ, ◌+◌, ◌<◌, ◌≤◌, Bool, true, false, List, [], ◌∷◌, ◌++◌, length, Option, Some, None, refl, sym, ap, ◌∙◌, subst, arith, inl, inr, ⊎_elim, append-nil, true≢false}
+use Rattle.std.proofs.Common.{◌≡◌, ◌≢◌, ◌⊎◌, ℕ, ◌+◌, ◌<◌, ◌≤◌, Bool, true, false, List, [], ◌∷◌, ◌++◌, length, Option, Some, None, refl, sym, ap, ◌∙◌, subst, arith, inl, inr, ⊎_elim, append-nil}
+use Rattle.std.proofs.Common.{true≢false}
 use Rattle.std.specs.Prelude.{map, slice_get, ◌||◌, ◌==◌, if◌then◌else◌, MatchBool}
 use Rattle.std.proofs.lemmas.Bool.Decides.{nat_tests}
 use Rattle.std.specs.Ordering.{nat_cmp}
@@ -30,7 +31,10 @@ use Rattle.store_laws.specs.Part as store_part
 use Rattle.store_laws.proofs.Law.{store_law}
 use Rattle.client_laws.specs.Part.{Items, Sending, Ours, ClientPart, ClientLaw}
 use Rattle.client_laws.specs.Part as part
-use Rattle.world_tables.specs.World.{World, Packet, Hosted, Outbox, Moved, WorldStep, start, schema_at, hosted_at, client_at, scheme_in, owner, still, and_then, after_table, table_step, move_hosted, move_table, after_client, move_there, move_client, first_luck, other_lucks, table_works, client_works, hosted_tasks, table_follows, client_tasks, client_follows, answering, answered, refused, silent, declared, opened, with_opened, open_all, new_client, joined, call_there, call, to_hosted, to_there, carried, delivered, row_shown, store_shown, store_shows, entry_lines, history_lines, step, lines_of, lines_from, sent_lines}
+use Rattle.world_tables.specs.World.{World, Packet, Hosted, Outbox, Moved, WorldStep, start, schema_at, hosted_at, client_at, scheme_in, owner, still, and_then, after_table, table_step, move_hosted}
+use Rattle.world_tables.specs.World.{move_table, after_client, move_there, move_client, first_luck, other_lucks, table_works, client_works, hosted_tasks, table_follows, client_tasks, client_follows}
+use Rattle.world_tables.specs.World.{answering, answered, refused, silent, declared, opened, with_opened, open_all, new_client, joined, call_there, call, to_hosted, to_there, carried, delivered}
+use Rattle.world_tables.specs.World.{row_shown, store_shown, store_shows, entry_lines, history_lines, step, lines_of, lines_from, sent_lines}
 use Rattle.world_tables.specs.Turns.{Happening, Turn, turns_from}
 use Rattle.world_tables.specs.Sound.{scheme_for, IsAnswer, IsForm, IsCounted, IsAnswered, IsTurn, AreSaid, InSight, IsSoundFrom, IsSound, IsStored}
 use Rattle.world_laws.proofs.Told.{in_sight, nothing_told}
@@ -286,7 +290,8 @@ module _ (client_law : ClientLaws) (client_grows : ClientGrows) (lapsed_grows : 
         (both_sound w s (length w.packets) (move_table table (store.Take from m) w) (table_follows table lucks) (table_move w s k table (store.Take from m) (length w.packets) (λ x is. fair))
         (λ x now. table_works_sound table (hosted_tasks (hosted_at (move_table table (store.Take from m) w).world table)) lucks (move_table table (store.Take from m) w).world x _ now))
 
-    taken_sound : (n : ℕ) (c : ℕ) (m : Message) (lucks : List Luck) → part.IsFair g c k.items (k.sent c) (client.Take m) → (o : Option Client) → client_at w c ≡ o → StepSound s w (events.Deliver n) (to_there w c m lucks o)
+    taken_sound : (n : ℕ) (c : ℕ) (m : Message) (lucks : List Luck) → part.IsFair g c k.items (k.sent c) (client.Take m) → (o : Option Client) → client_at w c ≡ o
+        → StepSound s w (events.Deliver n) (to_there w c m lucks o)
     taken_sound n c m lucks fair None at =
         answering_sound s w (events.Deliver n) facts.Done (still w) (λ lines a. a) (delivered_good n facts.Done tt) (delivered_good n (facts.Refuses facts.NoDevice) tt) (still_sound w s (length w.packets) k)
     taken_sound n c m lucks fair (Some node) at =

@@ -8,7 +8,8 @@ use Rattle.row_value.specs.declared.schema.Scheme.TheVariants.{Strong, Causal, E
 use Rattle.table_model.specs.declared.entry.Entry.{Entry}
 use Rattle.table_model.specs.declared.line.Write.{Write}
 use Rattle.step_tables.specs.Members.{Among, put, put_at}
-use Rattle.step_tables.specs.Sayings.{Saying, SaysNothing, SaysWrite, SaysEntry, SaysBack, SaysAck, SaysLoss, SaysConflict, SaysResolved, SaysRead, SaysPosition, RowHeard, Heard, own, at_row, wrote, row_wrote, row_acked, row_lost, row_met, row_resolved, row_saw, Said, nothing_said, hear, at_client, entered, write_of, open_of, if_open, open_in}
+use Rattle.step_tables.specs.Sayings.{Saying, SaysNothing, SaysWrite, SaysEntry, SaysBack, SaysAck, SaysLoss, SaysConflict, SaysResolved, SaysRead, SaysPosition, RowHeard, Heard, own, at_row, wrote}
+use Rattle.step_tables.specs.Sayings.{row_wrote, row_acked, row_lost, row_met, row_resolved, row_saw, Said, nothing_said, hear, at_client, entered, write_of, open_of, if_open, open_in}
 use Rattle.step_tables.proofs.Lists.{among_push, among_left, among_cases, among_none, among_cons, among_here, among_next, among_found, find_left, find_right}
 use Rattle.step_tables.proofs.Maps.{put_cases, place_cases, place_here}
 use Rattle.client_laws.specs.Part.{IsFresh}
@@ -85,7 +86,8 @@ row_told c t table row n y low k told = record {
         (f.0, f.1 ∙ sym e.0, f.2 ∙ sym e.1)
     last q r l is (inr e) = told.last q r l (sym (ap (λ (x : RowHeard). x.last) e.1) ∙ is)
 
-    newest : (w : Write) → ((w.table ≡ table) × (w.row ≡ row) × (put_at t.at table row y w.table w.row ≡ y)) ⊎ (((w.table ≢ table) ⊎ (w.row ≢ row)) × (put_at t.at table row y w.table w.row ≡ t.at w.table w.row))
+    newest : (w : Write) → ((w.table ≡ table) × (w.row ≡ row) × (put_at t.at table row y w.table w.row ≡ y))
+        ⊎ (((w.table ≢ table) ⊎ (w.row ≢ row)) × (put_at t.at table row y w.table w.row ≡ t.at w.table w.row))
         → (put_at t.at table row y w.table w.row).last ≡ (t.at w.table w.row).last
     newest w (inl e) = ap (λ (x : RowHeard). x.last) e.2 ∙ k.last ∙ rw (e.0, e.1) refl
     newest w (inr e) = ap (λ (x : RowHeard). x.last) e.1
@@ -238,7 +240,8 @@ told_write g s w k (inl new) = go (nat_lt (length (s.heard w.client).writes) w.n
     })
       where
         acks : (n table : ℕ) (row : List ℕ)
-            → ((table ≡ w.table) × (row ≡ w.row) × (put_at (s.heard w.client).at w.table w.row (row_wrote w ((s.heard w.client).at w.table w.row)) table row ≡ row_wrote w ((s.heard w.client).at w.table w.row)))
+            → ((table ≡ w.table) × (row ≡ w.row)
+            × (put_at (s.heard w.client).at w.table w.row (row_wrote w ((s.heard w.client).at w.table w.row)) table row ≡ row_wrote w ((s.heard w.client).at w.table w.row)))
             ⊎ (((table ≢ w.table) ⊎ (row ≢ w.row)) × (put_at (s.heard w.client).at w.table w.row (row_wrote w ((s.heard w.client).at w.table w.row)) table row ≡ (s.heard w.client).at table row))
             → (put_at (s.heard w.client).at w.table w.row (row_wrote w ((s.heard w.client).at w.table w.row)) table row).acked n ≡ true
             → (e : Entry) × Among (s.history table) e × (e.row ≡ row) × (e.client ≡ w.client) × (e.number ≡ n)
@@ -280,12 +283,14 @@ told_entry s table e k said = record {
     new true x a = among_cases (s.history table) e x a
     new false x a = inl a
 
-    more : (q : ℕ) (x : Entry) → ((q ≡ table) × (put s.history table (entered (s.history table) e) q ≡ entered (s.history table) e)) ⊎ ((q ≢ table) × (put s.history table (entered (s.history table) e) q ≡ s.history q))
+    more : (q : ℕ) (x : Entry) → ((q ≡ table) × (put s.history table (entered (s.history table) e) q ≡ entered (s.history table) e))
+        ⊎ ((q ≢ table) × (put s.history table (entered (s.history table) e) q ≡ s.history q))
         → Among (s.history q) x → Among (put s.history table (entered (s.history table) e) q) x
     more q x (inl i) a = subst (λ (es : List Entry). Among es x) (sym i.1) (kept (nat_lt (length (s.history table)) e.version) x (rw i.0 at a))
     more q x (inr i) a = subst (λ (es : List Entry). Among es x) (sym i.1) a
 
-    entry : (q : ℕ) (x : Entry) → ((q ≡ table) × (put s.history table (entered (s.history table) e) q ≡ entered (s.history table) e)) ⊎ ((q ≢ table) × (put s.history table (entered (s.history table) e) q ≡ s.history q))
+    entry : (q : ℕ) (x : Entry) → ((q ≡ table) × (put s.history table (entered (s.history table) e) q ≡ entered (s.history table) e))
+        ⊎ ((q ≢ table) × (put s.history table (entered (s.history table) e) q ≡ s.history q))
         → Among (put s.history table (entered (s.history table) e) q) x → (w : Write) × IsWrite s x.client x.number q x.row w
     entry q x (inl i) a = ⊎_elim (λ b. rw i.0 (k.entries table x b)) (λ same. rw (i.0, ← same) of_e)
         (new (nat_lt (length (s.history table)) e.version) x (subst (λ (es : List Entry). Among es x) i.1 a))
@@ -388,7 +393,8 @@ in_sight g s k c w a = by_client w.client (sym (((k.clients c).numbered w.number
             let at = t.last w.table w.row l n.1 in
             last l n.1 at (nat_lt w.number l.number) refl n.2
           where
-            last : (l : Write) → x.last ≡ Some l → Among (s.heard w.client).writes l × (l.table ≡ w.table) × (l.row ≡ w.row) → (t : Bool) → nat_lt w.number l.number ≡ t → w.number ≤ l.number → IsInSight g s w
+            last : (l : Write) → x.last ≡ Some l → Among (s.heard w.client).writes l × (l.table ≡ w.table) × (l.row ≡ w.row) → (t : Bool) → nat_lt w.number l.number ≡ t → w.number ≤ l.number
+                → IsInSight g s w
             last l is at true less low = inr (inr (inr (inl (l, at.0, at.1, at.2, grind (arith, nat_tests, less)))))
             last l is at false less low =
                 let same_number : w.number ≡ l.number = grind (arith, nat_tests, less, low) in

@@ -6,7 +6,8 @@ use Rattle.std.proofs.lemmas.Bool.Decides.{nat_tests}
 use Rattle.table_model.specs.declared.line.Write.{Write}
 use Rattle.step_tables.specs.Facts.{Line}
 use Rattle.step_tables.specs.Members.{put, put_at}
-use Rattle.step_tables.specs.Sayings.{Saying, SaysNothing, SaysWrite, SaysEntry, SaysBack, SaysAck, SaysLoss, SaysConflict, SaysResolved, SaysRead, SaysPosition, says, RowHeard, Heard, own, Said, nothing_said, hear, hear_lines}
+use Rattle.step_tables.specs.Sayings.{Saying, SaysNothing, SaysWrite, SaysEntry, SaysBack, SaysAck, SaysLoss, SaysConflict, SaysResolved, SaysRead, SaysPosition, says, RowHeard, Heard, own, Said}
+use Rattle.step_tables.specs.Sayings.{nothing_said, hear, hear_lines}
 use Rattle.step_tables.proofs.Lists.{same_row_tells}
 use Rattle.world_tables.specs.Whole.{read_by, shadow_by, position_by, greatest, conflict_by, last_conflict}
 

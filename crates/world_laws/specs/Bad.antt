@@ -10,7 +10,8 @@ use Rattle.world_laws.specs.Worked.{notes, int, the_row, turn, told, wrote, acce
 
 -- a table of this scheme, a delivery that tells all this, and more
 abbrev pub behind : Scheme → List Line → List Turn → List Turn
-behind g lines more = turn (events.Table 1 (notes g)) [] ∷ turn (events.Deliver 0) (AnswerLine facts.Done ∷ lines) ∷ more
+behind g lines more = turn (events.Table 1 (notes g)) [] ∷ turn (events.Deliver 0) (AnswerLine facts.Done ∷ lines)
+    ∷ more
 
 abbrev pub tells : Scheme → List Line → List Turn
 tells g lines = behind g lines []
@@ -82,7 +83,9 @@ revived = tells Causal (told (wrote 1 1 0 5) ∷ accepted 1 1 1 0 ∷ told (wrot
 
 -- a refusal in a causal table
 abbrev pub misplaced : List Turn
-misplaced = tells Causal (told (wrote 1 1 0 5) ∷ accepted 1 1 1 0 ∷ told (wrote 2 1 0 6) ∷ told (facts.Refused 2 1 1 the_row 1) ∷ [])
+misplaced =
+    tells Causal (told (wrote 1 1 0 5) ∷ accepted 1 1 1 0 ∷ told (wrote 2 1 0 6) ∷ told (facts.Refused 2 1 1 the_row 1)
+    ∷ [])
 
 -- a conflict resolved that no line names
 abbrev pub settled : List Turn
@@ -98,11 +101,13 @@ lost = shows Causal (told (wrote 1 1 0 5) ∷ []) (facts.Refuses facts.NoRow)
 
 -- the version of an entry with another content
 abbrev pub stale : List Turn
-stale = shows Causal (told (wrote 1 1 0 5) ∷ accepted 1 1 1 0 ∷ told (facts.Acked 1 1 1 the_row 1) ∷ []) (facts.Shows (facts.Clean 1 (int 6)))
+stale = shows Causal (told (wrote 1 1 0 5) ∷ accepted 1 1 1 0 ∷ told (facts.Acked 1 1 1 the_row 1) ∷ [])
+    (facts.Shows (facts.Clean 1 (int 6)))
 
 -- the Store's row over an open write
 abbrev pub over : List Turn
-over = shows Causal (told (wrote 2 1 0 6) ∷ accepted 1 2 1 0 ∷ told (wrote 1 1 0 5) ∷ told (facts.Conflict 1 1 1 the_row 1) ∷ []) (facts.Shows (facts.Clean 1 (int 6)))
+over = shows Causal (told (wrote 2 1 0 6) ∷ accepted 1 2 1 0 ∷ told (wrote 1 1 0 5)
+    ∷ told (facts.Conflict 1 1 1 the_row 1) ∷ []) (facts.Shows (facts.Clean 1 (int 6)))
 
 -- a strong write shown before its answer
 abbrev pub early : List Turn

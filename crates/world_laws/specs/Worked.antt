@@ -46,7 +46,14 @@ told fact = FactLine (facts.Client fact)
 
 abbrev pub wrote : ℕ → ℕ → ℕ → ℕ → ClientFact
 wrote client number read content =
-    facts.Wrote (record { client = client; number = number; table = 1; row = the_row; read = read; content = int content })
+    facts.Wrote (record {
+      client = client;
+      number = number;
+      table = 1;
+      row = the_row;
+      read = read;
+      content = int content;
+    })
 
 abbrev pub accepted : ℕ → ℕ → ℕ → ℕ → Line
 accepted version client number base = FactLine (facts.Accepted 1 (record {
@@ -85,11 +92,13 @@ late_repeat_written =
     ∷ turn (events.Client 2 None (1 ∷ [])) []
     ∷ turn (events.Write 1 1 the_row (int 5)) (AnswerLine (facts.Number 1) ∷ told (wrote 1 1 0 5) ∷ [])
     ∷ turn (events.Sync 1 1) (AnswerLine (facts.Number 1) ∷ sent 0 (nodes.Client 1) the_store names.SyncRequest ∷ [])
-    ∷ turn (events.Deliver 0) (AnswerLine facts.Done ∷ accepted 1 1 1 0 ∷ sent 1 the_store (nodes.Client 1) names.SyncResponse ∷ [])
+    ∷ turn (events.Deliver 0) (AnswerLine facts.Done ∷ accepted 1 1 1 0
+    ∷ sent 1 the_store (nodes.Client 1) names.SyncResponse ∷ [])
     ∷ turn (events.Deliver 1) (AnswerLine facts.Done ∷ told (facts.Acked 1 1 1 the_row 1) ∷ [])
     ∷ turn (events.Write 1 1 the_row (int 6)) (AnswerLine (facts.Number 2) ∷ told (wrote 1 2 1 6) ∷ [])
     ∷ turn (events.Sync 1 1) (AnswerLine (facts.Number 1) ∷ sent 2 (nodes.Client 1) the_store names.SyncRequest ∷ [])
-    ∷ turn (events.Deliver 2) (AnswerLine facts.Done ∷ accepted 2 1 2 1 ∷ sent 3 the_store (nodes.Client 1) names.SyncResponse ∷ [])
+    ∷ turn (events.Deliver 2) (AnswerLine facts.Done ∷ accepted 2 1 2 1
+    ∷ sent 3 the_store (nodes.Client 1) names.SyncResponse ∷ [])
     ∷ turn (events.Deliver 0) (AnswerLine facts.Done ∷ sent 4 the_store (nodes.Client 1) names.SyncResponse ∷ [])
     ∷ turn (events.StoreShow 1 the_row) (AnswerLine (facts.Stores 2 (int 6)) ∷ [])
     ∷ []
@@ -123,16 +132,20 @@ read_before_write_is_no_conflict_written =
     ∷ turn (events.Client 2 None (1 ∷ [])) []
     ∷ turn (events.Write 1 1 the_row (int 5)) (AnswerLine (facts.Number 1) ∷ told (wrote 1 1 0 5) ∷ [])
     ∷ turn (events.Sync 1 1) (AnswerLine (facts.Number 1) ∷ sent 0 (nodes.Client 1) the_store names.SyncRequest ∷ [])
-    ∷ turn (events.Deliver 0) (AnswerLine facts.Done ∷ accepted 1 1 1 0 ∷ sent 1 the_store (nodes.Client 1) names.SyncResponse ∷ [])
+    ∷ turn (events.Deliver 0) (AnswerLine facts.Done ∷ accepted 1 1 1 0
+    ∷ sent 1 the_store (nodes.Client 1) names.SyncResponse ∷ [])
     ∷ turn (events.Pull 2 1) (AnswerLine facts.Done ∷ sent 2 (nodes.Client 2) the_store names.PullRequest ∷ [])
     ∷ turn (events.Deliver 2) (AnswerLine facts.Done ∷ sent 3 the_store (nodes.Client 2) names.PullResponse ∷ [])
-    ∷ turn (events.Deliver 3) (AnswerLine facts.Done ∷ told (facts.New 2 1 the_row 1) ∷ told (facts.Position 2 1 1) ∷ [])
+    ∷ turn (events.Deliver 3) (AnswerLine facts.Done ∷ told (facts.New 2 1 the_row 1) ∷ told (facts.Position 2 1 1)
+    ∷ [])
     ∷ turn (events.Write 2 1 the_row (int 6)) (AnswerLine (facts.Number 1) ∷ told (wrote 2 1 1 6) ∷ [])
     ∷ turn (events.Sync 2 1) (AnswerLine (facts.Number 1) ∷ sent 4 (nodes.Client 2) the_store names.SyncRequest ∷ [])
-    ∷ turn (events.Deliver 4) (AnswerLine facts.Done ∷ accepted 2 2 1 1 ∷ sent 5 the_store (nodes.Client 2) names.SyncResponse ∷ [])
+    ∷ turn (events.Deliver 4) (AnswerLine facts.Done ∷ accepted 2 2 1 1
+    ∷ sent 5 the_store (nodes.Client 2) names.SyncResponse ∷ [])
     ∷ turn (events.Pull 1 1) (AnswerLine facts.Done ∷ sent 6 (nodes.Client 1) the_store names.PullRequest ∷ [])
     ∷ turn (events.Deliver 6) (AnswerLine facts.Done ∷ sent 7 the_store (nodes.Client 1) names.PullResponse ∷ [])
-    ∷ turn (events.Deliver 7) (AnswerLine facts.Done ∷ told (facts.Acked 1 1 1 the_row 1) ∷ told (facts.New 1 1 the_row 2) ∷ told (facts.Position 1 1 2) ∷ [])
+    ∷ turn (events.Deliver 7) (AnswerLine facts.Done ∷ told (facts.Acked 1 1 1 the_row 1)
+    ∷ told (facts.New 1 1 the_row 2) ∷ told (facts.Position 1 1 2) ∷ [])
     ∷ turn (events.Show 1 1 the_row) (AnswerLine (facts.Shows (facts.Clean 2 (int 6))) ∷ [])
     ∷ []
 
@@ -165,13 +178,15 @@ causal_conflict_written =
     ∷ turn (events.Write 1 1 the_row (int 5)) (AnswerLine (facts.Number 1) ∷ told (wrote 1 1 0 5) ∷ [])
     ∷ turn (events.Write 2 1 the_row (int 6)) (AnswerLine (facts.Number 1) ∷ told (wrote 2 1 0 6) ∷ [])
     ∷ turn (events.Sync 1 1) (AnswerLine (facts.Number 1) ∷ sent 0 (nodes.Client 1) the_store names.SyncRequest ∷ [])
-    ∷ turn (events.Deliver 0) (AnswerLine facts.Done ∷ accepted 1 1 1 0 ∷ sent 1 the_store (nodes.Client 1) names.SyncResponse ∷ [])
+    ∷ turn (events.Deliver 0) (AnswerLine facts.Done ∷ accepted 1 1 1 0
+    ∷ sent 1 the_store (nodes.Client 1) names.SyncResponse ∷ [])
     ∷ turn (events.Deliver 1) (AnswerLine facts.Done ∷ told (facts.Acked 1 1 1 the_row 1) ∷ [])
     ∷ turn (events.Sync 2 1) (AnswerLine (facts.Number 1) ∷ sent 2 (nodes.Client 2) the_store names.SyncRequest ∷ [])
     ∷ turn (events.Deliver 2) (AnswerLine facts.Done ∷ sent 3 the_store (nodes.Client 2) names.SyncResponse ∷ [])
     ∷ turn (events.Deliver 3) (AnswerLine facts.Done ∷ sent 4 (nodes.Client 2) the_store names.PullRequest ∷ [])
     ∷ turn (events.Deliver 4) (AnswerLine facts.Done ∷ sent 5 the_store (nodes.Client 2) names.PullResponse ∷ [])
-    ∷ turn (events.Deliver 5) (AnswerLine facts.Done ∷ told (facts.Conflict 2 1 1 the_row 1) ∷ told (facts.Position 2 1 1) ∷ [])
+    ∷ turn (events.Deliver 5) (AnswerLine facts.Done ∷ told (facts.Conflict 2 1 1 the_row 1)
+    ∷ told (facts.Position 2 1 1) ∷ [])
     ∷ turn (events.Show 2 1 the_row) (AnswerLine (facts.Shows (facts.Contended 1 1 (int 6))) ∷ [])
     ∷ turn (events.Write 2 1 the_row (int 7)) (AnswerLine (facts.Refuses (facts.Conflicted 1)) ∷ [])
     ∷ []
@@ -198,12 +213,16 @@ strong_write_refused_written =
     ∷ turn (events.Table 1 (notes Strong)) []
     ∷ turn (events.Client 1 None (1 ∷ [])) []
     ∷ turn (events.Client 2 None (1 ∷ [])) []
-    ∷ turn (events.Write 1 1 the_row (int 5)) (AnswerLine (facts.Number 1) ∷ told (wrote 1 1 0 5) ∷ sent 0 (nodes.Client 1) the_store names.SyncRequest ∷ [])
-    ∷ turn (events.Write 2 1 the_row (int 6)) (AnswerLine (facts.Number 1) ∷ told (wrote 2 1 0 6) ∷ sent 1 (nodes.Client 2) the_store names.SyncRequest ∷ [])
+    ∷ turn (events.Write 1 1 the_row (int 5)) (AnswerLine (facts.Number 1) ∷ told (wrote 1 1 0 5)
+    ∷ sent 0 (nodes.Client 1) the_store names.SyncRequest ∷ [])
+    ∷ turn (events.Write 2 1 the_row (int 6)) (AnswerLine (facts.Number 1) ∷ told (wrote 2 1 0 6)
+    ∷ sent 1 (nodes.Client 2) the_store names.SyncRequest ∷ [])
     ∷ turn (events.Write 2 1 the_row (int 7)) (AnswerLine (facts.Refuses (facts.Outstanding 1)) ∷ [])
-    ∷ turn (events.Deliver 0) (AnswerLine facts.Done ∷ accepted 1 1 1 0 ∷ sent 2 the_store (nodes.Client 1) names.SyncResponse ∷ [])
+    ∷ turn (events.Deliver 0) (AnswerLine facts.Done ∷ accepted 1 1 1 0
+    ∷ sent 2 the_store (nodes.Client 1) names.SyncResponse ∷ [])
     ∷ turn (events.Deliver 1) (AnswerLine facts.Done ∷ sent 3 the_store (nodes.Client 2) names.SyncResponse ∷ [])
     ∷ turn (events.Deliver 2) (AnswerLine facts.Done ∷ told (facts.Acked 1 1 1 the_row 1) ∷ [])
-    ∷ turn (events.Deliver 3) (AnswerLine facts.Done ∷ told (facts.Refused 2 1 1 the_row 1) ∷ sent 4 (nodes.Client 2) the_store names.PullRequest ∷ [])
+    ∷ turn (events.Deliver 3) (AnswerLine facts.Done ∷ told (facts.Refused 2 1 1 the_row 1)
+    ∷ sent 4 (nodes.Client 2) the_store names.PullRequest ∷ [])
     ∷ turn (events.Show 2 1 the_row) (AnswerLine (facts.Refuses facts.NoRow) ∷ [])
     ∷ []

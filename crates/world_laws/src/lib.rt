@@ -7,28 +7,36 @@ ghost use Rattle.step_tables.specs.Facts.{Line};
 ghost use Rattle.step_tables.specs.Sayings.{nothing_said, hear_lines};
 ghost use Rattle.world_tables.specs.Sound.{IsSound};
 ghost use Rattle.world_tables.specs.Whole.{read_by, shadow_by, position_by, greatest, last_conflict};
-ghost use Rattle.world_laws.specs.Bad.{back, blind, doubled, early, fallen, groundless, lost, misplaced, outdated, over, past, renamed, revived, selfish, settled, silent, skipped_number, skipped_version, stale, twice, unearned, unread, unseen, unwritten};
+ghost use Rattle.world_laws.specs.Bad.{back, blind, doubled, early, fallen, groundless, lost, misplaced, outdated};
+ghost use Rattle.world_laws.specs.Bad.{over, past, renamed, revived, selfish, settled, silent, skipped_number};
+ghost use Rattle.world_laws.specs.Bad.{skipped_version, stale, twice, unearned, unread, unseen, unwritten};
 ghost use Rattle.world_tables.specs.Turns.{Happening, turns};
-ghost use Rattle.world_laws.specs.Worked.{late_repeat, late_repeat_written, read_before_write_is_no_conflict, read_before_write_is_no_conflict_written, causal_conflict, causal_conflict_written, strong_write_refused, strong_write_refused_written};
+ghost use Rattle.world_laws.specs.Worked.{late_repeat, late_repeat_written, read_before_write_is_no_conflict};
+ghost use Rattle.world_laws.specs.Worked.{read_before_write_is_no_conflict_written, causal_conflict};
+ghost use Rattle.world_laws.specs.Worked.{causal_conflict_written, strong_write_refused, strong_write_refused_written};
 
 /// What the fold of the lines has of a client is what the whole list of lines says: the versions read are the greatest
 /// that lines name, with conflicts and without, a position is the greatest, and a number's conflict is the last that
 /// names it.
 pub fn the_fold_is_the_whole_list()
     ensures read { (client table : ℕ) (row : List ℕ) (lines : List Line)
-        → (((hear_lines nothing_said lines).heard client).at table row).read ≡ greatest (read_by client table row) lines }
+        → (((hear_lines nothing_said lines).heard client).at table row).read
+        ≡ greatest (read_by client table row) lines }
     ensures shadow { (client table : ℕ) (row : List ℕ) (lines : List Line)
-        → (((hear_lines nothing_said lines).heard client).at table row).shadow ≡ greatest (shadow_by client table row) lines }
+        → (((hear_lines nothing_said lines).heard client).at table row).shadow
+        ≡ greatest (shadow_by client table row) lines }
     ensures position { (client table : ℕ) (lines : List Line)
         → ((hear_lines nothing_said lines).heard client).position table ≡ greatest (position_by client table) lines }
     ensures conflict { (client table : ℕ) (row : List ℕ) (number : ℕ) (lines : List Line)
-        → (((hear_lines nothing_said lines).heard client).at table row).conflict number ≡ last_conflict client table row number lines }
+        → (((hear_lines nothing_said lines).heard client).at table row).conflict number
+        ≡ last_conflict client table row number lines }
 {}
 
-/// Every run's transcript is sound, whatever is delivered, lost, repeated or overtaken, wherever a device write fails and
-/// takes its node down, and for tables of all three schemes: each event has one answer in a form of its command; the
-/// versions of each table's history are 1, 2, 3; the writes of each client are numbered 1, 2, 3, and each entry is one
-/// of them, accepted once, by the rule of its table's scheme; a write in a conflict or refused is never accepted; each
+/// Every run's transcript is sound, whatever is delivered, lost, repeated or overtaken, wherever a device write fails
+/// and takes its node down, and for tables of all three schemes: each event has one answer in a form of its command;
+/// the versions of each table's history are 1, 2, 3; the writes of each client are numbered 1, 2, 3, and each entry is
+/// one of them, accepted once, by the rule of its table's scheme; a write in a conflict or refused is never accepted;
+/// each
 /// `show` gives what the client's lines make it show, and each `sshow` and `history` what was accepted; what a client
 /// has read never falls, and what its position covers it has read; and no write is lost from sight.
 pub fn every_run_is_sound()

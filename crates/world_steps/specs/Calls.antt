@@ -23,5 +23,6 @@ refusal_in call.Memory = Err Memory
 
 -- the client's numbers are spent exactly where this write would be done
 abbrev pub IsNumberCause : Client → ℕ → List ℕ → Content → WorldFault → Type 0
-IsNumberCause client table row content (Limit code count) = (code ≡ 11) × (count ≡ NUMBER_MAX + 1) × SpendsNumber (Some client) table row content
+IsNumberCause client table row content (Limit code count) =
+    (code ≡ 11) × (count ≡ NUMBER_MAX + 1) × SpendsNumber (Some client) table row content
 IsNumberCause client table row content Memory = Unit {0}

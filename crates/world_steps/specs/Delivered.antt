@@ -18,7 +18,8 @@ use Rattle.world_steps.specs.Holds.{SpendsVersion, SpendsAt}
 abbrev pub store_out : Packet → Option (List Stored) → Out
 store_out packet None = nothing
 store_out packet (Some stored) =
-    let step = store_step (table_in packet.message) stored packet.message in and_more nothing packet.from step.messages step.facts
+    let step = store_step (table_in packet.message) stored packet.message in
+    and_more nothing packet.from step.messages step.facts
 
 abbrev pub client_out : Packet → Option Client → Out
 client_out packet None = nothing
@@ -34,5 +35,6 @@ IsPacketCause w packet Memory = Unit {0}
 
 -- a delivery's lines and packets are those of a party that sends and tells this
 pub record Tells (w : World) (step : WorldStep) (from : Node) (out : Out) : Type 0 where
-  pub lines : step.lines ≡ answer_lines answers.Done (out.facts ++ sent_from (length w.packets) (packets_from from out.messages))
+  pub lines : step.lines ≡ answer_lines answers.Done
+      (out.facts ++ sent_from (length w.packets) (packets_from from out.messages))
   pub packets : step.world.packets ≡ w.packets ++ packets_from from out.messages

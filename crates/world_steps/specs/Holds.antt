@@ -46,12 +46,14 @@ pub record Holds (w : laws.World) (world : World) : Type 0 where
 -- the client has made its last write, and this one would be done
 abbrev pub SpendsNumber : Option Client → ℕ → List ℕ → Content → Type 0
 SpendsNumber None table row content = ⊥
-SpendsNumber (Some node) table row content = IsTaken (write_step node table row content).answer × (node.last ≡ NUMBER_MAX)
+SpendsNumber (Some node) table row content =
+    IsTaken (write_step node table row content).answer × (node.last ≡ NUMBER_MAX)
 
 -- the table has given its last version, and this packet would be accepted
 abbrev pub SpendsVersion : Option (List Stored) → laws.Packet → Type 0
 SpendsVersion None packet = ⊥
-SpendsVersion (Some stored) packet = NUMBER_MAX < length (store_step (table_in packet.message) stored packet.message).stored
+SpendsVersion (Some stored) packet =
+    NUMBER_MAX < length (store_step (table_in packet.message) stored packet.message).stored
 
 abbrev pub SpendsAt : laws.World → laws.Packet → Node → Type 0
 SpendsAt w packet (nodes.Store store) = SpendsVersion (stored_at w (table_in packet.message)) packet

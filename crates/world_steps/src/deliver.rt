@@ -49,7 +49,8 @@ fn to_store(
     ensures out { (w : AWorld) → HasTables w tables.old
         → IfOk result (λ out. out ≡ store_out (packet_of packet.now) (stored_at w (table_in packet.now.message))) }
     ensures tables { (w : AWorld) → HasTables w tables.old
-        → OnOk result (HasTables (to_store w (packet_of packet.now) (stored_at w (table_in packet.now.message))).world tables.new) }
+        → OnOk result (HasTables (to_store w (packet_of packet.now) (stored_at w (table_in packet.now.message))).world
+        tables.new) }
     ensures cause { (w : AWorld) → HasTables w tables.old
         → IfErr result (IsVersionCause (stored_at w (table_in packet.now.message)) (packet_of packet.now)) }
     ensures unspent { (w : AWorld) → HasTables w tables.old

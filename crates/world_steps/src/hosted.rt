@@ -74,7 +74,8 @@ impl Hosted {
         ensures node { (stored : List Stored) → Holds stored self.old.node → OnOk result (Holds stored self.new.node) }
         ensures table { OnOk result (table_of self.new.node ≡ table_of self.old.node) }
         ensures empty { OnOk result (gathered self.new.node ≡ nothing) }
-        ensures history { OnOk result (self.new.history ≡ self.old.history ++ entries_told (gathered self.old.node).facts) }
+        ensures history { OnOk result (self.new.history ≡ self.old.history
+            ++ entries_told (gathered self.old.node).facts) }
         ensures memory { IfErr result (λ fault. fault ≡ WorldFault.Memory) }
     {
         let out = self.node.take_out();

@@ -69,7 +69,8 @@ impl Network {
         lines: &mut Sequence<TextLine>,
     ) -> Result<(), WorldFault>
         ensures packets { OnOk result (packets_in self.new ≡ packets_in self.old ++ packets_from from messages) }
-        ensures lines { OnOk result (lines.new ≡ lines.old ++ told (sent_from (length (packets_in self.old)) (packets_from from messages))) }
+        ensures lines { OnOk result (lines.new ≡ lines.old
+            ++ told (sent_from (length (packets_in self.old)) (packets_from from messages))) }
         ensures memory { IfErr result (λ fault. fault ≡ WorldFault.Memory) }
     {
         for (to, message) in messages.into_vec() {
@@ -85,8 +86,11 @@ impl Network {
         message: Message,
         lines: &mut Sequence<TextLine>,
     ) -> Result<(), WorldFault>
-        ensures packets { OnOk result (packets_in self.new ≡ packets_in self.old ++ record { from = from; to = to; message = message } ∷ []) }
-        ensures lines { OnOk result (lines.new ≡ lines.old ++ text.Fact (sent_fact (length (packets_in self.old)) (record { from = from; to = to; message = message })) ∷ []) }
+        ensures packets { OnOk result (packets_in self.new ≡ packets_in self.old
+            ++ record { from = from; to = to; message = message } ∷ []) }
+        ensures lines { OnOk result (lines.new ≡ lines.old
+            ++ text.Fact (sent_fact (length (packets_in self.old)) (record { from = from; to = to; message = message }))
+            ∷ []) }
         ensures memory { IfErr result (λ fault. fault ≡ WorldFault.Memory) }
     {
         let fact = Fact::Sent {

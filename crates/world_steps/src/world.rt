@@ -1,7 +1,9 @@
 ghost use Rattle.std.specs.Prelude.{◌≡◌, [], ◌∷◌, ◌++◌, List, length, slice_get, IfOk, IfErr, OnOk, None};
 ghost use Rattle.table_model.specs.declared.event.Event.{Event as AnEvent};
 ghost use Rattle.step_tables.specs.Client.{Client, write_step, show_step, sync_step, pull_step};
-ghost use Rattle.run_laws.specs.World.{World as AWorld, start, step, declared, joined, open_all, with_opened, call, delivered, store_shows, history_lines, answer_lines, entry_lines, sent_from, schema_at, stored_at, client_at};
+ghost use Rattle.run_laws.specs.World.{World as AWorld, start, step, declared, joined, open_all, with_opened, call};
+ghost use Rattle.run_laws.specs.World.{delivered, store_shows, history_lines, answer_lines, entry_lines, sent_from};
+ghost use Rattle.run_laws.specs.World.{schema_at, stored_at, client_at};
 ghost use Rattle.run_laws.specs.Turns.{world_after};
 ghost use Rattle.world_steps.specs.Sounds.{GoesOnSound};
 ghost use Rattle.world_steps.specs.Network.{packets_in, packets_from};
@@ -51,7 +53,8 @@ impl World {
     pub fn step(&mut self, event: &Event) -> Result<Lines, WorldFault>
         ensures lines { (w : AWorld) → Holds w self.old → IfOk result (λ lines. lines ≡ (step w event.now).lines) }
         ensures world { (w : AWorld) → Holds w self.old → OnOk result (Holds (step w event.now).world self.new) }
-        ensures sound { (script : List AnEvent) → Holds (world_after script) self.old → IfOk result (λ lines. GoesOnSound script event.now lines) }
+        ensures sound { (script : List AnEvent) → Holds (world_after script) self.old
+            → IfOk result (λ lines. GoesOnSound script event.now lines) }
         ensures cause { (w : AWorld) → Holds w self.old → IfErr result (IsCause w event.now) }
         ensures unspent { (w : AWorld) → Holds w self.old → OnOk result (Spends w event.now → ⊥) }
     {
@@ -85,7 +88,8 @@ impl World {
 
     fn declare(&mut self, table: TableNo, schema: &Schema) -> Result<Lines, WorldFault>
         ensures lines { IfOk result (λ lines. lines ≡ []) }
-        ensures world { (w : AWorld) → Holds w self.old → OnOk result (Holds (declared w table schema.now (stored_at w table)) self.new) }
+        ensures world { (w : AWorld) → Holds w self.old
+            → OnOk result (Holds (declared w table schema.now (stored_at w table)) self.new) }
         ensures memory { IfErr result (λ fault. fault ≡ WorldFault.Memory) }
     {
         if self.tables.contains_key(&table) {
@@ -97,7 +101,8 @@ impl World {
 
     fn add_table(&mut self, table: TableNo, schema: &Schema) -> Result<Lines, WorldFault>
         ensures lines { IfOk result (λ lines. lines ≡ []) }
-        ensures world { (w : AWorld) → Holds w self.old → OnOk result (Holds (declared w table schema.now None) self.new) }
+        ensures world { (w : AWorld) → Holds w self.old
+            → OnOk result (Holds (declared w table schema.now None) self.new) }
         ensures memory { IfErr result (λ fault. fault ≡ WorldFault.Memory) }
     {
         self.schemas.insert(table, schema.copy()?)?;
@@ -107,7 +112,9 @@ impl World {
 
     // A client that opens these tables, as far as they are declared.
     fn opened(&self, client: ClientNo, tables: &[TableNo]) -> Result<ClientNode, WorldFault>
-        ensures node { (w : AWorld) → Holds w self.now → IfOk result (λ node. node ≡ idle (open_all w (record { number = client; last = 0; tables = [] }) tables.now)) }
+        ensures node { (w : AWorld) → Holds w self.now
+            → IfOk result (λ node. node
+            ≡ idle (open_all w (record { number = client; last = 0; tables = [] }) tables.now)) }
         ensures memory { IfErr result (λ fault. fault ≡ WorldFault.Memory) }
     {
         let mut node = ClientNode::new(self.alloc, client);
@@ -120,7 +127,8 @@ impl World {
     // Opens a table at a client, if it is declared.
     fn open(&self, node: &mut ClientNode, table: TableNo) -> Result<(), WorldFault>
         ensures node { (w : AWorld) → Holds w self.now
-            → OnOk result (node.new ≡ record node.old { client = with_opened node.old.client table (schema_at w table) }) }
+            → OnOk result (node.new
+            ≡ record node.old { client = with_opened node.old.client table (schema_at w table) }) }
         ensures out { OnOk result (node.new.out ≡ node.old.out) }
         ensures memory { IfErr result (λ fault. fault ≡ WorldFault.Memory) }
     {
@@ -132,7 +140,8 @@ impl World {
 
     fn join(&mut self, client: ClientNo, tables: &[TableNo]) -> Result<Lines, WorldFault>
         ensures lines { IfOk result (λ lines. lines ≡ []) }
-        ensures world { (w : AWorld) → Holds w self.old → OnOk result (Holds (joined w client tables.now (client_at w client)) self.new) }
+        ensures world { (w : AWorld) → Holds w self.old
+            → OnOk result (Holds (joined w client tables.now (client_at w client)) self.new) }
         ensures memory { IfErr result (λ fault. fault ≡ WorldFault.Memory) }
     {
         if self.clients.contains_key(&client) {
@@ -144,7 +153,8 @@ impl World {
 
     fn add_client(&mut self, client: ClientNo, tables: &[TableNo]) -> Result<Lines, WorldFault>
         ensures lines { IfOk result (λ lines. lines ≡ []) }
-        ensures world { (w : AWorld) → Holds w self.old → OnOk result (Holds (joined w client tables.now None) self.new) }
+        ensures world { (w : AWorld) → Holds w self.old
+            → OnOk result (Holds (joined w client tables.now None) self.new) }
         ensures memory { IfErr result (λ fault. fault ≡ WorldFault.Memory) }
     {
         let node = self.opened(client, tables)?;
@@ -157,7 +167,8 @@ impl World {
     fn tell(&mut self, from: Node, answer: Answer, out: Out) -> Result<Lines, WorldFault>
         ensures lines { IfOk result (λ lines. lines ≡ answer_lines answer
             (out.facts ++ sent_from (length (packets_in self.old.network)) (packets_from from out.messages))) }
-        ensures packets { OnOk result (packets_in self.new.network ≡ packets_in self.old.network ++ packets_from from out.messages) }
+        ensures packets { OnOk result (packets_in self.new.network
+            ≡ packets_in self.old.network ++ packets_from from out.messages) }
         ensures same { self.new ≡ record self.old { network = self.new.network } }
         ensures memory { IfErr result (λ fault. fault ≡ WorldFault.Memory) }
     {
@@ -197,8 +208,10 @@ impl World {
             → IfOk result (λ lines. lines ≡ (call w client (λ node. write_step node table row content.now)).lines) }
         ensures world { (w : AWorld) → Holds w self.old
             → OnOk result (Holds (call w client (λ node. write_step node table row content.now)).world self.new) }
-        ensures cause { (w : AWorld) → Holds w self.old → IfErr result (IsCause w (Event.Write client table row content.now)) }
-        ensures unspent { (w : AWorld) → Holds w self.old → OnOk result (Spends w (Event.Write client table row content.now) → ⊥) }
+        ensures cause { (w : AWorld) → Holds w self.old
+            → IfErr result (IsCause w (Event.Write client table row content.now)) }
+        ensures unspent { (w : AWorld) → Holds w self.old
+            → OnOk result (Spends w (Event.Write client table row content.now) → ⊥) }
     {
         let Some(node) = self.clients.get_mut(&client) else {
             return self.only(Answer::Refused(Refusal::NoTable));
@@ -252,8 +265,10 @@ impl World {
     }
 
     fn deliver(&mut self, number: u64) -> Result<Lines, WorldFault>
-        ensures lines { (w : AWorld) → Holds w self.old → IfOk result (λ lines. lines ≡ (delivered w (slice_get w.packets number)).lines) }
-        ensures world { (w : AWorld) → Holds w self.old → OnOk result (Holds (delivered w (slice_get w.packets number)).world self.new) }
+        ensures lines { (w : AWorld) → Holds w self.old
+            → IfOk result (λ lines. lines ≡ (delivered w (slice_get w.packets number)).lines) }
+        ensures world { (w : AWorld) → Holds w self.old
+            → OnOk result (Holds (delivered w (slice_get w.packets number)).world self.new) }
         ensures cause { (w : AWorld) → Holds w self.old → IfErr result (IsCause w (Event.Deliver number)) }
         ensures unspent { (w : AWorld) → Holds w self.old → OnOk result (Spends w (Event.Deliver number) → ⊥) }
     {
@@ -266,8 +281,10 @@ impl World {
     }
 
     fn store_show(&self, table: TableNo, row: &RowId) -> Result<Lines, WorldFault>
-        ensures lines { (w : AWorld) → Holds w self.now → IfOk result (λ lines. lines ≡ (store_shows w row.now (stored_at w table)).lines) }
-        ensures world { (w : AWorld) → Holds w self.now → OnOk result (Holds (store_shows w row.now (stored_at w table)).world self.now) }
+        ensures lines { (w : AWorld) → Holds w self.now
+            → IfOk result (λ lines. lines ≡ (store_shows w row.now (stored_at w table)).lines) }
+        ensures world { (w : AWorld) → Holds w self.now
+            → OnOk result (Holds (store_shows w row.now (stored_at w table)).world self.now) }
         ensures memory { IfErr result (λ fault. fault ≡ WorldFault.Memory) }
     {
         match self.tables.get(&table) {
@@ -277,8 +294,10 @@ impl World {
     }
 
     fn history(&self, table: TableNo) -> Result<Lines, WorldFault>
-        ensures lines { (w : AWorld) → Holds w self.now → IfOk result (λ lines. lines ≡ (history_lines w table (stored_at w table)).lines) }
-        ensures world { (w : AWorld) → Holds w self.now → OnOk result (Holds (history_lines w table (stored_at w table)).world self.now) }
+        ensures lines { (w : AWorld) → Holds w self.now
+            → IfOk result (λ lines. lines ≡ (history_lines w table (stored_at w table)).lines) }
+        ensures world { (w : AWorld) → Holds w self.now
+            → OnOk result (Holds (history_lines w table (stored_at w table)).world self.now) }
         ensures memory { IfErr result (λ fault. fault ≡ WorldFault.Memory) }
     {
         match self.tables.get(&table) {
@@ -288,7 +307,8 @@ impl World {
     }
 
     fn listed(&self, table: TableNo, history: &History) -> Result<Lines, WorldFault>
-        ensures lines { IfOk result (λ lines. lines ≡ TextLine.Answer (Answer.Number (length history.now)) ∷ entry_lines table history.now) }
+        ensures lines { IfOk result (λ lines. lines ≡ TextLine.Answer (Answer.Number (length history.now))
+            ∷ entry_lines table history.now) }
         ensures memory { IfErr result (λ fault. fault ≡ WorldFault.Memory) }
     {
         let mut lines = self.only(Answer::Number(history.len() as u64))?;

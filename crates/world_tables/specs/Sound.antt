@@ -1,5 +1,6 @@
 -- What every transcript keeps, said of each line by what the lines before it say.
-use Rattle.std.specs.Prelude.{◌≡◌, ◌≢◌, ◌⊎◌, ℕ, ◌+◌, ◌<◌, ◌≤◌, ◌==◌, Bool, true, false, List, [], ◌∷◌, ◌++◌, length, map, Option, Some, None, option_map, if◌then◌else◌, MatchBool}
+use Rattle.std.specs.Prelude.{◌≡◌, ◌≢◌, ◌⊎◌, ℕ, ◌+◌, ◌<◌, ◌≤◌, ◌==◌, Bool, true, false, List, [], ◌∷◌, ◌++◌, length}
+use Rattle.std.specs.Prelude.{map, Option, Some, None, option_map, if◌then◌else◌, MatchBool}
 use Rattle.std.specs.List.{AllByRecursion, find}
 use Rattle.row_value.specs.declared.content.Content.{Content}
 use Rattle.row_value.specs.declared.schema.Scheme.{Scheme}
@@ -12,7 +13,9 @@ use Rattle.table_model.specs.History.{current}
 use Rattle.step_tables.specs.Facts.{Fact, Answer, Shown, Line, AnswerLine, EntryLine, FactLine}
 use Rattle.step_tables.specs.Facts as facts
 use Rattle.step_tables.specs.Members.{Among}
-use Rattle.step_tables.specs.Sayings.{Saying, SaysNothing, SaysWrite, SaysEntry, SaysBack, SaysAck, SaysLoss, SaysConflict, SaysResolved, SaysRead, SaysPosition, says, RowHeard, Heard, Said, nothing_said, hear, hear_lines, write_of, open_of, open_in}
+use Rattle.step_tables.specs.Sayings.{Saying, SaysNothing, SaysWrite, SaysEntry, SaysBack, SaysAck, SaysLoss}
+use Rattle.step_tables.specs.Sayings.{SaysConflict, SaysResolved, SaysRead, SaysPosition, says, RowHeard, Heard, Said}
+use Rattle.step_tables.specs.Sayings.{nothing_said, hear, hear_lines, write_of, open_of, open_in}
 use Rattle.world_tables.specs.World.{entry_lines}
 use Rattle.world_tables.specs.Turns.{Turn, transcript_of}
 
@@ -40,29 +43,32 @@ pub record IsEntryAt (s : Said) (table : ℕ) (row : List ℕ) (version : ℕ) (
 
 -- no entry of a table is this write
 abbrev pub HasNoEntry : Said → ℕ → ℕ → Type 0
-HasNoEntry s client number = (table : ℕ) (entry : Entry) → Among (s.history table) entry → entry.client ≡ client → entry.number ≢ number
+HasNoEntry s client number = (table : ℕ) (entry : Entry) → Among (s.history table) entry → entry.client ≡ client
+    → entry.number ≢ number
 
 -- ---- strong, causal and eventual entries
 
--- of a base and of the read position of the entry's write. Strong: both are the row's current version. Causal: the base is, and
--- each entry of the row behind the read position is the same client's, with a lower number. Eventual: the base is 0 or the
--- version of an earlier entry of the row
+-- of a base and of the read position of the entry's write. Strong: both are the row's current version. Causal: the base
+-- is, and each entry of the row behind the read position is the same client's, with a lower number. Eventual: the base
+-- is 0 or the version of an earlier entry of the row
 abbrev pub IsOver : Scheme → List Entry → ℕ → Entry → Type 0
 IsOver Strong history read entry = (entry.base ≡ current history entry.row) × (read ≡ current history entry.row)
 IsOver Causal history read entry =
     (entry.base ≡ current history entry.row)
-    × ((o : Entry) → Among history o → o.row ≡ entry.row → read < o.version → (o.client ≡ entry.client) × (o.number < entry.number))
+    × ((o : Entry) → Among history o → o.row ≡ entry.row → read < o.version
+    → (o.client ≡ entry.client) × (o.number < entry.number))
 IsOver Eventual history read entry =
     (entry.base ≡ 0) ⊎ ((o : Entry) × Among history o × (o.row ≡ entry.row) × (o.version ≡ entry.base))
 
--- a new entry: the next version, of a write told before, on its table and row, which has no other entry, and wasn't told as
--- refused or in conflict; the numbers of one client's entries on a row rise
+-- a new entry: the next version, of a write told before, on its table and row, which has no other entry, and wasn't
+-- told as refused or in conflict; the numbers of one client's entries on a row rise
 pub record IsNew (g : ℕ → Scheme) (s : Said) (table : ℕ) (entry : Entry) : Type 0 where
   pub next : entry.version ≡ length (s.history table) + 1
   pub write : Write
   pub written : IsWrite s entry.client entry.number table entry.row write
   pub once : HasNoEntry s entry.client entry.number
-  pub rises : (o : Entry) → Among (s.history table) o → o.client ≡ entry.client → o.row ≡ entry.row → o.number < entry.number
+  pub rises : (o : Entry) → Among (s.history table) o → o.client ≡ entry.client → o.row ≡ entry.row
+      → o.number < entry.number
   pub over : IsOver (g table) (s.history table) write.read entry
   pub unlost : ((s.heard entry.client).at table entry.row).lost entry.number ≡ false
   pub standing : ((s.heard entry.client).at table entry.row).conflict entry.number ≡ None
@@ -90,14 +96,16 @@ pub record IsMet (g : Scheme) (s : Said) (client number table : ℕ) (row : List
 abbrev pub IsOpen : RowHeard → ℕ → Type 0
 IsOpen x number = (write : Write) × (open_of x ≡ Some write) × (write.number ≡ number)
 
--- WRITE: the next of its client, over the version read; or told again. ENTRY: new, or told again. BACK: one above the last version.
--- ACK: of an entry of this write; not below what was read, or told again. LOSS: in a strong table. CONFLICT: in a causal one.
--- RESOLVED: beside the version in the write's last conflict, while it is open; or told again. READ: an entry of the row, not below what was read. POSITION: never
--- falls, and each row whose current version it covers has been read at it
+-- WRITE: the next of its client, over the version read; or told again. ENTRY: new, or told again. BACK: one above the
+-- last version. ACK: of an entry of this write; not below what was read, or told again. LOSS: in a strong table.
+-- CONFLICT: in a causal one. RESOLVED: beside the version in the write's last conflict, while it is open; or told
+-- again. READ: an entry of the row, not below what was read. POSITION: never falls, and each row whose current version
+-- it covers has been read at it
 abbrev pub IsSaid : (ℕ → Scheme) → Said → Saying → Type 0
 IsSaid g s SaysNothing = Unit {0}
 IsSaid g s (SaysWrite write) =
-    ((write.number ≡ length (s.heard write.client).writes + 1) × (write.read ≡ ((s.heard write.client).at write.table write.row).shadow))
+    ((write.number ≡ length (s.heard write.client).writes + 1)
+    × (write.read ≡ ((s.heard write.client).at write.table write.row).shadow))
     ⊎ (write_of write.number (s.heard write.client).writes ≡ Some write)
 IsSaid g s (SaysEntry table entry) = Among (s.history table) entry ⊎ IsNew g s table entry
 IsSaid g s (SaysBack table version) = version ≡ length (s.history table) + 1
@@ -114,7 +122,8 @@ IsSaid g s (SaysRead client table row version) =
     ((entry : Entry) × IsEntryAt s table row version entry) × (((s.heard client).at table row).read ≤ version)
 IsSaid g s (SaysPosition client table position) =
     ((s.heard client).position table ≤ position)
-    × ((row : List ℕ) → current (s.history table) row ≤ position → ((s.heard client).at table row).read ≡ current (s.history table) row)
+    × ((row : List ℕ) → current (s.history table) row ≤ position
+    → ((s.heard client).at table row).read ≡ current (s.history table) row)
 
 abbrev pub AreSaid : (ℕ → Scheme) → Said → List Line → Type 0
 AreSaid g s [] = Unit {0}
@@ -127,7 +136,8 @@ entry_at version history = find (λ (entry : Entry). entry.version == version) h
 
 abbrev pub content_of : Said → Option Entry → Option Content
 content_of s None = None
-content_of s (Some entry) = option_map (λ (write : Write). write.content) (write_of entry.number (s.heard entry.client).writes)
+content_of s (Some entry) =
+    option_map (λ (write : Write). write.content) (write_of entry.number (s.heard entry.client).writes)
 
 -- the content that a table's history has at a version: that of the entry's write
 abbrev pub content_at : Said → ℕ → ℕ → Option Content
@@ -145,7 +155,8 @@ abbrev pub shown_by : Said → ℕ → RowHeard → Option Write → Option Show
 shown_by s table x (Some write) = Some (mine write (x.conflict write.number))
 shown_by s table x None = clean x.shadow (content_at s table x.shadow)
 
--- what a client shows of a row: its open write, in a conflict where a line names one; else what it has read; else nothing
+-- what a client shows of a row: its open write, in a conflict where a line names one; else what it has read; else
+-- nothing
 abbrev pub shown_of : (ℕ → Scheme) → Said → ℕ → ℕ → List ℕ → Option Shown
 shown_of g s client table row =
     let x : RowHeard = (s.heard client).at table row in shown_by s table x (open_in (g table) (open_of x))
@@ -162,8 +173,8 @@ IsStored s table row (facts.Stores version content) =
 IsStored s table row (facts.Refuses facts.NoRow) = current (s.history table) row ≡ 0
 IsStored s table row other = Unit {0}
 
--- an answer with the lines that it counts: a `show` gives what the client's lines make it show, the Store gives its rows and
--- histories as its lines make them
+-- an answer with the lines that it counts: a `show` gives what the client's lines make it show, the Store gives its
+-- rows and histories as its lines make them
 abbrev pub IsAnswer : (ℕ → Scheme) → Said → Event → Answer → List Line → Type 0
 IsAnswer g s (events.Show client table row) answer counted = IsShown (shown_of g s client table row) answer
 IsAnswer g s (events.StoreShow table row) answer counted = IsStored s table row answer
@@ -171,8 +182,8 @@ IsAnswer g s (events.History table) (facts.Number number) counted =
     (number ≡ length (s.history table)) × (counted ≡ entry_lines table (s.history table))
 IsAnswer g s event answer counted = Unit {0}
 
--- ---- Shape: a declaration writes nothing; every other event has one answer, in a form of its command, the lines that it
--- counts, and facts
+-- ---- Shape: a declaration writes nothing; every other event has one answer, in a form of its command, the lines that
+-- it counts, and facts
 
 abbrev pub is_declaration : Event → Bool
 is_declaration (events.Store store) = true
@@ -209,12 +220,14 @@ pub record IsAnswered (g : ℕ → Scheme) (s : Said) (event : Event) (lines : L
 abbrev pub IsTurn : (ℕ → Scheme) → Said → Turn → Type 0
 IsTurn g s turn = MatchBool (is_declaration turn.event) (turn.lines ≡ []) (IsAnswered g s turn.event turn.lines)
 
--- ---- In sight: no write is lost from sight. It is an entry, or its client shows it, or it is an open write of a strong table,
--- or a later write of its client on the row stands in the lines, or a line names it as refused or resolved
+-- ---- In sight: no write is lost from sight. It is an entry, or its client shows it, or it is an open write of a
+-- strong table, or a later write of its client on the row stands in the lines, or a line names it as refused or
+-- resolved
 
 abbrev pub HasEntryOf : Said → Write → Type 0
 HasEntryOf s write =
-    (entry : Entry) × Among (s.history write.table) entry × (entry.row ≡ write.row) × (entry.client ≡ write.client) × (entry.number ≡ write.number)
+    (entry : Entry) × Among (s.history write.table) entry × (entry.row ≡ write.row) × (entry.client ≡ write.client)
+    × (entry.number ≡ write.number)
 
 abbrev pub IsInSight : (ℕ → Scheme) → Said → Write → Type 0
 IsInSight g s write =
@@ -222,7 +235,8 @@ IsInSight g s write =
     HasEntryOf s write
     ⊎ (shown_of g s write.client write.table write.row ≡ Some (mine write (x.conflict write.number)))
     ⊎ ((g write.table ≡ Strong) × (open_of x ≡ Some write))
-    ⊎ ((later : Write) × Among (s.heard write.client).writes later × (later.table ≡ write.table) × (later.row ≡ write.row) × (write.number < later.number))
+    ⊎ ((later : Write) × Among (s.heard write.client).writes later × (later.table ≡ write.table)
+    × (later.row ≡ write.row) × (write.number < later.number))
     ⊎ (x.lost write.number ≡ true)
     ⊎ (x.resolved write.number ≡ true)
 

@@ -19,7 +19,8 @@ pub record Turn : Type 0 where
 abbrev pub turns_from : World → List Happening → List Turn
 turns_from w [] = []
 turns_from w (h ∷ more) =
-    record { event = h.event; lines = lines_of w (step w h.event h.lucks) } ∷ turns_from (step w h.event h.lucks).world more
+    record { event = h.event; lines = lines_of w (step w h.event h.lucks) }
+    ∷ turns_from (step w h.event h.lucks).world more
 
 -- what happens from the start writes
 abbrev pub turns : List Happening → List Turn

@@ -1,9 +1,11 @@
 -- What lines say of a client and a row, over the whole list of lines.
-use Rattle.std.specs.Prelude.{ℕ, ◌==◌, Bool, true, false, ◌&&◌, ◌||◌, max, List, [], ◌∷◌, Option, Some, None, if◌then◌else◌}
+use Rattle.std.specs.Prelude.{ℕ, ◌==◌, Bool, true, false, ◌&&◌, ◌||◌, max, List, [], ◌∷◌, Option, Some, None}
+use Rattle.std.specs.Prelude.{if◌then◌else◌}
 use Rattle.std.specs.Option.{option_or}
 use Rattle.table_model.specs.History.{same_row}
 use Rattle.step_tables.specs.Facts.{Line}
-use Rattle.step_tables.specs.Sayings.{Saying, SaysAck, SaysLoss, SaysConflict, SaysResolved, SaysRead, SaysPosition, says}
+use Rattle.step_tables.specs.Sayings.{Saying, SaysAck, SaysLoss, SaysConflict, SaysResolved, SaysRead, SaysPosition}
+use Rattle.step_tables.specs.Sayings.{says}
 
 -- whether a saying is of this client, on this row of this table
 abbrev pub is_of : ℕ → ℕ → List ℕ → ℕ → ℕ → List ℕ → Bool
@@ -35,9 +37,11 @@ greatest number (line ∷ more) = max (number (says line)) (greatest number more
 
 -- the version in the last conflict that names a number
 abbrev pub conflict_by : ℕ → ℕ → List ℕ → ℕ → Saying → Option ℕ
-conflict_by client table row number (SaysConflict c n t r version) = if is_of client table row c t r && (number == n) then Some version else None
+conflict_by client table row number (SaysConflict c n t r version) =
+    if is_of client table row c t r && (number == n) then Some version else None
 conflict_by client table row number other = None
 
 abbrev pub last_conflict : ℕ → ℕ → List ℕ → ℕ → List Line → Option ℕ
 last_conflict client table row number [] = None
-last_conflict client table row number (line ∷ more) = option_or (last_conflict client table row number more) (conflict_by client table row number (says line))
+last_conflict client table row number (line ∷ more) =
+    option_or (last_conflict client table row number more) (conflict_by client table row number (says line))

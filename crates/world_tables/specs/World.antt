@@ -1,5 +1,6 @@
 -- The world: what an event makes of all nodes and of the network, with the lucks of the device writes that it does.
-use Rattle.std.specs.Prelude.{ℕ, ◌+◌, Bool, true, false, ◌||◌, List, [], ◌∷◌, ◌++◌, length, map, slice_get, Option, Some, None, option_to_list, if◌then◌else◌}
+use Rattle.std.specs.Prelude.{ℕ, ◌+◌, Bool, true, false, ◌||◌, List, [], ◌∷◌, ◌++◌, length, map, slice_get, Option}
+use Rattle.std.specs.Prelude.{Some, None, option_to_list, if◌then◌else◌}
 use Rattle.std.specs.Ordering.{nat_cmp}
 use Rattle.std.specs.Map.{lookup}
 use Rattle.std.specs.BTreeMap.{is_at, insert_entry}
@@ -102,7 +103,8 @@ abbrev pub still : World → Moved
 still w = record { world = w; outs = []; failed = false }
 
 abbrev pub and_then : Moved → (World → Moved) → Moved
-and_then m f = record { world = (f m.world).world; outs = m.outs ++ (f m.world).outs; failed = m.failed || (f m.world).failed }
+and_then m f =
+    record { world = (f m.world).world; outs = m.outs ++ (f m.world).outs; failed = m.failed || (f m.world).failed }
 
 abbrev pub is_fault : Answer → Bool
 is_fault facts.Done = false
@@ -122,7 +124,8 @@ address None = the_store
 address (Some node) = node
 
 abbrev pub packets_from : Node → List Send → List Packet
-packets_from from sends = map (λ (send : Send). record { from = from; to = address send.to; message = send.message }) sends
+packets_from from sends =
+    map (λ (send : Send). record { from = from; to = address send.to; message = send.message }) sends
 
 -- the history goes on by the entries that facts tell
 abbrev pub goes_on : List Entry → Saying → List Entry
@@ -138,7 +141,9 @@ after_table w table hosted s =
     let packets : List Packet = packets_from the_store s.sends in
     record {
       world = record w {
-        tables = insert_entry nat_cmp w.tables table (record { store = s.store; history = history_on hosted.history s.facts });
+        tables =
+            insert_entry nat_cmp w.tables table
+            (record { store = s.store; history = history_on hosted.history s.facts });
         packets = w.packets ++ packets;
       };
       outs = record { facts = s.facts; packets = packets } ∷ [];
@@ -281,7 +286,8 @@ to_there w c message lucks (Some node) = call_there w c (client.Take message) lu
 -- a packet whose party or table isn't there is lost
 abbrev pub carried : World → Packet → List Luck → Node → WorldStep
 carried w packet lucks (nodes.Store number) =
-    to_hosted w (table_of packet.message) (store.Take packet.from packet.message) lucks (hosted_at w (table_of packet.message))
+    to_hosted w (table_of packet.message) (store.Take packet.from packet.message) lucks
+    (hosted_at w (table_of packet.message))
 carried w packet lucks (nodes.Client c) = to_there w c packet.message lucks (client_at w c)
 carried w packet lucks (nodes.Gate gate) = answered w facts.Done
 

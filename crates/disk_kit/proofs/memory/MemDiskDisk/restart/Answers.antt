@@ -8,7 +8,8 @@ use Rattle.disk_kit.proofs.Writes.{image_settled}
 use Rattle.disk_kit.proofs.memory.MemDiskDisk.restart.Goals as goal
 use Rattle.disk_kit.proofs.memory.MemDiskDisk.restart.Goals.{After-unwrap}
 
-pushed : (c : After-unwrap) → IsPushed c.args.self.now.calls.items c.args.self.now.pool.items (held_in c.args.self.now) c.push.new.self.items c.args.self.now.pool.items (held_in c.args.self.now) Sync []
+pushed : (c : After-unwrap)
+    → IsPushed c.args.self.now.calls.items c.args.self.now.pool.items (held_in c.args.self.now) c.push.new.self.items c.args.self.now.pool.items (held_in c.args.self.now) Sync []
 pushed c = record {
   is_calls = search rules;
   is_pool = sym (append-nil c.args.self.now.pool.items);

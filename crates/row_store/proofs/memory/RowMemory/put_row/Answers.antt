@@ -12,8 +12,10 @@ use Rattle.row_store.proofs.memory.RowMemory.put_row.Goals as goal
 use Rattle.row_store.proofs.memory.RowMemory.put_row.Goals.{in-Some+in_ok-remove, in_default}
 
 -- both indexes, as they are after the row was put
-both : (places new_places : Places) (versions mid new_versions : Versions) (row : List ℕ) (place : Place) → new_places ≡ insert_entry id_cmp places row place → new_versions ≡ insert_entry version_cmp mid (at place.version row) tt
-    → (AreByVersion places versions → AreByVersion (insert_entry id_cmp places row place) (insert_entry version_cmp mid (at place.version row) tt)) → AreByVersion places versions → AreByVersion new_places new_versions
+both : (places new_places : Places) (versions mid new_versions : Versions) (row : List ℕ) (place : Place) → new_places ≡ insert_entry id_cmp places row place
+    → new_versions ≡ insert_entry version_cmp mid (at place.version row) tt
+    → (AreByVersion places versions → AreByVersion (insert_entry id_cmp places row place) (insert_entry version_cmp mid (at place.version row) tt)) → AreByVersion places versions
+    → AreByVersion new_places new_versions
 both places new_places versions mid new_versions row place places_are versions_are to by =
     subst (λ (es : Places). AreByVersion es new_versions) (sym places_are) (subst (AreByVersion (insert_entry id_cmp places row place)) (sym versions_are) (to by))
 

@@ -1,6 +1,11 @@
-ghost use Rattle.std.specs.Prelude.{◌≡◌, ◌≤◌, length, drop, IfOk};
+ghost use Rattle.std.specs.Prelude.{◌≡◌, ◌≤◌, ◌++◌, length, drop, IfOk};
 ghost use Rattle.std.specs.Int.{w64};
 ghost use Rattle.value_codec.specs.Reading.{Gives, number_at, name_at, cell_at, piece_at};
+ghost use Rattle.value_codec.specs.Spelling.{list_spelling};
+ghost use Rattle.value_codec.specs.FirstBad.{Refuses};
+ghost use Rattle.field_codec.specs.Forms.{AreEach};
+ghost use Rattle.held_codec.specs.Spelling.{local_spelling, HasLocalSpelling, slots_spelling, HasSlots};
+ghost use Rattle.held_codec.specs.Spelling.{tell_spelling, HasTell};
 ghost use Rattle.field_codec.specs.Fields.{then_at, option_at, inside_if, byte_if, all_at};
 ghost use Rattle.held_codec.specs.Reading.{local_at, held_piece_at, held_object_at, held_at, main_at, shadow_at, out_at};
 ghost use Rattle.held_codec.specs.Reading.{slots_at, is_tell, has_first, has_second, number_or, tell_of, tell_at};
@@ -17,9 +22,8 @@ use value_codec::{SpellFault, take_byte, take_eight, take_flag, take_four, take_
 
 // ---- held contents
 
-/// The local name at a place, and the place behind it.
 #[tactic(auto, unfolding(crate::specs::Reading::local_at))]
-pub fn take_local(bytes: &[u8], at: usize) -> Result<(LocalName, usize), SpellFault>
+fn read_local(bytes: &[u8], at: usize) -> Result<(LocalName, usize), SpellFault>
     requires { at ≤ length bytes.now }
     ensures value { Gives bytes.now (λ x. (x.0, drop x.1 bytes.now)) result (local_at (drop at bytes.now)) }
     ensures within { IfOk result (λ x. x.1 ≤ length bytes.now) }
@@ -27,6 +31,19 @@ pub fn take_local(bytes: &[u8], at: usize) -> Result<(LocalName, usize), SpellFa
     let (plan, behind) = take_eight(bytes, at)?;
     let (ordinal, behind) = take_four(bytes, behind)?;
     Ok((LocalName { plan, ordinal }, behind))
+}
+
+/// The local name at a place, and the place behind it.
+pub fn take_local(bytes: &[u8], at: usize) -> Result<(LocalName, usize), SpellFault>
+    requires { at ≤ length bytes.now }
+    ensures value { Gives bytes.now (λ x. (x.0, drop x.1 bytes.now)) result (local_at (drop at bytes.now)) }
+    ensures within { IfOk result (λ x. x.1 ≤ length bytes.now) }
+    // What is found stands there as it is spelled.
+    ensures found { IfOk result (λ x. HasLocalSpelling x.0 × (drop at bytes.now ≡ local_spelling x.0 ++ drop x.1 bytes.now)) }
+    // A fault tells the first place at which no spelling goes on.
+    ensures refused { Refuses HasLocalSpelling local_spelling bytes.now at result }
+{
+    read_local(bytes, at)
 }
 
 #[tactic(auto, unfolding(field_codec::specs::Fields::option_at))]
@@ -50,7 +67,7 @@ fn take_held_piece(bytes: &[u8], at: usize) -> Result<(HeldPiece, usize), SpellF
     ensures value { Gives bytes.now (λ x. (x.0, drop x.1 bytes.now)) result (held_piece_at (drop at bytes.now)) }
     ensures within { IfOk result (λ x. x.1 ≤ length bytes.now) }
 {
-    let (local, behind) = take_local(bytes, at)?;
+    let (local, behind) = read_local(bytes, at)?;
     let (name, behind) = take_name_option(bytes, behind)?;
     Ok((HeldPiece { local, name }, behind))
 }
@@ -232,9 +249,8 @@ fn take_out_option(
     }
 }
 
-/// The four slots of a row at a place, and the place behind them.
 #[tactic(auto, unfolding(crate::specs::Reading::slots_at))]
-pub fn take_slots(alloc: Global, bytes: &[u8], at: usize) -> Result<(Slots, usize), SpellFault>
+fn read_slots(alloc: Global, bytes: &[u8], at: usize) -> Result<(Slots, usize), SpellFault>
     requires { at ≤ length bytes.now }
     ensures value { Gives bytes.now (λ x. (x.0, drop x.1 bytes.now)) result (slots_at (drop at bytes.now)) }
     ensures within { IfOk result (λ x. x.1 ≤ length bytes.now) }
@@ -250,6 +266,19 @@ pub fn take_slots(alloc: Global, bytes: &[u8], at: usize) -> Result<(Slots, usiz
         conflict,
     };
     Ok((slots, behind))
+}
+
+/// The four slots of a row at a place, and the place behind them.
+pub fn take_slots(alloc: Global, bytes: &[u8], at: usize) -> Result<(Slots, usize), SpellFault>
+    requires { at ≤ length bytes.now }
+    ensures value { Gives bytes.now (λ x. (x.0, drop x.1 bytes.now)) result (slots_at (drop at bytes.now)) }
+    ensures within { IfOk result (λ x. x.1 ≤ length bytes.now) }
+    // What is found stands there as it is spelled.
+    ensures found { IfOk result (λ x. HasSlots x.0 × (drop at bytes.now ≡ slots_spelling x.0 ++ drop x.1 bytes.now)) }
+    // A fault tells the first place at which no spelling goes on.
+    ensures refused { Refuses HasSlots slots_spelling bytes.now at result }
+{
+    read_slots(alloc, bytes, at)
 }
 
 // ---- tells
@@ -334,7 +363,7 @@ impl Taken for LocalName {
     ghost reading = { local_at };
 
     fn take(_alloc: Global, bytes: &[u8], at: usize) -> Result<(LocalName, usize), SpellFault> {
-        take_local(bytes, at)
+        read_local(bytes, at)
     }
 }
 
@@ -357,6 +386,10 @@ pub fn take_locals(
     requires { at ≤ length bytes.now }
     ensures value { Gives bytes.now (λ x. (x.0, drop x.1 bytes.now)) result (all_at local_at (drop at bytes.now)) }
     ensures within { IfOk result (λ x. x.1 ≤ length bytes.now) }
+    // What is found stands there as it is spelled.
+    ensures found { IfOk result (λ x. AreEach HasLocalSpelling x.0 × (drop at bytes.now ≡ list_spelling local_spelling x.0 ++ drop x.1 bytes.now)) }
+    // A fault tells the first place at which no spelling goes on.
+    ensures refused { Refuses (AreEach HasLocalSpelling) (list_spelling local_spelling) bytes.now at result }
 {
     take_list::<LocalName>(alloc, bytes, at)
 }
@@ -366,6 +399,10 @@ pub fn take_tells(alloc: Global, bytes: &[u8], at: usize) -> Result<(Tells, usiz
     requires { at ≤ length bytes.now }
     ensures value { Gives bytes.now (λ x. (x.0, drop x.1 bytes.now)) result (all_at tell_at (drop at bytes.now)) }
     ensures within { IfOk result (λ x. x.1 ≤ length bytes.now) }
+    // What is found stands there as it is spelled.
+    ensures found { IfOk result (λ x. AreEach HasTell x.0 × (drop at bytes.now ≡ list_spelling tell_spelling x.0 ++ drop x.1 bytes.now)) }
+    // A fault tells the first place at which no spelling goes on.
+    ensures refused { Refuses (AreEach HasTell) (list_spelling tell_spelling) bytes.now at result }
 {
     take_list::<Tell>(alloc, bytes, at)
 }

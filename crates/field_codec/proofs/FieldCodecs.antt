@@ -1,28 +1,27 @@
 -- Fields: each reading gives what is spelled, and tells the first bad place.
-use Rattle.std.proofs.Common.{◌≡◌, ℕ, zero, suc, ◌-◌, ◌<◌, ◌≤◌, ◌^◌, Bool, true, false, eqb, leb, ltb, List, [], ◌∷◌, ◌++◌, length, take, drop, Result, Ok, Err, Option, Some, None, refl, sym, ap}
+use Rattle.std.proofs.Common.{◌≡◌, ℕ, ◌-◌, ◌<◌, ◌≤◌, ◌^◌, Bool, true, false, ltb, List, [], ◌∷◌, ◌++◌, length, take, drop, Result, Ok, Err, Option, Some, None, refl, sym, ap}
 use Rattle.std.proofs.Common.{subst, ◌∙◌, arith, inl, inr, length-append}
 use Rattle.std.specs.Int.{w32, w64}
-use Rattle.std.proofs.lemmas.Bool.{eqb-true, leb-true, ltb-true, ltb-false, le-ltb}
+use Rattle.std.proofs.lemmas.Bool.{eqb-true, ltb-true, ltb-false, le-ltb}
 use Rattle.std.proofs.lemmas.List.{take_at, drop_at, append-nil, length-take-le, take-append-drop}
 use Rattle.stab_base.specs.Codec.{IsBytes}
 use Rattle.value_codec.specs.FirstBad.{IsFirstBad}
 use Rattle.value_codec.specs.Spelling.{flag_spelling, list_spelling, content_spelling, HasContentSpelling, HasKeptSpelling}
 use Rattle.value_codec.specs.SchemaSpelling.{schema_spelling, HasSchemaSpelling}
-use Rattle.value_codec.specs.Reading.{byte_at, number_at, flag_at, id_at, content_at, kept_content_at, list_at, exactly_at}
+use Rattle.value_codec.specs.Reading.{byte_at, number_at, flag_at, id_at, content_at, kept_content_at, list_at}
 use Rattle.value_codec.specs.SchemaReading.{schema_at}
-use Rattle.value_codec.proofs.FieldReads.{retold, bind_ok, branch, ok_is, no_fault, gives, byte_reads, four_reads, eight_reads, id_reads, flag_reads}
-use Rattle.value_codec.proofs.PieceReads.{exactly_takes, exactly_again}
+use Rattle.value_codec.proofs.FieldReads.{retold, branch, ok_is, no_fault, gives, byte_reads, four_reads, eight_reads, id_reads, flag_reads}
 use Rattle.value_codec.proofs.ContentReads.{content_reads, kept_reads}
 use Rattle.value_codec.proofs.SchemaReads.{schema_reads}
 use Rattle.value_codec.proofs.ListReads.{EachFrom, list_reads, each_of, each_from}
-use Rattle.value_codec.proofs.Stops.{retold_stop, moved, bind_err, branch_err, err_is, not_ok, no_byte}
-use Rattle.value_codec.proofs.FieldStops.{four_stop, eight_stop, id_stop, flag_stop, exactly_fails, Given, given, list_stop, zeros, zeros-length}
+use Rattle.value_codec.proofs.Stops.{retold_stop, branch_err, err_is, not_ok, no_byte}
+use Rattle.value_codec.proofs.FieldStops.{four_stop, eight_stop, id_stop, flag_stop, list_stop, zeros, zeros-length}
 use Rattle.value_codec.proofs.ValueStops.{content_stop, kept_stop}
 use Rattle.value_codec.proofs.SchemaStops.{schema_stop}
 use Rattle.field_codec.specs.Fields.{Reader, bytes_at, inside_if, option_at, is_flag, option_if, after_item, item_in, all_at}
 use Rattle.field_codec.specs.Forms.{four, eight, IsOption, option_spelling, IsOptionIf, AreEach}
 use Rattle.field_codec.proofs.Codecs.{Codec, both, depending, made}
-use Rattle.field_codec.proofs.Ranges.{Passes, one_byte, passes, ranged, both_are}
+use Rattle.field_codec.proofs.Ranges.{Passes, one_byte, passes}
 
 -- ---- numbers, ids and values of rows
 

@@ -1,6 +1,6 @@
 -- Readings put together of fields. A reading is of a value and the bytes behind it, up to the first place at which no
 -- spelling goes on.
-use Rattle.std.specs.Prelude.{ℕ, ◌+◌, ◌*◌, Bool, true, false, ◌==◌, ◌&&◌, nat_lt, nat_le, if◌then◌else◌, List, [], ◌∷◌}
+use Rattle.std.specs.Prelude.{ℕ, ◌+◌, ◌*◌, Bool, true, false, ◌==◌, ◌&&◌, nat_lt, nat_le, if◌then◌else◌, List}
 use Rattle.std.specs.Prelude.{length, take, drop, Result, Ok, Err, Option, Some, None}
 use Rattle.value_codec.specs.Reading.{◌>>=◌, byte_at, flag_at, list_at}
 

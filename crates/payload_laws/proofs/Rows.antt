@@ -31,12 +31,12 @@ same_id bytes = refl
 id_takes : (bytes id rest : List ℕ) → IsBytes bytes → id_at bytes ≡ Ok (id, rest) → (length id ≡ 16) × (bytes ≡ id ++ rest)
 id_takes bytes id rest fits e = id_reads.takes bytes id rest fits (sym (same_id bytes) ∙ e)
 
-both_are : (a b : Bool) → (a && b) ≡ true → (a ≡ true) × (b ≡ true)
+pub both_are : (a b : Bool) → (a && b) ≡ true → (a ≡ true) × (b ≡ true)
 both_are true b e = (refl, e)
 both_are false b e = absurd cc
 
 -- what stands behind the first byte of a payload
-tag_takes : (tag : ℕ) (payload rest : List ℕ) → IsBytes payload → tag_at tag payload ≡ Ok rest → (payload ≡ tag ∷ rest) × IsBytes rest
+pub tag_takes : (tag : ℕ) (payload rest : List ℕ) → IsBytes payload → tag_at tag payload ≡ Ok rest → (payload ≡ tag ∷ rest) × IsBytes rest
 unfolding tag_at
 tag_takes tag payload rest fits e =
     let f : ℕ × List ℕ → Result (List ℕ) ℕ = λ first. cond (eqb first.0 tag) (Ok first.1) (Err (length payload)) in
@@ -51,7 +51,7 @@ tag_takes tag payload rest fits e =
     ]
 
 -- nothing stands behind a whole value
-whole_takes : {X : Type 0} (read : Result (X × List ℕ) ℕ) (x : X) → whole read ≡ Ok x → read ≡ Ok (x, [])
+pub whole_takes : {X : Type 0} (read : Result (X × List ℕ) ℕ) (x : X) → whole read ≡ Ok x → read ≡ Ok (x, [])
 unfolding whole
 whole_takes {X} read x e =
     let f : X × List ℕ → Result X ℕ = λ a. cond (eqb (length a.1) 0) (Ok a.0) (Err (length a.1)) in

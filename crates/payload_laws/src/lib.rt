@@ -4,4 +4,4 @@
 
 mod laws;
 
-pub use laws::rows_have_one_payload;
+pub use laws::{chunks_have_one_payload, entries_have_one_payload, rows_have_one_payload};

@@ -81,3 +81,6 @@ pub fn one_place()
     ensures { (schema : Schema) (words : List (List ℕ)) (a b : ℕ)
         → IsBadWord schema words a → IsBadWord schema words b → a ≡ b }
 {}
+
+#[cfg(test)]
+mod tests;

@@ -1,0 +1,2 @@
+pub mod TimerLists
+pub mod Slots

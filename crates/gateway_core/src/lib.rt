@@ -1,8 +1,14 @@
 //! The gateway: clients register at it, it passes their messages on to the Stores, and tells them of changes.
 #![tactic(auto)]
 
+mod directory;
+mod gate_fault;
 mod out;
+mod running;
 mod session;
 mod sessions;
+mod site;
 
+pub use directory::Directory;
+pub use gate_fault::GateFault;
 pub use out::{Out, Sent};

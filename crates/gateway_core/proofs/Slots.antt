@@ -156,7 +156,8 @@ module _ (client slot : ℕ) (session : Session) (old new : Slab Held) (updates 
             sessions = ap (λ (n : ℕ). (e.0, at_slot new n) ∷ sessions_in new places) at
                 ∙ ap (λ (x : Session). (e.0, x) ∷ sessions_in new places) now_there
                 ∙ ap (λ (es : List (ℕ × Session)). (e.0, session) ∷ es) (others_kept client slot old new (Some (client, session)) updates whose places own.1 past)
-                ∙ ap (λ (r : Ordering). match_ordering r ((client, session) ∷ (e.0, at_slot old e.1) ∷ sessions_in old places) ((e.0, session) ∷ sessions_in old places) ((e.0, at_slot old e.1) ∷ insert_entry nat_cmp (sessions_in old places) client session)) (sym is);
+                ∙ ap (λ (r : Ordering). match_ordering r ((client, session) ∷ (e.0, at_slot old e.1) ∷ sessions_in old places)
+                ((e.0, session) ∷ sessions_in old places) ((e.0, at_slot old e.1) ∷ insert_entry nat_cmp (sessions_in old places) client session)) (sym is);
             own = (subst (λ (n : ℕ). option_map (λ (h : Held). h.0) (get new n) ≡ Some e.0) (sym at) (now_own ∙ ap Some its_number),
                 others_own client slot old new (Some (client, session)) updates whose places own.1 past);
           }
@@ -169,7 +170,8 @@ module _ (client slot : ℕ) (session : Session) (old new : Slab Held) (updates 
           record {
             sessions = ap (λ (x : Session). (e.0, x) ∷ sessions_in new places) (session_kept client slot old new (Some (client, session)) updates whose e own.0 away)
                 ∙ ap (λ (es : List (ℕ × Session)). (e.0, at_slot old e.1) ∷ es) rest.sessions
-                ∙ ap (λ (r : Ordering). match_ordering r ((client, session) ∷ (e.0, at_slot old e.1) ∷ sessions_in old places) ((e.0, session) ∷ sessions_in old places) ((e.0, at_slot old e.1) ∷ insert_entry nat_cmp (sessions_in old places) client session)) (sym is);
+                ∙ ap (λ (r : Ordering). match_ordering r ((client, session) ∷ (e.0, at_slot old e.1) ∷ sessions_in old places)
+                ((e.0, session) ∷ sessions_in old places) ((e.0, at_slot old e.1) ∷ insert_entry nat_cmp (sessions_in old places) client session)) (sym is);
             own = (own_kept client slot old new (Some (client, session)) updates whose e own.0 away, rest.own);
           }
 

@@ -3,6 +3,7 @@
 
 mod directory;
 mod gate_fault;
+mod gateway;
 mod out;
 mod running;
 mod session;
@@ -11,4 +12,5 @@ mod site;
 
 pub use directory::Directory;
 pub use gate_fault::GateFault;
+pub use gateway::Gateway;
 pub use out::{Out, Sent};

@@ -1,5 +1,5 @@
 //! What a gateway holds while it is up, and what each event makes of it.
-ghost use Rattle.std.specs.Prelude.{◌≡◌, ◌∷◌, ◌++◌, ◌<◌, ◌↔◌, [], ℕ, Some, false, OnOk, OnErr, IfErr, IsErrOf};
+ghost use Rattle.std.specs.Prelude.{◌≡◌, ◌∷◌, ◌++◌, ◌<◌, ◌↔◌, [], ℕ, Some, true, not, OnOk, OnErr, IfErr, IsErrOf};
 ghost use Rattle.std.specs.Prelude.{option_copied};
 ghost use Rattle.std.specs.Ordering.{nat_cmp};
 ghost use Rattle.std.specs.Map.{lookup};
@@ -7,7 +7,7 @@ ghost use Rattle.std.specs.BTreeMap.{is_at};
 ghost use Rattle.gate_tables.specs.Gate as gate;
 ghost use Rattle.gate_tables.specs.Gate.{answer, has_token, session_of, wished, token_of, registered};
 ghost use Rattle.gate_tables.specs.Gate.{from_client, from_store, to_client, restore, changed, ticked};
-ghost use Rattle.gate_tables.specs.Gate.{has_token_left, tokens, refused, passed, by_session};
+ghost use Rattle.gate_tables.specs.Gate.{has_token_left, is_spent, taken, tokens, refused, passed, by_session};
 ghost use Rattle.stab_base.specs.declared.node.Node.TheVariants as nodes;
 
 use crate::gate_fault::GateFault;
@@ -88,7 +88,7 @@ impl Running {
         ensures kept { OnErr result (self.new ≡ self.old) }
         ensures same { OnErr result (messages.new.items ≡ messages.old.items) }
         ensures spent { (last : ℕ) → (IsErrOf result (GateFault.Spent last)
-            ↔ ((last ≡ tokens) × (has_token_left self.old ≡ false))) }
+            ↔ ((last ≡ tokens) × (not (has_token_left self.old) ≡ true))) }
     {
         if self.drawn == u32::MAX {
             return Err(GateFault::Spent {
@@ -260,6 +260,62 @@ impl Running {
         messages.append(&mut sent)?;
         self.sessions.change(table, strong);
         Ok(())
+    }
+
+    // A Store's message.
+    fn from_store(
+        &mut self,
+        site: &Site,
+        message: &Message,
+        messages: &mut Vec<Sent>,
+    ) -> Result<(), GateFault>
+        ensures running { OnOk result (self.new ≡ (from_store site.now.directory self.old message.now).running) }
+        ensures sends { OnOk result (messages.new.items ≡ messages.old.items
+            ++ (from_store site.now.directory self.old message.now).sends) }
+        ensures kept { OnErr result (self.new ≡ self.old) }
+        ensures same { OnErr result (messages.new.items ≡ messages.old.items) }
+        ensures memory { IfErr result (λ e. e ≡ GateFault.Memory) }
+    {
+        match message {
+            Message::TableVersionUpdateNotification(m) => self.change(site, m.table, messages),
+            Message::RestoreClientSubscriptions(m) => {
+                if m.reply {
+                    self.sessions.restore(m.client, m.subscriptions.as_slice())?;
+                }
+                Ok(())
+            }
+            _ => match client_of(message) {
+                Some(client) => self.to_client(client, message, messages),
+                None => Ok(()),
+            },
+        }
+    }
+
+    /// Takes a message, and gathers what it makes the gateway send. A message that no rule takes is dropped.
+    pub(crate) fn deliver(
+        &mut self,
+        site: &Site,
+        from: Node,
+        message: &Message,
+        messages: &mut Vec<Sent>,
+    ) -> Result<(), GateFault>
+        ensures running { OnOk result (self.new
+            ≡ (taken site.now.directory site.now.number site.now.starts self.old from message.now).running) }
+        ensures sends { OnOk result (messages.new.items ≡ messages.old.items
+            ++ (taken site.now.directory site.now.number site.now.starts self.old from message.now).sends) }
+        ensures kept { OnErr result (self.new ≡ self.old) }
+        ensures same { OnErr result (messages.new.items ≡ messages.old.items) }
+        ensures spent { (last : ℕ) → (IsErrOf result (GateFault.Spent last)
+            ↔ ((last ≡ tokens) × (is_spent self.old from message.now ≡ true))) }
+    {
+        match (from, message) {
+            (Node::Client(_), Message::RegisterDevice(m)) => {
+                self.register(site, m.client, messages)
+            }
+            (Node::Client(_), _) => self.from_client(site, message, messages),
+            (Node::Store(_), _) => self.from_store(site, message, messages),
+            (Node::Gate(_), _) => Ok(()),
+        }
     }
 
     /// A tick: each timer counts, and clients are told of those that fire.

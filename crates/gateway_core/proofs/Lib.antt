@@ -1,2 +1,3 @@
-pub mod TimerLists
+pub mod Placing
 pub mod Slots
+pub mod TimerLists

@@ -1,9 +1,13 @@
 //! Where tables are.
-ghost use Rattle.std.specs.Prelude.{◌≡◌, IfOk, map};
+ghost use Rattle.std.specs.Prelude.{◌≡◌, ◌==◌, ℕ, Option, Some, if◌then◌else◌, IfOk, OnOk, map};
+ghost use Rattle.std.specs.Ordering.{nat_cmp};
+ghost use Rattle.std.specs.BTreeMap as tree;
 ghost use Rattle.gate_tables.specs.Gate.{asks, placed, is_strong};
+ghost use Rattle.gateway_core.specs.Directories.{IsPlacedBy, last_named, owners_of};
 
 use crate::out::Sent;
 use gate_tables::Placed;
+use ring_map::Ring;
 use row_value::Scheme;
 use stab_base::{ClientNo, GateNo, Node, Sequence, StoreNo, TableNo};
 use std::alloc::{AllocError, Global};
@@ -41,7 +45,74 @@ fn ask(alloc: Global, number: GateNo, client: ClientNo, store: StoreNo) -> Sent
     )
 }
 
+/// A table by its name.
+#[derive(Debug, Drop)]
+pub struct NamedTable {
+    pub table: TableNo,
+    pub scheme: Scheme,
+    /// By which the ring places it.
+    pub name: String,
+}
+
+// Puts a table at its owner, in place of what stood there by its number.
+fn place(
+    places: &mut BTreeMap<TableNo, Placed>,
+    ring: &Ring,
+    named: &NamedTable,
+) -> Result<(), AllocError>
+    ensures { OnOk result ((table : ℕ) (found : Option NamedTable)
+        → IsPlacedBy ring.now found (tree.get nat_cmp places.old table)
+        → IsPlacedBy ring.now (if named.now.table == table then Some named.now else found)
+        (tree.get nat_cmp places.new table)) }
+{
+    if let Some(owner) = ring.owner(named.name.as_bytes()) {
+        let scheme = named.scheme;
+        places.insert(named.table, Placed { owner, scheme })?;
+    }
+    Ok(())
+}
+
+fn place_all(
+    alloc: Global,
+    tables: &[NamedTable],
+    ring: &Ring,
+) -> Result<BTreeMap<TableNo, Placed>, AllocError>
+    ensures { IfOk result (λ places. (table : ℕ)
+        → IsPlacedBy ring.now (last_named table tables.now) (tree.get nat_cmp places table)) }
+{
+    let mut places = BTreeMap::new(alloc);
+    for named in tables {
+        place(&mut places, ring, named)?;
+    }
+    Ok(places)
+}
+
+fn owners_of(
+    alloc: Global,
+    places: &BTreeMap<TableNo, Placed>,
+) -> Result<BTreeSet<StoreNo>, AllocError>
+    ensures { IfOk result (λ owners. owners.keys ≡ owners_of places.now.entries) }
+{
+    let mut owners = BTreeSet::new(alloc);
+    for (_, place) in places {
+        owners.insert(place.owner)?;
+    }
+    Ok(owners)
+}
+
 impl Directory {
+    /// The directory of these tables, each at the Store that the ring says. Where two have one number, the last one
+    /// counts. It is empty where no Store is on the ring.
+    pub fn new(alloc: Global, tables: &[NamedTable], ring: &Ring) -> Result<Directory, AllocError>
+        ensures placed { IfOk result (λ made. (table : ℕ)
+            → IsPlacedBy ring.now (last_named table tables.now) (placed made table)) }
+        ensures owners { IfOk result (λ made. made.owners ≡ owners_of made.tables) }
+    {
+        let tables = place_all(alloc, tables, ring)?;
+        let owners = owners_of(alloc, &tables)?;
+        Ok(Directory { tables, owners })
+    }
+
     /// Where a table is. None where it isn't in the directory.
     pub fn placed(&self, table: TableNo) -> Option<Placed>
         ensures { result ≡ placed self.now table }

@@ -10,7 +10,7 @@ mod session;
 mod sessions;
 mod site;
 
-pub use directory::Directory;
+pub use directory::{Directory, NamedTable};
 pub use gate_fault::GateFault;
 pub use gateway::Gateway;
 pub use out::{Out, Sent};

@@ -4,7 +4,8 @@ use Rattle.std.specs.List.{AllByRecursion}
 use Rattle.std.proofs.lemmas.Bool.{cases_Bool, leb-false}
 use Rattle.gate_tables.specs.declared.timer.Timer.{Timer}
 use Rattle.gate_tables.specs.Timers.{Timers, is_due, as_fired, each, any_due, after_firing}
-use Rattle.gate_tables.specs.Gate.{Session, Running, fire_each, ticked, count_all}
+use Rattle.std.specs.Prelude.{map}
+use Rattle.gate_tables.specs.Gate.{Session, Running, counted, after_tick, ticked}
 use Rattle.gate_tables.specs.Laws.{Waits, AllWait}
 
 unmarked_if : (timer : Timer) (b : Bool) → timer.marked ≡ b → (cond b (record timer { count = 0; marked = false }) timer).marked ≡ false
@@ -39,9 +40,9 @@ after_wait timers =
       | inr h ↦ rw h (not_due timers h)
     ]
 
-each_waits : (sessions : List (ℕ × Session)) → AllByRecursion AllWait (fire_each sessions).0
+each_waits : (sessions : List (ℕ × Session)) → AllByRecursion AllWait (map (λ (e : ℕ × Session). (e.0, after_tick e.1)) sessions)
 each_waits [] = tt
-each_waits (e ∷ sessions) = (after_wait e.1.timers, each_waits sessions)
+each_waits (e ∷ sessions) = (after_wait (counted e.1), each_waits sessions)
 
 pub all_wait : (running : Running) → AllByRecursion AllWait (ticked running).running.sessions
-all_wait running = each_waits (count_all running).sessions
+all_wait running = each_waits running.sessions

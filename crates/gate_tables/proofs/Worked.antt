@@ -1,13 +1,10 @@
 -- The table of a gateway, computed on worked examples.
-use Rattle.std.proofs.Common.{◌≡◌, ℕ, ◌+◌, ◌*◌, Bool, true, false, List, [], ◌∷◌, Option, Some, None, refl}
-use Rattle.stab_base.specs.declared.node.Node.{Node}
+use Rattle.std.proofs.Common.{◌≡◌, ℕ, true, false, [], ◌∷◌, None, refl}
 use Rattle.stab_base.specs.declared.node.Node.TheVariants as nodes
 use Rattle.row_value.specs.declared.schema.Scheme.TheVariants.{Strong, Causal}
 use Rattle.table_model.specs.declared.message.Message.{Message}
 use Rattle.table_model.specs.declared.message.Message.TheVariants as messages
-use Rattle.gate_tables.specs.declared.timer.Timer.{Timer}
-use Rattle.gate_tables.specs.Timers.{timer_of}
-use Rattle.gate_tables.specs.Gate.{Session, Running, Sends, Directory, Done, Gateway, answer, asks, notify, taken, ticked, crashed, started}
+use Rattle.gate_tables.specs.Gate.{Running, Directory, Done, answer, asks, notify, quiet, is_spent, taken, ticked}
 
 -- table 1 is causal and at Store 1, table 64 is strong and at Store 2
 abbrev here : Directory
@@ -42,6 +39,26 @@ another_start = refl
 
 behind_a_crash : (taken here 1 2 fresh (nodes.Client 2) (pulling 4294967297 1)).sends ≡ answer 2 1 8 19 4294967297 ∷ []
 behind_a_crash = refl
+
+-- ---- the last token, and none behind it
+
+abbrev almost : Running
+almost = record { drawn = 4294967294; sessions = [] }
+
+draws_the_last : (taken here 1 4294967295 almost (nodes.Client 2) registering).sends ≡ answer 2 0 1 0 18446744073709551615 ∷ (asks 1 2 1 ∷ (asks 1 2 2 ∷ []))
+draws_the_last = refl
+
+abbrev none_left : Running
+none_left = (taken here 1 4294967295 almost (nodes.Client 2) registering).running
+
+spent : is_spent none_left (nodes.Client 2) registering ≡ true
+spent = refl
+
+not_spent_yet : is_spent almost (nodes.Client 2) registering ≡ false
+not_spent_yet = refl
+
+draws_no_more : taken here 1 4294967295 none_left (nodes.Client 2) registering ≡ quiet none_left
+draws_no_more = refl
 
 -- ---- a subscription of period 2 and tolerance 1
 

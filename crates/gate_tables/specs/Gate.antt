@@ -1,6 +1,6 @@
 -- What each event makes of a gateway. It holds sessions and timers in memory alone.
-use Rattle.std.specs.Prelude.{ℕ, ◌+◌, ◌*◌, Bool, true, false, ◌==◌, ◌&&◌, ◌||◌, nat_lt, if◌then◌else◌, List, [], ◌∷◌}
-use Rattle.std.specs.Prelude.{◌++◌, map, Option, Some, None, is_some, option_to_list}
+use Rattle.std.specs.Prelude.{ℕ, ◌+◌, ◌*◌, Bool, true, false, ◌==◌, ◌&&◌, ◌||◌, not, nat_lt, if◌then◌else◌, List, []}
+use Rattle.std.specs.Prelude.{◌∷◌, ◌++◌, map, Option, Some, None, is_some, option_to_list}
 use Rattle.std.specs.Ordering.{nat_cmp}
 use Rattle.std.specs.Map.{lookup, remove_entry}
 use Rattle.std.specs.BTreeMap.{is_at, insert_entry}
@@ -9,6 +9,7 @@ use Rattle.stab_base.specs.declared.node.Node.TheVariants as nodes
 use Rattle.row_value.specs.declared.schema.Scheme.{Scheme}
 use Rattle.row_value.specs.declared.schema.Scheme.TheVariants.{Strong, Causal, Eventual}
 use Rattle.table_model.specs.declared.message.TableSubscription.{TableSubscription}
+use Rattle.table_model.specs.declared.message.OperationResponse.{OperationResponse}
 use Rattle.table_model.specs.declared.message.Message.{Message}
 use Rattle.table_model.specs.declared.message.Message.TheVariants as messages
 use Rattle.gate_tables.specs.declared.timer.Timer.{Timer}
@@ -101,8 +102,15 @@ asks number client store = (
   }),
 )
 
-abbrev pub registered : Directory → ℕ → ℕ → Running → ℕ → Done
-registered directory number starts running client =
+-- how many tokens a gateway draws between two starts, at most
+abbrev pub tokens : ℕ
+tokens = 4294967295
+
+abbrev pub has_token_left : Running → Bool
+has_token_left running = nat_lt running.drawn tokens
+
+abbrev pub drawing : Directory → ℕ → ℕ → Running → ℕ → Done
+drawing directory number starts running client =
     let drawn = running.drawn + 1 in
     let token = token_of starts drawn in
     record {
@@ -112,6 +120,16 @@ registered directory number starts running client =
       };
       sends = answer client 0 1 0 token ∷ map (asks number client) directory.owners;
     }
+
+-- nothing where the last token is drawn
+abbrev pub registered : Directory → ℕ → ℕ → Running → ℕ → Done
+registered directory number starts running client =
+    if has_token_left running then drawing directory number starts running client else quiet running
+
+-- a client asks for a session, and the last token is drawn
+abbrev pub is_spent : Running → Node → Message → Bool
+is_spent running (nodes.Client client) (messages.RegisterDevice m) = not (has_token_left running)
+is_spent running from message = false
 
 abbrev pub ask_of : ℕ → ℕ → ℕ → ℕ → Wish → Option Asked
 ask_of client token table kind wish =
@@ -157,10 +175,12 @@ passed number a wishes.Pass message = message
 passed number a (wishes.Subscribe period tolerance) message = saved number a true period tolerance
 passed number a wishes.Unsubscribe message = saved number a false 0 0
 
-abbrev pub wished : Asked → Wish → Session → Session
-wished a wishes.Pass session = session
-wished a (wishes.Subscribe period tolerance) session = with_timer session a.table (timer_of period tolerance false)
-wished a wishes.Unsubscribe session = without_timer session a.table
+-- what a client's message makes of its session's timers
+abbrev pub wished : Running → Asked → Session → Wish → Running
+wished running a session wishes.Pass = running
+wished running a session (wishes.Subscribe period tolerance) =
+    with_session running a.client (with_timer session a.table (timer_of period tolerance false))
+wished running a session wishes.Unsubscribe = with_session running a.client (without_timer session a.table)
 
 abbrev pub refused : Running → Asked → ℕ → Done
 refused running a status =
@@ -168,7 +188,7 @@ refused running a status =
 
 abbrev pub goes_on : ℕ → Running → Asked → Session → Placed → Message → Done
 goes_on number running a session place message = record {
-  running = with_session running a.client (wished a a.wish session);
+  running = wished running a session a.wish;
   sends = (nodes.Store place.owner, passed number a a.wish message) ∷ [];
 }
 
@@ -214,17 +234,25 @@ client_of (messages.SaveClientSubscription m) = None
 client_of (messages.RestoreClientSubscriptions m) = None
 client_of (messages.TableVersionUpdateNotification m) = None
 
+-- an answer that refuses a subscription, or its end
+abbrev pub refuses : OperationResponse → Bool
+refuses m = (m.answered == 4 || m.answered == 5) && nat_lt 0 m.status
+
+-- the table whose subscription a message refuses
+abbrev pub refused_table : Message → Option ℕ
+refused_table (messages.OperationResponse m) = if refuses m then Some m.table else None
+refused_table message = None
+
 -- a subscription that was refused has no timer
-abbrev pub answered : Message → Session → Session
-answered (messages.OperationResponse m) session =
-    if (m.answered == 4 || m.answered == 5) && nat_lt 0 m.status then without_timer session m.table else session
-answered message session = session
+abbrev pub answered : Running → ℕ → Session → Option ℕ → Running
+answered running client session None = running
+answered running client session (Some table) = with_session running client (without_timer session table)
 
 abbrev pub to_client : Running → ℕ → Message → Done
 to_client running client message = elim (session_of running client) [
   | None ↦ quiet running
   | Some session ↦ record {
-    running = with_session running client (answered message session);
+    running = answered running client session (refused_table message);
     sends = (nodes.Client client, message) ∷ [];
   }
 ]
@@ -251,50 +279,45 @@ abbrev pub is_strong : Option Placed → Bool
 is_strong None = false
 is_strong (Some place) = is_strong_scheme place.scheme
 
--- what firing makes of one client's timers, and what it is told
-abbrev pub fire : ℕ × Session → (ℕ × Session) × Sends
-fire e = (
-  (e.0, record e.1 { timers = after_firing e.1.timers }),
-  map (λ tables. notify e.0 tables) (option_to_list (told e.1.timers)),
-)
+-- what each client is told, by rising client
+abbrev pub notices : (Session → Option ℕ) → List (ℕ × Session) → Sends
+notices tells [] = []
+notices tells (e ∷ sessions) =
+    map (λ tables. notify e.0 tables) (option_to_list (tells e.1)) ++ notices tells sessions
 
-abbrev pub fire_each : List (ℕ × Session) → List (ℕ × Session) × Sends
-fire_each [] = ([], [])
-fire_each (e ∷ sessions) =
-    let one = fire e in
-    let others = fire_each sessions in
-    (one.0 ∷ others.0, one.1 ++ others.1)
-
-abbrev pub fire_all : Running → Done
-fire_all running =
-    let fires = fire_each running.sessions in
-    record { running = record running { sessions = fires.0 }; sends = fires.1 }
+-- each session told so, and changed so
+abbrev pub all_sessions : (Session → Option ℕ) → (Session → Session) → Running → Done
+all_sessions tells changes running = record {
+  running = record running { sessions = map (λ e. (e.0, changes e.1)) running.sessions };
+  sends = notices tells running.sessions;
+}
 
 abbrev pub mark : ℕ → ℕ × Timer → ℕ × Timer
 mark table e = (e.0, if e.0 == table then as_marked e.1 else e.1)
 
-abbrev pub has_timer : ℕ → Session → Bool
-has_timer table session = is_some (lookup (is_at (nat_cmp table)) session.timers)
+abbrev pub marked : ℕ → Timers → Timers
+marked table timers = map (mark table) timers
 
--- a client's timer of a table that has changed; of a strong table it fires at once, with all that are marked
-abbrev pub notified : ℕ → Bool → ℕ × Session → (ℕ × Session) × Sends
-notified table strong e =
-    let timers = map (mark table) e.1.timers in
-    if strong && has_timer table e.1
-    then ((e.0, record e.1 { timers = each as_fired timers }), notify e.0 (bitmap timers) ∷ [])
-    else ((e.0, record e.1 { timers = timers }), [])
+-- whether a change of a table is told at once
+abbrev pub fires_at_once : ℕ → Bool → Session → Bool
+fires_at_once table strong session = strong && is_some (lookup (is_at (nat_cmp table)) session.timers)
 
-abbrev pub notified_each : ℕ → Bool → List (ℕ × Session) → List (ℕ × Session) × Sends
-notified_each table strong [] = ([], [])
-notified_each table strong (e ∷ sessions) =
-    let one = notified table strong e in
-    let others = notified_each table strong sessions in
-    (one.0 ∷ others.0, one.1 ++ others.1)
+-- a client's timer of a table that has changed is marked; of a strong table it fires at once, with all that are marked
+abbrev pub after_change : ℕ → Bool → Session → Session
+after_change table strong session = record session {
+  timers =
+      if fires_at_once table strong session then each as_fired (marked table session.timers)
+      else marked table session.timers;
+}
+
+abbrev pub told_of_change : ℕ → Bool → Session → Option ℕ
+told_of_change table strong session =
+    if fires_at_once table strong session then Some (bitmap (marked table session.timers)) else None
 
 abbrev pub changed : Directory → Running → ℕ → Done
 changed directory running table =
-    let all = notified_each table (is_strong (placed directory table)) running.sessions in
-    record { running = record running { sessions = all.0 }; sends = all.1 }
+    let strong = is_strong (placed directory table) in
+    all_sessions (told_of_change table strong) (after_change table strong) running
 
 abbrev pub from_store : Directory → Running → Message → Done
 from_store directory running (messages.TableVersionUpdateNotification m) = changed directory running m.table
@@ -315,12 +338,17 @@ taken directory number starts running (nodes.Client client) message = from_clien
 taken directory number starts running (nodes.Store store) message = from_store directory running message
 taken directory number starts running (nodes.Gate gate) message = quiet running
 
-abbrev pub count_all : Running → Running
-count_all running =
-    record running { sessions = map (λ e. (e.0, record e.1 { timers = each as_counted e.1.timers })) running.sessions }
+abbrev pub counted : Session → Timers
+counted session = each as_counted session.timers
+
+abbrev pub after_tick : Session → Session
+after_tick session = record session { timers = after_firing (counted session) }
+
+abbrev pub told_at_tick : Session → Option ℕ
+told_at_tick session = told (counted session)
 
 abbrev pub ticked : Running → Done
-ticked running = fire_all (count_all running)
+ticked running = all_sessions told_at_tick after_tick running
 
 -- ---- crash and start
 

@@ -1,6 +1,6 @@
 -- Timers of a client: which fire, and what is told of them.
 use Rattle.std.specs.Prelude.{ℕ, ◌+◌, ◌-◌, ◌^◌, min, Bool, true, false, ◌&&◌, nat_le, if◌then◌else◌, List, [], ◌∷◌, map}
-use Rattle.std.specs.Prelude.{bit_or, Option, Some, None}
+use Rattle.std.specs.Prelude.{fold, bit_or, Option, Some, None}
 use Rattle.std.specs.List.{list_any}
 use Rattle.gate_tables.specs.declared.timer.Timer.{Timer}
 
@@ -28,12 +28,12 @@ as_marked timer = record timer { marked = true }
 abbrev pub bit : ℕ → ℕ
 bit table = if nat_le 1 table && nat_le table 64 then 2 ^ (table - 1) else 0
 
-abbrev pub bit_if : Timer → ℕ → ℕ
-bit_if timer table = if timer.marked then bit table else 0
+-- the bits so far, and a timer's where it is marked
+abbrev pub with_bit : ℕ → ℕ × Timer → ℕ
+with_bit bits e = if e.1.marked then bit_or bits (bit e.0) else bits
 
 abbrev pub bitmap : Timers → ℕ
-bitmap [] = 0
-bitmap (e ∷ timers) = bit_or (bit_if e.1 e.0) (bitmap timers)
+bitmap timers = fold with_bit 0 timers
 
 -- ---- all timers of a client
 

@@ -1,6 +1,6 @@
 -- The writes of an update and of a recovery, in their order.
 use Rattle.std.specs.Prelude.{◌≡◌, ◌⊎◌, ℕ, ◌+◌, ◌<◌, ◌==◌, Bool, true, false, if◌then◌else◌, List, [], ◌∷◌, ◌++◌}
-use Rattle.std.specs.Prelude.{length, map, Some, slice_index_or}
+use Rattle.std.specs.Prelude.{length, map, Some, IsSome, slice_index_or}
 use Rattle.stab_base.specs.declared.chunk_name.ChunkName.{ChunkName}
 use Rattle.row_value.specs.declared.pieces.Piece.{Piece}
 use Rattle.row_value.specs.declared.pieces.Piece.TheVariants.{Keep, Fresh}
@@ -113,3 +113,6 @@ pub record AreLeftovers (d : Devs) (names : List ChunkName) : Type 0 where
       × IsLeft d.held entry name
   pub all : (name : ChunkName) (bytes : List ℕ) (entry : Entry) → d.pending ≡ Some entry → IsLeft d.held entry name
       → chunk_in d.chunks name ≡ Some bytes → Among name names
+  -- each once, and still there
+  pub different : AreDifferent names
+  pub there : (name : ChunkName) → Among name names → IsSome (chunk_in d.chunks name)

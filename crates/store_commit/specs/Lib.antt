@@ -3,3 +3,4 @@ pub mod NamedChunks
 pub mod Agenda
 pub mod Standing
 pub mod Fault
+pub mod Recover

@@ -35,7 +35,7 @@ pub struct TableDevs<D: Disk> {
     pub(crate) rows: RowDev<D>,
     pub(crate) log: StatusLog<D>,
     pub(crate) agenda: VecDeque<Task>,
-    alloc: Global,
+    pub(crate) alloc: Global,
 }
 
 impl<D: Disk + Drop> TableDevs<D> {

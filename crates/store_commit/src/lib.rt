@@ -4,8 +4,11 @@
 mod devs;
 mod fault;
 mod laws;
+mod recover;
+mod recovery;
 mod task;
 
 pub use devs::TableDevs;
 pub use fault::CommitFault;
 pub use laws::{recovery_keeps_named_chunks, update_keeps_named_chunks};
+pub use recovery::Recovery;

@@ -5,7 +5,9 @@ mod devs;
 mod fault;
 mod laws;
 mod task;
+mod update;
 
 pub use devs::TableDevs;
 pub use fault::CommitFault;
 pub use laws::{recovery_keeps_named_chunks, update_keeps_named_chunks};
+pub use update::Update;

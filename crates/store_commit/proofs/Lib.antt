@@ -4,3 +4,7 @@ pub mod Recoveries
 pub mod Works
 pub mod Leftovers
 pub mod Recovers
+pub mod Moments
+pub mod Replacing
+pub mod Taking
+pub mod Waiting

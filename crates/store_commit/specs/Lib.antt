@@ -4,3 +4,6 @@ pub mod Agenda
 pub mod Standing
 pub mod Fault
 pub mod Recover
+pub mod Update
+pub mod TakesOn
+pub mod Fused

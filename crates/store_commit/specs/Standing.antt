@@ -1,5 +1,5 @@
 -- A table's devices between calls, as what they hold and the writes that are still to come.
-use Rattle.std.specs.Prelude.{◌≡◌, ◌⊎◌, ℕ, ◌+◌, ◌<◌, ◌≤◌, List, [], ◌∷◌, length, map, None, IsSome, Result, Ok, Err}
+use Rattle.std.specs.Prelude.{◌≡◌, ◌⊎◌, ℕ, ◌+◌, ◌<◌, ◌≤◌, List, [], ◌∷◌, length, map, drop, None, IsSome, Result, Ok, Err}
 use Rattle.std.specs.Prelude.{OnOk, IfOk}
 use Rattle.disk_trait.specs.Calls.{DiskState}
 use Rattle.vault.specs.Limit.{payload_most}
@@ -26,6 +26,7 @@ use Rattle.store_commit.specs.declared.fault.CommitFault.{CommitFault}
 use Rattle.store_commit.specs.declared.fault.CommitFault.TheVariants as faults_of
 use Rattle.store_commit.specs.Devs.{Devs, Write, OpenChunks, OpenRows, OpenLog, OpenEntry, PutChunk, PutRow, DropChunk}
 use Rattle.store_commit.specs.Devs.{CloseEntry, PutTable, PutSub, changed_by, IsBeforeOrAfter}
+use Rattle.store_commit.specs.Agenda.{Runs}
 
 -- what the devices hold
 abbrev pub devs : {D : Type 0} → (D → DiskState) → TableDevs D → Devs
@@ -223,6 +224,13 @@ abbrev pub WorksOn : {D : Type 0} → (D → DiskState) → (D → ℕ → List 
 WorksOn state images old new result [] = (result ≡ Ok steps.Idle) × (new ≡ old)
 WorksOn state images old new result (w ∷ ws) =
     Works state images w ws old new result × (writes_of new ≡ ws) × IfOk result (λ step. step ≡ step_of w)
+
+-- Where R holds now, and behind each of the writes that are to come, it does so after the call too; and a crash at any
+-- moment of the call leaves devices with R, as it is said of all these writes or of those behind the first.
+pub record GoesOn {D T : Type 0} (state : D → DiskState) (images : D → ℕ → List ℕ → Type 0) (R : List Write → Devs
+    → Type 0) (old new : TableDevs D) (result : Result T CommitFault) : Type 0 where
+  pub runs : OnOk result (Runs R (devs state new) (writes_of new))
+  pub any_moment : DevsLeave state images old new (λ d. R (writes_of old) d ⊎ R (drop 1 (writes_of old)) d)
 
 -- each device was formatted, or looked at since the last restart, and its file stands for what it holds
 pub record AreLookedAt {D : Type 0} (state : D → DiskState) (table : TableDevs D) : Type 0 where

@@ -8,3 +8,4 @@ pub mod Moments
 pub mod Replacing
 pub mod Taking
 pub mod Waiting
+pub mod Fuses

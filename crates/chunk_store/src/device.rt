@@ -6,7 +6,7 @@ ghost use Rattle.std.specs.BTreeMap.{insert_entry};
 ghost use Rattle.std.specs.Map.{keys_of};
 ghost use Rattle.std.specs.List.Sorted.{IsStrictlySortedBy};
 ghost use Rattle.vault.specs.Limit.{payload_most};
-ghost use Rattle.vault.specs.Standing.{payloads, disk_of, IsDown, IsUp, IsSynced};
+ghost use Rattle.vault.specs.Standing.{payloads, disk_of, IsDown, IsUp, IsSynced, IsRestarted};
 ghost use Rattle.spare_map.specs.Late.{without};
 ghost use Rattle.chunk_store.specs.Payload.{name_cmp};
 ghost use Rattle.chunk_store.specs.Index.{IsPlace, bytes_at};
@@ -79,7 +79,8 @@ impl<D: Disk + Drop> ChunkDev<D> {
 
     /// Crashes the disk and starts it again. What the device holds is known once it is looked at.
     pub fn restart(&mut self, pick: u64)
-        ensures { Restarts D.state D.images self.old self.new }
+        ensures restarts { Restarts D.state D.images self.old self.new }
+        ensures image { IsRestarted D.state (vault_of self.old) (vault_of self.new) }
     {
         self.inner.restart(pick);
     }

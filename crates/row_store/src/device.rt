@@ -5,7 +5,7 @@ ghost use Rattle.std.specs.Bool.{MatchBool};
 ghost use Rattle.std.specs.List.Sorted.{IsStrictlySortedBy};
 ghost use Rattle.std.specs.Ordering.{nat_cmp};
 ghost use Rattle.vault.specs.Limit.{payload_most};
-ghost use Rattle.vault.specs.Standing.{payloads, gets, disk_of, IsDown, IsUp, IsSynced};
+ghost use Rattle.vault.specs.Standing.{payloads, gets, disk_of, IsDown, IsUp, IsSynced, IsRestarted};
 ghost use Rattle.stab_base.specs.declared.limits.TheConstants.{NUMBER_MAX};
 ghost use Rattle.value_codec.specs.SchemaSpelling.{HasSchemaSpelling};
 ghost use Rattle.row_store.specs.Spelling.{HasStoredSpelling, row_payload, IsState, table_payload, IsClient};
@@ -113,6 +113,7 @@ impl<D: Disk + Drop> RowDev<D> {
     /// Crashes the disk and starts it again. What the device holds is known once it is looked at.
     pub fn restart(&mut self, pick: u64)
         ensures restarts { Restarts D.state D.images self.old self.new }
+        ensures image { IsRestarted D.state (vault_of self.old) (vault_of self.new) }
         ensures reads { row_reads self.new ≡ row_reads self.old }
     {
         self.inner.restart(pick);

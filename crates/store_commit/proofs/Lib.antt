@@ -9,3 +9,4 @@ pub mod Replacing
 pub mod Taking
 pub mod Waiting
 pub mod Fuses
+pub mod Restarts

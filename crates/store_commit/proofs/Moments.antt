@@ -21,6 +21,7 @@ module _ {D : Type 0} (state : D → DiskState) (images : D → ℕ → List ℕ
     each = λ c r l ic ir il.
         let x = run.each c r l ic ir il in
         (x.0, x.1, x.2, x.3, x.4, x.5, to _ x.6);
+    later = run.later;
   }
 
   module _ (only_now : (disk : D) (image : List ℕ) → images disk (state disk).moment image → IsImage (state disk).pending image) (R : List Write → Devs → Type 0) (old new : TableDevs D) where

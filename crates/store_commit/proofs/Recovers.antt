@@ -339,6 +339,11 @@ module _ {D : Type 0} (state : D → DiskState) (images : D → ℕ → List ℕ
         let jl = subst (λ (v : StatusLog D). images (vaults.disk_of (logs.vault_of new.log)) (state (vaults.disk_of (logs.vault_of v))).moment l) (sym ls) il in
         let left = leave.each c r l jc jr jl in
         (left.0, left.1, left.2, left.3, left.4, left.5, ◌∙◌ {a = devs_at left.0 left.1 left.2} left.6 same);
+    later = record {
+      chunks = subst (λ (v : Vault D). (state (vaults.disk_of v)).moment ≤ (state (vaults.disk_of (chunks.vault_of new.chunks))).moment) cs leave.later.chunks;
+      rows = subst (λ (v : RowDev D). (state (vaults.disk_of (rows.vault_of v))).moment ≤ (state (vaults.disk_of (rows.vault_of new.rows))).moment) rs leave.later.rows;
+      log = subst (λ (v : StatusLog D). (state (vaults.disk_of (logs.vault_of v))).moment ≤ (state (vaults.disk_of (logs.vault_of new.log))).moment) ls leave.later.log;
+    };
   }
 
   module _ (old mid : TableDevs D) (s : IsStarting state old) (cs : chunks.vault_of mid.chunks ≡ chunks.vault_of old.chunks) (rs : mid.rows ≡ old.rows) (ls : mid.log ≡ old.log) (agenda : mid.agenda ≡ old.agenda) (kept : chunks.Stays state old.chunks mid.chunks) where
@@ -411,7 +416,7 @@ module _ {D : Type 0} (state : D → DiskState) (images : D → ℕ → List ℕ
         runs = λ meaning named.
             subst (λ (d : Devs). Runs (IsRecovering meaning (devs state old).held) d (writes_of end)) (sym end_same)
             (subst (Runs (IsRecovering meaning (devs state old).held) (devs state old)) (sym all_writes) (recovery_runs meaning (devs state old) named names l));
-        any_moment = record { each = rw (ce, re, le) (since m).each };
+        any_moment = record { each = rw (ce, re, le) (since m).each; later = record { chunks = rw ce (since m).later.chunks; rows = rw re (since m).later.rows; log = rw le (since m).later.log } };
         idle = tt;
         memory = λ is. absurd cc;
         disk = λ is. absurd cc;

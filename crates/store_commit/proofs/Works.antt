@@ -110,6 +110,7 @@ module _ {D : Type 0} (state : D → DiskState) (images : D → ℕ → List ℕ
         let y' = b.each y iy in
         let z' = c.each z iz in
         (x'.0, y'.0, z'.0, x'.1, y'.1, z'.1, to (chunks_of x'.0) (data_of y'.0) (pending_of z'.0) x'.2 y'.2 z'.2);
+    later = record { chunks = a.later; rows = b.later; log = c.later };
   }
 
   pub still_chunk : (dev : ChunkDev D) → vaults.IsLookedAt state (chunks.vault_of dev) → IsSound state (chunks.vault_of dev)
@@ -597,7 +598,7 @@ module _ {D : Type 0} (state : D → DiskState) (images : D → ℕ → List ℕ
     ready = k.ready;
     up = k.up;
     counted = rw (← chunk_same, ← row_same, ← log_same) k.counted;
-    any_moment = record { each = rw (← chunk_same, ← row_same, ← log_same) k.any_moment.each };
+    any_moment = record { each = rw (← chunk_same, ← row_same, ← log_same) k.any_moment.each; later = record { chunks = rw (← chunk_same) k.any_moment.later.chunks; rows = rw (← row_same) k.any_moment.later.rows; log = rw (← log_same) k.any_moment.later.log } };
     disk = rw (← chunk_same, ← row_same, ← log_same) k.disk;
   }
 

@@ -196,6 +196,13 @@ pub record IsReady {D : Type 0} (state : D → DiskState) (table : TableDevs D) 
   pub log_is_opened : log_opened (logs.IsOpened state table.log) ws
   pub log_room : logs.HasRoom state table.log (log_opens ws) (log_puts ws) (log_bytes ws)
 
+-- each disk's clock has gone on
+pub record IsLater {D : Type 0} (state : D → DiskState) (old new : TableDevs D) : Type 0 where
+  pub chunks : (state (disk_of (chunks.vault_of old.chunks))).moment
+      ≤ (state (disk_of (chunks.vault_of new.chunks))).moment
+  pub rows : (state (disk_of (rows.vault_of old.rows))).moment ≤ (state (disk_of (rows.vault_of new.rows))).moment
+  pub log : (state (disk_of (logs.vault_of old.log))).moment ≤ (state (disk_of (logs.vault_of new.log))).moment
+
 -- At every moment since the old one, whatever a crash leaves of the three disks stands for devices with R.
 pub record DevsLeave {D : Type 0} (state : D → DiskState) (images : D → ℕ → List ℕ → Type 0) (old new : TableDevs D)
     (R : Devs → Type 0) : Type 0 where
@@ -205,6 +212,7 @@ pub record DevsLeave {D : Type 0} (state : D → DiskState) (images : D → ℕ 
       → images (disk_of (logs.vault_of new.log)) (state (disk_of (logs.vault_of old.log))).moment l
       → (cs rs ls : List (List ℕ)) × StandsFor c cs × StandsFor r rs × StandsFor l ls
       × R (record { chunks = chunks_of cs; held = data_of rs; pending = pending_of ls })
+  pub later : IsLater state old new
 
 -- This write was done, and these are still to come; or a disk failed, and its device is down.
 pub record Works {D T : Type 0} (state : D → DiskState) (images : D → ℕ → List ℕ → Type 0) (w : Write) (ws : List Write)

@@ -1,8 +1,8 @@
 //! A client's node: its calls, the messages that it takes, and what it sends and tells.
 ghost use Rattle.std.specs.Prelude.{◌≡◌, ◌<◌, ◌≤◌, [], Some, IfOk, IfErr, IsSome, OnOk, OnErr};
 ghost use Rattle.step_tables.specs.Client.{ClientTable, answered, deliver_step, opened, pull_step, pulled_in};
-ghost use Rattle.step_tables.specs.Client.{response_in, show_step, sum_step, sync_step, table_at, with_table, write_step};
-ghost use Rattle.step_tables.specs.Client.{written};
+ghost use Rattle.step_tables.specs.Client.{response_in, show_step, sum_step, sync_step, table_at, with_table};
+ghost use Rattle.step_tables.specs.Client.{write_step, written};
 ghost use Rattle.client_core.specs.Causes.{IsCause, IsTaken, IsWriteCause};
 ghost use Rattle.client_core.specs.NextNumber.{next_number};
 ghost use Rattle.client_core.specs.Plans.{carried_out};

@@ -18,7 +18,8 @@ use Rattle.step_tables.specs.Members.{Among}
 use Rattle.step_tables.specs.Messages.{Send, Message, Luck, Response, Pulled, Header, Outcome, SyncRequest, SyncResponse, PullRequest, PullResponse}
 use Rattle.step_tables.specs.Messages as messages
 use Rattle.step_tables.specs.Sayings.{Heard, own_all}
-use Rattle.step_tables.specs.ClientMoves.{Slots, TableDisk, RowPut, Plan, ClientDisk, ClientTask, Client, Choice, Mine, Theirs, Another, ClientMove, Write, Show, Sum, Sync, Next, Resolve, Take, Work}
+use Rattle.step_tables.specs.ClientMoves.{Slots, TableDisk, RowPut, Plan, ClientDisk, ClientTask, Client, Choice, Mine, Theirs, Another, ClientMove}
+use Rattle.step_tables.specs.ClientMoves.{Write, Show, Sum, Sync, Next, Resolve, Take, Work}
 use Rattle.step_tables.specs.ClientMoves.{Crash, Start, ClientStep, Keep, quiet, refused, ignored, seen, planned_in, slots_at, slots_in, slots_of, table_at, put_row, changed, applied, done, crashed}
 use Rattle.step_tables.specs.ClientMoves.{worked, told, retold, rest_of, begun, slots_plan, resumed, started, request_for, pull_from, main_of, out_of, write_plan, strong_plan, first_out, write_strong}
 use Rattle.step_tables.specs.ClientMoves.{write_by, write_free, write_idle, write_fitting, write_to, write_step, shown_in, show_answer, show_in, show_step, sum_step, resent, RowOut, first_to_send, send_plan}

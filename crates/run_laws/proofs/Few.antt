@@ -29,7 +29,8 @@ use Rattle.step_tables.specs.declared.message.Yours.{Yours}
 use Rattle.step_tables.specs.declared.slots.InFlight.{InFlight}
 use Rattle.step_tables.specs.declared.slots.Slots.{Slots}
 use Rattle.step_tables.specs.Store.{Stored, StoreStep, accept, unchanged, decide, respond, yours_of, entry_for, entries_of, current_of, store_step}
-use Rattle.step_tables.specs.Client.{Client, ClientStep, ClientTable, Taken, table_at, slots_at, write_to, write_fitting, write_step, show_in, show_step, sum_step, sync_in, sync_first, sync_step, resent}
+use Rattle.step_tables.specs.Client.{Client, ClientStep, ClientTable, Taken, table_at, slots_at, write_to, write_fitting}
+use Rattle.step_tables.specs.Client.{write_step, show_in, show_step, sum_step, sync_in, sync_first, sync_step, resent}
 use Rattle.step_tables.specs.Client.{first_to_send, pull_in, pull_step, deliver_step, response_in, take_response, take_outcome, pulled_in, take_pulled, take_row, take_header, newer, version_in}
 use Rattle.step_tables.specs.Client.{ignored, without, shadow_of, acked}
 use Rattle.run_laws.specs.World.{World, Packet, start, stored_at, client_at, the_store, packets_of, at_client, call, to_store, to_client, carried, delivered, table_in, store_row, store_shows}

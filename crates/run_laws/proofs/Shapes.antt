@@ -24,7 +24,8 @@ use Rattle.step_tables.specs.declared.message.Outcome.{Outcome}
 use Rattle.step_tables.specs.declared.message.Outcome.TheVariants as outcomes
 use Rattle.step_tables.specs.declared.slots.InFlight.{InFlight}
 use Rattle.step_tables.specs.Store.{Stored, StoreStep, entries_of, current_of, store_step}
-use Rattle.step_tables.specs.Client.{Client, ClientStep, ClientTable, table_at, slots_at, write_to, write_fitting, write_step, show_in, show_step, sum_step, digested, show_answer, shown_in, sync_in, sync_first}
+use Rattle.step_tables.specs.Client.{Client, ClientStep, ClientTable, table_at, slots_at, write_to, write_fitting, write_step}
+use Rattle.step_tables.specs.Client.{show_in, show_step, sum_step, digested, show_answer, shown_in, sync_in, sync_first}
 use Rattle.step_tables.specs.Client.{sync_step, resent, first_to_send, pull_in, pull_step, deliver_step, response_in, take_response, take_outcome, pulled_in, take_pulled, take_row, take_header}
 use Rattle.step_tables.specs.Client.{ignored}
 use Rattle.run_laws.specs.World.{World, Packet, stored_at, client_at, the_store, packets_of, at_client, call, to_store, to_client, carried, delivered, table_in, store_row, store_shows, history_lines}

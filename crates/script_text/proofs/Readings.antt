@@ -15,7 +15,8 @@ use Rattle.script_text.proofs.Steps.{ok_err, bind-ok, bind-err}
 use Rattle.script_text.proofs.Numbers.{some_same, none_some}
 use Rattle.script_text.proofs.VerbWords.{verb-some, verb-none, verb-again}
 use Rattle.script_text.proofs.Goods.{Told, store-ok, table-ok, client-ok, write-ok, show-ok, sum-ok, sync-ok, pull-ok, deliver-ok, store_show-ok, history-ok}
-use Rattle.script_text.proofs.Stops.{store-err, table-err, client-err, write-err, show-err, sum-err, sync-err, pull-err, deliver-err, store_show-err, history-err, store-fault, table-fault, client-fault}
+use Rattle.script_text.proofs.Stops.{store-err, table-err, client-err, write-err, show-err, sum-err, sync-err, pull-err}
+use Rattle.script_text.proofs.Stops.{deliver-err, store_show-err, history-err, store-fault, table-fault, client-fault}
 use Rattle.script_text.proofs.Stops.{write-fault, show-fault, sum-fault, sync-fault, pull-fault, deliver-fault, store_show-fault, history-fault}
 
 unless : {X : Type 0} (b : Bool) (r : Result X BadLine) (f : BadLine) (x : X) → cond b (Err f) r ≡ Ok x → (b ≡ false) × (r ≡ Ok x)

@@ -20,10 +20,12 @@ use Rattle.script_text.specs.Names.{Names, has_no_store}
 use Rattle.script_words.specs.Words.{is_name}
 use Rattle.script_text.specs.Places.{names_of}
 use Rattle.script_words.specs.Columns.{column_word}
-use Rattle.script_text.specs.Reading.{next_in, word_in, end_in, store_in, made_table, table_in, client_in, write_in, client_row_in, show_in, sum_in, client_table_in, sync_in, pull_in, deliver_in, store_show_in, history_in}
+use Rattle.script_text.specs.Reading.{next_in, word_in, end_in, store_in, made_table, table_in, client_in, write_in, client_row_in, show_in}
+use Rattle.script_text.specs.Reading.{sum_in, client_table_in, sync_in, pull_in, deliver_in, store_show_in, history_in}
 use Rattle.script_text.specs.Reading.{unlimited, in_time, built_in, event_in, words_in}
 use Rattle.stab_base.specs.Row.{row_of}
-use Rattle.script_text.specs.Grammar.{SpelledBy, SpellsStore, SpellsTable, SpellsClient, SpellsWrite, SpellsShow, SpellsSum, SpellsSync, SpellsPull, SpellsDeliver, SpellsStoreShow, SpellsHistory, client_word}
+use Rattle.script_text.specs.Grammar.{SpelledBy, SpellsStore, SpellsTable, SpellsClient, SpellsWrite, SpellsShow, SpellsSum, SpellsSync}
+use Rattle.script_text.specs.Grammar.{SpellsPull, SpellsDeliver, SpellsStoreShow, SpellsHistory, client_word}
 use Rattle.script_text.specs.Grammar.{table_word, tables_word, IsClient, IsTable}
 use Rattle.script_text.proofs.Numbers.{packet_at-right}
 use Rattle.script_text.proofs.Distinct.{distinct-new}

@@ -3,7 +3,8 @@ use Rattle.std.proofs.Common.{◌≡◌, ℕ, List, drop, Err, refl}
 use Rattle.script_text.specs.declared.fault.BadLine.{BadLine}
 use Rattle.script_text.specs.declared.verb.Verb.TheVariants as verbs
 use Rattle.script_text.specs.Names.{Names}
-use Rattle.script_text.specs.Reading.{store_in, table_in, client_in, content_in, some_columns_in, write_in, client_row_in, show_in, sum_in, client_table_in, sync_in, pull_in, deliver_in, store_show_in, history_in}
+use Rattle.script_text.specs.Reading.{store_in, table_in, client_in, content_in, some_columns_in, write_in, client_row_in, show_in}
+use Rattle.script_text.specs.Reading.{sum_in, client_table_in, sync_in, pull_in, deliver_in, store_show_in, history_in}
 use Rattle.script_text.specs.Grammar.{FirstFault, places_of, more_of}
 use Rattle.script_text.proofs.Steps.{bind-err, word_in-err, word_in-fault, end-err, end-fault, content-err, content-fault, some_columns-err, some_columns-fault}
 

@@ -88,7 +88,19 @@ verb-none word h verb =
     let h8 = skipped word (codes "deliver") verbs.Deliver _ h7.1 in
     let h9 = skipped word (codes "sshow") verbs.StoreShow _ h8.1 in
     let h10 = skipped word (codes "history") verbs.History _ h9.1 in
-    elim verb as (λ (v : Verb). word ≢ name_of v) [ verbs.Store ↦ h0.0 | verbs.Table ↦ h1.0 | verbs.Client ↦ h2.0 | verbs.Write ↦ h3.0 | verbs.Show ↦ h4.0 | verbs.Sum ↦ h5.0 | verbs.Sync ↦ h6.0 | verbs.Pull ↦ h7.0 | verbs.Deliver ↦ h8.0 | verbs.StoreShow ↦ h9.0 | verbs.History ↦ h10.0 ]
+    elim verb as (λ (v : Verb). word ≢ name_of v) [
+      | verbs.Store ↦ h0.0
+      | verbs.Table ↦ h1.0
+      | verbs.Client ↦ h2.0
+      | verbs.Write ↦ h3.0
+      | verbs.Show ↦ h4.0
+      | verbs.Sum ↦ h5.0
+      | verbs.Sync ↦ h6.0
+      | verbs.Pull ↦ h7.0
+      | verbs.Deliver ↦ h8.0
+      | verbs.StoreShow ↦ h9.0
+      | verbs.History ↦ h10.0
+    ]
 
 pub verb-again : (verb : Verb) → verb_of (name_of verb) ≡ Some verb
 unfolding verb_of

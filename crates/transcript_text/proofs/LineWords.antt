@@ -32,11 +32,13 @@ use Rattle.table_model.specs.declared.line.Fact.{Fact}
 use Rattle.table_model.specs.declared.line.Fact.TheVariants as facts
 use Rattle.table_model.specs.declared.line.TextLine.{TextLine}
 use Rattle.table_model.specs.declared.line.TextLine.TheVariants as lines
+use Rattle.table_model.specs.declared.sum.ObjectSum.{ObjectSum}
 use Rattle.table_model.specs.declared.sum.RowSum.{RowSum}
 use Rattle.table_model.specs.declared.sum.ShownSum.{ShownSum}
 use Rattle.table_model.specs.declared.sum.ShownSum.TheVariants as sums
 use Rattle.transcript_text.specs.Text.{cell_text, content_text, row_sum_text, refusal_text, shown_text, shown_sum_text, answer_text, node_text, message_text, entry_text, fact_text, text_of}
-use Rattle.transcript_text.specs.OneForm.{AreBytes, HasContentText, HasSumText, HasRowSumText, HasRefusalText, HasValue, HasShownText, HasShownSumText, HasAnswerText, HasRowText, HasWriteText, HasEntryText, HasNodeText, HasFactText, HasText}
+use Rattle.transcript_text.specs.OneForm.{AreBytes, HasContentText, HasSumText, HasRowSumText, HasRefusalText, HasValue, HasShownText, HasShownSumText}
+use Rattle.transcript_text.specs.OneForm.{HasAnswerText, HasRowText, HasWriteText, HasEntryText, HasNodeText, HasFactText, HasText}
 use Rattle.transcript_text.proofs.Above.{IsAbove, led, led_same, led_above, decimal_above, row_above, decimal_first}
 use Rattle.transcript_text.proofs.Values.{cell_word, object_word, sum_word, cells_above, objects_above, sums_above, all_words, object_same, sum_same, no_object, no_sum, values_same, not_gone}
 use Rattle.transcript_text.proofs.Values.{object_not_gone, sum_not_gone, kinds_apart}
@@ -294,9 +296,13 @@ content_same (Row some objects) Gone p q e = absurd (not_gone object_word AreByt
 content_same (Row some objects) (Row more others) p q e =
     let same = values_same object_word AreBytes object_same no_object some more objects others p.0 q.0 p.1 q.1 e in cc (same.0, same.1)
 
+abbrev row_made : List Cell → List ObjectSum → RowSum
+row_made some objects = record { cells = some; objects = objects }
+
 row_sum_same : (a b : RowSum) → HasRowSumText a → HasRowSumText b → row_sum_words a ≡ row_sum_words b → a ≡ b
 row_sum_same a b p q e =
-    let same = values_same sum_word HasSumText sum_same no_sum a.cells b.cells a.objects b.objects p.cells q.cells p.objects q.objects e in cc (same.0, same.1)
+    let same = values_same sum_word HasSumText sum_same no_sum a.cells b.cells a.objects b.objects p.cells q.cells p.objects q.objects e in
+    ap (λ (some : List Cell). row_made some a.objects) same.0 ∙ ap (row_made b.cells) same.1
 
 -- a row that is shown as it is isn't one with its objects by their digests
 row_apart : (a : Content) (b : RowSum) → HasContentText a → HasRowSumText b → content_words a ≡ row_sum_words b → ⊥

@@ -121,12 +121,15 @@ hex_same a b p q e =
 pub object_same : (a b : List ℕ) → AreBytes a → AreBytes b → object_word a ≡ object_word b → a ≡ b
 object_same a b p q e = hex_same a b p q (cc)
 
+abbrev sum_made : ℕ → List ℕ → ObjectSum
+sum_made len digest = record { len = len; sha256 = digest }
+
 pub sum_same : (a b : ObjectSum) → HasSumText a → HasSumText b → sum_word a ≡ sum_word b → a ≡ b
 sum_same a b p q e =
     let parts = parted 58 (decimal a.len) (decimal b.len) (58 ∷ encode_lower a.sha256) (58 ∷ encode_lower b.sha256) (decimal_avoids a.len p.len) (decimal_avoids b.len q.len) refl refl (cc) in
     let lens : a.len ≡ b.len = decimal_injective a.len b.len p.len q.len parts.0 in
     let digests : a.sha256 ≡ b.sha256 = hex_same a.sha256 b.sha256 p.sha256 q.sha256 (cc parts.1) in
-    cc (lens, digests)
+    ap (λ (n : ℕ). sum_made n a.sha256) lens ∙ ap (sum_made b.len) digests
 
 first : (c d : ℕ) (xs ys : List ℕ) → c ∷ xs ≡ d ∷ ys → c ≡ d
 first c d xs ys e = cc

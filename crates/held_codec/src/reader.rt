@@ -10,7 +10,7 @@ ghost use Rattle.field_codec.specs.Fields.{then_at, option_at, inside_if, byte_i
 ghost use Rattle.held_codec.specs.Reading.{local_at, held_piece_at, held_object_at, held_at, main_at, shadow_at, out_at};
 ghost use Rattle.held_codec.specs.Reading.{slots_at, is_tell, has_first, has_second, number_or, tell_of, tell_at};
 
-use crate::taken::{Taken, take_list};
+use crate::taken::{Taken, take_list, take_option};
 use held_value::{
     HeldContent, HeldObject, HeldObjects, HeldPiece, LocalName, LocalNames, Main, Out, Shadow,
     Slots, Tell, Tells,
@@ -46,29 +46,14 @@ pub fn take_local(bytes: &[u8], at: usize) -> Result<(LocalName, usize), SpellFa
     read_local(bytes, at)
 }
 
-#[tactic(auto, unfolding(field_codec::specs::Fields::option_at))]
-fn take_name_option(bytes: &[u8], at: usize) -> Result<(Option<ChunkName>, usize), SpellFault>
-    requires { at ≤ length bytes.now }
-    ensures value { Gives bytes.now (λ x. (x.0, drop x.1 bytes.now)) result (option_at name_at (drop at bytes.now)) }
-    ensures within { IfOk result (λ x. x.1 ≤ length bytes.now) }
-{
-    let (some, behind) = take_flag(bytes, at)?;
-    if some {
-        let (name, behind) = take_name(bytes, behind)?;
-        Ok((Some(name), behind))
-    } else {
-        Ok((None, behind))
-    }
-}
-
 #[tactic(auto, unfolding(crate::specs::Reading::held_piece_at))]
-fn take_held_piece(bytes: &[u8], at: usize) -> Result<(HeldPiece, usize), SpellFault>
+fn take_held_piece(alloc: Global, bytes: &[u8], at: usize) -> Result<(HeldPiece, usize), SpellFault>
     requires { at ≤ length bytes.now }
     ensures value { Gives bytes.now (λ x. (x.0, drop x.1 bytes.now)) result (held_piece_at (drop at bytes.now)) }
     ensures within { IfOk result (λ x. x.1 ≤ length bytes.now) }
 {
     let (local, behind) = read_local(bytes, at)?;
-    let (name, behind) = take_name_option(bytes, behind)?;
+    let (name, behind) = take_option::<ChunkName>(alloc, bytes, behind)?;
     Ok((HeldPiece { local, name }, behind))
 }
 
@@ -77,8 +62,8 @@ impl Taken for HeldPiece {
 
     ghost reading = { held_piece_at };
 
-    fn take(_alloc: Global, bytes: &[u8], at: usize) -> Result<(HeldPiece, usize), SpellFault> {
-        take_held_piece(bytes, at)
+    fn take(alloc: Global, bytes: &[u8], at: usize) -> Result<(HeldPiece, usize), SpellFault> {
+        take_held_piece(alloc, bytes, at)
     }
 }
 
@@ -158,6 +143,16 @@ fn take_main(alloc: Global, bytes: &[u8], at: usize) -> Result<(Main, usize), Sp
     Ok((main, behind))
 }
 
+impl Taken for Main {
+    ghost use Rattle.held_codec.specs.Reading.{main_at};
+
+    ghost reading = { main_at };
+
+    fn take(alloc: Global, bytes: &[u8], at: usize) -> Result<(Main, usize), SpellFault> {
+        take_main(alloc, bytes, at)
+    }
+}
+
 #[tactic(auto, unfolding(crate::specs::Reading::shadow_at))]
 fn take_shadow(alloc: Global, bytes: &[u8], at: usize) -> Result<(Shadow, usize), SpellFault>
     requires { at ≤ length bytes.now }
@@ -167,6 +162,16 @@ fn take_shadow(alloc: Global, bytes: &[u8], at: usize) -> Result<(Shadow, usize)
     let (version, behind) = take_eight(bytes, at)?;
     let (content, behind) = take_held(alloc, bytes, behind)?;
     Ok((Shadow { version, content }, behind))
+}
+
+impl Taken for Shadow {
+    ghost use Rattle.held_codec.specs.Reading.{shadow_at};
+
+    ghost reading = { shadow_at };
+
+    fn take(alloc: Global, bytes: &[u8], at: usize) -> Result<(Shadow, usize), SpellFault> {
+        take_shadow(alloc, bytes, at)
+    }
 }
 
 #[tactic(auto, unfolding(crate::specs::Reading::out_at))]
@@ -192,60 +197,13 @@ fn take_out(alloc: Global, bytes: &[u8], at: usize) -> Result<(Out, usize), Spel
     Ok((out, behind))
 }
 
-#[tactic(auto, unfolding(field_codec::specs::Fields::option_at))]
-fn take_main_option(
-    alloc: Global,
-    bytes: &[u8],
-    at: usize,
-) -> Result<(Option<Main>, usize), SpellFault>
-    requires { at ≤ length bytes.now }
-    ensures value { Gives bytes.now (λ x. (x.0, drop x.1 bytes.now)) result (option_at main_at (drop at bytes.now)) }
-    ensures within { IfOk result (λ x. x.1 ≤ length bytes.now) }
-{
-    let (some, behind) = take_flag(bytes, at)?;
-    if some {
-        let (value, behind) = take_main(alloc, bytes, behind)?;
-        Ok((Some(value), behind))
-    } else {
-        Ok((None, behind))
-    }
-}
+impl Taken for Out {
+    ghost use Rattle.held_codec.specs.Reading.{out_at};
 
-#[tactic(auto, unfolding(field_codec::specs::Fields::option_at))]
-fn take_shadow_option(
-    alloc: Global,
-    bytes: &[u8],
-    at: usize,
-) -> Result<(Option<Shadow>, usize), SpellFault>
-    requires { at ≤ length bytes.now }
-    ensures value { Gives bytes.now (λ x. (x.0, drop x.1 bytes.now)) result (option_at shadow_at (drop at bytes.now)) }
-    ensures within { IfOk result (λ x. x.1 ≤ length bytes.now) }
-{
-    let (some, behind) = take_flag(bytes, at)?;
-    if some {
-        let (value, behind) = take_shadow(alloc, bytes, behind)?;
-        Ok((Some(value), behind))
-    } else {
-        Ok((None, behind))
-    }
-}
+    ghost reading = { out_at };
 
-#[tactic(auto, unfolding(field_codec::specs::Fields::option_at))]
-fn take_out_option(
-    alloc: Global,
-    bytes: &[u8],
-    at: usize,
-) -> Result<(Option<Out>, usize), SpellFault>
-    requires { at ≤ length bytes.now }
-    ensures value { Gives bytes.now (λ x. (x.0, drop x.1 bytes.now)) result (option_at out_at (drop at bytes.now)) }
-    ensures within { IfOk result (λ x. x.1 ≤ length bytes.now) }
-{
-    let (some, behind) = take_flag(bytes, at)?;
-    if some {
-        let (value, behind) = take_out(alloc, bytes, behind)?;
-        Ok((Some(value), behind))
-    } else {
-        Ok((None, behind))
+    fn take(alloc: Global, bytes: &[u8], at: usize) -> Result<(Out, usize), SpellFault> {
+        take_out(alloc, bytes, at)
     }
 }
 
@@ -255,10 +213,10 @@ fn read_slots(alloc: Global, bytes: &[u8], at: usize) -> Result<(Slots, usize), 
     ensures value { Gives bytes.now (λ x. (x.0, drop x.1 bytes.now)) result (slots_at (drop at bytes.now)) }
     ensures within { IfOk result (λ x. x.1 ≤ length bytes.now) }
 {
-    let (main, behind) = take_main_option(alloc, bytes, at)?;
-    let (shadow, behind) = take_shadow_option(alloc, bytes, behind)?;
-    let (out, behind) = take_out_option(alloc, bytes, behind)?;
-    let (conflict, behind) = take_shadow_option(alloc, bytes, behind)?;
+    let (main, behind) = take_option::<Main>(alloc, bytes, at)?;
+    let (shadow, behind) = take_option::<Shadow>(alloc, bytes, behind)?;
+    let (out, behind) = take_option::<Out>(alloc, bytes, behind)?;
+    let (conflict, behind) = take_option::<Shadow>(alloc, bytes, behind)?;
     let slots = Slots {
         main,
         shadow,

@@ -1,11 +1,11 @@
 ghost use Rattle.std.specs.Prelude.{◌≡◌, ◌≤◌, length, drop, IfOk};
 ghost use Rattle.value_codec.specs.Reading.{Gives, items_at, list_at};
-ghost use Rattle.field_codec.specs.Fields.{after_item, item_in, all_at};
+ghost use Rattle.field_codec.specs.Fields.{after_item, item_in, all_at, option_at};
 
 use row_value::{Cell, Piece};
-use stab_base::Sequence;
+use stab_base::{ChunkName, Sequence};
 use std::alloc::Global;
-use value_codec::{SpellFault, take_cell, take_four, take_piece};
+use value_codec::{SpellFault, take_cell, take_flag, take_four, take_name, take_piece};
 
 /// A value that is read from bytes.
 pub(crate) trait Taken {
@@ -43,6 +43,16 @@ impl Taken for Piece {
     }
 }
 
+impl Taken for ChunkName {
+    ghost use Rattle.value_codec.specs.Reading.{name_at};
+
+    ghost reading = { name_at };
+
+    fn take(_alloc: Global, bytes: &[u8], at: usize) -> Result<(ChunkName, usize), SpellFault> {
+        take_name(bytes, at)
+    }
+}
+
 fn take_items<T: Taken + Drop>(
     alloc: Global,
     bytes: &[u8],
@@ -77,4 +87,24 @@ pub(crate) fn take_list<T: Taken + Drop>(
 {
     let (count, begin) = take_four(bytes, at)?;
     take_items(alloc, bytes, begin, count)
+}
+
+/// The value at a place, behind the byte 1, or none, behind the byte 0; and the place behind it.
+#[tactic(auto, unfolding(field_codec::specs::Fields::option_at))]
+pub(crate) fn take_option<T: Taken + Drop>(
+    alloc: Global,
+    bytes: &[u8],
+    at: usize,
+) -> Result<(Option<T>, usize), SpellFault>
+    requires { at ≤ length bytes.now }
+    ensures value { Gives bytes.now (λ x. (x.0, drop x.1 bytes.now)) result (option_at T.reading (drop at bytes.now)) }
+    ensures within { IfOk result (λ x. x.1 ≤ length bytes.now) }
+{
+    let (some, behind) = take_flag(bytes, at)?;
+    if some {
+        let (value, behind) = T::take(alloc, bytes, behind)?;
+        Ok((Some(value), behind))
+    } else {
+        Ok((None, behind))
+    }
 }

@@ -39,6 +39,31 @@ fn put_list<T: Spelled>(out: &mut Vec<u8>, items: &[T]) -> Result<(), AllocError
     Ok(())
 }
 
+fn put_option<T: Spelled>(out: &mut Vec<u8>, value: &Option<T>) -> Result<(), AllocError>
+    requires { IsOption T.has_spelling value.now }
+    ensures { OnOk result (out.new.items ≡ out.old.items ++ option_spelling T.spelling value.now) }
+{
+    match value {
+        None => put_u8(out, 0),
+        Some(value) => {
+            put_u8(out, 1)?;
+            value.put(out)
+        }
+    }
+}
+
+impl Spelled for ChunkName {
+    ghost use Rattle.value_codec.specs.Spelling.{name_spelling, HasNameSpelling};
+
+    ghost spelling = { name_spelling };
+
+    ghost has_spelling = { HasNameSpelling };
+
+    fn put(&self, out: &mut Vec<u8>) -> Result<(), AllocError> {
+        put_name(out, *self)
+    }
+}
+
 impl Spelled for Cell {
     ghost use Rattle.value_codec.specs.Spelling.{cell_spelling, HasCellSpelling};
 
@@ -83,25 +108,12 @@ impl Spelled for LocalName {
     }
 }
 
-fn put_name_option(out: &mut Vec<u8>, name: Option<ChunkName>) -> Result<(), AllocError>
-    requires { IsOption HasNameSpelling name }
-    ensures { OnOk result (out.new.items ≡ out.old.items ++ option_spelling name_spelling name) }
-{
-    match name {
-        None => put_u8(out, 0),
-        Some(name) => {
-            put_u8(out, 1)?;
-            put_name(out, name)
-        }
-    }
-}
-
 fn put_held_piece(out: &mut Vec<u8>, piece: HeldPiece) -> Result<(), AllocError>
     requires { HasHeldPiece piece }
     ensures { OnOk result (out.new.items ≡ out.old.items ++ held_piece_spelling piece) }
 {
     put_local(out, piece.local)?;
-    put_name_option(out, piece.name)
+    put_option(out, &piece.name)
 }
 
 impl Spelled for HeldPiece {
@@ -159,12 +171,36 @@ fn put_main(out: &mut Vec<u8>, main: &Main) -> Result<(), AllocError>
     put_held(out, &main.content)
 }
 
+impl Spelled for Main {
+    ghost use Rattle.held_codec.specs.Spelling.{main_spelling, HasMain};
+
+    ghost spelling = { main_spelling };
+
+    ghost has_spelling = { HasMain };
+
+    fn put(&self, out: &mut Vec<u8>) -> Result<(), AllocError> {
+        put_main(out, self)
+    }
+}
+
 fn put_shadow(out: &mut Vec<u8>, shadow: &Shadow) -> Result<(), AllocError>
     requires { HasShadow shadow.now }
     ensures { OnOk result (out.new.items ≡ out.old.items ++ shadow_spelling shadow.now) }
 {
     put_eight(out, shadow.version)?;
     put_held(out, &shadow.content)
+}
+
+impl Spelled for Shadow {
+    ghost use Rattle.held_codec.specs.Spelling.{shadow_spelling, HasShadow};
+
+    ghost spelling = { shadow_spelling };
+
+    ghost has_spelling = { HasShadow };
+
+    fn put(&self, out: &mut Vec<u8>) -> Result<(), AllocError> {
+        put_shadow(out, self)
+    }
 }
 
 fn put_out(out: &mut Vec<u8>, sent: &Out) -> Result<(), AllocError>
@@ -179,42 +215,15 @@ fn put_out(out: &mut Vec<u8>, sent: &Out) -> Result<(), AllocError>
     put_list(out, sent.pieces.as_slice())
 }
 
-fn put_main_option(out: &mut Vec<u8>, value: &Option<Main>) -> Result<(), AllocError>
-    requires { IsOption HasMain value.now }
-    ensures { OnOk result (out.new.items ≡ out.old.items ++ option_spelling main_spelling value.now) }
-{
-    match value {
-        None => put_u8(out, 0),
-        Some(value) => {
-            put_u8(out, 1)?;
-            put_main(out, value)
-        }
-    }
-}
+impl Spelled for Out {
+    ghost use Rattle.held_codec.specs.Spelling.{out_spelling, HasOut};
 
-fn put_shadow_option(out: &mut Vec<u8>, value: &Option<Shadow>) -> Result<(), AllocError>
-    requires { IsOption HasShadow value.now }
-    ensures { OnOk result (out.new.items ≡ out.old.items ++ option_spelling shadow_spelling value.now) }
-{
-    match value {
-        None => put_u8(out, 0),
-        Some(value) => {
-            put_u8(out, 1)?;
-            put_shadow(out, value)
-        }
-    }
-}
+    ghost spelling = { out_spelling };
 
-fn put_out_option(out: &mut Vec<u8>, value: &Option<Out>) -> Result<(), AllocError>
-    requires { IsOption HasOut value.now }
-    ensures { OnOk result (out.new.items ≡ out.old.items ++ option_spelling out_spelling value.now) }
-{
-    match value {
-        None => put_u8(out, 0),
-        Some(value) => {
-            put_u8(out, 1)?;
-            put_out(out, value)
-        }
+    ghost has_spelling = { HasOut };
+
+    fn put(&self, out: &mut Vec<u8>) -> Result<(), AllocError> {
+        put_out(out, self)
     }
 }
 
@@ -223,10 +232,10 @@ pub fn put_slots(out: &mut Vec<u8>, slots: &Slots) -> Result<(), AllocError>
     requires { HasSlots slots.now }
     ensures { OnOk result (out.new.items ≡ out.old.items ++ slots_spelling slots.now) }
 {
-    put_main_option(out, &slots.main)?;
-    put_shadow_option(out, &slots.shadow)?;
-    put_out_option(out, &slots.out)?;
-    put_shadow_option(out, &slots.conflict)
+    put_option(out, &slots.main)?;
+    put_option(out, &slots.shadow)?;
+    put_option(out, &slots.out)?;
+    put_option(out, &slots.conflict)
 }
 
 fn put_numbers(out: &mut Vec<u8>, code: u8, a: u64, b: u64) -> Result<(), AllocError>

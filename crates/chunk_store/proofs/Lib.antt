@@ -3,3 +3,4 @@ pub mod Notes
 mod Finds
 mod Faults
 mod Within
+pub mod Below

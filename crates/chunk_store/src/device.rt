@@ -1,23 +1,23 @@
 //! The device: what its calls promise of its map.
 ghost use Rattle.std.specs.Prelude.{◌≡◌, ◌↔◌, ◌+◌, ◌*◌, ◌<◌, ◌≤◌, false, [], ℕ, List, length, None, Some, OnOk, OnErr};
-ghost use Rattle.std.specs.Prelude.{IfOk, IfSome, IfNone, IsErrOf, IsTrue, IsSome};
+ghost use Rattle.std.specs.Prelude.{IfOk, IfSome, IfNone, IsErrOf, IsTrue, IsSome, ◌==◌, ◌&&◌, nat_lt, filter};
 ghost use Rattle.std.specs.Bool.{MatchBool};
 ghost use Rattle.std.specs.BTreeMap.{insert_entry};
 ghost use Rattle.std.specs.Map.{keys_of};
 ghost use Rattle.std.specs.List.Sorted.{IsStrictlySortedBy};
 ghost use Rattle.vault.specs.Limit.{payload_most};
-ghost use Rattle.vault.specs.Standing.{payloads, disk_of, IsDown, IsUp, IsSynced};
+ghost use Rattle.vault.specs.Standing.{payloads, disk_of, IsDown, IsUp, IsSynced, IsRestarted};
 ghost use Rattle.spare_map.specs.Late.{without};
 ghost use Rattle.chunk_store.specs.Payload.{name_cmp};
 ghost use Rattle.chunk_store.specs.Index.{IsPlace, bytes_at};
 ghost use Rattle.chunk_store.specs.Standing.{vault_of, chunks, chunk_in, IsLookedAt, IsOpened, HasRoom, Formats, Looks};
-ghost use Rattle.chunk_store.specs.Standing.{Restarts, OpensWrite, Reserves, Puts, Gets};
+ghost use Rattle.chunk_store.specs.Standing.{Restarts, OpensWrite, Reserves, Puts, Gets, Stays};
 
 use crate::fault::{ChunkFault, told};
 use crate::index::ChunkIndex;
 use crate::payload::{Change, chunk_behind, write_drop, write_put};
 use disk_trait::Disk;
-use stab_base::{Bytes, ChunkName, NUMBER_MAX, Names};
+use stab_base::{Bytes, ChunkName, NUMBER_MAX, Names, Version};
 use std::alloc::{AllocError, Global};
 use vault::Folded;
 
@@ -79,7 +79,8 @@ impl<D: Disk + Drop> ChunkDev<D> {
 
     /// Crashes the disk and starts it again. What the device holds is known once it is looked at.
     pub fn restart(&mut self, pick: u64)
-        ensures { Restarts D.state D.images self.old self.new }
+        ensures restarts { Restarts D.state D.images self.old self.new }
+        ensures image { IsRestarted D.state (vault_of self.old) (vault_of self.new) }
     {
         self.inner.restart(pick);
     }
@@ -181,5 +182,35 @@ impl<D: Disk + Drop> ChunkDev<D> {
         ensures rising { IfOk result (λ names. IsStrictlySortedBy name_cmp names) }
     {
         Ok(Names::from_vec(self.inner.memory.places.keys()?))
+    }
+
+    /// The names of a version that have a chunk and whose ordinals are below a count, in rising order. It reads nothing
+    /// from the disk, and costs what the names that it finds cost, whatever the count is.
+    pub fn names_below(&mut self, version: Version, count: u32) -> Result<Names, ChunkFault>
+        requires ready { IsUp (vault_of self.old) → IsLookedAt D.state self.old }
+        ensures names { IfOk result (λ names. names
+            ≡ filter (λ name. (name.version == version) && nat_lt name.ordinal count)
+            (keys_of (chunks D.state self.old))) }
+        ensures rising { IfOk result (λ names. IsStrictlySortedBy name_cmp names) }
+        ensures stays { Stays D.state self.old self.new }
+        ensures vault { vault_of self.new ≡ vault_of self.old }
+        ensures not_absent { IsErrOf result ChunkFault.Absent → ⊥ }
+        ensures not_disk { IsErrOf result ChunkFault.Disk → ⊥ }
+        ensures down { IsErrOf result ChunkFault.Down ↔ IsDown (vault_of self.old) }
+        ensures unchanged { IsErrOf result ChunkFault.Down → self.new ≡ self.old }
+    {
+        if self.inner.is_down() {
+            return Err(ChunkFault::Down);
+        }
+        let from = ChunkName {
+            version,
+            ordinal: 0,
+        };
+        let end = ChunkName {
+            version,
+            ordinal: count,
+        };
+        let names = self.inner.memory.places.keys_between(from, end)?;
+        Ok(Names::from_vec(names))
     }
 }

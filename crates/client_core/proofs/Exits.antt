@@ -1,14 +1,19 @@
 -- The faults with which a call ends.
-use Rattle.std.proofs.Common.{◌≡◌, ℕ, ◌≤◌, List, ◌+◌, false, true, cond, Option, Some, None, Result, Ok, Err, IsSome, refl, arith}
-use Rattle.std.specs.Prelude.{nat_le}
+use Rattle.std.proofs.Common.{◌≡◌, ℕ, ◌≤◌, List, ◌+◌, false, true, cond, Option, Some, None, Result, Ok, Err, IsSome, refl, sym, ap, arith}
+use Rattle.std.specs.Prelude.{nat_le, option_map}
 use Rattle.std.specs.Result.{IfErr, IsErrAnd}
 use Rattle.stab_base.specs.declared.limits.TheConstants.{NUMBER_MAX}
 use Rattle.row_value.specs.declared.content.Content.{Content}
 use Rattle.row_value.specs.declared.fit.FitFault.{FitFault}
 use Rattle.row_value.specs.declared.fit.FitFault.TheVariants as fits
 use Rattle.row_value.specs.Fit.{fit_of}
+use Rattle.table_model.specs.declared.line.Answer.{Answer}
+use Rattle.table_model.specs.declared.line.Answer.TheVariants as answers
 use Rattle.table_model.specs.declared.line.Shown.{Shown}
-use Rattle.step_tables.specs.Client.{Client, ClientStep, ClientTable, pull_step, show_answer, show_step, shown_in, slots_at, table_at, write_fitting, write_step, write_to}
+use Rattle.table_model.specs.declared.sum.ShownSum.{ShownSum}
+use Rattle.table_model.specs.Sums.{or_whole, sum_of, sum_answer, by_digests}
+use Rattle.step_tables.specs.Client.{Client, ClientStep, ClientTable, answered, digested, pull_step, show_answer, show_step, shown_in, sum_step, slots_at, table_at}
+use Rattle.step_tables.specs.Client.{write_fitting, write_step, write_to}
 use Rattle.client_core.specs.declared.call_fault.CallFault.{CallFault}
 use Rattle.client_core.specs.declared.call_fault.CallFault.TheVariants.{Memory, NoTable, Spent}
 use Rattle.client_core.specs.Causes.{IsCause, IsTaken, IsWriteCause}
@@ -33,6 +38,33 @@ some_is_taken (Some what) some = tt
 pub show_is_taken : (client : Client) (number : ℕ) (row : List ℕ) (opened : ClientTable) → Some opened ≡ table_at client number
     → IsSome (shown_in (slots_at opened row).main (slots_at opened row).shadow) → IsTaken (show_step client number row).answer
 show_is_taken client number row opened is some = rw (← is) (some_is_taken _ some)
+
+whole_is_taken : (what : Shown) (o : Option ShownSum) → IsTaken (or_whole what o)
+whole_is_taken what None = tt
+whole_is_taken what (Some sum) = tt
+
+pub sum_is_taken : (what : Shown) → IsTaken (sum_answer what)
+sum_is_taken what = whole_is_taken what (sum_of what)
+
+digests_are_taken : (answer : Answer) → IsTaken answer → IsTaken (by_digests answer)
+digests_are_taken answers.Done taken = tt
+digests_are_taken (answers.Number number) taken = tt
+digests_are_taken (answers.Shown what) taken = sum_is_taken what
+digests_are_taken (answers.Sums sum) taken = tt
+digests_are_taken (answers.Stored version content) taken = tt
+digests_are_taken (answers.Refused refusal) taken = absurd taken
+
+pub sum_step_is_taken : (client : Client) (number : ℕ) (row : List ℕ) (opened : ClientTable) → Some opened ≡ table_at client number
+    → IsSome (shown_in (slots_at opened row).main (slots_at opened row).shadow) → IsTaken (sum_step client number row).answer
+sum_step_is_taken client number row opened is some = digests_are_taken (show_step client number row).answer (show_is_taken client number row opened is some)
+
+pub sum_is_answered : (client : Client) (number : ℕ) (row : List ℕ) (opened : ClientTable) (answer : Answer) → Some opened ≡ table_at client number
+    → Some answer ≡ option_map sum_answer (shown_in (slots_at opened row).main (slots_at opened row).shadow) → sum_step client number row ≡ answered client answer
+sum_is_answered client number row opened answer is some = rw (← is) (go (shown_in (slots_at opened row).main (slots_at opened row).shadow) some)
+  where
+    go : (o : Option Shown) → Some answer ≡ option_map sum_answer o → digested (answered client (show_answer o)) ≡ answered client answer
+    go None e = absurd cc
+    go (Some what) e = let same : answer ≡ sum_answer what = cc in ap (answered client) (sym same)
 
 -- ---- the number of a write
 

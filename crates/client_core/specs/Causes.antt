@@ -13,6 +13,7 @@ abbrev pub IsTaken : Answer → Type 0
 IsTaken answers.Done = Unit {0}
 IsTaken (answers.Number number) = Unit {0}
 IsTaken (answers.Shown what) = Unit {0}
+IsTaken (answers.Sums sum) = Unit {0}
 IsTaken (answers.Stored version content) = Unit {0}
 IsTaken (answers.Refused refusal) = ⊥
 

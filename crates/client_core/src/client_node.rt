@@ -1,9 +1,9 @@
 //! A client's node: its calls, the messages that it takes, and what it sends and tells.
 ghost use Rattle.std.specs.Prelude.{◌≡◌, ◌<◌, ◌≤◌, [], Some, IfOk, IfErr, IsSome, OnOk, OnErr};
 ghost use Rattle.step_tables.specs.Client.{ClientTable, answered, deliver_step, opened, pull_step, pulled_in};
-ghost use Rattle.step_tables.specs.Client.{response_in, show_step, sync_step, table_at, with_table, write_step};
-ghost use Rattle.step_tables.specs.Client.{written};
-ghost use Rattle.client_core.specs.Causes.{IsCause, IsWriteCause};
+ghost use Rattle.step_tables.specs.Client.{response_in, show_step, sum_step, sync_step, table_at, with_table};
+ghost use Rattle.step_tables.specs.Client.{write_step, written};
+ghost use Rattle.client_core.specs.Causes.{IsCause, IsTaken, IsWriteCause};
 ghost use Rattle.client_core.specs.NextNumber.{next_number};
 ghost use Rattle.client_core.specs.Plans.{carried_out};
 ghost use Rattle.client_core.specs.State.{nothing_gathered, stepped};
@@ -120,6 +120,27 @@ impl ClientNode {
         };
         match opened.shown(&row)? {
             Some(shown) => Ok(shown),
+            None => Err(CallFault::NoRow),
+        }
+    }
+
+    /// What is answered to a `sum` of a row: what `read` shows, with the length and the SHA-256 of each object in its
+    /// place. No object is copied.
+    ///
+    /// # Errors
+    ///
+    /// Those of `read`.
+    pub fn sum(&self, table: TableNo, row: RowId) -> Result<Answer, CallFault>
+        ensures answer { IfOk result (λ answer. sum_step self.now.client table row
+            ≡ answered self.now.client answer) }
+        ensures taken { IfOk result IsTaken }
+        ensures causes { IfErr result (IsCause self.now.client (sum_step self.now.client table row)) }
+    {
+        let Some(opened) = self.tables.get(&table) else {
+            return Err(CallFault::NoTable);
+        };
+        match opened.sum(self.alloc, &row)? {
+            Some(answer) => Ok(answer),
             None => Err(CallFault::NoRow),
         }
     }

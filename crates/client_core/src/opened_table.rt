@@ -1,8 +1,9 @@
 //! What a client keeps of one table.
-ghost use Rattle.std.specs.Prelude.{◌≡◌, None, map, option_copied, IfOk, IsSome, OnOk, OnErr};
+ghost use Rattle.std.specs.Prelude.{◌≡◌, None, map, option_copied, option_map, IfOk, IsSome, OnOk, OnErr};
 ghost use Rattle.std.specs.Map.{lookup};
 ghost use Rattle.std.specs.BTreeMap.{is_at};
 ghost use Rattle.row_value.specs.Fit.{fit_of};
+ghost use Rattle.table_model.specs.Sums.{sum_answer};
 ghost use Rattle.step_tables.specs.Client.{first_to_send, opened, resent, row_cmp, shown_in, slots_at, with_slots};
 ghost use Rattle.client_core.specs.Changes.{changed};
 ghost use Rattle.client_core.specs.Plans.{planned};
@@ -11,12 +12,13 @@ ghost use Rattle.client_core.specs.State.{to_owner};
 use crate::change::{Change, Plan, apply, stage_after, stage_of};
 use crate::outgoing::{request_again, to_send};
 use crate::row_index::RowIndex;
+use row_sum::{clean_sum, mine_sum};
 use row_value::{ClientNo, Content, FitFault, RowId, Schema, TableNo, Version, fits};
 use std::alloc::{AllocError, Global};
 use std::collections::BTreeMap;
 use std::marker::Model;
 use step_tables::{Addressed, InFlight, Slots};
-use table_model::Shown;
+use table_model::{Answer, Shown};
 
 /// An opened table: its rows by their ids, and which of them wait for an answer or have something to send.
 #[derive(Drop)]
@@ -96,6 +98,30 @@ impl OpenedTable {
                 version: shadow.version,
                 content: shadow.content.copy()?,
             }),
+            _ => None,
+        })
+    }
+
+    /// What is answered to a `sum` of a row, by what is shown of it. None where nothing is.
+    pub(crate) fn sum(&self, alloc: Global, row: &RowId) -> Result<Option<Answer>, AllocError>
+        ensures ok { IfOk result (λ answer. answer ≡ option_map sum_answer
+            (shown_in (slots_at self.now row.now).main (slots_at self.now row.now).shadow)) }
+        ensures err { OnErr result (IsSome
+            (shown_in (slots_at self.now row.now).main (slots_at self.now row.now).shadow)) }
+    {
+        Ok(match self.slots(row) {
+            Some(
+                Slots {
+                    main: Some(main),
+                    ..
+                },
+            ) => Some(mine_sum(alloc, main.number, &main.content)?),
+            Some(
+                Slots {
+                    shadow: Some(shadow),
+                    ..
+                },
+            ) => Some(clean_sum(alloc, shadow.version, &shadow.content)?),
             _ => None,
         })
     }

@@ -7,7 +7,7 @@ use std::test::Fail;
 use step_tables::{
     Message, Out, Outcome, PullRequest, PullResponse, RowHeader, SyncResponse, Yours,
 };
-use table_model::{Fact, Shown};
+use table_model::{Answer, Fact, Shown};
 
 const CLIENT: u32 = 1;
 
@@ -138,6 +138,15 @@ fn shown_at(node: &ClientNode, table: u32) -> Seen {
     match node.read(table, row(1)) {
         Ok(shown) => seen_as(&shown),
         Err(fault) => Seen::Refused(fault),
+    }
+}
+
+/// The same by digests: the table has no objects.
+fn summed_at(node: &ClientNode, table: u32) -> Option<Seen> {
+    match node.sum(table, row(1)) {
+        Ok(Answer::Shown(shown)) => Some(seen_as(&shown)),
+        Ok(_) => None,
+        Err(fault) => Some(Seen::Refused(fault)),
     }
 }
 
@@ -448,8 +457,18 @@ fn calls_at_another_table_are_refused(rt: HostRuntime) -> Result<(), Fail> {
         Err(CallFault::NoTable)
     );
     assert_eq!(rt; shown_at(&node, other), Seen::Refused(CallFault::NoTable));
+    assert_eq!(rt; summed_at(&node, other), Some(Seen::Refused(CallFault::NoTable)));
     assert_eq!(rt; node.sync_now(other), Err(CallFault::NoTable));
     assert_eq!(rt; node.pull_now(other), Err(CallFault::NoTable));
+    Ok(())
+}
+
+#[test]
+fn a_row_without_objects_is_summed_as_it_is_shown(rt: HostRuntime) -> Result<(), Fail> {
+    let mut node = client(rt.alloc())?;
+    assert_eq!(rt; summed_at(&node, TABLE), Some(Seen::Refused(CallFault::NoRow)));
+    assert_eq!(rt; write(rt.alloc(), &mut node, 1, 7), Ok(1));
+    assert_eq!(rt; summed_at(&node, TABLE), Some(Seen::Mine { number: 1, cell: 7 }));
     Ok(())
 }
 

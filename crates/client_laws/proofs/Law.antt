@@ -18,10 +18,11 @@ use Rattle.step_tables.specs.Members.{Among}
 use Rattle.step_tables.specs.Messages.{Send, Message, Luck, Response, Pulled, Header, Outcome, SyncRequest, SyncResponse, PullRequest, PullResponse}
 use Rattle.step_tables.specs.Messages as messages
 use Rattle.step_tables.specs.Sayings.{Heard, own_all}
-use Rattle.step_tables.specs.ClientMoves.{Slots, TableDisk, RowPut, Plan, ClientDisk, ClientTask, Client, Choice, Mine, Theirs, Another, ClientMove, Write, Show, Sync, Next, Resolve, Take, Work}
+use Rattle.step_tables.specs.ClientMoves.{Slots, TableDisk, RowPut, Plan, ClientDisk, ClientTask, Client, Choice, Mine, Theirs, Another, ClientMove}
+use Rattle.step_tables.specs.ClientMoves.{Write, Show, Sum, Sync, Next, Resolve, Take, Work}
 use Rattle.step_tables.specs.ClientMoves.{Crash, Start, ClientStep, Keep, quiet, refused, ignored, seen, planned_in, slots_at, slots_in, slots_of, table_at, put_row, changed, applied, done, crashed}
 use Rattle.step_tables.specs.ClientMoves.{worked, told, retold, rest_of, begun, slots_plan, resumed, started, request_for, pull_from, main_of, out_of, write_plan, strong_plan, first_out, write_strong}
-use Rattle.step_tables.specs.ClientMoves.{write_by, write_free, write_idle, write_fitting, write_to, write_step, shown_in, show_answer, show_in, show_step, resent, RowOut, first_to_send, send_plan}
+use Rattle.step_tables.specs.ClientMoves.{write_by, write_free, write_idle, write_fitting, write_to, write_step, shown_in, show_answer, show_in, show_step, sum_step, resent, RowOut, first_to_send, send_plan}
 use Rattle.step_tables.specs.ClientMoves.{sync_first, sync_in, sync_step, next_in, next_step, choose, over_fitting, over_plan, theirs_plan, resolve_over, resolve_in, resolve_step, ack_plan, lost_plan}
 use Rattle.step_tables.specs.ClientMoves.{outcome_taken, response_taken, response_in, row_placed, next_pull, row_plan, position_plan, top, row_taken, pulled_taken, pulled_in, take_step, client_step}
 use Rattle.step_tables.specs.Items.{IsItemOf, IsChange}
@@ -379,6 +380,11 @@ module _ (g : ℕ → Scheme) (c : ℕ) (h : Items) (sent : List Sending) (t : H
           (subst (λ (m : Option TableDisk). RowTied (g table) c (h table) table row (slots_in m row) t.writes (t.at table row) sent) is ((tied_of d agenda p).rows table row))
           (shown_in (slots_at o row).main (slots_at o row).conflict (slots_at o row).shadow) refl
 
+  -- what a `sum` shows is what the law of `show` says, by digests
+  sum_law : (d : ClientDisk) (agenda : Option (List ClientTask)) (table : ℕ) (row : List ℕ) → IsAt g c h sent d t agenda
+      → ClientLaw g c h sent t (Sum table row) (sum_step d agenda table row)
+  sum_law d agenda table row p = let shown = show_law d agenda table row p in record { answer = tt; facts = shown.facts; sends = shown.sends; part = shown.part }
+
   sync_law : (d : ClientDisk) (agenda : Option (List ClientTask)) (table : ℕ) → IsAt g c h sent d t agenda → ClientLaw g c h sent t (Sync table) (sync_step c d agenda table)
   sync_law d None table p = quiet_law (Sync table) d None _ tt p
   sync_law d (Some agenda) table p = by_table agenda p (table_at (seen d) table) refl
@@ -430,6 +436,7 @@ module _ (g : ℕ → Scheme) (c : ℕ) (h : Items) (sent : List Sending) (t : H
   client_laws : (s : Client) (move : ClientMove) → IsFair g c h sent move → ClientPart g c h sent t s → ClientLaw g c h sent t move (client_step c s move)
   client_laws s (Write table row content) f p = write_law s.disk s.agenda table row content p
   client_laws s (Show table row) f p = show_law s.disk s.agenda table row p
+  client_laws s (Sum table row) f p = sum_law s.disk s.agenda table row p
   client_laws s (Sync table) f p = sync_law s.disk s.agenda table p
   client_laws s (Next table) f p = next_law s.disk s.agenda table p
   client_laws s (Resolve table row version choice) f p = resolve_law s.disk s.agenda table row version choice p

@@ -50,7 +50,7 @@ use Rattle.world_tables.specs.World.{Packet, packets_from}
 use Rattle.memory_laws.specs.Lift.{message_of, header_of, packet_of, slots_of, row_of, opened_of, table_of, disk_of, client_of, answer_of, fact_of, shown_of}
 use Rattle.memory_laws.specs.Lift as lift
 use Rattle.memory_laws.proofs.Maps.{look_map}
-use Rattle.memory_laws.proofs.Once.{AtOnce, sent_by, quiet_once, send_once, row_once, both_once, position_once, sync_once, opened_at, slots_there}
+use Rattle.memory_laws.proofs.Once.{AtOnce, sent_by, quiet_once, digested_once, send_once, row_once, both_once, position_once, sync_once, opened_at, slots_there}
 
 -- ---- what is there stays where it is put again
 
@@ -145,6 +145,9 @@ module _ (node : old.Client) where
           subst (λ (sl : client.Slots). AtOnce node.number (old.answered node a) (client.quiet (disk_of node) (Some []) (client.show_answer (client.shown_in sl.main sl.conflict sl.shadow))))
           (sym (slots_there node.number node table opened at row))
           (subst (λ (b : facts.Answer). AtOnce node.number (old.answered node a) (client.quiet (disk_of node) (Some []) b)) (sym (shown_same s.main s.shadow)) (quiet_once node.number node a))
+
+  pub sum_once : (table : ℕ) (row : List ℕ) → AtOnce node.number (old.sum_step node table row) (client.client_step node.number (client_of node) (client.Sum table row))
+  sum_once table row = digested_once node.number (old.show_step node table row) (client.client_step node.number (client_of node) (client.Show table row)) (show_once table row)
 
   -- ---- the next change
 

@@ -9,6 +9,11 @@ use Rattle.std.proofs.lemmas.Cmp.{nat_list_cmp_total}
 use Rattle.stab_base.specs.declared.node.Node.{Node}
 use Rattle.stab_base.specs.declared.node.Node.TheVariants as nodes
 use Rattle.table_model.specs.declared.line.Answer.{Answer}
+use Rattle.table_model.specs.declared.line.Answer.TheVariants as answers
+use Rattle.table_model.specs.declared.line.Shown.TheVariants as shown
+use Rattle.table_model.specs.declared.sum.RowSum.{RowSum}
+use Rattle.table_model.specs.declared.sum.ShownSum.TheVariants as old_sums
+use Rattle.table_model.specs.Sums.{row_sum, or_whole, by_digests}
 use Rattle.table_model.specs.declared.line.Fact.{Fact}
 use Rattle.table_model.specs.declared.line.TextLine.{TextLine}
 use Rattle.table_model.specs.declared.line.TextLine.TheVariants as text
@@ -20,6 +25,7 @@ use Rattle.step_tables.specs.Client as old
 use Rattle.step_tables.specs.Client.{row_cmp, ClientTable, with_slots, with_table, slots_at}
 use Rattle.step_tables.specs.Facts.{Line, FactLine}
 use Rattle.step_tables.specs.Facts as facts
+use Rattle.step_tables.specs.Sums as sums
 use Rattle.step_tables.specs.Messages.{Send, name_of}
 use Rattle.step_tables.specs.ClientMoves as client
 use Rattle.step_tables.specs.ClientMoves.{ClientDisk, ClientTask, ClientStep, Plan, RowPut, TableDisk}
@@ -68,6 +74,36 @@ pub record AtOnce (c : ℕ) (was : old.ClientStep) (step : ClientStep) : Type 0 
   pub packets : (ps : List Packet) → client_packets c (ps ++ packets_from (nodes.Client c) step.sends) tasks ≡ ps ++ map packet_of (sent_by c was.messages)
   pub lines : (n : ℕ) → lines_from n (record { facts = step.facts; packets = packets_from (nodes.Client c) step.sends } ∷ client_outs c tasks)
       ≡ map line_of (memory.told (was.facts ++ memory.sent_from n (sent_by c was.messages)))
+
+-- a step and a move that are the same are so by digests
+digests_same : (a : Answer) → sums.by_digests (answer_of a) ≡ answer_of (by_digests a)
+digests_same (answers.Shown (shown.Clean version content)) = clean (row_sum content)
+  where
+    clean : (o : Option RowSum)
+        → sums.or_whole (facts.Clean version content) (option_map (facts.CleanSum version) o) ≡ answer_of (or_whole (shown.Clean version content) (option_map (old_sums.Clean version) o))
+    clean None = refl
+    clean (Some row) = refl
+digests_same (answers.Shown (shown.Mine number content)) = mine (row_sum content)
+  where
+    mine : (o : Option RowSum)
+        → sums.or_whole (facts.Mine number content) (option_map (facts.MineSum number) o) ≡ answer_of (or_whole (shown.Mine number content) (option_map (old_sums.Mine number) o))
+    mine None = refl
+    mine (Some row) = refl
+digests_same answers.Done = refl
+digests_same (answers.Number number) = refl
+digests_same (answers.Sums sum) = refl
+digests_same (answers.Stored version content) = refl
+digests_same (answers.Refused refusal) = refl
+
+pub digested_once : (c : ℕ) (was : old.ClientStep) (step : ClientStep) → AtOnce c was step → AtOnce c (old.digested was) (client.digested step)
+digested_once c was step k = record {
+  tasks = k.tasks;
+  agenda = k.agenda;
+  disk = k.disk;
+  answer = ap sums.by_digests k.answer ∙ digests_same was.answer;
+  packets = k.packets;
+  lines = k.lines;
+}
 
 -- nothing begins
 pub quiet_once : (c : ℕ) (node : old.Client) (a : Answer) → AtOnce c (old.answered node a) (client.quiet (disk_of node) (Some []) (answer_of a))

@@ -50,6 +50,9 @@ write_number node t r x = grind arith
 show_number : (node : old.Client) (t : ℕ) (r : List ℕ) → (old.show_step node t r).client.number ≡ node.number
 show_number node t r = grind arith
 
+sum_number : (node : old.Client) (t : ℕ) (r : List ℕ) → (old.sum_step node t r).client.number ≡ node.number
+sum_number node t r = show_number node t r
+
 sync_number : (node : old.Client) (t : ℕ) → (old.sync_step node t).client.number ≡ node.number
 sync_number node t = grind arith
 
@@ -123,6 +126,7 @@ numbered_on w (events.Table table schema) n = go (memory.stored_at w table)
 numbered_on w (events.Client c gate tables) n = joined_numbered w c tables (memory.client_at w c) n
 numbered_on w (events.Write c table row x) n = call_numbered w c (λ node. old.write_step node table row x) (λ node. write_number node table row x) n
 numbered_on w (events.Show c table row) n = call_numbered w c (λ node. old.show_step node table row) (λ node. show_number node table row) n
+numbered_on w (events.Sum c table row) n = call_numbered w c (λ node. old.sum_step node table row) (λ node. sum_number node table row) n
 numbered_on w (events.Sync c table) n = call_numbered w c (λ node. old.sync_step node table) (λ node. sync_number node table) n
 numbered_on w (events.Pull c table) n = call_numbered w c (λ node. old.pull_step node table) (λ node. pull_number node table) n
 numbered_on w (events.Deliver packet) n = delivered_numbered w (slice_get w.packets packet) n
@@ -155,6 +159,7 @@ first_is w s k (events.Store number) e = tt
 first_is w s k (events.Client c gate tables) e = tt
 first_is w s k (events.Write c table row x) e = tt
 first_is w s k (events.Show c table row) e = tt
+first_is w s k (events.Sum c table row) e = tt
 first_is w s k (events.Sync c table) e = tt
 first_is w s k (events.Pull c table) e = tt
 first_is w s k (events.Deliver n) e = tt

@@ -55,7 +55,7 @@ use Rattle.memory_laws.specs.Lift.{turn_of, at_once, IsEventual}
 use Rattle.memory_laws.proofs.Maps.{look_map, put_map}
 use Rattle.memory_laws.proofs.Once.{AtOnce, quiet_once}
 use Rattle.memory_laws.proofs.Stores as stores
-use Rattle.memory_laws.proofs.Clients.{IsReady, write_once, show_once, next_once, sync_is_once, response_is_once, pulled_is_once}
+use Rattle.memory_laws.proofs.Clients.{IsReady, write_once, show_once, sum_once, next_once, sync_is_once, response_is_once, pulled_is_once}
 use Rattle.memory_laws.proofs.Worlds.{map-length, map-get, hosted_same, client_same, Same, answered_same, client_event, table_event}
 
 all_eventual : ℕ → Scheme
@@ -282,6 +282,7 @@ module _ (g : ℕ → Scheme) (eventual : (table : ℕ) → g table ≡ Eventual
   step_same (events.Client c gate tables) = joined_same c tables
   step_same (events.Write c table row x) = call_same c (client.Write table row x) (λ node. old.write_step node table row x) (λ node at. write_once node table row x (ready c node at table).eventual)
   step_same (events.Show c table row) = call_same c (client.Show table row) (λ node. old.show_step node table row) (λ node at. show_once node table row)
+  step_same (events.Sum c table row) = call_same c (client.Sum table row) (λ node. old.sum_step node table row) (λ node at. sum_once node table row)
   step_same (events.Sync c table) = call_same c (client.Sync table) (λ node. old.sync_step node table) (λ node at. sync_is_once node table (ready c node at table))
   step_same (events.Pull c table) = call_same c (client.Next table) (λ node. old.pull_step node table) (λ node at. next_once node table)
   step_same (events.Deliver n) = delivered_same n

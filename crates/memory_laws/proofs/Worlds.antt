@@ -71,6 +71,7 @@ no_fault : (a : Answer) → is_fault (answer_of a) ≡ false
 no_fault answers.Done = refl
 no_fault (answers.Number n) = refl
 no_fault (answers.Shown what) = refl
+no_fault (answers.Sums sum) = refl
 no_fault (answers.Stored v x) = refl
 no_fault (answers.Refused (refusals.BadCell column)) = refl
 no_fault (answers.Refused (refusals.BadObject column len)) = refl

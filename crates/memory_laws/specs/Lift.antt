@@ -13,6 +13,8 @@ use Rattle.table_model.specs.declared.line.Refusal.{Refusal}
 use Rattle.table_model.specs.declared.line.Refusal.TheVariants as refusals
 use Rattle.table_model.specs.declared.line.Shown.{Shown}
 use Rattle.table_model.specs.declared.line.Shown.TheVariants as shown
+use Rattle.table_model.specs.declared.sum.ShownSum.{ShownSum}
+use Rattle.table_model.specs.declared.sum.ShownSum.TheVariants as sums
 use Rattle.table_model.specs.declared.line.TextLine.{TextLine}
 use Rattle.table_model.specs.declared.line.TextLine.TheVariants as lines
 use Rattle.step_tables.specs.declared.message.Message.{Message}
@@ -136,10 +138,15 @@ abbrev pub shown_of : Shown → facts.Shown
 shown_of (shown.Clean version content) = facts.Clean version content
 shown_of (shown.Mine number content) = facts.Mine number content
 
+abbrev pub sum_of : ShownSum → facts.ShownSum
+sum_of (sums.Clean version row) = facts.CleanSum version row
+sum_of (sums.Mine number row) = facts.MineSum number row
+
 abbrev pub answer_of : Answer → facts.Answer
 answer_of answers.Done = facts.Done
 answer_of (answers.Number number) = facts.Number number
 answer_of (answers.Shown what) = facts.Shows (shown_of what)
+answer_of (answers.Sums sum) = facts.Sums (sum_of sum)
 answer_of (answers.Stored version content) = facts.Stores version content
 answer_of (answers.Refused refusal) = facts.Refuses (refusal_of refusal)
 

@@ -1,11 +1,12 @@
 -- Finding rows in memory.
-use Rattle.std.proofs.Common.{◌≡◌, ◌≤◌, inl, inr, ℕ, true, false, List, Option, Some, None, refl, sym, ◌∙◌, ap, arith}
+use Rattle.std.proofs.Common.{◌≡◌, ◌≤◌, inl, inr, ℕ, true, false, List, [], get_or, Option, Some, None, refl, sym, ◌∙◌, ap, subst, arith}
 use Rattle.std.specs.Prelude.{option_map, unwrap_or, is_some, IfNone, IfSome}
 use Rattle.std.specs.declared.cmp.Ordering.{Ordering}
 use Rattle.std.specs.Ordering.{is_lt, nat_cmp, ordering_then}
 use Rattle.std.specs.BTreeMap.{is_at}
 use Rattle.std.specs.Map.{lookup}
 use Rattle.std.proofs.lemmas.Bool.Decides.{nat_tests}
+use Rattle.stab_base.specs.declared.limits.TheConstants.{NUMBER_MAX}
 use Rattle.spare_map.specs.Late.{entries_of, IsLast}
 use Rattle.spare_map.proofs.Values.{lookup_with, value_found}
 use Rattle.row_store.specs.declared.stored.StoredRow.{StoredRow}
@@ -15,6 +16,7 @@ use Rattle.row_store.specs.declared.memory.Place.{Place}
 use Rattle.row_store.specs.Data.{id_cmp, version_cmp, data_of, row_of, version_if, version_of, IsTableVersion, AreChangedSince}
 use Rattle.row_store.specs.Memory.{row_at, IsPlace, has_version, AreAbove, Fits}
 use Rattle.row_store.proofs.Versions.{at}
+use Rattle.row_store.proofs.Found.{row_most}
 
 abbrev place_in : RowMemory → List ℕ → Option Place
 place_in memory row = lookup (is_at (id_cmp row)) (entries_of id_cmp memory.places)
@@ -67,6 +69,18 @@ module _ (memory : RowMemory) (ps : List (List ℕ)) (fit : Fits memory ps) wher
     only = λ each there. let t = h.only each there in (t.0, of_version each t.1);
     all = λ each lt e. h.all each lt (by_version each e);
   }
+
+  -- each version is within the limit
+  pub versions_most : (row : List ℕ) (n : ℕ) → version_if (data_of ps) row ≡ Some n → n ≤ NUMBER_MAX
+  versions_most row n e = cases (place_in memory row) refl
+    where
+      cases : (found : Option Place) → found ≡ place_in memory row → n ≤ NUMBER_MAX
+      cases None is = let none : None ≡ Some n = sym (version_is row None is) ∙ e in absurd cc
+      cases (Some place) is =
+          let its = place_at row (Some place) is in
+          let same : Some place.version ≡ Some n = sym (version_is row (Some place) is) ∙ e in
+          let one : place.version ≡ n = cc in
+          subst (λ (m : ℕ). m ≤ NUMBER_MAX) (its.version ∙ one) (row_most (get_or ps place.index []) (row_at ps place) its.row)
 
   pub no_version : IsLast version_cmp (entries_of version_cmp memory.versions) None → IsTableVersion (data_of ps) 0
   no_version none = record {

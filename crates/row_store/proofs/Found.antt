@@ -1,10 +1,12 @@
 -- A row that is read stood there as it is spelled.
-use Rattle.std.proofs.Common.{◌≡◌, ℕ, ◌≤◌, Bool, true, false, eqb, ltb, List, [], ◌∷◌, ◌++◌, length, take, drop, Result, Ok, Err, refl, sym, ◌∙◌, ap, subst, arith, take-append-drop, inl, inr}
+use Rattle.std.proofs.Common.{◌≡◌, ℕ, zero, suc, ◌<◌, ◌≤◌, Bool, true, false, cond, eqb, ltb, List, [], ◌∷◌, ◌++◌, length, get_or, take, drop, Result, Ok, Err, refl, sym, ◌∙◌, ap, subst, arith, take-append-drop, inl, inr}
 use Rattle.std.specs.Prelude.{◌&&◌, nat_le}
 use Rattle.std.specs.Int.{w64, to_be_bytes}
 use Rattle.std.proofs.lemmas.Bool.{ltb-false, eqb-true}
 use Rattle.std.proofs.lemmas.Bool.Decides.{nat_tests}
 use Rattle.std.proofs.lemmas.List.{length-take-le}
+use Rattle.vault.specs.Limit.{payload_most}
+use Rattle.vault.specs.File.{AllShort}
 use Rattle.stab_base.specs.declared.limits.TheConstants.{NUMBER_MAX}
 use Rattle.stab_base.specs.Codec.{IsBytes}
 use Rattle.row_value.specs.declared.pieces.PieceContent.{PieceContent}
@@ -88,3 +90,41 @@ row_takes payload stored fits e =
     let one : List ℕ = 1 ∷ [] in
     let t = whole_found HasStoredSpelling stored_spelling stored_at stored_reads a.0 (Ok stored) (rest_fits one a.0 payload tagged fits) a.2 in
     (t.0, tagged ∙ ap (λ (l : List ℕ). 1 ∷ l) t.1)
+
+-- and its version is within the limit
+stored_most : (bytes : List ℕ) (stored : StoredRow) (rest : List ℕ) → stored_at bytes ≡ Ok (stored, rest) → stored.version ≤ NUMBER_MAX
+unfolding stored_at
+stored_most bytes stored rest e =
+    let f3 : List ℕ × List ℕ → ℕ × List ℕ → PieceContent × List ℕ → List LastWrite × List ℕ → Result (StoredRow × List ℕ) ℕ = λ row version content lasts. allowed_at bytes (made row.0 version.0 content.0 lasts.0) lasts.1 in
+    let f2 : List ℕ × List ℕ → ℕ × List ℕ → PieceContent × List ℕ → Result (StoredRow × List ℕ) ℕ = λ row version content. list_at after_last last_in 0 content.1 >>= f3 row version content in
+    let f1 : List ℕ × List ℕ → ℕ × List ℕ → Result (StoredRow × List ℕ) ℕ = λ row version. content_at version.1 >>= f2 row version in
+    let f0 : List ℕ × List ℕ → Result (StoredRow × List ℕ) ℕ = λ row. number_at w64 row.1 >>= f1 row in
+    let a = bind_ok (id_at bytes) f0 (stored, rest) e in
+    let b = bind_ok (number_at w64 a.0.1) (f1 a.0) (stored, rest) a.2 in
+    let c = bind_ok (content_at b.0.1) (f2 a.0 b.0) (stored, rest) b.2 in
+    let d = bind_ok (list_at after_last last_in 0 c.0.1) (f3 a.0 b.0 c.0) (stored, rest) c.2 in
+    let it : StoredRow = made a.0.0 b.0.0 c.0.0 d.0.0 in
+    elim (branch (is_allowed it) (gives it d.0.1) (Err (length bytes)) (stored, rest) d.2) [
+      | inl y ↦
+          let tests = both (all_keep c.0.0) (nat_le b.0.0 NUMBER_MAX) y.0 in
+          let least : nat_le b.0.0 NUMBER_MAX ≡ true = tests.1 in
+          let version : b.0.0 ≤ NUMBER_MAX = grind (arith, nat_tests) in
+          subst (λ (p : StoredRow × List ℕ). p.0.version ≤ NUMBER_MAX) (ok_is (it, d.0.1) (stored, rest) y.1) version
+      | inr n ↦ absurd (no_fault (length bytes) (stored, rest) n.1)
+    ]
+
+pub row_most : (payload : List ℕ) (stored : StoredRow) → row_in payload ≡ Ok stored → stored.version ≤ NUMBER_MAX
+unfolding row_in whole
+row_most payload stored e =
+    let a = bind_ok (tag_at 1 payload) (λ rest. whole (stored_at rest)) stored e in
+    let b = bind_ok (stored_at a.0) (λ x. cond (eqb (length x.1) 0) (Ok x.0) (Err (length x.1))) stored a.2 in
+    elim (branch (eqb (length b.0.1) 0) (Ok b.0.0) (Err (length b.0.1)) stored b.2) [
+      | inl y ↦ subst (λ (s : StoredRow). s.version ≤ NUMBER_MAX) (ok_is b.0.0 stored y.1) (stored_most a.0 b.0.0 b.0.1 b.1)
+      | inr n ↦ absurd (no_fault (length b.0.1) stored n.1)
+    ]
+
+-- a payload of a vault is short
+pub short_at : (ps : List (List ℕ)) (i : ℕ) → AllShort ps → i < length ps → length (get_or ps i []) ≤ payload_most
+short_at [] i short within = absurd (omega arith)
+short_at (p ∷ ps) zero short within = short.0
+short_at (p ∷ ps) (suc i) short within = short_at ps i short.1 (omega arith)

@@ -5,7 +5,8 @@ ghost use Rattle.std.specs.Bool.{MatchBool};
 ghost use Rattle.std.specs.List.Sorted.{IsStrictlySortedBy};
 ghost use Rattle.std.specs.Ordering.{nat_cmp};
 ghost use Rattle.vault.specs.Limit.{payload_most};
-ghost use Rattle.vault.specs.Standing.{payloads, gets, disk_of, IsDown, IsUp, IsSynced};
+ghost use Rattle.vault.specs.Standing.{payloads, gets, disk_of, IsDown, IsUp, IsSynced, IsRestarted};
+ghost use Rattle.stab_base.specs.declared.limits.TheConstants.{NUMBER_MAX};
 ghost use Rattle.value_codec.specs.SchemaSpelling.{HasSchemaSpelling};
 ghost use Rattle.row_store.specs.Spelling.{HasStoredSpelling, row_payload, IsState, table_payload, IsClient};
 ghost use Rattle.row_store.specs.declared.stored.StoredRow.{StoredRow};
@@ -55,6 +56,7 @@ fn stored_in(alloc: Global, payload: &[u8]) -> Result<StoredRow, AllocError>
     requires { (stored : StoredRow) × (row_in payload.now ≡ Ok stored) }
     ensures row { IfOk result (λ stored. row_in payload.now ≡ Ok stored) }
     ensures spelled { IfOk result HasStoredSpelling }
+    ensures same { IfOk result (λ stored. row_payload stored ≡ payload.now) }
 {
     match row_in(alloc, payload) {
         Ok(stored) => Ok(stored),
@@ -111,6 +113,7 @@ impl<D: Disk + Drop> RowDev<D> {
     /// Crashes the disk and starts it again. What the device holds is known once it is looked at.
     pub fn restart(&mut self, pick: u64)
         ensures restarts { Restarts D.state D.images self.old self.new }
+        ensures image { IsRestarted D.state (vault_of self.old) (vault_of self.new) }
         ensures reads { row_reads self.new ≡ row_reads self.old }
     {
         self.inner.restart(pick);
@@ -229,6 +232,7 @@ impl<D: Disk + Drop> RowDev<D> {
         requires ready { IsUp (vault_of self.old) → IsLookedAt D.state self.old }
         ensures row { IfOk result (λ stored. row_of (held D.state self.old) row.now ≡ Some stored) }
         ensures spelled { IfOk result HasStoredSpelling }
+        ensures short { IfOk result (λ stored. length (row_payload stored) ≤ payload_most) }
         ensures no_row { IsErrOf result RowFault.NoRow
             ↔ (IsUp (vault_of self.old) × (row_of (held D.state self.old) row.now ≡ None)) }
         ensures no_row_unchanged { IsErrOf result RowFault.NoRow → self.new ≡ self.old }
@@ -263,7 +267,8 @@ impl<D: Disk + Drop> RowDev<D> {
     /// The greatest version of all rows, 0 where there is none. It reads nothing from the disk and takes no memory.
     pub fn table_version(&self) -> Version
         requires ready { IsUp (vault_of self.now) → IsLookedAt D.state self.now }
-        ensures { IsUp (vault_of self.now) → IsTableVersion (held D.state self.now) result }
+        ensures greatest { IsUp (vault_of self.now) → IsTableVersion (held D.state self.now) result }
+        ensures most { IsUp (vault_of self.now) → result ≤ NUMBER_MAX }
     {
         match self.inner.memory.versions.last() {
             Some(last) => last.version,

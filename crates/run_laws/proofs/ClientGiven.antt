@@ -3,7 +3,7 @@ use Rattle.std.proofs.Common.{◌≡◌, ℕ, List, Some, sym, ap, ◌∙◌, su
 use Rattle.row_value.specs.declared.content.Content.{Content}
 use Rattle.table_model.specs.declared.line.TextLine.{TextLine}
 use Rattle.stab_base.specs.declared.node.Node.TheVariants as nodes
-use Rattle.step_tables.specs.Client.{Client, ClientStep, write_step, show_step, sync_step, pull_step, deliver_step}
+use Rattle.step_tables.specs.Client.{Client, ClientStep, write_step, show_step, sum_step, sync_step, pull_step, deliver_step}
 use Rattle.run_laws.specs.World.{World, Packet, client_at}
 use Rattle.run_laws.specs.Sound.{Among}
 use Rattle.run_laws.proofs.Kept.{WorldKept, ClientKept, MessageKept, stored_in}
@@ -28,6 +28,9 @@ module _ (w : World) (before : List TextLine) (client : ℕ) (node : Client) (k 
 
   pub show_kept : (table : ℕ) (row : List ℕ) → ClientStepKept w before client (show_step node table row)
   show_kept table row = under (show_step node table row) (calls.show_kept w before node own k.writes table row)
+
+  pub sum_kept : (table : ℕ) (row : List ℕ) → ClientStepKept w before client (sum_step node table row)
+  sum_kept table row = under (sum_step node table row) (calls.sum_kept w before node own k.writes table row)
 
   pub sync_kept : (table : ℕ) → ClientStepKept w before client (sync_step node table)
   sync_kept table = under (sync_step node table) (calls.sync_kept w before node own k.writes (stored_in w) k.tables table)

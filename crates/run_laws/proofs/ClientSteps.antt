@@ -18,7 +18,8 @@ use Rattle.step_tables.specs.declared.message.SyncRequest.{SyncRequest}
 use Rattle.step_tables.specs.declared.slots.InFlight.{InFlight}
 use Rattle.step_tables.specs.declared.slots.Slots.{Slots}
 use Rattle.step_tables.specs.Store.{Stored}
-use Rattle.step_tables.specs.Client.{Client, ClientTable, ClientStep, table_at, answered, write_step, write_to, write_fitting, written, show_step, show_in, sync_step, sync_in, sync_first, resent}
+use Rattle.step_tables.specs.Client.{Client, ClientTable, ClientStep, table_at, answered, write_step, write_to, write_fitting}
+use Rattle.step_tables.specs.Client.{written, show_step, show_in, sum_step, digested, sync_step, sync_in, sync_first, resent}
 use Rattle.step_tables.specs.Client.{first_to_send, request_for, pull_step, pull_in, pull_from}
 use Rattle.run_laws.specs.World.{World, Packet, the_store, packets_of, told}
 use Rattle.run_laws.specs.Sound.{Among, Along, OfFact, IsNext, IsNumbered, IsOfWrite, HasBase, IsRead, IsKept}
@@ -190,6 +191,15 @@ module _ (w : World) (before : List TextLine) (node : Client)
   show_kept table row = go (table_at node table)
     where
       go : (o : Option ClientTable) → ClientStepKept w before node.number (show_in node row o)
+      go None = answered_kept _
+      go (Some opened) = answered_kept _
+
+  -- ---- sum
+
+  pub sum_kept : (table : ℕ) (row : List ℕ) → ClientStepKept w before node.number (sum_step node table row)
+  sum_kept table row = go (table_at node table)
+    where
+      go : (o : Option ClientTable) → ClientStepKept w before node.number (digested (show_in node row o))
       go None = answered_kept _
       go (Some opened) = answered_kept _
 

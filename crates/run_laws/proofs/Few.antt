@@ -29,7 +29,8 @@ use Rattle.step_tables.specs.declared.message.Yours.{Yours}
 use Rattle.step_tables.specs.declared.slots.InFlight.{InFlight}
 use Rattle.step_tables.specs.declared.slots.Slots.{Slots}
 use Rattle.step_tables.specs.Store.{Stored, StoreStep, accept, unchanged, decide, respond, yours_of, entry_for, entries_of, current_of, store_step}
-use Rattle.step_tables.specs.Client.{Client, ClientStep, ClientTable, Taken, table_at, slots_at, write_to, write_fitting, write_step, show_in, show_step, sync_in, sync_first, sync_step, resent}
+use Rattle.step_tables.specs.Client.{Client, ClientStep, ClientTable, Taken, table_at, slots_at, write_to, write_fitting}
+use Rattle.step_tables.specs.Client.{write_step, show_in, show_step, sum_step, sync_in, sync_first, sync_step, resent}
 use Rattle.step_tables.specs.Client.{first_to_send, pull_in, pull_step, deliver_step, response_in, take_response, take_outcome, pulled_in, take_pulled, take_row, take_header, newer, version_in}
 use Rattle.step_tables.specs.Client.{ignored, without, shadow_of, acked}
 use Rattle.run_laws.specs.World.{World, Packet, start, stored_at, client_at, the_store, packets_of, at_client, call, to_store, to_client, carried, delivered, table_in, store_row, store_shows}
@@ -85,6 +86,9 @@ show_few node table row = at (table_at node table)
     at : (o : Option ClientTable) → AreFew (show_in node row o).facts
     at None = few_none
     at (Some t) = few_none
+
+sum_few : (node : Client) (table : ℕ) (row : List ℕ) → AreFew (sum_step node table row).facts
+sum_few node table row = show_few node table row
 
 sync_few : (node : Client) (table : ℕ) → AreFew (sync_step node table).facts
 sync_few node table = at (table_at node table)
@@ -249,6 +253,7 @@ step_few w (events.Table table schema) = few_nothing
 step_few w (events.Client client gate tables) = few_nothing
 step_few w (events.Write client table row content) = call_few w client (λ node. write_step node table row content) (λ node. write_few node table row content)
 step_few w (events.Show client table row) = call_few w client (λ node. show_step node table row) (λ node. show_few node table row)
+step_few w (events.Sum client table row) = call_few w client (λ node. sum_step node table row) (λ node. sum_few node table row)
 step_few w (events.Sync client table) = call_few w client (λ node. sync_step node table) (λ node. sync_few node table)
 step_few w (events.Pull client table) = call_few w client (λ node. pull_step node table) (λ node. pull_few node table)
 step_few w (events.Deliver number) = delivered_few w (slice_get w.packets number)

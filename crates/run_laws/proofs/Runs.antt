@@ -12,7 +12,7 @@ use Rattle.run_laws.proofs.Versions.{length_stored}
 use Rattle.run_laws.proofs.Few.{writes_few, histories_few}
 use Rattle.run_laws.proofs.Holds.{LinesHold, LinesHold-nil, LinesHold-append}
 use Rattle.run_laws.proofs.Shapes.{all_shaped}
-use Rattle.run_laws.proofs.Showings.{show_shown, store_current, histories_current}
+use Rattle.run_laws.proofs.Showings.{show_shown, sum_shown, store_current, histories_current}
 use Rattle.run_laws.proofs.Sights.{in_sight}
 use Rattle.run_laws.proofs.WorldStep.{step_sound, start_kept}
 
@@ -38,6 +38,7 @@ event_shown before w (events.Table table schema) k = tt
 event_shown before w (events.Client client gate tables) k = tt
 event_shown before w (events.Write client table row content) k = tt
 event_shown before w (events.Show client table row) k = show_shown w before client table row k
+event_shown before w (events.Sum client table row) k = sum_shown w before client table row k
 event_shown before w (events.Sync client table) k = tt
 event_shown before w (events.Pull client table) k = tt
 event_shown before w (events.Deliver packet) k = tt
@@ -50,6 +51,7 @@ event_current before w (events.Table table schema) k = tt
 event_current before w (events.Client client gate tables) k = tt
 event_current before w (events.Write client table row content) k = tt
 event_current before w (events.Show client table row) k = tt
+event_current before w (events.Sum client table row) k = tt
 event_current before w (events.Sync client table) k = tt
 event_current before w (events.Pull client table) k = tt
 event_current before w (events.Deliver packet) k = tt

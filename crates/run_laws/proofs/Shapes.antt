@@ -11,6 +11,8 @@ use Rattle.table_model.specs.declared.line.Answer.{Answer}
 use Rattle.table_model.specs.declared.line.Answer.TheVariants as answers
 use Rattle.table_model.specs.declared.line.Refusal.TheVariants as refusals
 use Rattle.table_model.specs.declared.line.Shown.{Shown}
+use Rattle.table_model.specs.declared.sum.ShownSum.{ShownSum}
+use Rattle.table_model.specs.Sums.{by_digests, or_whole, sum_of}
 use Rattle.table_model.specs.declared.line.TextLine.{TextLine}
 use Rattle.table_model.specs.declared.line.TextLine.TheVariants as text
 use Rattle.stab_base.specs.declared.node.Node.{Node}
@@ -22,7 +24,8 @@ use Rattle.step_tables.specs.declared.message.Outcome.{Outcome}
 use Rattle.step_tables.specs.declared.message.Outcome.TheVariants as outcomes
 use Rattle.step_tables.specs.declared.slots.InFlight.{InFlight}
 use Rattle.step_tables.specs.Store.{Stored, StoreStep, entries_of, current_of, store_step}
-use Rattle.step_tables.specs.Client.{Client, ClientStep, ClientTable, table_at, slots_at, write_to, write_fitting, write_step, show_in, show_step, show_answer, shown_in, sync_in, sync_first}
+use Rattle.step_tables.specs.Client.{Client, ClientStep, ClientTable, table_at, slots_at, write_to, write_fitting, write_step}
+use Rattle.step_tables.specs.Client.{show_in, show_step, sum_step, digested, show_answer, shown_in, sync_in, sync_first}
 use Rattle.step_tables.specs.Client.{sync_step, resent, first_to_send, pull_in, pull_step, deliver_step, response_in, take_response, take_outcome, pulled_in, take_pulled, take_row, take_header}
 use Rattle.step_tables.specs.Client.{ignored}
 use Rattle.run_laws.specs.World.{World, Packet, stored_at, client_at, the_store, packets_of, at_client, call, to_store, to_client, carried, delivered, table_in, store_row, store_shows, history_lines}
@@ -51,6 +54,21 @@ show_form node client table row = at (table_at node table)
     shown (Some what) = tt
 
     at : (o : Option ClientTable) → IsForm (events.Show client table row) (show_in node row o).answer
+    at None = tt
+    at (Some t) = shown (shown_in (slots_at t row).main (slots_at t row).shadow)
+
+sum_form : (node : Client) (client table : ℕ) (row : List ℕ) → IsForm (events.Sum client table row) (sum_step node table row).answer
+sum_form node client table row = at (table_at node table)
+  where
+    whole : (what : Shown) (o : Option ShownSum) → IsForm (events.Sum client table row) (or_whole what o)
+    whole what None = tt
+    whole what (Some sum) = tt
+
+    shown : (o : Option Shown) → IsForm (events.Sum client table row) (by_digests (show_answer o))
+    shown None = tt
+    shown (Some what) = whole what (sum_of what)
+
+    at : (o : Option ClientTable) → IsForm (events.Sum client table row) (digested (show_in node row o)).answer
     at None = tt
     at (Some t) = shown (shown_in (slots_at t row).main (slots_at t row).shadow)
 
@@ -182,6 +200,8 @@ turn_shaped w (events.Write client table row content) =
     called w (events.Write client table row content) client (λ node. write_step node table row content) (λ answer. refl) tt (λ node. write_form node client table row content)
 turn_shaped w (events.Show client table row) =
     called w (events.Show client table row) client (λ node. show_step node table row) (λ answer. refl) tt (λ node. show_form node client table row)
+turn_shaped w (events.Sum client table row) =
+    called w (events.Sum client table row) client (λ node. sum_step node table row) (λ answer. refl) tt (λ node. sum_form node client table row)
 turn_shaped w (events.Sync client table) = called w (events.Sync client table) client (λ node. sync_step node table) (λ answer. refl) tt (λ node. sync_form node client table)
 turn_shaped w (events.Pull client table) = called w (events.Pull client table) client (λ node. pull_step node table) (λ answer. refl) tt (λ node. pull_form node client table)
 turn_shaped w (events.Deliver number) = delivered_shape w number (slice_get w.packets number)

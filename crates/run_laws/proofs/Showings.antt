@@ -5,22 +5,25 @@ use Rattle.std.proofs.lemmas.Bool.Decides.{nat_tests}
 use Rattle.row_value.specs.declared.content.Content.{Content}
 use Rattle.table_model.specs.declared.entry.Entry.{Entry}
 use Rattle.table_model.specs.declared.event.Event.TheVariants as events
+use Rattle.table_model.specs.declared.line.Answer.{Answer}
 use Rattle.table_model.specs.declared.line.Answer.TheVariants as answers
 use Rattle.table_model.specs.declared.line.Refusal.TheVariants as refusals
 use Rattle.table_model.specs.declared.line.Shown.{Shown}
 use Rattle.table_model.specs.declared.line.TextLine.{TextLine}
 use Rattle.table_model.specs.declared.line.TextLine.TheVariants as text
 use Rattle.table_model.specs.declared.line.Write.{Write}
+use Rattle.table_model.specs.declared.sum.ShownSum.{ShownSum}
+use Rattle.table_model.specs.Sums.{by_digests, or_whole, sum_of}
 use Rattle.table_model.specs.History.{history_of, current, version_of}
 use Rattle.table_model.specs.History as histories
 use Rattle.step_tables.specs.declared.slots.Shadow.{Shadow}
 use Rattle.step_tables.specs.declared.slots.Slots.{Slots}
 use Rattle.step_tables.specs.Store.{Stored, entries_of, current_of}
 use Rattle.step_tables.specs.Store as stores
-use Rattle.step_tables.specs.Client.{Client, ClientTable, table_at, slots_at, version_in, shown_in, show_in, show_answer, show_step}
+use Rattle.step_tables.specs.Client.{Client, ClientTable, table_at, slots_at, version_in, shown_in, show_in, show_answer, show_step, sum_step, digested}
 use Rattle.run_laws.specs.World.{World, Packet, stored_at, client_at, at_client, after_client, store_row, store_shows, history_lines, entry_lines, answer_lines, step}
 use Rattle.run_laws.specs.Lines.{open_write, read_of, content_at, shown_by, shown_of}
-use Rattle.run_laws.specs.Sound.{Among, IsShown, IsCurrent}
+use Rattle.run_laws.specs.Sound.{Among, IsShown, IsSum, IsCurrent}
 use Rattle.run_laws.proofs.Lists.{among_last, last_where-map}
 use Rattle.run_laws.proofs.Kept.{SlotsKept, WorldKept, TableKept, main_of, stored_or_none}
 use Rattle.run_laws.proofs.Versions.{Counts-within}
@@ -87,6 +90,44 @@ show_shown w before client table row k = at (client_at w client) refl
     at : (o : Option Client) → client_at w client ≡ o
         → IsShown before (events.Show client table row) (at_client w client (λ node. show_step node table row) o).lines
     at None is = untabled before client table row
+    at (Some node) is = tabled node is (table_at node table) refl
+
+-- ---- the same by digests
+
+-- the one answer of some lines
+answer_is : (a answer : Answer) → Among (answer_lines a []) (text.Answer answer) → a ≡ answer
+unfolding Among
+answer_is a answer (inl e) = cc
+answer_is a answer (inr b) = absurd b
+
+whole_sum : (what : Shown) (o : Option ShownSum) → sum_of what ≡ o → IsSum (Some what) (or_whole what o)
+whole_sum what None e = ap (λ (o : Option ShownSum). Some (or_whole what o)) e
+whole_sum what (Some sum) e = ap (λ (o : Option ShownSum). Some (or_whole what o)) e
+
+by_digests_sum : (o : Option Shown) → IsSum o (by_digests (show_answer o))
+by_digests_sum None = refl
+by_digests_sum (Some what) = whole_sum what (sum_of what) refl
+
+pub sum_shown : (w : World) (before : List TextLine) (client table : ℕ) (row : List ℕ) → WorldKept w before
+    → IsShown before (events.Sum client table row) (step w (events.Sum client table row)).lines
+sum_shown w before client table row k = at (client_at w client) refl
+  where
+    untabled_sum : (answer : Answer) → Among (answer_lines (answers.Refused refusals.NoTable) []) (text.Answer answer) → IsSum (shown_of client table row before) answer
+    untabled_sum answer a = subst (λ (b : Answer). IsSum (shown_of client table row before) b) (answer_is (answers.Refused refusals.NoTable) answer a) tt
+
+    tabled : (node : Client) → client_at w client ≡ Some node → (o : Option ClientTable) → table_at node table ≡ o
+        → IsShown before (events.Sum client table row) (after_client w client (digested (show_in node row o))).lines
+    tabled node there None is = untabled_sum
+    tabled node there (Some opened) is = λ answer a.
+        let slots : Slots = slots_at opened row in
+        let same : shown_in slots.main slots.shadow ≡ shown_of client table row before =
+        slots_show w.packets before client table row slots (((k.clients client node there).tables table opened is).slots row) in
+        subst (λ (b : Answer). IsSum (shown_of client table row before) b) (answer_is (by_digests (show_answer (shown_in slots.main slots.shadow))) answer a)
+        (subst (λ (o : Option Shown). IsSum o (by_digests (show_answer (shown_in slots.main slots.shadow)))) same (by_digests_sum (shown_in slots.main slots.shadow)))
+
+    at : (o : Option Client) → client_at w client ≡ o
+        → IsShown before (events.Sum client table row) (at_client w client (λ node. sum_step node table row) o).lines
+    at None is = untabled_sum
     at (Some node) is = tabled node is (table_at node table) refl
 
 -- ---- what the Store shows

@@ -9,7 +9,7 @@ use Rattle.table_model.specs.declared.line.TextLine.{TextLine}
 use Rattle.stab_base.specs.declared.node.Node.{Node}
 use Rattle.stab_base.specs.declared.node.Node.TheVariants as nodes
 use Rattle.step_tables.specs.Store.{Stored}
-use Rattle.step_tables.specs.Client.{Client, ClientStep, write_step, show_step, sync_step, pull_step, deliver_step}
+use Rattle.step_tables.specs.Client.{Client, ClientStep, write_step, show_step, sum_step, sync_step, pull_step, deliver_step}
 use Rattle.run_laws.specs.World.{World, Packet, start, stored_at, client_at, at_client, call, to_store, to_client, carried, delivered, table_in, step}
 use Rattle.run_laws.specs.Sound.{Among}
 use Rattle.run_laws.proofs.Lists.{among_get, among_none}
@@ -19,7 +19,7 @@ use Rattle.run_laws.proofs.Looks.{answered_sound, shown_sound, history_sound}
 use Rattle.run_laws.proofs.Declarations.{silent_sound, declared_sound, joined_sound}
 use Rattle.run_laws.proofs.StoreStep.{stored_sound}
 use Rattle.run_laws.proofs.ClientStep.{ClientStepKept, client_sound}
-use Rattle.run_laws.proofs.ClientGiven.{write_kept, show_kept, sync_kept, pull_kept, deliver_kept}
+use Rattle.run_laws.proofs.ClientGiven.{write_kept, show_kept, sum_kept, sync_kept, pull_kept, deliver_kept}
 
 module _ (w : World) (before : List TextLine) (k : WorldKept w before) where
   called : (client : ℕ) (f : Client → ClientStep) → ((node : Client) → client_at w client ≡ Some node → ClientStepKept w before client (f node))
@@ -57,6 +57,7 @@ module _ (w : World) (before : List TextLine) (k : WorldKept w before) where
   step_sound (events.Write client table row content) =
       called client (λ node. write_step node table row content) (λ node there. write_kept w before client node k there table row content)
   step_sound (events.Show client table row) = called client (λ node. show_step node table row) (λ node there. show_kept w before client node k there table row)
+  step_sound (events.Sum client table row) = called client (λ node. sum_step node table row) (λ node there. sum_kept w before client node k there table row)
   step_sound (events.Sync client table) = called client (λ node. sync_step node table) (λ node there. sync_kept w before client node k there table)
   step_sound (events.Pull client table) = called client (λ node. pull_step node table) (λ node there. pull_kept w before client node k there table)
   step_sound (events.Deliver packet) = delivered_sound packet

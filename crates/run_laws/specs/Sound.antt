@@ -1,6 +1,6 @@
 -- What every transcript keeps, said of whole lists of turns and of lines.
 use Rattle.std.specs.Prelude.{◌≡◌, ◌≢◌, ◌⊎◌, ℕ, ◌+◌, ◌<◌, ◌≤◌, Bool, true, false, List, [], ◌∷◌, ◌++◌, length, Some}
-use Rattle.std.specs.Prelude.{None, MatchBool}
+use Rattle.std.specs.Prelude.{Option, None, option_map, MatchBool}
 use Rattle.std.specs.List.{AllByRecursion}
 use Rattle.row_value.specs.declared.content.Content.{Content}
 use Rattle.table_model.specs.declared.entry.Entry.{Entry}
@@ -17,6 +17,7 @@ use Rattle.table_model.specs.declared.line.Refusal.TheVariants as refusals
 use Rattle.table_model.specs.declared.line.TextLine.{TextLine}
 use Rattle.table_model.specs.declared.line.TextLine.TheVariants as text
 use Rattle.table_model.specs.History.{history_of, current}
+use Rattle.table_model.specs.Sums.{sum_answer}
 use Rattle.table_model.specs.Writes.{all_writes, writes_of}
 use Rattle.run_laws.specs.World.{told, entry_lines}
 use Rattle.run_laws.specs.Turns.{Turn, lines_of}
@@ -34,6 +35,8 @@ abbrev pub IsForm : Event → Answer → Type 0
 IsForm event (answers.Refused refusal) = Unit {0}
 IsForm (events.Write client table row content) (answers.Number number) = Unit {0}
 IsForm (events.Show client table row) (answers.Shown what) = Unit {0}
+IsForm (events.Sum client table row) (answers.Shown what) = Unit {0}
+IsForm (events.Sum client table row) (answers.Sums sum) = Unit {0}
 IsForm (events.Sync client table) (answers.Number number) = Unit {0}
 IsForm (events.Pull client table) answers.Done = Unit {0}
 IsForm (events.Deliver packet) answers.Done = Unit {0}
@@ -53,6 +56,7 @@ is_declaration (events.Table table schema) = true
 is_declaration (events.Client client gate tables) = true
 is_declaration (events.Write client table row content) = false
 is_declaration (events.Show client table row) = false
+is_declaration (events.Sum client table row) = false
 is_declaration (events.Sync client table) = false
 is_declaration (events.Pull client table) = false
 is_declaration (events.Deliver packet) = false
@@ -155,12 +159,20 @@ abbrev pub AlongTurns : (List TextLine → Turn → Type 0) → List TextLine �
 AlongTurns P before [] = Unit {0}
 AlongTurns P before (turn ∷ turns) = P before turn × AlongTurns P (before ++ turn.lines) turns
 
+-- where a `show` would show this, or nothing, a `sum` shows it by digests, and says so exactly there
+abbrev pub IsSum : Option Shown → Answer → Type 0
+IsSum what (answers.Refused refusals.NoRow) = what ≡ None
+IsSum what (answers.Refused refusal) = Unit {0}
+IsSum what answer = option_map sum_answer what ≡ Some answer
+
 -- Shown. An answer to `show` gives what the client's lines before it make it show, and says that nothing is shown
--- exactly there.
+-- exactly there. An answer to `sum` gives the same by digests.
 abbrev pub IsShown : List TextLine → Event → List TextLine → Type 0
 IsShown before (events.Show client table row) lines =
     ((what : Shown) → Among lines (text.Answer (answers.Shown what)) → shown_of client table row before ≡ Some what)
     × (Among lines (text.Answer (answers.Refused refusals.NoRow)) → shown_of client table row before ≡ None)
+IsShown before (events.Sum client table row) lines =
+    (answer : Answer) → Among lines (text.Answer answer) → IsSum (shown_of client table row before) answer
 IsShown before event lines = Unit {0}
 
 -- Current. The Store shows the row's last entry with its content, and says that there is none exactly there. The lines

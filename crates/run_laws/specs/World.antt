@@ -21,7 +21,7 @@ use Rattle.step_tables.specs.declared.message.Message.{Message}
 use Rattle.step_tables.specs.declared.message.Message.TheVariants as messages
 use Rattle.step_tables.specs.Names.{name_of}
 use Rattle.step_tables.specs.Store.{Stored, StoreStep, entries_of, current_of, store_step}
-use Rattle.step_tables.specs.Client.{Client, ClientStep, opened, write_step, show_step, sync_step, pull_step}
+use Rattle.step_tables.specs.Client.{Client, ClientStep, opened, write_step, show_step, sum_step, sync_step, pull_step}
 use Rattle.step_tables.specs.Client.{deliver_step}
 
 -- a message that was sent
@@ -191,6 +191,7 @@ step w (events.Table table schema) = silent (declared w table schema (stored_at 
 step w (events.Client client gate tables) = silent (joined w client tables (client_at w client))
 step w (events.Write client table row content) = call w client (λ node. write_step node table row content)
 step w (events.Show client table row) = call w client (λ node. show_step node table row)
+step w (events.Sum client table row) = call w client (λ node. sum_step node table row)
 step w (events.Sync client table) = call w client (λ node. sync_step node table)
 step w (events.Pull client table) = call w client (λ node. pull_step node table)
 step w (events.Deliver packet) = delivered w (slice_get w.packets packet)

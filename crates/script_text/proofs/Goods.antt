@@ -15,8 +15,10 @@ use Rattle.script_text.specs.Faults.{bad}
 use Rattle.script_text.specs.Verbs.{name_of}
 use Rattle.script_text.specs.Names.{Names, has_no_store}
 use Rattle.script_text.specs.Places.{◌>>=◌, names_of, new_store_at, new_table_at, new_client_at, tables_at, new_name_at, scheme_at, chunk_at}
-use Rattle.script_text.specs.Reading.{placed, made_store, made_table, made_client, store_in, table_in, client_in, content_in, some_columns_in, write_in, show_in, client_table_in, sync_in, pull_in}
+use Rattle.script_text.specs.Reading.{placed, made_store, made_table, made_client, store_in, table_in, client_in, content_in, some_columns_in, write_in, client_row_in, show_in}
+use Rattle.script_text.specs.Reading.{sum_in, client_table_in, sync_in, pull_in}
 use Rattle.script_text.specs.Reading.{deliver_in, store_show_in, history_in, next_in}
+use Rattle.stab_base.specs.Row.{row_of}
 use Rattle.script_text.specs.Grammar.{SpelledBy, AreColumns, client_word, table_word, tables_word, IsClient, IsTable, limit_of}
 use Rattle.script_text.proofs.Steps.{ok_err, bind-ok, word_in-ok, end-ok}
 use Rattle.script_text.proofs.Numbers.{packet_at-ok}
@@ -138,6 +140,20 @@ module _ (names : Names) (ws : List (List ℕ)) where
       let is : ws ≡ client_word a.2 ∷ table_word b.2 ∷ [] = cc (a.3, b.3, r.0, u.0, v.0) in
       subst (λ (q : ℕ × ℕ). (ws ≡ client_word q.0 ∷ table_word q.1 ∷ []) × IsClient names q.0 × IsTable names q.1) r.1 (is, u.1, v.1)
 
+  client_row-ok : (p : ℕ × ℕ × List ℕ) → client_row_in names ws ≡ Ok p
+      → (place : List ℕ) × (ws ≡ client_word p.0 ∷ table_word p.1 ∷ place ∷ []) × IsClient names p.0 × IsTable names p.1 × (row_of place ≡ Some p.2)
+  unfolding client_row_in
+  client_row-ok p h =
+      let a = word_in-ok _ _ _ ws p h in
+      let b = word_in-ok _ _ _ a.1 p a.5 in
+      let c = word_in-ok _ _ _ b.1 p b.5 in
+      let r = end-ok 4 (a.2, b.2, c.2) c.1 p c.5 in
+      let u = client_at-ok names a.0 a.2 a.4 in
+      let v = table_at-ok names b.0 b.2 b.4 in
+      let is : ws ≡ client_word a.2 ∷ table_word b.2 ∷ c.0 ∷ [] = cc (a.3, b.3, c.3, r.0, u.0, v.0) in
+      subst (λ (q : ℕ × ℕ × List ℕ). (place : List ℕ) × (ws ≡ client_word q.0 ∷ table_word q.1 ∷ place ∷ []) × IsClient names q.0 × IsTable names q.1 × (row_of place ≡ Some q.2)) r.1
+      (c.0, is, u.1, v.1, row_at-ok c.0 c.2 c.4)
+
   module _ (e : Event) where
     pub sync-ok : sync_in names ws ≡ Ok e → SpelledBy names (codes "sync" ∷ ws) e
     sync-ok h =
@@ -180,16 +196,16 @@ module _ (names : Names) (ws : List (List ℕ)) where
         subst (λ (x : Event). SpelledBy names (codes "history" ∷ ws) x) r.1 (ap (λ (t : List (List ℕ)). codes "history" ∷ t) is, u.1)
 
     pub show-ok : show_in names ws ≡ Ok e → SpelledBy names (codes "show" ∷ ws) e
-    unfolding show_in
     show-ok h =
-        let a = word_in-ok _ _ _ ws e h in
-        let b = word_in-ok _ _ _ a.1 e a.5 in
-        let c = word_in-ok _ _ _ b.1 e b.5 in
-        let p = client_at-ok names a.0 a.2 a.4 in
-        let q = table_at-ok names b.0 b.2 b.4 in
-        let r = end-ok 4 (events.Show a.2 b.2 c.2) c.1 e c.5 in
-        let is : ws ≡ client_word a.2 ∷ table_word b.2 ∷ c.0 ∷ [] = cc (a.3, b.3, c.3, r.0, p.0, q.0) in
-        subst (λ (x : Event). SpelledBy names (codes "show" ∷ ws) x) r.1 (c.0, ap (λ (t : List (List ℕ)). codes "show" ∷ t) is, p.1, q.1, row_at-ok c.0 c.2 c.4)
+        let p = bind-ok (client_row_in names ws) (λ q. Ok (events.Show q.0 q.1 q.2)) e h in
+        let q = client_row-ok p.0 p.1 in
+        subst (λ (x : Event). SpelledBy names (codes "show" ∷ ws) x) (event_told p.2) (q.0, ap (λ (t : List (List ℕ)). codes "show" ∷ t) q.1, q.2, q.3, q.4)
+
+    pub sum-ok : sum_in names ws ≡ Ok e → SpelledBy names (codes "sum" ∷ ws) e
+    sum-ok h =
+        let p = bind-ok (client_row_in names ws) (λ q. Ok (events.Sum q.0 q.1 q.2)) e h in
+        let q = client_row-ok p.0 p.1 in
+        subst (λ (x : Event). SpelledBy names (codes "sum" ∷ ws) x) (event_told p.2) (q.0, ap (λ (t : List (List ℕ)). codes "sum" ∷ t) q.1, q.2, q.3, q.4)
 
 module _ (names : Names) (ws : List (List ℕ)) (e : Event) where
   pub write-ok : write_in names ws ≡ Ok e → SpelledBy names (codes "write" ∷ ws) e

@@ -9,14 +9,15 @@ use Rattle.script_text.specs.declared.verb.Verb.TheVariants as verbs
 use Rattle.script_text.specs.Faults.{bad}
 use Rattle.script_text.specs.Verbs.{verb_of, name_of, is_unbuilt}
 use Rattle.script_text.specs.Names.{Names, has_no_store}
-use Rattle.script_text.specs.Reading.{write_in, show_in, sync_in, pull_in, deliver_in, store_show_in, history_in, unlimited, in_time, built_in, with_verb, event_in, found, words_in}
+use Rattle.script_text.specs.Reading.{write_in, show_in, sum_in, sync_in, pull_in, deliver_in, store_show_in, history_in, unlimited, in_time, built_in, with_verb, event_in, found, words_in}
 use Rattle.script_text.specs.Grammar.{SpelledBy, VerbFault, WordsFault, limit_of, WordsLimit}
 use Rattle.script_text.proofs.Steps.{ok_err, bind-ok, bind-err}
 use Rattle.script_text.proofs.Numbers.{some_same, none_some}
 use Rattle.script_text.proofs.VerbWords.{verb-some, verb-none, verb-again}
-use Rattle.script_text.proofs.Goods.{Told, store-ok, table-ok, client-ok, write-ok, show-ok, sync-ok, pull-ok, deliver-ok, store_show-ok, history-ok}
-use Rattle.script_text.proofs.Stops.{store-err, table-err, client-err, write-err, show-err, sync-err, pull-err, deliver-err, store_show-err, history-err, store-fault, table-fault, client-fault}
-use Rattle.script_text.proofs.Stops.{write-fault, show-fault, sync-fault, pull-fault, deliver-fault, store_show-fault, history-fault}
+use Rattle.script_text.proofs.Goods.{Told, store-ok, table-ok, client-ok, write-ok, show-ok, sum-ok, sync-ok, pull-ok, deliver-ok, store_show-ok, history-ok}
+use Rattle.script_text.proofs.Stops.{store-err, table-err, client-err, write-err, show-err, sum-err, sync-err, pull-err}
+use Rattle.script_text.proofs.Stops.{deliver-err, store_show-err, history-err, store-fault, table-fault, client-fault}
+use Rattle.script_text.proofs.Stops.{write-fault, show-fault, sum-fault, sync-fault, pull-fault, deliver-fault, store_show-fault, history-fault}
 
 unless : {X : Type 0} (b : Bool) (r : Result X BadLine) (f : BadLine) (x : X) → cond b (Err f) r ≡ Ok x → (b ≡ false) × (r ≡ Ok x)
 unless false r f x e = (refl, e)
@@ -84,6 +85,7 @@ module _ (names : Names) (first : List ℕ) (ws : List (List ℕ)) where
   event-built verbs.Client told h = let p = in_time-ok _ told h in client-ok names ws told p.0 p.1
   event-built verbs.Write told h = plain-built verbs.Write (write_in names ws) told refl (write-ok names ws) h
   event-built verbs.Show told h = plain-built verbs.Show (show_in names ws) told refl (show-ok names ws) h
+  event-built verbs.Sum told h = plain-built verbs.Sum (sum_in names ws) told refl (sum-ok names ws) h
   event-built verbs.Sync told h = plain-built verbs.Sync (sync_in names ws) told refl (sync-ok names ws) h
   event-built verbs.Pull told h = plain-built verbs.Pull (pull_in names ws) told refl (pull-ok names ws) h
   event-built verbs.Deliver told h = plain-built verbs.Deliver (deliver_in ws) told refl (deliver-ok names ws) h
@@ -104,6 +106,7 @@ module _ (names : Names) (first : List ℕ) (ws : List (List ℕ)) where
   fault-built verbs.Client f h = early names.started f h (client-err names ws f)
   fault-built verbs.Write f h = write-err names ws f (unlimited-err _ f h)
   fault-built verbs.Show f h = show-err names ws f (unlimited-err _ f h)
+  fault-built verbs.Sum f h = sum-err names ws f (unlimited-err _ f h)
   fault-built verbs.Sync f h = sync-err names ws f (unlimited-err _ f h)
   fault-built verbs.Pull f h = pull-err names ws f (unlimited-err _ f h)
   fault-built verbs.Deliver f h = deliver-err names ws f (unlimited-err _ f h)
@@ -124,6 +127,7 @@ module _ (names : Names) (first : List ℕ) (ws : List (List ℕ)) where
   built-fault verbs.Client f h = early-fault names.started f h (client-fault names ws f)
   built-fault verbs.Write f h = rw (write-fault names ws f h) refl
   built-fault verbs.Show f h = rw (show-fault names ws f h) refl
+  built-fault verbs.Sum f h = rw (sum-fault names ws f h) refl
   built-fault verbs.Sync f h = rw (sync-fault names ws f h) refl
   built-fault verbs.Pull f h = rw (pull-fault names ws f h) refl
   built-fault verbs.Deliver f h = rw (deliver-fault names ws f h) refl

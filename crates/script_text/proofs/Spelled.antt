@@ -20,9 +20,12 @@ use Rattle.script_text.specs.Names.{Names, has_no_store}
 use Rattle.script_words.specs.Words.{is_name}
 use Rattle.script_text.specs.Places.{names_of}
 use Rattle.script_words.specs.Columns.{column_word}
-use Rattle.script_text.specs.Reading.{next_in, word_in, end_in, store_in, made_table, table_in, client_in, write_in, show_in, client_table_in, sync_in, pull_in, deliver_in, store_show_in, history_in}
+use Rattle.script_text.specs.Reading.{next_in, word_in, end_in, store_in, made_table, table_in, client_in, write_in, client_row_in, show_in}
+use Rattle.script_text.specs.Reading.{sum_in, client_table_in, sync_in, pull_in, deliver_in, store_show_in, history_in}
 use Rattle.script_text.specs.Reading.{unlimited, in_time, built_in, event_in, words_in}
-use Rattle.script_text.specs.Grammar.{SpelledBy, SpellsStore, SpellsTable, SpellsClient, SpellsWrite, SpellsShow, SpellsSync, SpellsPull, SpellsDeliver, SpellsStoreShow, SpellsHistory, client_word}
+use Rattle.stab_base.specs.Row.{row_of}
+use Rattle.script_text.specs.Grammar.{SpelledBy, SpellsStore, SpellsTable, SpellsClient, SpellsWrite, SpellsShow, SpellsSum, SpellsSync}
+use Rattle.script_text.specs.Grammar.{SpellsPull, SpellsDeliver, SpellsStoreShow, SpellsHistory, client_word}
 use Rattle.script_text.specs.Grammar.{table_word, tables_word, IsClient, IsTable}
 use Rattle.script_text.proofs.Numbers.{packet_at-right}
 use Rattle.script_text.proofs.Distinct.{distinct-new}
@@ -102,16 +105,24 @@ module _ (names : Names) where
       in
       rw h.0 (event_in-right names verbs.History (table_word table ∷ []) (events.History table) (ap unlimited read))
 
+  client_row-right : (client table : ℕ) (place row : List ℕ) → IsClient names client → IsTable names table → row_of place ≡ Some row
+      → client_row_in names (client_word client ∷ table_word table ∷ place ∷ []) ≡ Ok (client, table, row)
+  unfolding client_row_in
+  client_row-right client table place row p q r =
+      word_in-right 1 _ (client_word client) _ _ client (client_at-right names client p)
+      ∙ word_in-right 2 _ (table_word table) _ _ table (table_at-right names table q)
+      ∙ word_in-right 3 _ place _ _ row (row_at-right place row r)
+      ∙ rw (end_in-right 4) refl
+
   show-right : (ws : List (List ℕ)) (client table : ℕ) (row : List ℕ) → SpellsShow names ws client table row → words_in names ws ≡ Ok (Ok (Some (events.Show client table row)))
-  unfolding show_in
   show-right ws client table row h =
-      let read : show_in names (client_word client ∷ table_word table ∷ h.0 ∷ []) ≡ Ok (events.Show client table row) =
-      (word_in-right 1 _ (client_word client) _ _ client (client_at-right names client h.2)
-      ∙ word_in-right 2 _ (table_word table) _ _ table (table_at-right names table h.3)
-      ∙ word_in-right 3 _ h.0 _ _ row (row_at-right h.0 row h.4)
-      ∙ rw (end_in-right 4) refl)
-      in
+      let read : show_in names (client_word client ∷ table_word table ∷ h.0 ∷ []) ≡ Ok (events.Show client table row) = rw (client_row-right client table h.0 row h.2 h.3 h.4) refl in
       rw h.1 (event_in-right names verbs.Show (client_word client ∷ table_word table ∷ h.0 ∷ []) (events.Show client table row) (ap unlimited read))
+
+  sum-right : (ws : List (List ℕ)) (client table : ℕ) (row : List ℕ) → SpellsSum names ws client table row → words_in names ws ≡ Ok (Ok (Some (events.Sum client table row)))
+  sum-right ws client table row h =
+      let read : sum_in names (client_word client ∷ table_word table ∷ h.0 ∷ []) ≡ Ok (events.Sum client table row) = rw (client_row-right client table h.0 row h.2 h.3 h.4) refl in
+      rw h.1 (event_in-right names verbs.Sum (client_word client ∷ table_word table ∷ h.0 ∷ []) (events.Sum client table row) (ap unlimited read))
 
   write-right : (ws : List (List ℕ)) (client table : ℕ) (row : List ℕ) (content : Content) → SpellsWrite names ws client table row content
       → words_in names ws ≡ Ok (Ok (Some (events.Write client table row content)))
@@ -161,6 +172,7 @@ module _ (names : Names) where
   spelled ws (events.Client client gate tables) h = client-right ws client gate tables h
   spelled ws (events.Write client table row content) h = write-right ws client table row content h
   spelled ws (events.Show client table row) h = show-right ws client table row h
+  spelled ws (events.Sum client table row) h = sum-right ws client table row h
   spelled ws (events.Sync client table) h = sync-right ws client table h
   spelled ws (events.Pull client table) h = pull-right ws client table h
   spelled ws (events.Deliver packet) h = deliver-right ws packet h

@@ -3,7 +3,8 @@ use Rattle.std.proofs.Common.{◌≡◌, ℕ, List, drop, Err, refl}
 use Rattle.script_text.specs.declared.fault.BadLine.{BadLine}
 use Rattle.script_text.specs.declared.verb.Verb.TheVariants as verbs
 use Rattle.script_text.specs.Names.{Names}
-use Rattle.script_text.specs.Reading.{store_in, table_in, client_in, content_in, some_columns_in, write_in, show_in, client_table_in, sync_in, pull_in, deliver_in, store_show_in, history_in}
+use Rattle.script_text.specs.Reading.{store_in, table_in, client_in, content_in, some_columns_in, write_in, client_row_in, show_in}
+use Rattle.script_text.specs.Reading.{sum_in, client_table_in, sync_in, pull_in, deliver_in, store_show_in, history_in}
 use Rattle.script_text.specs.Grammar.{FirstFault, places_of, more_of}
 use Rattle.script_text.proofs.Steps.{bind-err, word_in-err, word_in-fault, end-err, end-fault, content-err, content-fault, some_columns-err, some_columns-fault}
 
@@ -39,9 +40,9 @@ module _ (names : Names) (ws : List (List ℕ)) (f : BadLine) where
       word_in-err _ _ _ (drop 3 (places_of names verbs.Write)) (more_of verbs.Write) f b hb (λ vc c xc ic oc hc.
       content-err f 4 c (bind-err (content_in 4 c) _ f hc))))
 
-  pub show-err : show_in names ws ≡ Err f → FirstFault 1 (places_of names verbs.Show) (more_of verbs.Show) ws f
-  unfolding show_in
-  show-err h =
+  client_row-err : client_row_in names ws ≡ Err f → FirstFault 1 (places_of names verbs.Show) (more_of verbs.Show) ws f
+  unfolding client_row_in
+  client_row-err h =
       word_in-err _ _ _ (drop 1 (places_of names verbs.Show)) (more_of verbs.Show) f ws h (λ va a xa ia oa ha.
       word_in-err _ _ _ (drop 2 (places_of names verbs.Show)) (more_of verbs.Show) f a ha (λ vb b xb ib ob hb.
       word_in-err _ _ _ (drop 3 (places_of names verbs.Show)) (more_of verbs.Show) f b hb (λ vc c xc ic oc hc.
@@ -72,6 +73,12 @@ module _ (names : Names) (ws : List (List ℕ)) (f : BadLine) where
   history-err h =
       word_in-err _ _ _ (drop 1 (places_of names verbs.History)) (more_of verbs.History) f ws h (λ va a xa ia oa ha.
       end-err 2 _ a f ha)
+
+  pub show-err : show_in names ws ≡ Err f → FirstFault 1 (places_of names verbs.Show) (more_of verbs.Show) ws f
+  show-err h = client_row-err (bind-err (client_row_in names ws) _ f h)
+
+  pub sum-err : sum_in names ws ≡ Err f → FirstFault 1 (places_of names verbs.Sum) (more_of verbs.Sum) ws f
+  sum-err h = client_row-err (bind-err (client_row_in names ws) _ f h)
 
   pub sync-err : sync_in names ws ≡ Err f → FirstFault 1 (places_of names verbs.Sync) (more_of verbs.Sync) ws f
   sync-err h = client_table-err (bind-err (client_table_in names ws) _ f h)
@@ -111,9 +118,9 @@ module _ (names : Names) (ws : List (List ℕ)) (f : BadLine) where
       word_in-fault _ _ _ (drop 3 (places_of names verbs.Write)) (more_of verbs.Write) f b hb (λ vc c xc ic oc hc.
       rw (content-fault f 4 c hc) refl)))
 
-  pub show-fault : FirstFault 1 (places_of names verbs.Show) (more_of verbs.Show) ws f → show_in names ws ≡ Err f
-  unfolding show_in
-  show-fault h =
+  client_row-fault : FirstFault 1 (places_of names verbs.Show) (more_of verbs.Show) ws f → client_row_in names ws ≡ Err f
+  unfolding client_row_in
+  client_row-fault h =
       word_in-fault _ _ _ (drop 1 (places_of names verbs.Show)) (more_of verbs.Show) f ws h (λ va a xa ia oa ha.
       word_in-fault _ _ _ (drop 2 (places_of names verbs.Show)) (more_of verbs.Show) f a ha (λ vb b xb ib ob hb.
       word_in-fault _ _ _ (drop 3 (places_of names verbs.Show)) (more_of verbs.Show) f b hb (λ vc c xc ic oc hc.
@@ -144,6 +151,12 @@ module _ (names : Names) (ws : List (List ℕ)) (f : BadLine) where
   history-fault h =
       word_in-fault _ _ _ (drop 1 (places_of names verbs.History)) (more_of verbs.History) f ws h (λ va a xa ia oa ha.
       end-fault 2 _ a f ha)
+
+  pub show-fault : FirstFault 1 (places_of names verbs.Show) (more_of verbs.Show) ws f → show_in names ws ≡ Err f
+  show-fault h = rw (client_row-fault h) refl
+
+  pub sum-fault : FirstFault 1 (places_of names verbs.Sum) (more_of verbs.Sum) ws f → sum_in names ws ≡ Err f
+  sum-fault h = rw (client_row-fault h) refl
 
   pub sync-fault : FirstFault 1 (places_of names verbs.Sync) (more_of verbs.Sync) ws f → sync_in names ws ≡ Err f
   sync-fault h = rw (client_table-fault h) refl

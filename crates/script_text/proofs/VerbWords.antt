@@ -43,22 +43,26 @@ verb-some word verb h0 =
                             elim (picked word (codes "show") verbs.Show verb _ h4) [
                               | inl a ↦ a.0 ∙ ap name_of a.1
                               | inr h5 ↦
-                                  elim (picked word (codes "sync") verbs.Sync verb _ h5) [
+                                  elim (picked word (codes "sum") verbs.Sum verb _ h5) [
                                     | inl a ↦ a.0 ∙ ap name_of a.1
                                     | inr h6 ↦
-                                        elim (picked word (codes "pull") verbs.Pull verb _ h6) [
+                                        elim (picked word (codes "sync") verbs.Sync verb _ h6) [
                                           | inl a ↦ a.0 ∙ ap name_of a.1
                                           | inr h7 ↦
-                                              elim (picked word (codes "deliver") verbs.Deliver verb _ h7) [
+                                              elim (picked word (codes "pull") verbs.Pull verb _ h7) [
                                                 | inl a ↦ a.0 ∙ ap name_of a.1
                                                 | inr h8 ↦
-                                                    elim (picked word (codes "sshow") verbs.StoreShow verb _ h8) [
+                                                    elim (picked word (codes "deliver") verbs.Deliver verb _ h8) [
                                                       | inl a ↦ a.0 ∙ ap name_of a.1
                                                       | inr h9 ↦
-                                                          elim (picked word (codes "history") verbs.History verb _ h9) [
+                                                          elim (picked word (codes "sshow") verbs.StoreShow verb _ h9) [
                                                             | inl a ↦ a.0 ∙ ap name_of a.1
                                                             | inr h10 ↦
-                                                                absurd cc
+                                                                elim (picked word (codes "history") verbs.History verb _ h10) [
+                                                                  | inl a ↦ a.0 ∙ ap name_of a.1
+                                                                  | inr h11 ↦
+                                                                      absurd cc
+                                                                ]
                                                           ]
                                                     ]
                                               ]
@@ -78,12 +82,25 @@ verb-none word h verb =
     let h2 = skipped word (codes "client") verbs.Client _ h1.1 in
     let h3 = skipped word (codes "write") verbs.Write _ h2.1 in
     let h4 = skipped word (codes "show") verbs.Show _ h3.1 in
-    let h5 = skipped word (codes "sync") verbs.Sync _ h4.1 in
-    let h6 = skipped word (codes "pull") verbs.Pull _ h5.1 in
-    let h7 = skipped word (codes "deliver") verbs.Deliver _ h6.1 in
-    let h8 = skipped word (codes "sshow") verbs.StoreShow _ h7.1 in
-    let h9 = skipped word (codes "history") verbs.History _ h8.1 in
-    elim verb as (λ (v : Verb). word ≢ name_of v) [ verbs.Store ↦ h0.0 | verbs.Table ↦ h1.0 | verbs.Client ↦ h2.0 | verbs.Write ↦ h3.0 | verbs.Show ↦ h4.0 | verbs.Sync ↦ h5.0 | verbs.Pull ↦ h6.0 | verbs.Deliver ↦ h7.0 | verbs.StoreShow ↦ h8.0 | verbs.History ↦ h9.0 ]
+    let h5 = skipped word (codes "sum") verbs.Sum _ h4.1 in
+    let h6 = skipped word (codes "sync") verbs.Sync _ h5.1 in
+    let h7 = skipped word (codes "pull") verbs.Pull _ h6.1 in
+    let h8 = skipped word (codes "deliver") verbs.Deliver _ h7.1 in
+    let h9 = skipped word (codes "sshow") verbs.StoreShow _ h8.1 in
+    let h10 = skipped word (codes "history") verbs.History _ h9.1 in
+    elim verb as (λ (v : Verb). word ≢ name_of v) [
+      | verbs.Store ↦ h0.0
+      | verbs.Table ↦ h1.0
+      | verbs.Client ↦ h2.0
+      | verbs.Write ↦ h3.0
+      | verbs.Show ↦ h4.0
+      | verbs.Sum ↦ h5.0
+      | verbs.Sync ↦ h6.0
+      | verbs.Pull ↦ h7.0
+      | verbs.Deliver ↦ h8.0
+      | verbs.StoreShow ↦ h9.0
+      | verbs.History ↦ h10.0
+    ]
 
 pub verb-again : (verb : Verb) → verb_of (name_of verb) ≡ Some verb
 unfolding verb_of
@@ -92,6 +109,7 @@ verb-again verbs.Table = refl
 verb-again verbs.Client = refl
 verb-again verbs.Write = refl
 verb-again verbs.Show = refl
+verb-again verbs.Sum = refl
 verb-again verbs.Sync = refl
 verb-again verbs.Pull = refl
 verb-again verbs.Deliver = refl

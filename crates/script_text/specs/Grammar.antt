@@ -121,12 +121,20 @@ SpellsWrite names words client table row content =
     × (words ≡ codes "write" ∷ client_word client ∷ table_word table ∷ place ∷ values)
     × IsClient names client × IsTable names table × (row_of place ≡ Some row) × SpellsContent values content
 
+-- `VERB C T ROW`
+abbrev pub SpellsClientRow : List ℕ → Names → List (List ℕ) → ℕ → ℕ → List ℕ → Type 0
+SpellsClientRow verb names words client table row =
+    (place : List ℕ)
+    × (words ≡ verb ∷ client_word client ∷ table_word table ∷ place ∷ [])
+    × IsClient names client × IsTable names table × (row_of place ≡ Some row)
+
 -- `show C T ROW`
 abbrev pub SpellsShow : Names → List (List ℕ) → ℕ → ℕ → List ℕ → Type 0
-SpellsShow names words client table row =
-    (place : List ℕ)
-    × (words ≡ codes "show" ∷ client_word client ∷ table_word table ∷ place ∷ [])
-    × IsClient names client × IsTable names table × (row_of place ≡ Some row)
+SpellsShow = SpellsClientRow (codes "show")
+
+-- `sum C T ROW`
+abbrev pub SpellsSum : Names → List (List ℕ) → ℕ → ℕ → List ℕ → Type 0
+SpellsSum = SpellsClientRow (codes "sum")
 
 -- `sync C T`
 abbrev pub SpellsSync : Names → List (List ℕ) → ℕ → ℕ → Type 0
@@ -158,6 +166,7 @@ SpelledBy names words (events.Table table schema) = SpellsTable names words tabl
 SpelledBy names words (events.Client client gate tables) = SpellsClient names words client gate tables
 SpelledBy names words (events.Write client table row content) = SpellsWrite names words client table row content
 SpelledBy names words (events.Show client table row) = SpellsShow names words client table row
+SpelledBy names words (events.Sum client table row) = SpellsSum names words client table row
 SpelledBy names words (events.Sync client table) = SpellsSync names words client table
 SpelledBy names words (events.Pull client table) = SpellsPull names words client table
 SpelledBy names words (events.Deliver packet) = SpellsDeliver words packet
@@ -223,6 +232,9 @@ places_of names verbs.Write =
 places_of names verbs.Show =
     (λ word. fault_of (client_at names word)) ∷ (λ word. fault_of (table_at names word))
     ∷ (λ word. fault_of (row_at word)) ∷ []
+places_of names verbs.Sum =
+    (λ word. fault_of (client_at names word)) ∷ (λ word. fault_of (table_at names word))
+    ∷ (λ word. fault_of (row_at word)) ∷ []
 places_of names verbs.Sync = (λ word. fault_of (client_at names word)) ∷ (λ word. fault_of (table_at names word)) ∷ []
 places_of names verbs.Pull = (λ word. fault_of (client_at names word)) ∷ (λ word. fault_of (table_at names word)) ∷ []
 places_of names verbs.Deliver = (λ word. fault_of (packet_at word)) ∷ []
@@ -236,6 +248,7 @@ more_of verbs.Table = OneOrMore ColumnsFault
 more_of verbs.Client = NoMore
 more_of verbs.Write = OneOrMore ValuesFault
 more_of verbs.Show = NoMore
+more_of verbs.Sum = NoMore
 more_of verbs.Sync = NoMore
 more_of verbs.Pull = NoMore
 more_of verbs.Deliver = NoMore
@@ -250,6 +263,7 @@ verb_fault names verbs.Table = if has_no_store names then Some NotDeclared
 verb_fault names verbs.Client = if names.started then Some Late else None
 verb_fault names verbs.Write = None
 verb_fault names verbs.Show = None
+verb_fault names verbs.Sum = None
 verb_fault names verbs.Sync = None
 verb_fault names verbs.Pull = None
 verb_fault names verbs.Deliver = None

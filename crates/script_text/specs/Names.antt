@@ -41,6 +41,7 @@ with_event n (events.Table table schema) =
 with_event n (events.Client client gate tables) = record n { clients = insert_key nat_cmp n.clients client }
 with_event n (events.Write client table row content) = record n { started = true }
 with_event n (events.Show client table row) = record n { started = true }
+with_event n (events.Sum client table row) = record n { started = true }
 with_event n (events.Sync client table) = record n { started = true }
 with_event n (events.Pull client table) = record n { started = true }
 with_event n (events.Deliver packet) = record n { started = true }

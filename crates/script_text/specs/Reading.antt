@@ -146,12 +146,19 @@ history_in names words =
     word_in 1 (table_at names) words (λ table a.
     end_in 2 a >>= λ done. Ok (events.History table))
 
-unfoldable pub show_in : Names → List (List ℕ) → Result Event BadLine
-show_in names words =
+-- a client, a table and a row, and no more
+unfoldable pub client_row_in : Names → List (List ℕ) → Result (ℕ × ℕ × List ℕ) BadLine
+client_row_in names words =
     word_in 1 (client_at names) words (λ client a.
     word_in 2 (table_at names) a (λ table b.
     word_in 3 row_at b (λ row c.
-    end_in 4 c >>= λ done. Ok (events.Show client table row))))
+    end_in 4 c >>= λ done. Ok (client, table, row))))
+
+abbrev pub show_in : Names → List (List ℕ) → Result Event BadLine
+show_in names words = client_row_in names words >>= λ p. Ok (events.Show p.0 p.1 p.2)
+
+abbrev pub sum_in : Names → List (List ℕ) → Result Event BadLine
+sum_in names words = client_row_in names words >>= λ p. Ok (events.Sum p.0 p.1 p.2)
 
 -- part of a line, where memory sufficed
 abbrev pub Reads : {X : Type 0} → Result X ScriptFault → Result X BadLine → Type 0
@@ -190,6 +197,7 @@ built_in names verbs.Table words = if has_no_store names then Err (bad NotDeclar
 built_in names verbs.Client words = in_time names (client_in names words)
 built_in names verbs.Write words = unlimited (write_in names words)
 built_in names verbs.Show words = unlimited (show_in names words)
+built_in names verbs.Sum words = unlimited (sum_in names words)
 built_in names verbs.Sync words = unlimited (sync_in names words)
 built_in names verbs.Pull words = unlimited (pull_in names words)
 built_in names verbs.Deliver words = unlimited (deliver_in words)

@@ -12,6 +12,7 @@ name_of verbs.Table = codes "table"
 name_of verbs.Client = codes "client"
 name_of verbs.Write = codes "write"
 name_of verbs.Show = codes "show"
+name_of verbs.Sum = codes "sum"
 name_of verbs.Sync = codes "sync"
 name_of verbs.Pull = codes "pull"
 name_of verbs.Deliver = codes "deliver"
@@ -25,6 +26,7 @@ verb_of word =
     else if bytes_eq word (codes "client") then Some verbs.Client
     else if bytes_eq word (codes "write") then Some verbs.Write
     else if bytes_eq word (codes "show") then Some verbs.Show
+    else if bytes_eq word (codes "sum") then Some verbs.Sum
     else if bytes_eq word (codes "sync") then Some verbs.Sync
     else if bytes_eq word (codes "pull") then Some verbs.Pull
     else if bytes_eq word (codes "deliver") then Some verbs.Deliver
@@ -40,7 +42,7 @@ is_setting_verb word =
 
 -- lines of rows that aren't built
 unfoldable pub is_row_verb : List ℕ → Bool
-is_row_verb word = is_among word (codes "update" ∷ codes "patch" ∷ codes "delete" ∷ codes "sum" ∷ codes "select" ∷ [])
+is_row_verb word = is_among word (codes "update" ∷ codes "patch" ∷ codes "delete" ∷ codes "select" ∷ [])
 
 -- lines of conflicts that aren't built
 unfoldable pub is_conflict_verb : List ℕ → Bool

@@ -154,6 +154,7 @@ impl Declared {
             }
             Event::Write { .. }
             | Event::Show { .. }
+            | Event::Sum { .. }
             | Event::Sync { .. }
             | Event::Pull { .. }
             | Event::Deliver { .. }

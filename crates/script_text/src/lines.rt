@@ -2,7 +2,8 @@ ghost use Rattle.std.specs.Prelude.{◌≡◌};
 ghost use Rattle.script_words.specs.Words.{texts};
 ghost use Rattle.script_text.specs.Places.{tables_at};
 ghost use Rattle.script_text.specs.Reading.{Reads, Makes, Tells, placed, made_table, made_client, store_in, table_in};
-ghost use Rattle.script_text.specs.Reading.{client_in, write_in, show_in, client_table_in, sync_in, pull_in};
+ghost use Rattle.script_text.specs.Reading.{client_in, write_in, client_row_in, show_in, sum_in, client_table_in};
+ghost use Rattle.script_text.specs.Reading.{sync_in, pull_in};
 ghost use Rattle.script_text.specs.Reading.{deliver_in, store_show_in, history_in, built_in, event_in};
 
 use crate::columns::some_columns;
@@ -15,7 +16,7 @@ use crate::places::{
     packet_at, row_at, scheme_at, table_at, tables_at,
 };
 use crate::verb::{Verb, is_unbuilt, verb_of};
-use row_value::{Bytes, Schema};
+use row_value::{Bytes, RowId, Schema};
 use script_words::{Code, ValueFault};
 use std::alloc::Global;
 use table_model::{Event, Tables};
@@ -78,9 +79,9 @@ fn history_line(names: &Declared, words: &[&str]) -> Result<Event, BadLine>
     Ok(Event::History { table })
 }
 
-#[tactic(auto, unfolding(crate::specs::Reading::show_in, crate::specs::Reading::word_in))]
-fn show_line(names: &Declared, words: &[&str]) -> Result<Event, BadLine>
-    ensures { result ≡ show_in names.now (texts words.now) }
+#[tactic(auto, unfolding(crate::specs::Reading::client_row_in, crate::specs::Reading::word_in))]
+fn client_row(names: &Declared, words: &[&str]) -> Result<(u32, u32, RowId), BadLine>
+    ensures { result ≡ client_row_in names.now (texts words.now) }
 {
     let (word, rest) = next_word(words, 1)?;
     let client = placed(1, client_at(names, word))?;
@@ -89,7 +90,21 @@ fn show_line(names: &Declared, words: &[&str]) -> Result<Event, BadLine>
     let (word, rest) = next_word(rest, 3)?;
     let row = placed(3, row_at(word))?;
     end(rest, 4)?;
+    Ok((client, table, row))
+}
+
+fn show_line(names: &Declared, words: &[&str]) -> Result<Event, BadLine>
+    ensures { result ≡ show_in names.now (texts words.now) }
+{
+    let (client, table, row) = client_row(names, words)?;
     Ok(Event::Show { client, table, row })
+}
+
+fn sum_line(names: &Declared, words: &[&str]) -> Result<Event, BadLine>
+    ensures { result ≡ sum_in names.now (texts words.now) }
+{
+    let (client, table, row) = client_row(names, words)?;
+    Ok(Event::Sum { client, table, row })
 }
 
 #[tactic(auto, unfolding(crate::specs::Reading::store_in, crate::specs::Reading::word_in))]
@@ -217,6 +232,7 @@ fn built_line(
     match verb {
         Verb::Write => write_line(alloc, names, words),
         Verb::Show => Ok(show_line(names, words)?),
+        Verb::Sum => Ok(sum_line(names, words)?),
         Verb::Sync => Ok(sync_line(names, words)?),
         Verb::Pull => Ok(pull_line(names, words)?),
         Verb::Deliver => Ok(deliver_line(words)?),

@@ -10,6 +10,7 @@ pub(crate) enum Verb {
     Client,
     Write,
     Show,
+    Sum,
     Sync,
     Pull,
     Deliver,
@@ -27,6 +28,7 @@ pub(crate) fn verb_of(word: &str) -> Option<Verb>
         "client" => Some(Verb::Client),
         "write" => Some(Verb::Write),
         "show" => Some(Verb::Show),
+        "sum" => Some(Verb::Sum),
         "sync" => Some(Verb::Sync),
         "pull" => Some(Verb::Pull),
         "deliver" => Some(Verb::Deliver),
@@ -50,7 +52,7 @@ fn is_setting_verb(word: &str) -> bool
 fn is_row_verb(word: &str) -> bool
     ensures { result ≡ is_row_verb word.now }
 {
-    matches!(word, "update" | "patch" | "delete" | "sum" | "select")
+    matches!(word, "update" | "patch" | "delete" | "select")
 }
 
 #[tactic(auto, unfolding(crate::specs::Verbs::is_conflict_verb))]

@@ -1,0 +1,5 @@
+pub mod Names
+pub mod WordLaws
+pub mod Runs
+pub mod Trails
+pub mod BadWords

@@ -1,12 +1,13 @@
 //! Scripts of clients and a Store, whose answers are compared with what the lines before them say. Their transcripts
 //! stand in examples/.
+use row_sum::{clean_sum, mine_sum};
 use row_value::Sequence;
 use run_laws::{plain_content, plain_history, plain_shown};
 use script_text::{Declared, line_text, parse_line};
 use std::alloc::Global;
 use std::process::Abort;
 use std::test::Fail;
-use table_model::{Answer, Event, Refusal, TextLine, current};
+use table_model::{Answer, Event, Refusal, Shown, TextLine, current};
 use world_steps::World;
 
 // A late repeat of an accepted write changes nothing.
@@ -167,7 +168,29 @@ deliver 1\n\
 write C3 T2 00000000-0000-4000-8000-000000000001 1\n\
 write C3 T2 00000000-0000-4000-8000-000000000001 -1 -2\n";
 
-const SCRIPTS: [&str; 8] = [
+// Objects are shown by their digests, and rows without objects as they are.
+const DIGESTS: &str = "store S1\n\
+table T1 notes eventual 65536 n:int o:object p:object\n\
+table T2 counts eventual 64 n:int\n\
+client C1 - T1,T2\n\
+client C2 - T1\n\
+write C1 T1 00000000-0000-4000-8000-000000000001 7 h:616263 h:\n\
+sum C1 T1 00000000-0000-4000-8000-000000000001\n\
+show C1 T1 00000000-0000-4000-8000-000000000001\n\
+sync C1 T1\n\
+deliver 0\n\
+deliver 1\n\
+sum C1 T1 00000000-0000-4000-8000-000000000001\n\
+pull C2 T1\n\
+deliver 2\n\
+deliver 3\n\
+sum C2 T1 00000000-0000-4000-8000-000000000001\n\
+sum C2 T1 00000000-0000-4000-8000-000000000002\n\
+sum C2 T2 00000000-0000-4000-8000-000000000001\n\
+write C1 T2 00000000-0000-4000-8000-000000000001 5\n\
+sum C1 T2 00000000-0000-4000-8000-000000000001\n";
+
+const SCRIPTS: [&str; 9] = [
     LATE_REPEAT,
     LOST_RESPONSE,
     RESENT_REQUEST,
@@ -176,7 +199,16 @@ const SCRIPTS: [&str; 8] = [
     STALE_ANSWER,
     OWN_ROW,
     REFUSALS,
+    DIGESTS,
 ];
+
+// The same by digests.
+fn plain_sum(alloc: Global, shown: &Shown) -> Result<Answer, Fail> {
+    match shown {
+        Shown::Clean { version, content } => Ok(clean_sum(alloc, *version, content)?),
+        Shown::Mine { number, content } => Ok(mine_sum(alloc, *number, content)?),
+    }
+}
 
 // What the lines before an event say that it answers.
 fn plain_answer(alloc: Global, before: &[TextLine], event: &Event) -> Result<Option<Answer>, Fail> {
@@ -184,6 +216,12 @@ fn plain_answer(alloc: Global, before: &[TextLine], event: &Event) -> Result<Opt
         Event::Show { client, table, row } => {
             match plain_shown(alloc, before, *client, *table, row)? {
                 Some(shown) => Ok(Some(Answer::Shown(shown))),
+                None => Ok(Some(Answer::Refused(Refusal::NoRow))),
+            }
+        }
+        Event::Sum { client, table, row } => {
+            match plain_shown(alloc, before, *client, *table, row)? {
+                Some(shown) => Ok(Some(plain_sum(alloc, &shown)?)),
                 None => Ok(Some(Answer::Refused(Refusal::NoRow))),
             }
         }

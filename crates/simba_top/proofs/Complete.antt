@@ -93,6 +93,7 @@ module _ (script : List Event) (few : length script ≤ MOST_LINES) where
   not_spent (events.Table table schema) spent = spent
   not_spent (events.Client client gate tables) spent = spent
   not_spent (events.Show client table row) spent = spent
+  not_spent (events.Sum client table row) spent = spent
   not_spent (events.Sync client table) spent = spent
   not_spent (events.Pull client table) spent = spent
   not_spent (events.StoreShow table row) spent = spent

@@ -18,6 +18,7 @@ spelled_eventual names words (events.Store store) s = tt
 spelled_eventual names words (events.Client client gate tables) s = tt
 spelled_eventual names words (events.Write client table row content) s = tt
 spelled_eventual names words (events.Show client table row) s = tt
+spelled_eventual names words (events.Sum client table row) s = tt
 spelled_eventual names words (events.Sync client table) s = tt
 spelled_eventual names words (events.Pull client table) s = tt
 spelled_eventual names words (events.Deliver packet) s = tt

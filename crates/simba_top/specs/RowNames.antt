@@ -16,6 +16,7 @@ use Rattle.simba_top.specs.declared.stop.Stop.TheVariants.{Read, Put, Memory, Ba
 abbrev pub row_in : Event → Option (ℕ × List ℕ)
 row_in (events.Write client table row content) = Some (table, row)
 row_in (events.Show client table row) = Some (table, row)
+row_in (events.Sum client table row) = Some (table, row)
 row_in (events.StoreShow table row) = Some (table, row)
 row_in (events.Store store) = None
 row_in (events.Table table schema) = None

@@ -28,6 +28,7 @@ fn row_in(event: &Event) -> Option<(TableNo, &RowId)>
     match event {
         Event::Write { table, row, .. }
         | Event::Show { table, row, .. }
+        | Event::Sum { table, row, .. }
         | Event::StoreShow { table, row } => Some((*table, row)),
         Event::Store { .. }
         | Event::Table { .. }

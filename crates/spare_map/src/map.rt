@@ -1,9 +1,10 @@
 ghost use Rattle.std.specs.Prelude.{◌≡◌, ◌+◌, ◌≤◌, [], ◌++◌, ◌∷◌, false, fold, filter, option_copied, option_map, map};
+ghost use Rattle.std.specs.Prelude.{◌&&◌, not};
 ghost use Rattle.std.specs.Prelude.{List, IfOk, OnOk, OnErr, slice_get};
 ghost use Rattle.std.specs.BTreeMap.{insert_entry, is_at};
 ghost use Rattle.std.specs.Map.{lookup, keys_of};
 ghost use Rattle.std.specs.List.Sorted.{IsStrictlySortedBy};
-ghost use Rattle.std.specs.Ordering.{is_le};
+ghost use Rattle.std.specs.Ordering.{is_le, is_gt};
 ghost use Rattle.spare_map.specs.Late.{changed, latest, without, entries_of, spare_of, IsLast, IsLastOf};
 
 use std::alloc::{AllocError, Global};
@@ -242,6 +243,24 @@ impl<K: Ord + Copy, V: Copy> SpareMap<K, V> {
             found.push((*key, *value))?;
         }
         Ok(found)
+    }
+
+    /// The keys from one on that are below another, in rising order. It costs what the keys that it finds cost, besides
+    /// what `reserve` left in the queue.
+    pub fn keys_between(&mut self, from: K, end: K) -> Result<Vec<K>, AllocError>
+        requires { is_gt (K.cmp from end) ≡ false }
+        ensures found { IfOk result (λ keys. keys.items
+            ≡ filter (λ k. is_le (K.cmp from k) && not (is_le (K.cmp end k))) (keys_of (entries_of K.cmp self.old))) }
+        ensures rising { IfOk result (λ keys. IsStrictlySortedBy K.cmp keys.items) }
+        ensures same { entries_of K.cmp self.new ≡ entries_of K.cmp self.old }
+        ensures spare { spare_of self.old ≤ spare_of self.new }
+    {
+        self.settle()?;
+        let mut keys = Vec::new(self.alloc);
+        for (key, _) in self.tree.range(from..end) {
+            keys.push(*key)?;
+        }
+        Ok(keys)
     }
 
     /// The first key from this one on, with its value. It is logarithmic, besides what `reserve` left in the queue.

@@ -1,6 +1,6 @@
 mod Twelves
 mod Fields
-mod Again
+pub mod Again
 mod Steps
 mod Faults
 mod Held

@@ -2,7 +2,7 @@
 ghost use Rattle.std.specs.Prelude.{◌≡◌, ◌↔◌, ◌+◌, ◌*◌, ◌<◌, ◌≤◌, false, [], ℕ, List, length, None, Some, option_map};
 ghost use Rattle.std.specs.Prelude.{OnOk, OnErr, IsErrOf, IsTrue, IsSome};
 ghost use Rattle.std.specs.Bool.{MatchBool};
-ghost use Rattle.vault.specs.Standing.{disk_of, IsDown, IsUp, IsSynced};
+ghost use Rattle.vault.specs.Standing.{disk_of, IsDown, IsUp, IsSynced, IsRestarted};
 ghost use Rattle.status_log.specs.Entry.{entry_of, size_of, HasSpelling};
 ghost use Rattle.status_log.specs.Standing.{vault_of, entry_open, IsLookedAt, IsOpened, HasRoom, Formats, Looks};
 ghost use Rattle.status_log.specs.Standing.{Restarts, OpensWrite, Reserves, Puts, Refuses};
@@ -74,7 +74,8 @@ impl<D: Disk + Drop> StatusLog<D> {
 
     /// Crashes the disk and starts it again. What the log holds is known once it is looked at.
     pub fn restart(&mut self, pick: u64)
-        ensures { Restarts D.state D.images self.old self.new }
+        ensures restarts { Restarts D.state D.images self.old self.new }
+        ensures image { IsRestarted D.state (vault_of self.old) (vault_of self.new) }
     {
         self.inner.restart(pick);
     }

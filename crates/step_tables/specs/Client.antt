@@ -19,6 +19,7 @@ use Rattle.table_model.specs.declared.line.Refusal.{Refusal}
 use Rattle.table_model.specs.declared.line.Refusal.TheVariants as refusals
 use Rattle.table_model.specs.declared.line.Shown.{Shown}
 use Rattle.table_model.specs.declared.line.Shown.TheVariants as shown
+use Rattle.table_model.specs.Sums.{by_digests}
 use Rattle.step_tables.specs.declared.message.Message.{Message}
 use Rattle.step_tables.specs.declared.message.Message.TheVariants as messages
 use Rattle.step_tables.specs.declared.message.Outcome.{Outcome}
@@ -153,6 +154,14 @@ show_in client row (Some table) = let slots : Slots = slots_at table row in
 
 abbrev pub show_step : Client → ℕ → List ℕ → ClientStep
 show_step client number row = show_in client row (table_at client number)
+
+-- ---- sum: what is shown, its objects by their digests
+
+abbrev pub digested : ClientStep → ClientStep
+digested step = record step { answer = by_digests step.answer }
+
+abbrev pub sum_step : Client → ℕ → List ℕ → ClientStep
+sum_step client number row = digested (show_step client number row)
 
 -- ---- sync
 

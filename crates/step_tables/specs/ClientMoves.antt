@@ -16,6 +16,7 @@ use Rattle.step_tables.specs.declared.slots.InFlight.{InFlight}
 use Rattle.step_tables.specs.declared.slots.Shadow.{Shadow}
 use Rattle.step_tables.specs.Client.{row_cmp, version_in}
 use Rattle.step_tables.specs.Facts.{ClientFact, Fact, Answer, Refusal, Shown}
+use Rattle.step_tables.specs.Sums.{by_digests}
 use Rattle.step_tables.specs.Facts as facts
 use Rattle.step_tables.specs.Messages.{Response, Pulled, Header, Pair, Outcome, Message, Send, Luck, SyncRequest}
 use Rattle.step_tables.specs.Messages.{SyncResponse, PullRequest, PullResponse}
@@ -85,6 +86,7 @@ pub data Choice : Type 0 where
 pub data ClientMove : Type 0 where
   Write : (table : ℕ) → (row : List ℕ) → (content : Content) → ClientMove
   Show : (table : ℕ) → (row : List ℕ) → ClientMove
+  Sum : (table : ℕ) → (row : List ℕ) → ClientMove
   Sync : (table : ℕ) → ClientMove
   Next : (table : ℕ) → ClientMove
   Resolve : (table : ℕ) → (row : List ℕ) → (seen : ℕ) → (choice : Choice) → ClientMove
@@ -383,6 +385,14 @@ abbrev pub show_step : ClientDisk → Option (List ClientTask) → ℕ → List 
 show_step d None table row = down d
 show_step d (Some agenda) table row = quiet d (Some agenda) (show_in row (table_at (seen d) table))
 
+-- ---- sum: what is shown, its objects by their digests
+
+abbrev pub digested : ClientStep → ClientStep
+digested step = record step { answer = by_digests step.answer }
+
+abbrev pub sum_step : ClientDisk → Option (List ClientTask) → ℕ → List ℕ → ClientStep
+sum_step d agenda table row = digested (show_step d agenda table row)
+
 -- ---- sync
 
 -- the requests that wait for their answers are sent again, by rising row
@@ -634,6 +644,7 @@ take_step c d (Some []) (PullResponse pulled) = pulled_in c d pulled (table_at (
 abbrev pub client_step : ℕ → Client → ClientMove → ClientStep
 client_step c s (Write table row content) = write_step c s.disk s.agenda table row content
 client_step c s (Show table row) = show_step s.disk s.agenda table row
+client_step c s (Sum table row) = sum_step s.disk s.agenda table row
 client_step c s (Sync table) = sync_step c s.disk s.agenda table
 client_step c s (Next table) = next_step c s.disk s.agenda table
 client_step c s (Resolve table row version choice) = resolve_step c s.disk s.agenda table row version choice

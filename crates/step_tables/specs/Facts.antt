@@ -4,6 +4,7 @@ use Rattle.row_value.specs.declared.content.Content.{Content}
 use Rattle.row_value.specs.declared.fit.FitFault.{FitFault}
 use Rattle.table_model.specs.declared.entry.Entry.{Entry}
 use Rattle.table_model.specs.declared.line.Write.{Write}
+use Rattle.table_model.specs.declared.sum.RowSum.{RowSum}
 use Rattle.table_model.specs.declared.message_name.MessageName.{MessageName}
 use Rattle.stab_base.specs.declared.node.Node.{Node}
 
@@ -37,6 +38,12 @@ pub data Shown : Type 0 where
   Mine : (number : ℕ) → (content : Content) → Shown
   Contended : (number version : ℕ) → (content : Content) → Shown
 
+-- the same of a row that has objects, each by its digest
+pub data ShownSum : Type 0 where
+  CleanSum : (version : ℕ) → (row : RowSum) → ShownSum
+  MineSum : (number : ℕ) → (row : RowSum) → ShownSum
+  ContendedSum : (number version : ℕ) → (row : RowSum) → ShownSum
+
 -- why a line of the script isn't done
 pub data Refusal : Type 0 where
   NoDevice : Refusal
@@ -55,6 +62,7 @@ pub data Answer : Type 0 where
   Done : Answer
   Number : (number : ℕ) → Answer
   Shows : (shown : Shown) → Answer
+  Sums : (sum : ShownSum) → Answer
   Stores : (version : ℕ) → (content : Content) → Answer
   Refuses : (refusal : Refusal) → Answer
 

@@ -3,6 +3,7 @@ pub mod Store
 pub mod Client
 pub mod Members
 pub mod Facts
+pub mod Sums
 pub mod Messages
 pub mod Sayings
 pub mod StoreMoves

@@ -2,3 +2,11 @@ pub mod Lookups
 pub mod Updates
 pub mod Recoveries
 pub mod Works
+pub mod Leftovers
+pub mod Recovers
+pub mod Moments
+pub mod Replacing
+pub mod Taking
+pub mod Waiting
+pub mod Fuses
+pub mod Restarts

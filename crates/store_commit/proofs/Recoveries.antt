@@ -11,6 +11,10 @@ use Rattle.store_commit.specs.NamedChunks.{Among, IsNamed, IsLeft, NamedChunks}
 use Rattle.store_commit.specs.Agenda.{drops, recovery_writes, IsRecovering, AreLeftovers, Runs}
 use Rattle.store_commit.proofs.Lookups.{cases_among, chunk_dropped, chunk_dropped_other}
 
+none_if : (o : Option Entry) → is_some o ≡ false → o ≡ None
+none_if None h = refl
+none_if (Some entry) h = absurd cc
+
 module _ (meaning : ChunkName → List ℕ) (d : Devs) (n : NamedChunks meaning d) where
   abbrev R : List Write → Devs → Type 0
   R = IsRecovering meaning d.held
@@ -62,16 +66,16 @@ module _ (meaning : ChunkName → List ℕ) (d : Devs) (n : NamedChunks meaning 
   last is_open = if is_open then CloseEntry ∷ [] else []
 
   clearing_runs : (cs : List (ChunkName × List ℕ)) (names : List ChunkName) → IsClearing cs names → Runs R (clearing cs d.pending) (drops names ++ last (is_some d.pending))
-  clearing_runs cs [] p = ending (is_some d.pending)
+  clearing_runs cs [] p = ending (is_some d.pending) refl
     where
-      now : (ws : List Write) → R ws (clearing cs d.pending)
-      now ws = record { named = clearing_named cs [] p; rows = refl }
+      now : (ws : List Write) → (ws ≡ [] → d.pending ≡ None) → R ws (clearing cs d.pending)
+      now ws closed = record { named = clearing_named cs [] p; rows = refl; closed = closed }
 
-      ending : (b : Bool) → Runs R (clearing cs d.pending) (last b)
-      ending true = (now (CloseEntry ∷ []), record { named = cleared_named cs p; rows = refl })
-      ending false = now []
+      ending : (b : Bool) → is_some d.pending ≡ b → Runs R (clearing cs d.pending) (last b)
+      ending true is = (now (CloseEntry ∷ []) (λ none. absurd cc), record { named = cleared_named cs p; rows = refl; closed = λ none. refl })
+      ending false is = now [] (λ none. none_if d.pending is)
   clearing_runs cs (name ∷ names) p = (
-    record { named = clearing_named cs (name ∷ names) p; rows = refl },
+    record { named = clearing_named cs (name ∷ names) p; rows = refl; closed = λ none. absurd cc },
     clearing_runs (without name_cmp cs name) names (clear_next cs name names p),
   )
 
@@ -82,8 +86,8 @@ module _ (meaning : ChunkName → List ℕ) (d : Devs) (n : NamedChunks meaning 
         others = λ name bytes h. ⊎_elim inl (λ open_. inr (l.all name bytes open_.0 open_.1 open_.2 h)) (n.others name bytes h);
         left = l.left;
       } in
-      let now : (ws : List Write) → R ws d = λ ws. record { named = n; rows = refl } in
-      (now _, (now _, (now _, clearing_runs d.chunks names start)))
+      let now : (w : Write) (ws : List Write) → R (w ∷ ws) d = λ w ws. record { named = n; rows = refl; closed = λ none. absurd cc } in
+      (now _ _, (now _ _, (now _ _, clearing_runs d.chunks names start)))
 
 drops_leave : (names : List ChunkName) (d : Devs) → (changed_by_all d (drops names)).pending ≡ d.pending
 drops_leave [] d = refl

@@ -126,12 +126,20 @@ module _ (meaning : ChunkName → List ℕ) (d : Devs) (entry : Entry) (fresh : 
   to_come k [] rest = refl
   to_come k (bytes ∷ more) rest = to_come (k + 1) more rest
 
+  more_to_come : (k : ℕ) (more : List (List ℕ)) (rest : List Write) → puts v k more ++ (PutRow stored ∷ rest) ≡ [] → ⊥
+  more_to_come k [] rest none = cc
+  more_to_come k (bytes ∷ more) rest none = cc
+
   not_to_come : (names : List ChunkName) → row_is_to_come (drops names ++ CloseEntry ∷ []) ≡ false
   not_to_come [] = refl
   not_to_come (name ∷ names) = not_to_come names
 
   putting_moment : (cs : List (ChunkName × List ℕ)) (k : ℕ) (more : List (List ℕ)) (rest : List Write) → IsPutting cs k → R (puts v k more ++ (PutRow stored ∷ rest)) (putting cs)
-  putting_moment cs k more rest p = record { named = putting_named cs k p; rows = sym (ap (λ (b : Bool). if b then d.held else after) (to_come k more rest)) }
+  putting_moment cs k more rest p = record {
+    named = putting_named cs k p;
+    rows = sym (ap (λ (b : Bool). if b then d.held else after) (to_come k more rest));
+    closed = λ none. absurd (more_to_come k more rest none);
+  }
 
   putting_runs : (cs : List (ChunkName × List ℕ)) (k : ℕ) (more : List (List ℕ)) (rest : List Write) → IsPutting cs k → k + length more ≡ length fresh
       → ((i : ℕ) → get_or more i [] ≡ get_or fresh (k + i) [])
@@ -265,9 +273,9 @@ module _ (meaning : ChunkName → List ℕ) (d : Devs) (entry : Entry) (fresh : 
           ⊎_elim inl (λ among. ⊎_elim (λ same. absurd (other (sym same))) inr among) (p.left q bytes (sym (chunk_dropped_other cs name q other) ∙ h))
 
   dropping_runs : (cs : List (ChunkName × List ℕ)) (ds : List ChunkName) → IsDropping cs ds → Runs R (dropping cs (Some entry)) (drops ds ++ CloseEntry ∷ [])
-  dropping_runs cs [] p = (record { named = dropping_named cs [] p; rows = refl }, record { named = closed_named cs p; rows = refl })
+  dropping_runs cs [] p = (record { named = dropping_named cs [] p; rows = refl; closed = λ none. absurd cc }, record { named = closed_named cs p; rows = refl; closed = λ none. refl })
   dropping_runs cs (name ∷ ds) p = (
-    record { named = dropping_named cs (name ∷ ds) p; rows = sym (ap (λ (b : Bool). if b then d.held else after) (not_to_come ds)) },
+    record { named = dropping_named cs (name ∷ ds) p; rows = sym (ap (λ (b : Bool). if b then d.held else after) (not_to_come ds)); closed = λ none. absurd cc },
     dropping_runs (without name_cmp cs name) ds (drop_next cs name ds p),
   )
 
@@ -316,7 +324,7 @@ module _ (meaning : ChunkName → List ℕ) (d : Devs) (entry : Entry) (fresh : 
 
   pub update_runs : Runs R d (update_writes entry fresh stored)
   update_runs = (
-    record { named = before_named; rows = sym (ap (λ (b : Bool). if b then d.held else after) (to_come 0 fresh (drops entry.old ++ CloseEntry ∷ []))) },
+    record { named = before_named; rows = sym (ap (λ (b : Bool). if b then d.held else after) (to_come 0 fresh (drops entry.old ++ CloseEntry ∷ []))); closed = λ none. absurd cc },
     putting_runs d.chunks 0 fresh (drops entry.old ++ CloseEntry ∷ []) nothing_put (omega arith) (λ i. ap (λ (j : ℕ). get_or fresh j []) (omega arith))
         (λ cs p. (putting_moment cs (length fresh) [] (drops entry.old ++ CloseEntry ∷ []) p, dropping_runs cs entry.old (put_row cs p))),
   )

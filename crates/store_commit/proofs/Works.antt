@@ -110,17 +110,18 @@ module _ {D : Type 0} (state : D → DiskState) (images : D → ℕ → List ℕ
         let y' = b.each y iy in
         let z' = c.each z iz in
         (x'.0, y'.0, z'.0, x'.1, y'.1, z'.1, to (chunks_of x'.0) (data_of y'.0) (pending_of z'.0) x'.2 y'.2 z'.2);
+    later = record { chunks = a.later; rows = b.later; log = c.later };
   }
 
-  still_chunk : (dev : ChunkDev D) → vaults.IsLookedAt state (chunks.vault_of dev) → IsSound state (chunks.vault_of dev)
+  pub still_chunk : (dev : ChunkDev D) → vaults.IsLookedAt state (chunks.vault_of dev) → IsSound state (chunks.vault_of dev)
       → vaults.Leaves state images (chunks.vault_of dev) (chunks.vault_of dev) (λ l. chunks_of l ≡ chunks.chunks state dev)
   still_chunk dev looked sound = runs_weaker state images (chunks.vault_of dev) (chunks.vault_of dev) (λ l. l ≡ payloads state (chunks.vault_of dev)) (λ l. chunks_of l ≡ chunks.chunks state dev) (looked_leaves state images only_now (chunks.vault_of dev) looked sound) (λ l is. ap chunks_of is)
 
-  still_row : (dev : RowDev D) → vaults.IsLookedAt state (rows.vault_of dev) → IsSound state (rows.vault_of dev)
+  pub still_row : (dev : RowDev D) → vaults.IsLookedAt state (rows.vault_of dev) → IsSound state (rows.vault_of dev)
       → vaults.Leaves state images (rows.vault_of dev) (rows.vault_of dev) (λ l. data_of l ≡ rows.held state dev)
   still_row dev looked sound = runs_weaker state images (rows.vault_of dev) (rows.vault_of dev) (λ l. l ≡ payloads state (rows.vault_of dev)) (λ l. data_of l ≡ rows.held state dev) (looked_leaves state images only_now (rows.vault_of dev) looked sound) (λ l is. ap data_of is)
 
-  still_log : (dev : StatusLog D) → vaults.IsLookedAt state (logs.vault_of dev) → IsSound state (logs.vault_of dev)
+  pub still_log : (dev : StatusLog D) → vaults.IsLookedAt state (logs.vault_of dev) → IsSound state (logs.vault_of dev)
       → vaults.Leaves state images (logs.vault_of dev) (logs.vault_of dev) (λ l. pending_of l ≡ logs.entry_open state dev)
   still_log dev looked sound = runs_weaker state images (logs.vault_of dev) (logs.vault_of dev) (λ l. l ≡ payloads state (logs.vault_of dev)) (λ l. pending_of l ≡ logs.entry_open state dev) (looked_leaves state images only_now (logs.vault_of dev) looked sound) (λ l is. ap pending_of is)
 
@@ -597,7 +598,7 @@ module _ {D : Type 0} (state : D → DiskState) (images : D → ℕ → List ℕ
     ready = k.ready;
     up = k.up;
     counted = rw (← chunk_same, ← row_same, ← log_same) k.counted;
-    any_moment = record { each = rw (← chunk_same, ← row_same, ← log_same) k.any_moment.each };
+    any_moment = record { each = rw (← chunk_same, ← row_same, ← log_same) k.any_moment.each; later = record { chunks = rw (← chunk_same) k.any_moment.later.chunks; rows = rw (← row_same) k.any_moment.later.rows; log = rw (← log_same) k.any_moment.later.log } };
     disk = rw (← chunk_same, ← row_same, ← log_same) k.disk;
   }
 
@@ -637,6 +638,14 @@ module _ {D : Type 0} (state : D → DiskState) (images : D → ℕ → List ℕ
       → vaults.Leaves state images (rows.vault_of old.rows) (rows.vault_of rs) (λ l. data_of l ≡ rows.held state old.rows)
       → DevsLeave state images old (record old { chunks = cs; rows = rs }) (λ d. d ≡ devs state old)
   two_looked old cs rs up synced sound a b = let new : TableDevs D = record old { chunks = cs; rows = rs } in all_same old new a b (synced_log old.log up.log synced.log sound.log)
+
+  -- while nothing is done, a crash of devices at rest leaves what they hold
+  pub rests_leave : (old : TableDevs D) (ws : List Write) → IsReady state old ws → DevsLeave state images old old (λ d. d ≡ devs state old)
+  rests_leave old ws r =
+      all_same old old
+      (still_chunk state images only_now old.chunks r.chunk_looked.vault r.chunk_sound)
+      (still_row state images only_now old.rows r.row_looked.vault r.row_sound)
+      (still_log state images only_now old.log r.log_looked.vault r.log_sound)
 
   -- ---- a format
 

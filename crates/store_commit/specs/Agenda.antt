@@ -1,6 +1,6 @@
 -- The writes of an update and of a recovery, in their order.
 use Rattle.std.specs.Prelude.{◌≡◌, ◌⊎◌, ℕ, ◌+◌, ◌<◌, ◌==◌, Bool, true, false, if◌then◌else◌, List, [], ◌∷◌, ◌++◌}
-use Rattle.std.specs.Prelude.{length, map, Some, slice_index_or}
+use Rattle.std.specs.Prelude.{length, map, Some, None, IsSome, slice_index_or}
 use Rattle.stab_base.specs.declared.chunk_name.ChunkName.{ChunkName}
 use Rattle.row_value.specs.declared.pieces.Piece.{Piece}
 use Rattle.row_value.specs.declared.pieces.Piece.TheVariants.{Keep, Fresh}
@@ -89,6 +89,8 @@ pub record IsMoment (meaning : ChunkName → List ℕ) (before : TableData) (sto
     (d : Devs) : Type 0 where
   pub named : NamedChunks meaning d
   pub rows : d.held ≡ (if row_is_to_come ws then before else with_row before stored)
+  -- behind the last of them no entry is open
+  pub closed : ws ≡ [] → d.pending ≡ None
 
 -- it holds now, and behind each of the writes
 abbrev pub Runs : (List Write → Devs → Type 0) → Devs → List Write → Type 0
@@ -101,6 +103,8 @@ Runs R d (w ∷ ws) = R (w ∷ ws) d × Runs R (changed_by d w) ws
 pub record IsRecovering (meaning : ChunkName → List ℕ) (before : TableData) (ws : List Write) (d : Devs) : Type 0 where
   pub named : NamedChunks meaning d
   pub rows : d.held ≡ before
+  -- behind the last of them no entry is open
+  pub closed : ws ≡ [] → d.pending ≡ None
 
 -- opens the three vaults, drops what is left of an open entry, and closes it
 abbrev pub recovery_writes : List ChunkName → Bool → List Write
@@ -113,3 +117,6 @@ pub record AreLeftovers (d : Devs) (names : List ChunkName) : Type 0 where
       × IsLeft d.held entry name
   pub all : (name : ChunkName) (bytes : List ℕ) (entry : Entry) → d.pending ≡ Some entry → IsLeft d.held entry name
       → chunk_in d.chunks name ≡ Some bytes → Among name names
+  -- each once, and still there
+  pub different : AreDifferent names
+  pub there : (name : ChunkName) → Among name names → IsSome (chunk_in d.chunks name)

@@ -1,11 +1,12 @@
 -- What is answered where a device's disk failed.
-use Rattle.std.specs.Prelude.{Result, Ok, Err}
+use Rattle.std.specs.Prelude.{Option, Some, None, Result, Ok, Err}
 use Rattle.store_commit.specs.declared.fault.CommitFault.{CommitFault}
 use Rattle.store_commit.specs.declared.fault.CommitFault.TheVariants.{Disk, Down, Memory}
 use Rattle.chunk_store.specs.declared.fault.ChunkFault.{ChunkFault}
 use Rattle.chunk_store.specs.declared.fault.ChunkFault.TheVariants as chunks
 use Rattle.row_store.specs.declared.fault.RowFault.{RowFault}
 use Rattle.row_store.specs.declared.fault.RowFault.TheVariants as rows
+use Rattle.row_store.specs.declared.stored.StoredRow.{StoredRow}
 use Rattle.status_log.specs.declared.fault.LogFault.{LogFault}
 use Rattle.status_log.specs.declared.fault.LogFault.TheVariants as logs
 
@@ -31,3 +32,16 @@ log_cause (logs.Pending version) = Disk
 log_cause logs.Disk = Disk
 log_cause logs.Down = Down
 log_cause logs.Memory = Memory
+
+-- an answer with its fault as that of all three
+abbrev pub caused : {T E : Type 0} → (E → CommitFault) → Result T E → Result T CommitFault
+caused cause (Ok x) = Ok x
+caused cause (Err e) = Err (cause e)
+
+-- the row of a look-up, if there is one
+abbrev pub found_of : Result StoredRow RowFault → Result (Option StoredRow) CommitFault
+found_of (Ok stored) = Ok (Some stored)
+found_of (Err rows.NoRow) = Ok None
+found_of (Err rows.Disk) = Err Disk
+found_of (Err rows.Down) = Err Down
+found_of (Err rows.Memory) = Err Memory

@@ -3,3 +3,7 @@ pub mod NamedChunks
 pub mod Agenda
 pub mod Standing
 pub mod Fault
+pub mod Recover
+pub mod Update
+pub mod TakesOn
+pub mod Fused

@@ -1,5 +1,5 @@
 -- A table's devices between calls, as what they hold and the writes that are still to come.
-use Rattle.std.specs.Prelude.{◌≡◌, ◌⊎◌, ℕ, ◌+◌, ◌<◌, ◌≤◌, List, [], ◌∷◌, length, map, None, IsSome, Result, Ok, Err}
+use Rattle.std.specs.Prelude.{◌≡◌, ◌⊎◌, ℕ, ◌+◌, ◌<◌, ◌≤◌, List, [], ◌∷◌, length, map, drop, None, IsSome, Result, Ok, Err}
 use Rattle.std.specs.Prelude.{OnOk, IfOk}
 use Rattle.disk_trait.specs.Calls.{DiskState}
 use Rattle.vault.specs.Limit.{payload_most}
@@ -26,6 +26,7 @@ use Rattle.store_commit.specs.declared.fault.CommitFault.{CommitFault}
 use Rattle.store_commit.specs.declared.fault.CommitFault.TheVariants as faults_of
 use Rattle.store_commit.specs.Devs.{Devs, Write, OpenChunks, OpenRows, OpenLog, OpenEntry, PutChunk, PutRow, DropChunk}
 use Rattle.store_commit.specs.Devs.{CloseEntry, PutTable, PutSub, changed_by, IsBeforeOrAfter}
+use Rattle.store_commit.specs.Agenda.{Runs}
 
 -- what the devices hold
 abbrev pub devs : {D : Type 0} → (D → DiskState) → TableDevs D → Devs
@@ -195,6 +196,13 @@ pub record IsReady {D : Type 0} (state : D → DiskState) (table : TableDevs D) 
   pub log_is_opened : log_opened (logs.IsOpened state table.log) ws
   pub log_room : logs.HasRoom state table.log (log_opens ws) (log_puts ws) (log_bytes ws)
 
+-- each disk's clock has gone on
+pub record IsLater {D : Type 0} (state : D → DiskState) (old new : TableDevs D) : Type 0 where
+  pub chunks : (state (disk_of (chunks.vault_of old.chunks))).moment
+      ≤ (state (disk_of (chunks.vault_of new.chunks))).moment
+  pub rows : (state (disk_of (rows.vault_of old.rows))).moment ≤ (state (disk_of (rows.vault_of new.rows))).moment
+  pub log : (state (disk_of (logs.vault_of old.log))).moment ≤ (state (disk_of (logs.vault_of new.log))).moment
+
 -- At every moment since the old one, whatever a crash leaves of the three disks stands for devices with R.
 pub record DevsLeave {D : Type 0} (state : D → DiskState) (images : D → ℕ → List ℕ → Type 0) (old new : TableDevs D)
     (R : Devs → Type 0) : Type 0 where
@@ -204,6 +212,7 @@ pub record DevsLeave {D : Type 0} (state : D → DiskState) (images : D → ℕ 
       → images (disk_of (logs.vault_of new.log)) (state (disk_of (logs.vault_of old.log))).moment l
       → (cs rs ls : List (List ℕ)) × StandsFor c cs × StandsFor r rs × StandsFor l ls
       × R (record { chunks = chunks_of cs; held = data_of rs; pending = pending_of ls })
+  pub later : IsLater state old new
 
 -- This write was done, and these are still to come; or a disk failed, and its device is down.
 pub record Works {D T : Type 0} (state : D → DiskState) (images : D → ℕ → List ℕ → Type 0) (w : Write) (ws : List Write)
@@ -223,6 +232,13 @@ abbrev pub WorksOn : {D : Type 0} → (D → DiskState) → (D → ℕ → List 
 WorksOn state images old new result [] = (result ≡ Ok steps.Idle) × (new ≡ old)
 WorksOn state images old new result (w ∷ ws) =
     Works state images w ws old new result × (writes_of new ≡ ws) × IfOk result (λ step. step ≡ step_of w)
+
+-- Where R holds now, and behind each of the writes that are to come, it does so after the call too; and a crash at any
+-- moment of the call leaves devices with R, as it is said of all these writes or of those behind the first.
+pub record GoesOn {D T : Type 0} (state : D → DiskState) (images : D → ℕ → List ℕ → Type 0) (R : List Write → Devs
+    → Type 0) (old new : TableDevs D) (result : Result T CommitFault) : Type 0 where
+  pub runs : OnOk result (Runs R (devs state new) (writes_of new))
+  pub any_moment : DevsLeave state images old new (λ d. R (writes_of old) d ⊎ R (drop 1 (writes_of old)) d)
 
 -- each device was formatted, or looked at since the last restart, and its file stands for what it holds
 pub record AreLookedAt {D : Type 0} (state : D → DiskState) (table : TableDevs D) : Type 0 where

@@ -1,18 +1,23 @@
 //! The three devices of a table.
-ghost use Rattle.std.specs.Prelude.{◌≡◌, ◌↔◌, [], ◌∷◌, IsErrOf, OnOk};
+ghost use Rattle.std.specs.Prelude.{◌≡◌, ◌↔◌, ℕ, List, [], ◌∷◌, IsErrOf, OnOk};
 ghost use Rattle.std.specs.Bool.{MatchBool};
 ghost use Rattle.vault.specs.Standing.{disk_of};
+ghost use Rattle.vault.specs.Calls.{IsEither};
+ghost use Rattle.stab_base.specs.declared.chunk_name.ChunkName.{ChunkName};
 ghost use Rattle.chunk_store.specs.Standing as chunks;
+ghost use Rattle.row_store.specs.declared.stored.StoredRow.{StoredRow};
+ghost use Rattle.row_store.specs.Data.{TableData};
 ghost use Rattle.row_store.specs.Reading.{terms_if};
 ghost use Rattle.row_store.specs.Spelling.{IsClient};
 ghost use Rattle.row_store.specs.Standing as rows;
 ghost use Rattle.status_log.specs.Entry.{entry_of};
 ghost use Rattle.status_log.specs.Standing as logs;
 ghost use Rattle.store_commit.specs.Devs.{Write, OpenChunks, OpenRows, OpenLog, OpenEntry, PutChunk, PutRow, DropChunk};
-ghost use Rattle.store_commit.specs.Devs.{CloseEntry, PutTable, PutSub};
+ghost use Rattle.store_commit.specs.Devs.{CloseEntry, PutTable, PutSub, Devs};
+ghost use Rattle.store_commit.specs.Agenda.{Runs, IsMoment, IsRecovering};
 ghost use Rattle.store_commit.specs.Standing.{write_of, writes_of, AreUp, IsOneDown, IsReady, Works, WorksOn, devs};
 ghost use Rattle.store_commit.specs.Standing.{DevsLeave, AreLookedAt, AreSound, AreSynced, AreBlank, HaveOpenings};
-ghost use Rattle.store_commit.specs.Standing.{nothing};
+ghost use Rattle.store_commit.specs.Standing.{nothing, GoesOn};
 
 use crate::fault::{CommitFault, told};
 use crate::task::Task;
@@ -35,7 +40,7 @@ pub struct TableDevs<D: Disk> {
     pub(crate) rows: RowDev<D>,
     pub(crate) log: StatusLog<D>,
     pub(crate) agenda: VecDeque<Task>,
-    alloc: Global,
+    pub(crate) alloc: Global,
 }
 
 impl<D: Disk + Drop> TableDevs<D> {
@@ -222,6 +227,14 @@ impl<D: Disk + Drop> TableDevs<D> {
         ensures works { AreUp self.old → WorksOn D.state D.images self.old self.new result (writes_of self.old) }
         ensures down { IsErrOf result CommitFault.Down ↔ IsOneDown self.old }
         ensures unchanged { IsErrOf result CommitFault.Down → self.new ≡ self.old }
+        // What was promised of every moment of an update still is, and a crash of this call leaves one of them.
+        ensures updating { (meaning : ChunkName → List ℕ) (before : TableData) (stored : StoredRow) → AreUp self.old
+            → Runs (IsMoment meaning before stored) (devs D.state self.old) (writes_of self.old)
+            → GoesOn D.state D.images (IsMoment meaning before stored) self.old self.new result }
+        // And so of a recovery.
+        ensures recovering { (meaning : ChunkName → List ℕ) (before : TableData) → AreUp self.old
+            → Runs (IsRecovering meaning before) (devs D.state self.old) (writes_of self.old)
+            → GoesOn D.state D.images (IsRecovering meaning before) self.old self.new result }
     {
         if self.is_down() {
             return Err(CommitFault::Down);
@@ -244,7 +257,14 @@ impl<D: Disk + Drop> TableDevs<D> {
         ensures rows { rows.Restarts D.state D.images self.old.rows self.new.rows }
         ensures log { logs.Restarts D.state D.images self.old.log self.new.log }
         ensures up { AreUp self.new }
+        ensures synced { AreSynced D.state self.new }
         ensures idle { writes_of self.new ≡ [] }
+        // What was promised of each crash since an earlier moment holds of what is there now.
+        ensures left { (start : TableDevs D) (a b : Devs) → DevsLeave D.state D.images start self.old (IsEither a b)
+            → IsEither a b (devs D.state self.new) × AreSound D.state self.new }
+        // Where nothing was at work, all is as it was.
+        ensures rests { AreUp self.old → AreSynced D.state self.old → AreSound D.state self.old
+            → (devs D.state self.new ≡ devs D.state self.old) × AreSound D.state self.new }
     {
         self.agenda.clear();
         self.chunks.restart(pick);

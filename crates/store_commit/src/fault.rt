@@ -1,10 +1,10 @@
 //! Why a table's devices didn't do what they were asked for.
 ghost use Rattle.std.specs.Prelude.{◌≡◌};
 ghost use Rattle.store_commit.specs.declared.fault.CommitFault.TheVariants.{Memory};
-ghost use Rattle.store_commit.specs.Fault.{disk_or, chunk_cause, row_cause, log_cause};
+ghost use Rattle.store_commit.specs.Fault.{disk_or, caused, chunk_cause, row_cause, log_cause, found_of};
 
 use chunk_store::ChunkFault;
-use row_store::RowFault;
+use row_store::{RowFault, StoredRow};
 use stab_base::Version;
 use status_log::LogFault;
 use std::alloc::AllocError;
@@ -79,5 +79,48 @@ impl From<LogFault> for CommitFault {
             LogFault::Down => CommitFault::Down,
             LogFault::Memory => CommitFault::Memory,
         }
+    }
+}
+
+/// The answer of the device of the chunks.
+pub(crate) fn of_chunks<T>(answer: Result<T, ChunkFault>) -> Result<T, CommitFault>
+    ensures { result ≡ caused chunk_cause answer }
+{
+    match answer {
+        Ok(x) => Ok(x),
+        Err(fault) => Err(fault.into()),
+    }
+}
+
+/// The answer of the device of the rows.
+pub(crate) fn of_rows<T>(answer: Result<T, RowFault>) -> Result<T, CommitFault>
+    ensures { result ≡ caused row_cause answer }
+{
+    match answer {
+        Ok(x) => Ok(x),
+        Err(fault) => Err(fault.into()),
+    }
+}
+
+/// The answer of the log.
+pub(crate) fn of_log<T>(answer: Result<T, LogFault>) -> Result<T, CommitFault>
+    ensures { result ≡ caused log_cause answer }
+{
+    match answer {
+        Ok(x) => Ok(x),
+        Err(fault) => Err(fault.into()),
+    }
+}
+
+/// The row of a look-up, if there is one.
+pub(crate) fn found_row(
+    answer: Result<StoredRow, RowFault>,
+) -> Result<Option<StoredRow>, CommitFault>
+    ensures { result ≡ found_of answer }
+{
+    match answer {
+        Ok(stored) => Ok(Some(stored)),
+        Err(RowFault::NoRow) => Ok(None),
+        Err(fault) => Err(fault.into()),
     }
 }

@@ -3,9 +3,15 @@
 
 mod devs;
 mod fault;
+mod fused;
 mod laws;
+mod recover;
+mod recovery;
 mod task;
+mod update;
 
 pub use devs::TableDevs;
 pub use fault::CommitFault;
 pub use laws::{recovery_keeps_named_chunks, update_keeps_named_chunks};
+pub use recovery::Recovery;
+pub use update::Update;

@@ -15,15 +15,19 @@ use Rattle.table_model.specs.declared.message.Outcome.{Outcome}
 use Rattle.table_model.specs.declared.message.TableSubscription.{TableSubscription}
 use Rattle.table_model.specs.declared.message.Message.{Message}
 use Rattle.table_model.specs.declared.message.Message.TheVariants as messages
-use Rattle.sync_msgs.specs.Fields.{Reader, then_at, ◌&◌, period_if, option_if}
-use Rattle.sync_msgs.specs.Spelling.{four, eight, IsPeriod, IsOptionIf, option_spelling, has_schema, body_spelling, HasSpelling}
+use Rattle.field_codec.specs.Fields.{Reader, then_at, ◌&◌, option_if}
+use Rattle.sync_msgs.specs.Fields.{period_if}
+use Rattle.field_codec.specs.Forms.{four, eight, IsOptionIf, option_spelling}
+use Rattle.sync_msgs.specs.Spelling.{IsPeriod, has_schema, body_spelling, HasSpelling}
 use Rattle.sync_msgs.specs.Reading.{register_device_at, create_table_at, drop_table_at, subscribe_table_at, unsubscribe_table_at, notify_at, object_fragment_at, pull_request_at, pull_response_at}
 use Rattle.sync_msgs.specs.Reading.{sync_request_at, sync_response_at, torn_row_request_at, torn_row_response_at, operation_response_at, save_client_subscription_at, restore_client_subscriptions_at}
 use Rattle.sync_msgs.specs.Reading.{table_version_update_notification_at, message_at}
-use Rattle.sync_msgs.proofs.Codecs.{Codec, both, depending, made}
-use Rattle.sync_msgs.proofs.Ranges.{one_byte}
-use Rattle.sync_msgs.proofs.FieldCodecs.{four_codec, eight_codec, byte_codec, id_codec, flag_codec, content_codec, schema_codec, client_codec, period_codec, chunk_codec, header_option_codec}
-use Rattle.sync_msgs.proofs.FieldCodecs.{outcome_codec, subscriptions_codec, option_if_codec}
+use Rattle.field_codec.proofs.Codecs.{Codec, both, depending, made}
+use Rattle.field_codec.proofs.Ranges.{one_byte}
+use Rattle.field_codec.proofs.FieldCodecs.{four_codec, eight_codec, byte_codec, id_codec, flag_codec, content_codec, schema_codec}
+use Rattle.sync_msgs.proofs.FieldCodecs.{client_codec, period_codec, chunk_codec, header_option_codec}
+use Rattle.field_codec.proofs.FieldCodecs.{option_if_codec}
+use Rattle.sync_msgs.proofs.FieldCodecs.{outcome_codec, subscriptions_codec}
 
 abbrev pub IsNamed : MessageName → Message → Type 0
 IsNamed name m = HasSpelling m × (name_of m ≡ name)

@@ -12,8 +12,10 @@ use Rattle.table_model.specs.declared.message.Outcome.{Outcome}
 use Rattle.table_model.specs.declared.message.Outcome.TheVariants as outcomes
 use Rattle.table_model.specs.declared.message.Message.{Message}
 use Rattle.table_model.specs.declared.message.Message.TheVariants as messages
-use Rattle.sync_msgs.specs.Fields.{Reader, then_at, ◌&◌, made_at, byte_if, client_at, period_if, chunk_bytes_at}
-use Rattle.sync_msgs.specs.Fields.{value_if, option_at, option_if}
+use Rattle.field_codec.specs.Fields.{Reader, then_at, ◌&◌, made_at, byte_if}
+use Rattle.sync_msgs.specs.Fields.{client_at, period_if, chunk_bytes_at}
+use Rattle.field_codec.specs.Fields.{option_at, option_if}
+use Rattle.sync_msgs.specs.Fields.{value_if}
 use Rattle.sync_msgs.specs.Spelling.{has_schema}
 
 -- ---- parts of messages

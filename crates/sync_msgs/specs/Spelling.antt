@@ -1,12 +1,11 @@
 -- Which messages have a spelling, and the one spelling of each: its kind, and the body, which is its fields in order.
-use Rattle.std.specs.Prelude.{◌≡◌, ℕ, ◌<◌, ◌≤◌, ◌^◌, Bool, true, false, ◌==◌, ◌&&◌, ◌||◌, List, [], ◌∷◌, ◌++◌, length}
-use Rattle.std.specs.Prelude.{Option, Some, None}
+use Rattle.std.specs.Prelude.{◌≡◌, ℕ, ◌<◌, ◌^◌, Bool, true, false, ◌==◌, ◌&&◌, ◌||◌, List, [], ◌∷◌, ◌++◌, length}
 use Rattle.std.specs.List.{AllByRecursion}
-use Rattle.std.specs.Int.{w32, w64, to_be_bytes}
 use Rattle.stab_base.specs.Codec.{counted}
 use Rattle.value_codec.specs.Spelling.{flag_spelling, list_spelling, content_spelling, HasContentSpelling}
 use Rattle.value_codec.specs.Spelling.{HasKeptSpelling}
 use Rattle.value_codec.specs.SchemaSpelling.{schema_spelling, HasSchemaSpelling}
+use Rattle.field_codec.specs.Forms.{four, eight, IsBetween, IsOption, option_spelling, IsOptionIf}
 use Rattle.table_model.specs.declared.message_name.MessageName.{MessageName}
 use Rattle.table_model.specs.declared.message_name.MessageName.TheVariants as names
 use Rattle.table_model.specs.MessageNames.{name_of}
@@ -36,16 +35,6 @@ use Rattle.table_model.specs.declared.message.Message.TheVariants as messages
 
 -- ---- fields
 
-unfoldable pub four : ℕ → List ℕ
-four n = to_be_bytes w32 n
-
-unfoldable pub eight : ℕ → List ℕ
-eight n = to_be_bytes w64 n
-
-pub record IsBetween (low high n : ℕ) : Type 0 where
-  pub least : low ≤ n
-  pub most : n ≤ high
-
 abbrev pub IsClient : ℕ → Type 0
 IsClient n = IsBetween 1 64 n
 
@@ -59,22 +48,6 @@ IsChunk bytes = IsBetween 1 65536 (length bytes)
 
 unfoldable pub chunk_spelling : List ℕ → List ℕ
 chunk_spelling bytes = counted bytes
-
-abbrev pub IsOption : {X : Type 0} → (X → Type 0) → Option X → Type 0
-IsOption P None = Unit {0}
-IsOption P (Some x) = P x
-
--- the byte 0, or the byte 1 and a value
-abbrev pub option_spelling : {X : Type 0} → (X → List ℕ) → Option X → List ℕ
-option_spelling spelling None = 0 ∷ []
-option_spelling spelling (Some x) = 1 ∷ spelling x
-
--- an option that holds a value exactly where one is to stand
-abbrev pub IsOptionIf : {X : Type 0} → Bool → (X → Type 0) → Option X → Type 0
-IsOptionIf true P None = ⊥
-IsOptionIf true P (Some x) = P x
-IsOptionIf false P None = Unit {0}
-IsOptionIf false P (Some x) = ⊥
 
 -- ---- parts of messages
 

@@ -11,14 +11,15 @@ ghost use Rattle.sync_msgs.specs.Spelling.{operation_response_spelling, HasOpera
 ghost use Rattle.sync_msgs.specs.Spelling.{save_client_subscription_spelling, HasSaveClientSubscription};
 ghost use Rattle.sync_msgs.specs.Spelling.{restore_client_subscriptions_spelling, HasRestoreClientSubscriptions};
 ghost use Rattle.sync_msgs.specs.Spelling.{table_version_update_notification_spelling};
-ghost use Rattle.sync_msgs.specs.Spelling.{HasTableVersionUpdateNotification, body_spelling, HasSpelling, four, eight};
+ghost use Rattle.field_codec.specs.Forms.{four, eight};
+ghost use Rattle.sync_msgs.specs.Spelling.{HasTableVersionUpdateNotification, body_spelling, HasSpelling};
 ghost use Rattle.sync_msgs.specs.Spelling.{IsChunk, chunk_spelling};
 ghost use Rattle.value_codec.specs.Spelling.{flag_spelling};
 
 use crate::part_writer::{
-    put_chunk, put_eight, put_flag, put_four, put_header_option, put_id, put_outcome,
-    put_schema_option, put_subscriptions,
+    put_chunk, put_header_option, put_outcome, put_schema_option, put_subscriptions,
 };
+use field_codec::{put_eight, put_flag, put_four, put_id};
 use stab_base::put_u8;
 use std::alloc::AllocError;
 use table_model::{

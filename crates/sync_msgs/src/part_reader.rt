@@ -1,7 +1,8 @@
 ghost use Rattle.std.specs.Prelude.{◌≡◌, ◌≤◌, ◌==◌, ℕ, Bool, List, length, drop, IfOk};
 ghost use Rattle.value_codec.specs.Reading.{Gives, list_at, items_at};
 ghost use Rattle.value_codec.specs.SchemaReading.{schema_at};
-ghost use Rattle.sync_msgs.specs.Fields.{value_if, option_at, option_if, is_flag, byte_if};
+ghost use Rattle.field_codec.specs.Fields.{option_at, option_if, is_flag, byte_if};
+ghost use Rattle.sync_msgs.specs.Fields.{value_if};
 ghost use Rattle.sync_msgs.specs.Spelling.{has_schema};
 ghost use Rattle.sync_msgs.specs.Reading.{header_at, is_outcome, outcome_of, outcome_at, subscription_at};
 ghost use Rattle.sync_msgs.specs.Reading.{after_subscription, subscription_in};
@@ -42,7 +43,7 @@ fn take_header(alloc: Global, bytes: &[u8], at: usize) -> Result<(RowHeader, usi
 }
 
 /// The row header at a place, or none.
-#[tactic(auto, unfolding(crate::specs::Fields::option_at))]
+#[tactic(auto, unfolding(field_codec::specs::Fields::option_at))]
 pub(crate) fn take_header_option(
     alloc: Global,
     bytes: &[u8],
@@ -77,7 +78,7 @@ fn take_value(bytes: &[u8], at: usize, none: bool) -> Result<(u64, usize), Spell
     }
 }
 
-#[tactic(auto, unfolding(crate::specs::Fields::byte_if))]
+#[tactic(auto, unfolding(field_codec::specs::Fields::byte_if))]
 fn take_outcome_code(bytes: &[u8], at: usize) -> Result<(u8, usize), SpellFault>
     requires { at ≤ length bytes.now }
     ensures value { Gives bytes.now (λ x. (x.0, drop x.1 bytes.now)) result (byte_if is_outcome (drop at bytes.now)) }
@@ -131,7 +132,7 @@ fn is_flag(some: bool, byte: u8) -> bool
     if some { byte == 1 } else { byte == 0 }
 }
 
-#[tactic(auto, unfolding(crate::specs::Fields::byte_if))]
+#[tactic(auto, unfolding(field_codec::specs::Fields::byte_if))]
 fn take_flag_of(bytes: &[u8], at: usize, some: bool) -> Result<(u8, usize), SpellFault>
     requires { at ≤ length bytes.now }
     ensures value { Gives bytes.now (λ x. (x.0, drop x.1 bytes.now)) result
@@ -147,7 +148,7 @@ fn take_flag_of(bytes: &[u8], at: usize, some: bool) -> Result<(u8, usize), Spel
 }
 
 /// The schema at a place, where one is to stand there, or none.
-#[tactic(auto, unfolding(crate::specs::Fields::option_if))]
+#[tactic(auto, unfolding(field_codec::specs::Fields::option_if))]
 pub(crate) fn take_schema_if(
     alloc: Global,
     bytes: &[u8],

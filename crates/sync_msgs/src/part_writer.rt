@@ -1,29 +1,17 @@
 ghost use Rattle.std.specs.Prelude.{◌≡◌, ◌++◌, OnOk};
 ghost use Rattle.value_codec.specs.Spelling.{flag_spelling};
 ghost use Rattle.value_codec.specs.SchemaSpelling.{schema_spelling, HasSchemaSpelling};
-ghost use Rattle.sync_msgs.specs.Spelling.{four, eight, IsChunk, chunk_spelling, IsOption, option_spelling};
+ghost use Rattle.field_codec.specs.Forms.{four, eight, IsOption, option_spelling};
+ghost use Rattle.sync_msgs.specs.Spelling.{IsChunk, chunk_spelling};
 ghost use Rattle.sync_msgs.specs.Spelling.{header_spelling, HasHeaderSpelling, outcome_spelling, HasOutcomeSpelling};
 ghost use Rattle.sync_msgs.specs.Spelling.{subscription_spelling, AreSubscriptions, subscriptions_spelling};
 
+use field_codec::{put_eight, put_four, put_id};
 use row_value::Schema;
-use stab_base::{RowId, put_bytes, put_u8, put_u32, put_u64};
+use stab_base::{put_bytes, put_u8, put_u32};
 use std::alloc::AllocError;
 use table_model::{Outcome, RowHeader, TableSubscription};
 use value_codec::{put_content, put_schema};
-
-#[tactic(auto, unfolding(crate::specs::Spelling::four))]
-pub(crate) fn put_four(out: &mut Vec<u8>, n: u32) -> Result<(), AllocError>
-    ensures { OnOk result (out.new.items ≡ out.old.items ++ four n) }
-{
-    put_u32(out, n)
-}
-
-#[tactic(auto, unfolding(crate::specs::Spelling::eight))]
-pub(crate) fn put_eight(out: &mut Vec<u8>, n: u64) -> Result<(), AllocError>
-    ensures { OnOk result (out.new.items ≡ out.old.items ++ eight n) }
-{
-    put_u64(out, n)
-}
 
 #[tactic(auto, unfolding(crate::specs::Spelling::chunk_spelling))]
 pub(crate) fn put_chunk(out: &mut Vec<u8>, bytes: &[u8]) -> Result<(), AllocError>
@@ -31,18 +19,6 @@ pub(crate) fn put_chunk(out: &mut Vec<u8>, bytes: &[u8]) -> Result<(), AllocErro
     ensures { OnOk result (out.new.items ≡ out.old.items ++ chunk_spelling bytes.now) }
 {
     put_bytes(out, bytes)
-}
-
-pub(crate) fn put_id(out: &mut Vec<u8>, id: &RowId) -> Result<(), AllocError>
-    ensures { OnOk result (out.new.items ≡ out.old.items ++ id.now) }
-{
-    out.extend_from_slice(&id.to_bytes())
-}
-
-pub(crate) fn put_flag(out: &mut Vec<u8>, flag: bool) -> Result<(), AllocError>
-    ensures { OnOk result (out.new.items ≡ out.old.items ++ flag_spelling flag) }
-{
-    put_u8(out, if flag { 1 } else { 0 })
 }
 
 fn put_header(out: &mut Vec<u8>, header: &RowHeader) -> Result<(), AllocError>

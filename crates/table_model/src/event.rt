@@ -34,6 +34,12 @@ pub enum Event {
         table: TableNo,
         row: RowId,
     },
+    /// The client shows a row, each object by its digest.
+    Sum {
+        client: ClientNo,
+        table: TableNo,
+        row: RowId,
+    },
     /// The client sends the writes of a table that wait to be sent.
     Sync {
         client: ClientNo,

@@ -8,6 +8,7 @@ mod event;
 mod line;
 mod message;
 mod message_name;
+mod sum;
 
 pub use allowed::entry_allowed;
 pub use entry::{Entry, History, current};
@@ -22,3 +23,4 @@ pub use message::{
 };
 pub use message_name::MessageName;
 pub use stab_base::Node;
+pub use sum::{ObjectSum, ObjectSums, RowSum, ShownSum};

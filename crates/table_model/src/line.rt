@@ -2,6 +2,7 @@ ghost use Rattle.std.specs.Prelude.{◌≡◌, IfOk};
 
 use crate::entry::Entry;
 use crate::message_name::MessageName;
+use crate::sum::ShownSum;
 use row_value::{ClientNo, Content, RowId, Sequence, TableNo, Version, WriteNo};
 use stab_base::Node;
 use std::alloc::AllocError;
@@ -64,6 +65,8 @@ pub enum Answer {
     Number(u64),
     /// What a client shows.
     Shown(Shown),
+    /// What a client shows of a row that has objects, each by its digest.
+    Sums(ShownSum),
     /// What the Store has of a row.
     Stored { version: Version, content: Content },
     /// Not done.

@@ -1,5 +1,5 @@
 -- Words, a byte between them that none of them has, and the bytes of numbers and row ids.
-use Rattle.std.proofs.Common.{◌≡◌, ℕ, zero, suc, ◌<◌, ◌^◌, ℤ, pos, negsuc, List, [], ◌∷◌, ◌++◌, refl, subst, arith, FitsSigned}
+use Rattle.std.proofs.Common.{◌≡◌, ◌≢◌, ℕ, zero, suc, ◌<◌, ◌^◌, ℤ, pos, negsuc, List, [], ◌∷◌, ◌++◌, refl, sym, ◌∙◌, subst, arith, FitsSigned}
 use Rattle.std.specs.Int.{w64}
 use Rattle.std.specs.List.{AllByRecursion, flat_map}
 use Rattle.std.specs.Fmt.{decimal, signed_decimal}
@@ -18,21 +18,32 @@ abbrev pub OpensWith : ℕ → List ℕ → Type 0
 OpensWith c [] = Unit {0}
 OpensWith c (b ∷ rest) = b ≡ c
 
-pub peel : (c : ℕ) (a b s t : List ℕ) → IsAbove c a → IsAbove c b → OpensWith c s → OpensWith c t → a ++ s ≡ b ++ t → (a ≡ b) × (s ≡ t)
-peel c [] [] s t p q g h e = (refl, e)
-peel c [] (y ∷ b) [] t p q g h e = absurd cc
-peel c [] (y ∷ b) (z ∷ s) t p q g h e = let same : z ≡ y = cc in absurd (omega arith)
-peel c (x ∷ a) [] s [] p q g h e = absurd cc
-peel c (x ∷ a) [] s (z ∷ t) p q g h e = let same : x ≡ z = cc in absurd (omega arith)
-peel c (x ∷ a) (y ∷ b) s t p q g h e =
-    let more = peel c a b s t p.1 q.1 g h (cc) in
+-- no byte is c
+abbrev pub Avoids : ℕ → List ℕ → Type 0
+Avoids c word = AllByRecursion (λ b. b ≢ c) word
+
+above_avoids : (c : ℕ) (word : List ℕ) → IsAbove c word → Avoids c word
+above_avoids c [] h = tt
+above_avoids c (b ∷ word) h = (λ e. omega (arith, h.0, e), above_avoids c word h.1)
+
+pub parted : (c : ℕ) (a b s t : List ℕ) → Avoids c a → Avoids c b → OpensWith c s → OpensWith c t → a ++ s ≡ b ++ t → (a ≡ b) × (s ≡ t)
+parted c [] [] s t p q g h e = (refl, e)
+parted c [] (y ∷ b) [] t p q g h e = absurd cc
+parted c [] (y ∷ b) (z ∷ s) t p q g h e = let same : z ≡ y = cc in absurd (q.0 (sym same ∙ g))
+parted c (x ∷ a) [] s [] p q g h e = absurd cc
+parted c (x ∷ a) [] s (z ∷ t) p q g h e = let same : x ≡ z = cc in absurd (p.0 (same ∙ h))
+parted c (x ∷ a) (y ∷ b) s t p q g h e =
+    let more = parted c a b s t p.1 q.1 g h (cc) in
     (cc more.0, more.1)
+
+pub peel : (c : ℕ) (a b s t : List ℕ) → IsAbove c a → IsAbove c b → OpensWith c s → OpensWith c t → a ++ s ≡ b ++ t → (a ≡ b) × (s ≡ t)
+peel c a b s t p q g h e = parted c a b s t (above_avoids c a p) (above_avoids c b q) g h e
 
 above_less : (c d : ℕ) (word : List ℕ) → d < c → IsAbove c word → IsAbove d word
 above_less c d [] h p = tt
 above_less c d (b ∷ word) h p = (omega arith, above_less c d word h p.1)
 
-all_append : (P : ℕ → Type 0) (xs ys : List ℕ) → AllByRecursion P xs → AllByRecursion P ys → AllByRecursion P (xs ++ ys)
+pub all_append : (P : ℕ → Type 0) (xs ys : List ℕ) → AllByRecursion P xs → AllByRecursion P ys → AllByRecursion P (xs ++ ys)
 all_append P [] ys h p = p
 all_append P (x ∷ xs) ys h p = (h.0, all_append P xs ys h.1 p)
 
@@ -62,6 +73,14 @@ digits_above (c ∷ cs) d = (omega (arith, digit_from_value c d.0), digits_above
 
 pub decimal_above : (n : ℕ) → n < 2 ^ 64 → IsAbove 32 (decimal n)
 decimal_above n h = digits_above (decimal n) (decimal_is_IsNumeral n h).0.1
+
+-- no digit is a colon
+digits_avoid : (ds : List ℕ) → AllDigits 10 ds → Avoids 58 ds
+digits_avoid [] d = tt
+digits_avoid (c ∷ cs) d = (λ e. omega (arith, e, digit_from_value c d.0), digits_avoid cs d.1)
+
+pub decimal_avoids : (n : ℕ) → n < 2 ^ 64 → Avoids 58 (decimal n)
+decimal_avoids n h = digits_avoid (decimal n) (decimal_is_IsNumeral n h).0.1
 
 pub signed_above : (z : ℤ) → FitsSigned w64 z → IsAbove 32 (signed_decimal z)
 signed_above (pos n) h = decimal_above n (omega arith)

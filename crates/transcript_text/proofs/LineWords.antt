@@ -32,10 +32,16 @@ use Rattle.table_model.specs.declared.line.Fact.{Fact}
 use Rattle.table_model.specs.declared.line.Fact.TheVariants as facts
 use Rattle.table_model.specs.declared.line.TextLine.{TextLine}
 use Rattle.table_model.specs.declared.line.TextLine.TheVariants as lines
-use Rattle.transcript_text.specs.Text.{cell_text, content_text, refusal_text, shown_text, answer_text, node_text, message_text, entry_text, fact_text, text_of}
-use Rattle.transcript_text.specs.OneForm.{HasContentText, HasRefusalText, HasValue, HasShownText, HasAnswerText, HasRowText, HasWriteText, HasEntryText, HasNodeText, HasFactText, HasText}
+use Rattle.table_model.specs.declared.sum.ObjectSum.{ObjectSum}
+use Rattle.table_model.specs.declared.sum.RowSum.{RowSum}
+use Rattle.table_model.specs.declared.sum.ShownSum.{ShownSum}
+use Rattle.table_model.specs.declared.sum.ShownSum.TheVariants as sums
+use Rattle.transcript_text.specs.Text.{cell_text, content_text, row_sum_text, refusal_text, shown_text, shown_sum_text, answer_text, node_text, message_text, entry_text, fact_text, text_of}
+use Rattle.transcript_text.specs.OneForm.{AreBytes, HasContentText, HasSumText, HasRowSumText, HasRefusalText, HasValue, HasShownText, HasShownSumText}
+use Rattle.transcript_text.specs.OneForm.{HasAnswerText, HasRowText, HasWriteText, HasEntryText, HasNodeText, HasFactText, HasText}
 use Rattle.transcript_text.proofs.Above.{IsAbove, led, led_same, led_above, decimal_above, row_above, decimal_first}
-use Rattle.transcript_text.proofs.Values.{cell_word, object_word, cells_above, objects_above, all_words, values_same, not_gone}
+use Rattle.transcript_text.proofs.Values.{cell_word, object_word, sum_word, cells_above, objects_above, sums_above, all_words, object_same, sum_same, no_object, no_sum, values_same, not_gone}
+use Rattle.transcript_text.proofs.Values.{object_not_gone, sum_not_gone, kinds_apart}
 
 abbrev pub content_words : Content → List (List ℕ)
 content_words Gone = codes "gone" ∷ []
@@ -54,10 +60,18 @@ abbrev pub shown_words : Shown → List (List ℕ)
 shown_words (Clean version content) = codes "ok" ∷ codes "clean" ∷ decimal version ∷ content_words content
 shown_words (Mine number content) = codes "ok" ∷ codes "mine" ∷ decimal number ∷ content_words content
 
+abbrev pub row_sum_words : RowSum → List (List ℕ)
+row_sum_words row = map cell_word row.cells ++ map sum_word row.objects
+
+abbrev pub shown_sum_words : ShownSum → List (List ℕ)
+shown_sum_words (sums.Clean version row) = codes "ok" ∷ codes "clean" ∷ decimal version ∷ row_sum_words row
+shown_sum_words (sums.Mine number row) = codes "ok" ∷ codes "mine" ∷ decimal number ∷ row_sum_words row
+
 abbrev pub answer_words : Answer → List (List ℕ)
 answer_words answers.Done = codes "ok" ∷ []
 answer_words (answers.Number number) = codes "ok" ∷ decimal number ∷ []
 answer_words (answers.Shown shown) = shown_words shown
+answer_words (answers.Sums sum) = shown_sum_words sum
 answer_words (answers.Stored version content) = codes "ok" ∷ decimal version ∷ content_words content
 answer_words (answers.Refused refusal) = refusal_words refusal
 
@@ -146,10 +160,19 @@ shown_led : (shown : Shown) → 32 ∷ shown_text shown ≡ led 32 (shown_words 
 shown_led (Clean version content) = rw content_led refl
 shown_led (Mine number content) = rw content_led refl
 
+row_sum_led : (row : RowSum) → row_sum_text row ≡ led 32 (row_sum_words row)
+row_sum_led row =
+    rw (flat_map-append, cells_led row.cells, flat_map-map (λ (word : List ℕ). 32 ∷ word) sum_word row.objects) refl
+
+shown_sum_led : (sum : ShownSum) → 32 ∷ shown_sum_text sum ≡ led 32 (shown_sum_words sum)
+shown_sum_led (sums.Clean version row) = rw row_sum_led refl
+shown_sum_led (sums.Mine number row) = rw row_sum_led refl
+
 answer_led : (answer : Answer) → 32 ∷ answer_text answer ≡ led 32 (answer_words answer)
 answer_led answers.Done = refl
 answer_led (answers.Number number) = simp append-nil
 answer_led (answers.Shown shown) = shown_led shown
+answer_led (answers.Sums sum) = shown_sum_led sum
 answer_led (answers.Stored version content) = rw content_led refl
 answer_led (answers.Refused refusal) = refusal_led refusal
 
@@ -211,10 +234,18 @@ shown_above : (shown : Shown) → HasShownText shown → AllByRecursion (IsAbove
 shown_above (Clean version content) h = search (rules, decimal_above, content_above)
 shown_above (Mine number content) h = search (rules, decimal_above, content_above)
 
+row_sum_above : (row : RowSum) → HasRowSumText row → AllByRecursion (IsAbove 32) (row_sum_words row)
+row_sum_above row h = all_words (IsAbove 32) (map cell_word row.cells) (map sum_word row.objects) (cells_above row.cells h.cells) (sums_above row.objects h.objects)
+
+shown_sum_above : (sum : ShownSum) → HasShownSumText sum → AllByRecursion (IsAbove 32) (shown_sum_words sum)
+shown_sum_above (sums.Clean version row) h = search (rules, decimal_above, row_sum_above)
+shown_sum_above (sums.Mine number row) h = search (rules, decimal_above, row_sum_above)
+
 answer_above : (answer : Answer) → HasAnswerText answer → AllByRecursion (IsAbove 32) (answer_words answer)
 answer_above answers.Done h = search rules
 answer_above (answers.Number number) h = search (rules, decimal_above)
 answer_above (answers.Shown shown) h = shown_above shown h
+answer_above (answers.Sums sum) h = shown_sum_above sum h
 answer_above (answers.Stored version content) h = search (rules, decimal_above, content_above)
 answer_above (answers.Refused refusal) h = refusal_above refusal h
 
@@ -260,9 +291,23 @@ words_above (lines.Fact fact) h = fact_above fact h
 
 content_same : (a b : Content) → HasContentText a → HasContentText b → content_words a ≡ content_words b → a ≡ b
 content_same Gone Gone p q e = refl
-content_same Gone (Row some objects) p q e = absurd (not_gone some objects q.0 (sym e))
-content_same (Row some objects) Gone p q e = absurd (not_gone some objects p.0 e)
-content_same (Row some objects) (Row more others) p q e = let same = values_same some more objects others p.0 q.0 p.1 q.1 e in cc (same.0, same.1)
+content_same Gone (Row some objects) p q e = absurd (not_gone object_word AreBytes object_same no_object object_not_gone some objects q.0 (sym e))
+content_same (Row some objects) Gone p q e = absurd (not_gone object_word AreBytes object_same no_object object_not_gone some objects p.0 e)
+content_same (Row some objects) (Row more others) p q e =
+    let same = values_same object_word AreBytes object_same no_object some more objects others p.0 q.0 p.1 q.1 e in cc (same.0, same.1)
+
+abbrev row_made : List Cell → List ObjectSum → RowSum
+row_made some objects = record { cells = some; objects = objects }
+
+row_sum_same : (a b : RowSum) → HasRowSumText a → HasRowSumText b → row_sum_words a ≡ row_sum_words b → a ≡ b
+row_sum_same a b p q e =
+    let same = values_same sum_word HasSumText sum_same no_sum a.cells b.cells a.objects b.objects p.cells q.cells p.objects q.objects e in
+    ap (λ (some : List Cell). row_made some a.objects) same.0 ∙ ap (row_made b.cells) same.1
+
+-- a row that is shown as it is isn't one with its objects by their digests
+row_apart : (a : Content) (b : RowSum) → HasContentText a → HasRowSumText b → content_words a ≡ row_sum_words b → ⊥
+row_apart Gone b p q e = not_gone sum_word HasSumText sum_same no_sum sum_not_gone b.cells b.objects q.cells (sym e)
+row_apart (Row some objects) b p q e = kinds_apart some b.cells objects b.objects p.0 q.cells q.some e
 
 bytes_same : (xs ys : List ℕ) → length xs ≡ 16 → length ys ≡ 16 → All (λ b. b < 256) xs → All (λ b. b < 256) ys
     → hyphenated_text lower xs ≡ hyphenated_text lower ys → xs ≡ ys
@@ -424,6 +469,32 @@ shown_same a b p q e =
     let same : is_mine a ≡ is_mine b = sym (mine_word a) ∙ ap (λ words. bytes_eq (second_word words) (codes "mine")) e ∙ mine_word b in
     absurd cc
 
+abbrev is_mine_sum : ShownSum → Bool
+is_mine_sum (sums.Clean version row) = false
+is_mine_sum (sums.Mine number row) = true
+
+mine_sum_word : (sum : ShownSum) → bytes_eq (second_word (shown_sum_words sum)) (codes "mine") ≡ is_mine_sum sum
+mine_sum_word (sums.Clean version row) = refl
+mine_sum_word (sums.Mine number row) = refl
+
+shown_sum_same : (a b : ShownSum) → HasShownSumText a → HasShownSumText b → shown_sum_words a ≡ shown_sum_words b → a ≡ b
+shown_sum_same (sums.Clean m a) (sums.Clean n b) p q e = cc (decimal_injective m n p.0 q.0 (cc), row_sum_same a b p.1 q.1 (cc))
+shown_sum_same (sums.Mine m a) (sums.Mine n b) p q e = cc (decimal_injective m n p.0 q.0 (cc), row_sum_same a b p.1 q.1 (cc))
+shown_sum_same a b p q e =
+    let same : is_mine_sum a ≡ is_mine_sum b = sym (mine_sum_word a) ∙ ap (λ words. bytes_eq (second_word words) (codes "mine")) e ∙ mine_sum_word b in
+    absurd cc
+
+shown_apart : (a : Shown) (b : ShownSum) → HasShownText a → HasShownSumText b → shown_words a ≡ shown_sum_words b → ⊥
+shown_apart (Clean m a) (sums.Clean n b) p q e = row_apart a b p.1 q.1 (cc)
+shown_apart (Mine m a) (sums.Mine n b) p q e = row_apart a b p.1 q.1 (cc)
+shown_apart a b p q e =
+    let same : is_mine a ≡ is_mine_sum b = sym (mine_word a) ∙ ap (λ words. bytes_eq (second_word words) (codes "mine")) e ∙ mine_sum_word b in
+    absurd cc
+
+number_sum : (n : ℕ) (sum : ShownSum) (rest : List (List ℕ)) → n < 2 ^ 64 → codes "ok" ∷ decimal n ∷ rest ≡ shown_sum_words sum → ⊥
+number_sum n (sums.Clean version row) rest h e = no_letter n 99 (codes "lean") h (cc) (omega arith)
+number_sum n (sums.Mine number row) rest h e = no_letter n 109 (codes "ine") h (cc) (omega arith)
+
 number_shown : (n : ℕ) (shown : Shown) (rest : List (List ℕ)) → n < 2 ^ 64 → codes "ok" ∷ decimal n ∷ rest ≡ shown_words shown → ⊥
 number_shown n (Clean version content) rest h e = no_letter n 99 (codes "lean") h (cc) (omega arith)
 number_shown n (Mine number content) rest h e = no_letter n 109 (codes "ine") h (cc) (omega arith)
@@ -438,6 +509,7 @@ abbrev is_refused : Answer → Bool
 is_refused answers.Done = false
 is_refused (answers.Number number) = false
 is_refused (answers.Shown shown) = false
+is_refused (answers.Sums sum) = false
 is_refused (answers.Stored version content) = false
 is_refused (answers.Refused refusal) = true
 
@@ -446,6 +518,8 @@ refused_word answers.Done = refl
 refused_word (answers.Number number) = refl
 refused_word (answers.Shown (Clean version content)) = refl
 refused_word (answers.Shown (Mine number content)) = refl
+refused_word (answers.Sums (sums.Clean version row)) = refl
+refused_word (answers.Sums (sums.Mine number row)) = refl
 refused_word (answers.Stored version content) = refl
 refused_word (answers.Refused (refusals.TooManyChunks count)) = refl
 refused_word (answers.Refused (refusals.BadCell column)) = refl
@@ -459,6 +533,7 @@ answer_same : (a b : Answer) → HasAnswerText a → HasAnswerText b → answer_
 answer_same answers.Done answers.Done p q e = refl
 answer_same (answers.Number m) (answers.Number n) p q e = ap answers.Number (decimal_injective m n p q (cc))
 answer_same (answers.Shown a) (answers.Shown b) p q e = ap answers.Shown (shown_same a b p q e)
+answer_same (answers.Sums a) (answers.Sums b) p q e = ap answers.Sums (shown_sum_same a b p q e)
 answer_same (answers.Stored m a) (answers.Stored n b) p q e = cc (decimal_injective m n p.0 q.0 (cc), content_same a b p.1 q.1 (cc))
 answer_same (answers.Refused a) (answers.Refused b) p q e = ap answers.Refused (refusal_same a b p q e)
 answer_same (answers.Number m) (answers.Shown shown) p q e = absurd (number_shown m shown [] p e)
@@ -471,6 +546,16 @@ answer_same answers.Done (answers.Shown (Clean v c)) p q e = absurd cc
 answer_same answers.Done (answers.Shown (Mine v c)) p q e = absurd cc
 answer_same (answers.Shown (Clean v c)) answers.Done p q e = absurd cc
 answer_same (answers.Shown (Mine v c)) answers.Done p q e = absurd cc
+answer_same (answers.Shown shown) (answers.Sums sum) p q e = absurd (shown_apart shown sum p q e)
+answer_same (answers.Sums sum) (answers.Shown shown) p q e = absurd (shown_apart shown sum q p (sym e))
+answer_same (answers.Number m) (answers.Sums sum) p q e = absurd (number_sum m sum [] p e)
+answer_same (answers.Sums sum) (answers.Number n) p q e = absurd (number_sum n sum [] q (sym e))
+answer_same (answers.Stored m content) (answers.Sums sum) p q e = absurd (number_sum m sum (content_words content) p.0 e)
+answer_same (answers.Sums sum) (answers.Stored n content) p q e = absurd (number_sum n sum (content_words content) q.0 (sym e))
+answer_same answers.Done (answers.Sums (sums.Clean v row)) p q e = absurd cc
+answer_same answers.Done (answers.Sums (sums.Mine v row)) p q e = absurd cc
+answer_same (answers.Sums (sums.Clean v row)) answers.Done p q e = absurd cc
+answer_same (answers.Sums (sums.Mine v row)) answers.Done p q e = absurd cc
 answer_same answers.Done (answers.Number n) p q e = absurd cc
 answer_same (answers.Number n) answers.Done p q e = absurd cc
 answer_same answers.Done (answers.Stored v c) p q e = absurd cc
@@ -493,6 +578,8 @@ answer_kind answers.Done = refl
 answer_kind (answers.Number number) = refl
 answer_kind (answers.Shown (Clean version content)) = refl
 answer_kind (answers.Shown (Mine number content)) = refl
+answer_kind (answers.Sums (sums.Clean version row)) = refl
+answer_kind (answers.Sums (sums.Mine number row)) = refl
 answer_kind (answers.Stored version content) = refl
 answer_kind (answers.Refused (refusals.TooManyChunks count)) = refl
 answer_kind (answers.Refused (refusals.BadCell column)) = refl

@@ -1,10 +1,10 @@
 -- The words of cells and objects: their bytes, and that each is one value's alone.
-use Rattle.std.proofs.Common.{◌≡◌, ◌≢◌, ℕ, zero, suc, ◌/◌, ◌%◌, ◌<◌, Bool, true, false, ◌&&◌, ltb, List, []}
+use Rattle.std.proofs.Common.{◌≡◌, ◌≢◌, ℕ, zero, suc, ◌/◌, ◌%◌, ◌<◌, ◌≤◌, Bool, true, false, ◌&&◌, ltb, List, []}
 use Rattle.std.proofs.Common.{◌∷◌, ◌++◌, map, codes, get_or, All, Ok, refl, sym, ap, ◌∙◌, subst, arith, true≢false, inl, inr}
 use Rattle.std.specs.List.{AllByRecursion}
-use Rattle.std.specs.Fmt.{signed_decimal}
+use Rattle.std.specs.Fmt.{decimal, signed_decimal}
 use Rattle.std.proofs.lemmas.Bool.{ltb-true, cases_Bool, cases_lt}
-use Rattle.std.proofs.lemmas.Fmt.{signed_decimal_injective}
+use Rattle.std.proofs.lemmas.Fmt.{decimal_injective, signed_decimal_injective}
 use Rattle.std.proofs.lemmas.List.Elements.{All-from_recursion, recursion_from_All}
 use Rattle.percent_encoding.specs.AsciiSet.{contains, should_percent_encode}
 use Rattle.percent_encoding.specs.Percent.{percent_encode, percent_decode}
@@ -14,8 +14,9 @@ use Rattle.hex.proofs.HexLemmas.{decode_of-encode_lower}
 use Rattle.transcript_text.specs.declared.print.TheConstants.{ESCAPED}
 use Rattle.row_value.specs.declared.content.Cell.{Cell}
 use Rattle.row_value.specs.declared.content.Cell.TheVariants as cells
-use Rattle.transcript_text.specs.OneForm.{AreBytes, HasCellText}
-use Rattle.transcript_text.proofs.Above.{IsAbove, signed_above, signed_first}
+use Rattle.table_model.specs.declared.sum.ObjectSum.{ObjectSum}
+use Rattle.transcript_text.specs.OneForm.{AreBytes, HasCellText, HasSumText, HasObject}
+use Rattle.transcript_text.proofs.Above.{IsAbove, all_append, parted, decimal_above, decimal_avoids, signed_above, signed_first}
 
 abbrev pub cell_word : Cell → List ℕ
 cell_word (cells.Int n) = signed_decimal n
@@ -25,6 +26,9 @@ cell_word (cells.Text text) = codes "t:" ++ percent_encode ESCAPED text
 
 abbrev pub object_word : List ℕ → List ℕ
 object_word object = codes "h:" ++ encode_lower object
+
+abbrev pub sum_word : ObjectSum → List ℕ
+sum_word object = codes "o:" ++ (decimal object.len ++ (codes ":" ++ encode_lower object.sha256))
 
 -- ---- bytes above a space
 
@@ -91,6 +95,13 @@ pub objects_above : (objects : List (List ℕ)) → AllByRecursion AreBytes obje
 objects_above [] h = tt
 objects_above (object ∷ objects) h = ((omega arith, (omega arith, hex_above object h.0)), objects_above objects h.1)
 
+pub sums_above : (objects : List ObjectSum) → AllByRecursion HasSumText objects → AllByRecursion (IsAbove 32) (map sum_word objects)
+sums_above [] h = tt
+sums_above (object ∷ objects) h = (
+  (omega arith, (omega arith, all_append (λ b. 32 < b) (decimal object.len) (58 ∷ encode_lower object.sha256) (decimal_above object.len h.0.len) (omega arith, hex_above object.sha256 h.0.sha256))),
+  sums_above objects h.1,
+)
+
 -- ---- one value a word
 
 text_same : (a b : List ℕ) → AreBytes a → AreBytes b → percent_encode ESCAPED a ≡ percent_encode ESCAPED b → a ≡ b
@@ -102,11 +113,23 @@ byte_at [] h i = omega arith
 byte_at (b ∷ bytes) h zero = h.0
 byte_at (b ∷ bytes) h (suc i) = byte_at bytes h.1 i
 
-object_same : (a b : List ℕ) → AreBytes a → AreBytes b → object_word a ≡ object_word b → a ≡ b
-object_same a b p q e =
-    let digits : encode_lower a ≡ encode_lower b = cc in
-    let same : Ok a ≡ Ok b = sym (decode_of-encode_lower a (byte_at a p)) ∙ ap decode_of digits ∙ decode_of-encode_lower b (byte_at b q) in
+hex_same : (a b : List ℕ) → AreBytes a → AreBytes b → encode_lower a ≡ encode_lower b → a ≡ b
+hex_same a b p q e =
+    let same : Ok a ≡ Ok b = sym (decode_of-encode_lower a (byte_at a p)) ∙ ap decode_of e ∙ decode_of-encode_lower b (byte_at b q) in
     cc
+
+pub object_same : (a b : List ℕ) → AreBytes a → AreBytes b → object_word a ≡ object_word b → a ≡ b
+object_same a b p q e = hex_same a b p q (cc)
+
+abbrev sum_made : ℕ → List ℕ → ObjectSum
+sum_made len digest = record { len = len; sha256 = digest }
+
+pub sum_same : (a b : ObjectSum) → HasSumText a → HasSumText b → sum_word a ≡ sum_word b → a ≡ b
+sum_same a b p q e =
+    let parts = parted 58 (decimal a.len) (decimal b.len) (58 ∷ encode_lower a.sha256) (58 ∷ encode_lower b.sha256) (decimal_avoids a.len p.len) (decimal_avoids b.len q.len) refl refl (cc) in
+    let lens : a.len ≡ b.len = decimal_injective a.len b.len p.len q.len parts.0 in
+    let digests : a.sha256 ≡ b.sha256 = hex_same a.sha256 b.sha256 p.sha256 q.sha256 (cc parts.1) in
+    ap (λ (n : ℕ). sum_made n a.sha256) lens ∙ ap (sum_made b.len) digests
 
 first : (c d : ℕ) (xs ys : List ℕ) → c ∷ xs ≡ d ∷ ys → c ≡ d
 first c d xs ys e = cc
@@ -135,34 +158,59 @@ cell_same (cells.Text t) (cells.Bool true) p q e = absurd (omega (arith, second 
 cell_same (cells.Text t) (cells.Bool false) p q e = absurd (omega (arith, first 116 102 (58 ∷ percent_encode ESCAPED t) (codes "alse") e))
 cell_same (cells.Text t) (cells.Text u) p q e = ap cells.Text (text_same t u p q (cc))
 
-no_cell : (cell : Cell) (object : List ℕ) → HasCellText cell → cell_word cell ≡ object_word object → ⊥
-no_cell (cells.Int n) object h e = omega (arith, signed_first n 104 (58 ∷ encode_lower object) h e)
-no_cell (cells.Bool true) object h e = omega (arith, first 116 104 (codes "rue") (58 ∷ encode_lower object) e)
-no_cell (cells.Bool false) object h e = omega (arith, first 102 104 (codes "alse") (58 ∷ encode_lower object) e)
-no_cell (cells.Text t) object h e = omega (arith, first 116 104 (58 ∷ percent_encode ESCAPED t) (58 ∷ encode_lower object) e)
+-- no cell's word begins with one of the letters from `g` to `s`
+no_cell : (cell : Cell) (c : ℕ) (rest : List ℕ) → HasCellText cell → 103 ≤ c → c < 116 → cell_word cell ≡ c ∷ rest → ⊥
+no_cell (cells.Int n) c rest h low high e = omega (arith, low, signed_first n c rest h e)
+no_cell (cells.Bool true) c rest h low high e = omega (arith, high, first 116 c (codes "rue") rest e)
+no_cell (cells.Bool false) c rest h low high e = omega (arith, low, first 102 c (codes "alse") rest e)
+no_cell (cells.Text t) c rest h low high e = omega (arith, high, first 116 c (58 ∷ percent_encode ESCAPED t) rest e)
 
-objects_same : (xs ys : List (List ℕ)) → AllByRecursion AreBytes xs → AllByRecursion AreBytes ys → map object_word xs ≡ map object_word ys → xs ≡ ys
-objects_same [] [] p q e = refl
-objects_same [] (y ∷ ys) p q e = absurd cc
-objects_same (x ∷ xs) [] p q e = absurd cc
-objects_same (x ∷ xs) (y ∷ ys) p q e = cc (object_same x y p.0 q.0 (cc), objects_same xs ys p.1 q.1 (cc))
+pub no_object : (cell : Cell) (object : List ℕ) → HasCellText cell → cell_word cell ≡ object_word object → ⊥
+no_object cell object h e = no_cell cell 104 (58 ∷ encode_lower object) h (omega arith) (omega arith) e
 
-pub values_same : (xs ys : List Cell) (os ps : List (List ℕ)) → AllByRecursion HasCellText xs → AllByRecursion HasCellText ys → AllByRecursion AreBytes os → AllByRecursion AreBytes ps
-    → map cell_word xs ++ map object_word os ≡ map cell_word ys ++ map object_word ps → (xs ≡ ys) × (os ≡ ps)
-values_same [] [] os ps p q h k e = (refl, objects_same os ps h k e)
-values_same [] (y ∷ ys) [] ps p q h k e = absurd cc
-values_same [] (y ∷ ys) (o ∷ os) ps p q h k e = absurd (no_cell y o q.0 (cc))
-values_same (x ∷ xs) [] os [] p q h k e = absurd cc
-values_same (x ∷ xs) [] os (o ∷ ps) p q h k e = absurd (no_cell x o p.0 (cc))
-values_same (x ∷ xs) (y ∷ ys) os ps p q h k e =
-    let first = cell_same x y p.0 q.0 (cc) in
-    let more = values_same xs ys os ps p.1 q.1 h k (cc) in
-    (cc (first, more.0), more.1)
+pub no_sum : (cell : Cell) (object : ObjectSum) → HasCellText cell → cell_word cell ≡ sum_word object → ⊥
+no_sum cell object h e = no_cell cell 111 (58 ∷ (decimal object.len ++ 58 ∷ encode_lower object.sha256)) h (omega arith) (omega arith) e
 
-pub not_gone : (some : List Cell) (objects : List (List ℕ)) → AllByRecursion HasCellText some → map cell_word some ++ map object_word objects ≡ codes "gone" ∷ [] → ⊥
-not_gone [] [] h e = cc
-not_gone [] (object ∷ objects) h e = omega (arith, first 104 103 (58 ∷ encode_lower object) (codes "one") (first_word _ _ _ _ e))
-not_gone (cells.Int n ∷ some) objects h e = omega (arith, signed_first n 103 (codes "one") h.0 (cc))
-not_gone (cells.Bool true ∷ some) objects h e = omega (arith, first 116 103 (codes "rue") (codes "one") (first_word _ _ _ _ e))
-not_gone (cells.Bool false ∷ some) objects h e = omega (arith, first 102 103 (codes "alse") (codes "one") (first_word _ _ _ _ e))
-not_gone (cells.Text t ∷ some) objects h e = omega (arith, first 116 103 (58 ∷ percent_encode ESCAPED t) (codes "one") (first_word _ _ _ _ e))
+-- cells, and objects of any kind behind them, each of which its word tells
+module _ {X : Type 0} (word : X → List ℕ) (Has : X → Type 0) (same : (a b : X) → Has a → Has b → word a ≡ word b → a ≡ b)
+    (apart : (cell : Cell) (x : X) → HasCellText cell → cell_word cell ≡ word x → ⊥) where
+  objects_same : (xs ys : List X) → AllByRecursion Has xs → AllByRecursion Has ys → map word xs ≡ map word ys → xs ≡ ys
+  objects_same [] [] p q e = refl
+  objects_same [] (y ∷ ys) p q e = absurd cc
+  objects_same (x ∷ xs) [] p q e = absurd cc
+  objects_same (x ∷ xs) (y ∷ ys) p q e = cc (same x y p.0 q.0 (cc), objects_same xs ys p.1 q.1 (cc))
+
+  pub values_same : (xs ys : List Cell) (os ps : List X) → AllByRecursion HasCellText xs → AllByRecursion HasCellText ys → AllByRecursion Has os → AllByRecursion Has ps
+      → map cell_word xs ++ map word os ≡ map cell_word ys ++ map word ps → (xs ≡ ys) × (os ≡ ps)
+  values_same [] [] os ps p q h k e = (refl, objects_same os ps h k e)
+  values_same [] (y ∷ ys) [] ps p q h k e = absurd cc
+  values_same [] (y ∷ ys) (o ∷ os) ps p q h k e = absurd (apart y o q.0 (cc))
+  values_same (x ∷ xs) [] os [] p q h k e = absurd cc
+  values_same (x ∷ xs) [] os (o ∷ ps) p q h k e = absurd (apart x o p.0 (cc))
+  values_same (x ∷ xs) (y ∷ ys) os ps p q h k e =
+      let first = cell_same x y p.0 q.0 (cc) in
+      let more = values_same xs ys os ps p.1 q.1 h k (cc) in
+      (cc (first, more.0), more.1)
+
+  pub not_gone : ((x : X) → word x ≡ codes "gone" → ⊥) → (some : List Cell) (objects : List X) → AllByRecursion HasCellText some → map cell_word some ++ map word objects ≡ codes "gone" ∷ [] → ⊥
+  not_gone other [] [] h e = cc
+  not_gone other [] (object ∷ objects) h e = other object (cc)
+  not_gone other (cell ∷ some) objects h e = no_cell cell 103 (codes "one") h.0 (omega arith) (omega arith) (cc)
+
+pub object_not_gone : (object : List ℕ) → object_word object ≡ codes "gone" → ⊥
+object_not_gone object e = omega (arith, first 104 103 (58 ∷ encode_lower object) (codes "one") e)
+
+pub sum_not_gone : (object : ObjectSum) → sum_word object ≡ codes "gone" → ⊥
+sum_not_gone object e = omega (arith, first 111 103 (58 ∷ (decimal object.len ++ 58 ∷ encode_lower object.sha256)) (codes "one") e)
+
+-- a row's objects are whole, or by their digests
+pub kinds_apart : (some more : List Cell) (objects : List (List ℕ)) (sums : List ObjectSum) → AllByRecursion HasCellText some → AllByRecursion HasCellText more → HasObject sums
+    → map cell_word some ++ map object_word objects ≡ map cell_word more ++ map sum_word sums → ⊥
+kinds_apart some more objects [] p q h e = h
+kinds_apart [] [] [] (y ∷ sums) p q h e = cc
+kinds_apart [] [] (x ∷ objects) (y ∷ sums) p q h e =
+    omega (arith, first 104 111 (58 ∷ encode_lower x) (58 ∷ (decimal y.len ++ 58 ∷ encode_lower y.sha256)) (first_word _ _ _ _ e))
+kinds_apart [] (y ∷ more) [] (z ∷ sums) p q h e = cc
+kinds_apart [] (y ∷ more) (x ∷ objects) (z ∷ sums) p q h e = no_object y x q.0 (sym (first_word _ _ _ _ e))
+kinds_apart (x ∷ some) [] objects (y ∷ sums) p q h e = no_sum x y p.0 (first_word _ _ _ _ e)
+kinds_apart (x ∷ some) (y ∷ more) objects (z ∷ sums) p q h e = kinds_apart some more objects (z ∷ sums) p.1 q.1 h (cc)

@@ -20,6 +20,10 @@ use Rattle.table_model.specs.declared.line.Fact.{Fact}
 use Rattle.table_model.specs.declared.line.Fact.TheVariants as facts
 use Rattle.table_model.specs.declared.line.TextLine.{TextLine}
 use Rattle.table_model.specs.declared.line.TextLine.TheVariants as lines
+use Rattle.table_model.specs.declared.sum.ObjectSum.{ObjectSum}
+use Rattle.table_model.specs.declared.sum.RowSum.{RowSum}
+use Rattle.table_model.specs.declared.sum.ShownSum.{ShownSum}
+use Rattle.table_model.specs.declared.sum.ShownSum.TheVariants as sums
 
 abbrev pub AreBytes : List ℕ → Type 0
 AreBytes bytes = AllByRecursion (λ b. b < 256) bytes
@@ -54,10 +58,29 @@ abbrev pub HasShownText : Shown → Type 0
 HasShownText (Clean version content) = (version < 2 ^ 64) × HasContentText content
 HasShownText (Mine number content) = (number < 2 ^ 64) × HasContentText content
 
+pub record HasSumText (object : ObjectSum) : Type 0 where
+  pub len : object.len < 2 ^ 64
+  pub sha256 : AreBytes object.sha256
+
+-- with an object; a row without one has the text of a row that is shown as it is
+abbrev pub HasObject : List ObjectSum → Type 0
+HasObject [] = ⊥
+HasObject (object ∷ objects) = Unit {0}
+
+pub record HasRowSumText (row : RowSum) : Type 0 where
+  pub cells : AllByRecursion HasCellText row.cells
+  pub objects : AllByRecursion HasSumText row.objects
+  pub some : HasObject row.objects
+
+abbrev pub HasShownSumText : ShownSum → Type 0
+HasShownSumText (sums.Clean version row) = (version < 2 ^ 64) × HasRowSumText row
+HasShownSumText (sums.Mine number row) = (number < 2 ^ 64) × HasRowSumText row
+
 abbrev pub HasAnswerText : Answer → Type 0
 HasAnswerText answers.Done = Unit {0}
 HasAnswerText (answers.Number number) = number < 2 ^ 64
 HasAnswerText (answers.Shown shown) = HasShownText shown
+HasAnswerText (answers.Sums sum) = HasShownSumText sum
 HasAnswerText (answers.Stored version content) = (version < 2 ^ 64) × HasContentText content × HasValue content
 HasAnswerText (answers.Refused refusal) = HasRefusalText refusal
 

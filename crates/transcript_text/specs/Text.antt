@@ -26,6 +26,10 @@ use Rattle.table_model.specs.declared.line.Fact.{Fact}
 use Rattle.table_model.specs.declared.line.Fact.TheVariants as facts
 use Rattle.table_model.specs.declared.line.TextLine.{TextLine}
 use Rattle.table_model.specs.declared.line.TextLine.TheVariants as lines
+use Rattle.table_model.specs.declared.sum.ObjectSum.{ObjectSum}
+use Rattle.table_model.specs.declared.sum.RowSum.{RowSum}
+use Rattle.table_model.specs.declared.sum.ShownSum.{ShownSum}
+use Rattle.table_model.specs.declared.sum.ShownSum.TheVariants as sums
 
 -- each value has a space before it
 abbrev pub cell_text : Cell → List ℕ
@@ -41,6 +45,13 @@ abbrev pub content_text : Content → List ℕ
 content_text Gone = codes " gone"
 content_text (Row some objects) = flat_map cell_text some ++ flat_map object_text objects
 
+-- an object's length and its digest
+abbrev pub sum_text : ObjectSum → List ℕ
+sum_text object = codes " o:" ++ (decimal object.len ++ (codes ":" ++ encode_lower object.sha256))
+
+abbrev pub row_sum_text : RowSum → List ℕ
+row_sum_text row = flat_map cell_text row.cells ++ flat_map sum_text row.objects
+
 abbrev pub refusal_text : Refusal → List ℕ
 refusal_text (refusals.TooManyChunks count) = codes "no 9 " ++ decimal count
 refusal_text (refusals.BadCell column) = codes "no 10 " ++ decimal column
@@ -54,10 +65,15 @@ abbrev pub shown_text : Shown → List ℕ
 shown_text (Clean version content) = codes "ok clean " ++ (decimal version ++ content_text content)
 shown_text (Mine number content) = codes "ok mine " ++ (decimal number ++ content_text content)
 
+abbrev pub shown_sum_text : ShownSum → List ℕ
+shown_sum_text (sums.Clean version row) = codes "ok clean " ++ (decimal version ++ row_sum_text row)
+shown_sum_text (sums.Mine number row) = codes "ok mine " ++ (decimal number ++ row_sum_text row)
+
 abbrev pub answer_text : Answer → List ℕ
 answer_text answers.Done = codes "ok"
 answer_text (answers.Number number) = codes "ok " ++ decimal number
 answer_text (answers.Shown shown) = shown_text shown
+answer_text (answers.Sums sum) = shown_sum_text sum
 answer_text (answers.Stored version content) = codes "ok " ++ (decimal version ++ content_text content)
 answer_text (answers.Refused refusal) = refusal_text refusal
 

@@ -3,6 +3,7 @@ ghost use Rattle.std.specs.List.{flat_map};
 ghost use Rattle.std.specs.String.{string_bytes};
 ghost use Rattle.table_model.specs.declared.line.Fact.TheVariants as facts;
 ghost use Rattle.transcript_text.specs.Text.{cell_text, object_text, content_text, refusal_text, shown_text};
+ghost use Rattle.transcript_text.specs.Text.{sum_text, row_sum_text, shown_sum_text};
 ghost use Rattle.transcript_text.specs.Text.{answer_text, write_text, node_text, message_text, entry_text, fact_text};
 ghost use Rattle.transcript_text.specs.Text.{text_of, stop_text};
 
@@ -10,6 +11,7 @@ use percent_encoding::{AsciiSet, NON_ALPHANUMERIC, ascii_set, percent_encode};
 use row_value::{Bytes, Cell, Cells, Content, Objects, TableNo};
 use std::alloc::{AllocError, Global};
 use table_model::{Answer, Entry, Fact, MessageName, Node, Refusal, Shown, TextLine, Write};
+use table_model::{ObjectSum, ObjectSums, RowSum, ShownSum};
 
 /// The bytes of a text cell that are written as `%` and two hex digits: all but the unreserved characters of RFC 3986,
 /// section 2.3.
@@ -73,6 +75,30 @@ fn put_content(alloc: Global, out: &mut String, content: &Content) -> Result<(),
     }
 }
 
+fn put_sum(alloc: Global, out: &mut String, object: &ObjectSum) -> Result<(), AllocError>
+    ensures { OnOk result (string_bytes out.new ≡ string_bytes out.old ++ sum_text object.now) }
+{
+    let len = object.len;
+    let digits = hex::encode(alloc, object.sha256)?;
+    write!(out, " o:{len}:{digits}")
+}
+
+fn put_sums(alloc: Global, out: &mut String, objects: &ObjectSums) -> Result<(), AllocError>
+    ensures { OnOk result (string_bytes out.new ≡ string_bytes out.old ++ flat_map sum_text objects.now) }
+{
+    for object in objects.as_slice() {
+        put_sum(alloc, out, object)?;
+    }
+    Ok(())
+}
+
+fn put_row_sum(alloc: Global, out: &mut String, row: &RowSum) -> Result<(), AllocError>
+    ensures { OnOk result (string_bytes out.new ≡ string_bytes out.old ++ row_sum_text row.now) }
+{
+    put_cells(out, &row.cells)?;
+    put_sums(alloc, out, &row.objects)
+}
+
 fn put_refusal(out: &mut String, refusal: Refusal) -> Result<(), AllocError>
     ensures { OnOk result (string_bytes out.new ≡ string_bytes out.old ++ refusal_text refusal) }
 {
@@ -102,6 +128,21 @@ fn put_shown(alloc: Global, out: &mut String, shown: &Shown) -> Result<(), Alloc
     }
 }
 
+fn put_shown_sum(alloc: Global, out: &mut String, sum: &ShownSum) -> Result<(), AllocError>
+    ensures { OnOk result (string_bytes out.new ≡ string_bytes out.old ++ shown_sum_text sum.now) }
+{
+    match sum {
+        ShownSum::Clean { version, row } => {
+            write!(out, "ok clean {version}")?;
+            put_row_sum(alloc, out, row)
+        }
+        ShownSum::Mine { number, row } => {
+            write!(out, "ok mine {number}")?;
+            put_row_sum(alloc, out, row)
+        }
+    }
+}
+
 fn put_answer(alloc: Global, out: &mut String, answer: &Answer) -> Result<(), AllocError>
     ensures { OnOk result (string_bytes out.new ≡ string_bytes out.old ++ answer_text answer.now) }
 {
@@ -109,6 +150,7 @@ fn put_answer(alloc: Global, out: &mut String, answer: &Answer) -> Result<(), Al
         Answer::Done => out.push_str("ok"),
         Answer::Number(number) => write!(out, "ok {number}"),
         Answer::Shown(shown) => put_shown(alloc, out, shown),
+        Answer::Sums(sum) => put_shown_sum(alloc, out, sum),
         Answer::Stored { version, content } => {
             write!(out, "ok {version}")?;
             put_content(alloc, out, content)

@@ -4,6 +4,7 @@ use std::alloc::Global;
 use std::process::Abort;
 use std::test::Fail;
 use table_model::{Answer, Entry, Fact, MessageName, Node, Refusal, Shown, TextLine, Write};
+use table_model::{ObjectSum, RowSum, ShownSum};
 
 fn row(last: u8) -> RowId {
     RowId::from_bytes([0, 0, 0, 0, 0, 0, 0x40, 0, 0x80, 0, 0, 0, 0, 0, 0, last])
@@ -199,6 +200,43 @@ fn answers_show_rows(rt: HostRuntime) -> Result<(), Fail> {
     ];
     for (answer, text) in cases {
         check(&rt, alloc, &TextLine::Answer(answer), text)?;
+    }
+    Ok(())
+}
+
+/// A row with a number, and an object of this length with this byte in each place of its digest.
+fn sums(alloc: Global, len: usize, byte: u8) -> Result<RowSum, Fail> {
+    let mut cells = Sequence::new(alloc);
+    cells.push(Cell::Int(7))?;
+    let mut objects = Sequence::new(alloc);
+    objects.push(ObjectSum {
+        len,
+        sha256: [byte; 32],
+    })?;
+    Ok(RowSum { cells, objects })
+}
+
+#[test]
+fn objects_have_their_digests(rt: HostRuntime) -> Result<(), Fail> {
+    let alloc = rt.alloc();
+    let cases = [
+        (
+            ShownSum::Clean {
+                version: 2,
+                row: sums(alloc, 18446744073709551615, 0xad)?,
+            },
+            "ok clean 2 7 o:18446744073709551615:adadadadadadadadadadadadadadadadadadadadadadadadadadadadadadadad",
+        ),
+        (
+            ShownSum::Mine {
+                number: 1,
+                row: sums(alloc, 10, 0x0f)?,
+            },
+            "ok mine 1 7 o:10:0f0f0f0f0f0f0f0f0f0f0f0f0f0f0f0f0f0f0f0f0f0f0f0f0f0f0f0f0f0f0f0f",
+        ),
+    ];
+    for (sum, text) in cases {
+        check(&rt, alloc, &TextLine::Answer(Answer::Sums(sum)), text)?;
     }
     Ok(())
 }

@@ -9,8 +9,9 @@ use Rattle.row_value.specs.Fit.{fit_of}
 use Rattle.step_tables.specs.declared.slots.Main.{Main}
 use Rattle.step_tables.specs.declared.slots.InFlight.{InFlight}
 use Rattle.step_tables.specs.declared.slots.Shadow.{Shadow}
-use Rattle.step_tables.specs.Facts.{Answer, Shown}
+use Rattle.step_tables.specs.Facts.{Answer, Shown, ShownSum}
 use Rattle.step_tables.specs.Facts as facts
+use Rattle.step_tables.specs.Sums.{by_digests, or_whole, sum_of}
 use Rattle.step_tables.specs.Messages.{Request, Response, Pull, Pulled, Header, Pair, Outcome, Message, Send, SyncRequest, SyncResponse, PullRequest, PullResponse}
 use Rattle.step_tables.specs.Messages as messages
 use Rattle.stab_base.specs.declared.node.Node.{Node}
@@ -41,6 +42,25 @@ abbrev pub IsShow : Answer → Type 0
 IsShow (facts.Shows shown) = Unit {0}
 IsShow (facts.Refuses refusal) = Unit {0}
 IsShow other = ⊥
+
+-- the same by digests
+abbrev pub IsShowOrSum : Answer → Type 0
+IsShowOrSum (facts.Shows shown) = Unit {0}
+IsShowOrSum (facts.Sums sum) = Unit {0}
+IsShowOrSum (facts.Refuses refusal) = Unit {0}
+IsShowOrSum other = ⊥
+
+pub sum_form : (answer : Answer) → IsShow answer → IsShowOrSum (by_digests answer)
+sum_form (facts.Shows what) f = whole (sum_of what)
+  where
+    whole : (o : Option ShownSum) → IsShowOrSum (or_whole what o)
+    whole None = tt
+    whole (Some sum) = tt
+sum_form (facts.Refuses refusal) f = tt
+sum_form facts.Done f = absurd f
+sum_form (facts.Number number) f = absurd f
+sum_form (facts.Sums sum) f = absurd f
+sum_form (facts.Stores version content) f = absurd f
 
 module _ (c : ℕ) (d : ClientDisk) where
   strong_form : (table : ℕ) (row : List ℕ) (slots : Slots) (x : Content) (o : Option InFlight) → IsNumber (write_strong c d table row slots x o).answer

@@ -18,6 +18,7 @@ use Rattle.table_model.specs.declared.event.Event.TheVariants as events
 use Rattle.step_tables.specs.Store.{Stored, entries_of, current_of}
 use Rattle.step_tables.specs.Facts.{Fact, Answer, Refusal, Line, AnswerLine, EntryLine, FactLine}
 use Rattle.step_tables.specs.Facts as facts
+use Rattle.step_tables.specs.Sums.{by_digests}
 use Rattle.step_tables.specs.Members.{Among, put}
 use Rattle.step_tables.specs.Messages.{Message, Luck, SyncRequest, SyncResponse, PullRequest, PullResponse, table_of, name_of}
 use Rattle.step_tables.specs.Sayings.{Heard, nothing_heard, Said, nothing_said, hear, hear_all, hear_lines, says}
@@ -36,7 +37,7 @@ use Rattle.world_tables.specs.World.{move_table, after_client, move_there, move_
 use Rattle.world_tables.specs.World.{answering, answered, refused, silent, declared, opened, with_opened, open_all, new_client, joined, call_there, call, to_hosted, to_there, carried, delivered}
 use Rattle.world_tables.specs.World.{row_shown, store_shown, store_shows, entry_lines, history_lines, step, lines_of, lines_from, sent_lines}
 use Rattle.world_tables.specs.Turns.{Happening, Turn, turns_from}
-use Rattle.world_tables.specs.Sound.{scheme_for, IsAnswer, IsForm, IsCounted, IsAnswered, IsTurn, AreSaid, InSight, IsSoundFrom, IsSound, IsStored}
+use Rattle.world_tables.specs.Sound.{scheme_for, IsAnswer, IsForm, IsCounted, IsAnswered, IsTurn, AreSaid, InSight, IsSoundFrom, IsSound, IsStored, shown_of}
 use Rattle.world_laws.proofs.Told.{in_sight, nothing_told}
 use Rattle.world_laws.proofs.Kept.{KnownIn, IsFairPacket, Kept, MoveSound}
 use Rattle.world_laws.proofs.Kept as kept
@@ -45,8 +46,8 @@ use Rattle.world_laws.proofs.Looks.{look_cases}
 use Rattle.world_laws.proofs.ClientMoves.{ours, client_moves}
 use Rattle.world_laws.proofs.TableMoves.{ClientGrows, LapsedGrows}
 use Rattle.world_laws.proofs.StoreMoves.{table_moves}
-use Rattle.world_laws.proofs.Showings.{answer_shows, row_stored}
-use Rattle.world_laws.proofs.Forms.{IsNumber, IsDone, IsShow, write_form, show_form, sync_form, next_form, take_form, taken_form}
+use Rattle.world_laws.proofs.Showings.{show_sum, answer_shows, row_stored}
+use Rattle.world_laws.proofs.Forms.{IsNumber, IsDone, IsShow, IsShowOrSum, sum_form, write_form, show_form, sync_form, next_form, take_form, taken_form}
 
 -- what a client's crate gives besides
 abbrev pub ClientLaws : Type 0
@@ -187,6 +188,7 @@ module _ (client_law : ClientLaws) (client_grows : ClientGrows) (lapsed_grows : 
   number_form c table row x (facts.Refuses r) f = tt
   number_form c table row x facts.Done f = absurd f
   number_form c table row x (facts.Shows y) f = absurd f
+  number_form c table row x (facts.Sums y) f = absurd f
   number_form c table row x (facts.Stores v y) f = absurd f
 
   module _ (w : World) (s : Said) (k : Kept g w s) where
@@ -213,6 +215,7 @@ module _ (client_law : ClientLaws) (client_grows : ClientGrows) (lapsed_grows : 
         good (facts.Refuses r) f = record { form = tt; counts = refl; is = tt }
         good facts.Done f = absurd f
         good (facts.Shows y) f = absurd f
+        good (facts.Sums y) f = absurd f
         good (facts.Stores v y) f = absurd f
 
     show_sound : (c table : ℕ) (row : List ℕ) (lucks : List Luck) → StepSound s w (events.Show c table row) (call w c (client.Show table row) lucks)
@@ -223,6 +226,24 @@ module _ (client_law : ClientLaws) (client_grows : ClientGrows) (lapsed_grows : 
       where
         good : (a : Answer) → IsShow a → IsAnswer g s (events.Show c table row) a [] → IsGoodAnswer s (events.Show c table row) a
         good (facts.Shows y) f is = record { form = tt; counts = refl; is = is }
+        good (facts.Refuses r) f is = record { form = tt; counts = refl; is = is }
+        good (facts.Sums y) f is = absurd f
+        good facts.Done f is = absurd f
+        good (facts.Number n) f is = absurd f
+        good (facts.Stores v y) f is = absurd f
+
+    sum_sound : (c table : ℕ) (row : List ℕ) (lucks : List Luck) → StepSound s w (events.Sum c table row) (call w c (client.Sum table row) lucks)
+    sum_sound c table row lucks =
+        there_sound (events.Sum c table row) c (client.Sum table row) lucks (λ lines a. a) (record { form = tt; counts = refl; is = tt }) (record { form = tt; counts = refl; is = tt }) tt
+        (λ node at.
+        let shown : Answer = (client_step c node (client.Show table row)).answer in
+        let form : IsShow shown = show_form c node.disk node.agenda table row in
+        good (by_digests shown) (sum_form shown form)
+        (show_sum (shown_of g s c table row) shown form (answer_shows g w s k c table row shown (law_of w s k c node at (client.Show table row) tt).answer))) (client_at w c) refl
+      where
+        good : (a : Answer) → IsShowOrSum a → IsAnswer g s (events.Sum c table row) a [] → IsGoodAnswer s (events.Sum c table row) a
+        good (facts.Shows y) f is = record { form = tt; counts = refl; is = is }
+        good (facts.Sums y) f is = record { form = tt; counts = refl; is = is }
         good (facts.Refuses r) f is = record { form = tt; counts = refl; is = is }
         good facts.Done f is = absurd f
         good (facts.Number n) f is = absurd f
@@ -238,6 +259,7 @@ module _ (client_law : ClientLaws) (client_grows : ClientGrows) (lapsed_grows : 
         good (facts.Refuses r) f = record { form = tt; counts = refl; is = tt }
         good facts.Done f = absurd f
         good (facts.Shows y) f = absurd f
+        good (facts.Sums y) f = absurd f
         good (facts.Stores v y) f = absurd f
 
     pull_sound : (c table : ℕ) (lucks : List Luck) → StepSound s w (events.Pull c table) (call w c (client.Next table) lucks)
@@ -250,6 +272,7 @@ module _ (client_law : ClientLaws) (client_grows : ClientGrows) (lapsed_grows : 
         good (facts.Refuses r) f = record { form = tt; counts = refl; is = tt }
         good (facts.Number n) f = absurd f
         good (facts.Shows y) f = absurd f
+        good (facts.Sums y) f = absurd f
         good (facts.Stores v y) f = absurd f
 
     -- ---- deliveries
@@ -259,6 +282,7 @@ module _ (client_law : ClientLaws) (client_grows : ClientGrows) (lapsed_grows : 
     delivered_good n (facts.Refuses r) f = record { form = tt; counts = refl; is = tt }
     delivered_good n (facts.Number m) f = absurd f
     delivered_good n (facts.Shows y) f = absurd f
+    delivered_good n (facts.Sums y) f = absurd f
     delivered_good n (facts.Stores v y) f = absurd f
 
     store_fair : (from to : Node) (m : Message) → kept.IsFairMessage g s.heard k.items k.sent from to m
@@ -323,6 +347,7 @@ module _ (client_law : ClientLaws) (client_grows : ClientGrows) (lapsed_grows : 
         good facts.Done f z = absurd f
         good (facts.Number n) f z = absurd f
         good (facts.Shows y) f z = absurd f
+        good (facts.Sums y) f z = absurd f
 
     row_form : (table : ℕ) (row : List ℕ) (o : Option Stored) → IsForm (events.StoreShow table row) (row_shown o)
     row_form table row None = tt
@@ -475,6 +500,7 @@ module _ (client_law : ClientLaws) (client_grows : ClientGrows) (lapsed_grows : 
     step_sound (events.Client c gate tables) lucks first = join_sound c gate tables (client_at w c) refl
     step_sound (events.Write c table row x) lucks first = write_sound c table row x lucks
     step_sound (events.Show c table row) lucks first = show_sound c table row lucks
+    step_sound (events.Sum c table row) lucks first = sum_sound c table row lucks
     step_sound (events.Sync c table) lucks first = sync_sound c table lucks
     step_sound (events.Pull c table) lucks first = pull_sound c table lucks
     step_sound (events.Deliver n) lucks first = delivered_sound n lucks (slice_get w.packets n) refl
@@ -500,6 +526,7 @@ module _ (client_law : ClientLaws) (client_grows : ClientGrows) (lapsed_grows : 
   first_is w s k (events.Client c gate tables) es f = tt
   first_is w s k (events.Write c table row x) es f = tt
   first_is w s k (events.Show c table row) es f = tt
+  first_is w s k (events.Sum c table row) es f = tt
   first_is w s k (events.Sync c table) es f = tt
   first_is w s k (events.Pull c table) es f = tt
   first_is w s k (events.Deliver n) es f = tt
@@ -521,6 +548,7 @@ module _ (client_law : ClientLaws) (client_grows : ClientGrows) (lapsed_grows : 
   scheme_on w (events.Client c gate tables) lucks es table none = refl
   scheme_on w (events.Write c t row x) lucks es table none = refl
   scheme_on w (events.Show c t row) lucks es table none = refl
+  scheme_on w (events.Sum c t row) lucks es table none = refl
   scheme_on w (events.Sync c t) lucks es table none = refl
   scheme_on w (events.Pull c t) lucks es table none = refl
   scheme_on w (events.Deliver n) lucks es table none = refl

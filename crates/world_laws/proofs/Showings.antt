@@ -12,8 +12,9 @@ use Rattle.table_model.specs.History.{current}
 use Rattle.step_tables.specs.declared.slots.Main.{Main}
 use Rattle.step_tables.specs.declared.slots.Shadow.{Shadow}
 use Rattle.step_tables.specs.Store.{Stored, entries_of, current_of}
-use Rattle.step_tables.specs.Facts.{Answer, Shown}
+use Rattle.step_tables.specs.Facts.{Answer, Refusal, Shown, ShownSum}
 use Rattle.step_tables.specs.Facts as facts
+use Rattle.step_tables.specs.Sums.{by_digests, or_whole, sum_of}
 use Rattle.step_tables.specs.Members.{Among}
 use Rattle.step_tables.specs.Sayings.{RowHeard, Said, write_of, open_of, open_in}
 use Rattle.step_tables.specs.StoreMoves.{version_of}
@@ -25,9 +26,10 @@ use Rattle.store_laws.proofs.Items.{above, current_is}
 use Rattle.client_laws.specs.Part.{main_for, RowTied, ShowsRow}
 use Rattle.client_laws.specs.Part as part
 use Rattle.world_tables.specs.World.{World, row_shown}
-use Rattle.world_tables.specs.Sound.{entry_at, content_of, content_at, clean, mine, shown_by, shown_of, IsShown, IsStored}
+use Rattle.world_tables.specs.Sound.{entry_at, content_of, content_at, clean, mine, shown_by, shown_of, IsShown, IsSum, IsStored}
 use Rattle.world_laws.proofs.Kept.{KnownIn, Kept}
 use Rattle.world_laws.proofs.Changes as changes
+use Rattle.world_laws.proofs.Forms.{IsShow}
 
 entry_above : (n v : ℕ) (h : List Stored) → Counts n h → v ≤ n → entry_at v (entries_of h) ≡ None
 entry_above n v [] c le = refl
@@ -36,6 +38,23 @@ entry_above n v (x ∷ h) c le = grind (arith, nat_tests, entry_above (n + 1) v 
 entry_stands : (n : ℕ) (h : List Stored) (i : Stored) → Counts n h → Among h i → entry_at i.entry.version (entries_of h) ≡ Some i.entry
 entry_stands n [] i c a = absurd (among_none i a)
 entry_stands n (x ∷ h) i c a = grind (arith, nat_tests, among_cons x h i a, above (n + 1) h i c.1, c.0, entry_stands (n + 1) h i c.1)
+
+-- where an answer is `show`'s, the same by digests is `sum`'s
+pub show_sum : (what : Option Shown) (answer : Answer) → IsShow answer → IsShown what answer → IsSum what (by_digests answer)
+show_sum what (facts.Shows shown) f is = subst (λ (o : Option Shown). IsSum o (by_digests (facts.Shows shown))) (sym is) (whole (sum_of shown) refl)
+  where
+    whole : (o : Option ShownSum) → sum_of shown ≡ o → IsSum (Some shown) (or_whole shown o)
+    whole None e = ap (λ (o : Option ShownSum). Some (or_whole shown o)) e
+    whole (Some sum) e = ap (λ (o : Option ShownSum). Some (or_whole shown o)) e
+show_sum what (facts.Refuses refusal) f is = refused refusal is
+  where
+    refused : (r : Refusal) → IsShown what (facts.Refuses r) → IsSum what (facts.Refuses r)
+    refused facts.NoRow is = is
+    refused other is = tt
+show_sum what facts.Done f is = absurd f
+show_sum what (facts.Number number) f is = absurd f
+show_sum what (facts.Sums sum) f is = absurd f
+show_sum what (facts.Stores version content) f is = absurd f
 
 module _ (g : ℕ → Scheme) (w : World) (s : Said) (k : Kept g w s) where
   -- the content of an item's version

@@ -72,6 +72,7 @@ Spends w (events.Store store) = ⊥
 Spends w (events.Table table schema) = ⊥
 Spends w (events.Client client gate tables) = ⊥
 Spends w (events.Show client table row) = ⊥
+Spends w (events.Sum client table row) = ⊥
 Spends w (events.Sync client table) = ⊥
 Spends w (events.Pull client table) = ⊥
 Spends w (events.StoreShow table row) = ⊥

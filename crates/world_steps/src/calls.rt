@@ -1,6 +1,6 @@
 //! The calls of a client's node, and what a client that they are made of answers.
 ghost use Rattle.std.specs.Prelude.{◌≡◌, IfOk, IfErr, OnOk, Some};
-ghost use Rattle.step_tables.specs.Client.{answered, write_step, show_step, sync_step, pull_step};
+ghost use Rattle.step_tables.specs.Client.{answered, write_step, show_step, sum_step, sync_step, pull_step};
 ghost use Rattle.client_core.specs.State.{stepped};
 ghost use Rattle.world_steps.specs.Holds.{SpendsNumber};
 ghost use Rattle.world_steps.specs.Calls.{refusal_in, IsNumberCause};
@@ -57,6 +57,18 @@ pub(crate) fn show(node: &ClientNode, table: TableNo, row: RowId) -> Result<Answ
 {
     match node.read(table, row) {
         Ok(shown) => Ok(Answer::Shown(shown)),
+        Err(fault) => Ok(Answer::Refused(refusal_of(fault)?)),
+    }
+}
+
+/// Shows a row, its objects by their digests: what the client answers.
+#[tactic(auto, using(crate::proofs::Refusals::call_refused))]
+pub(crate) fn sum(node: &ClientNode, table: TableNo, row: RowId) -> Result<Answer, WorldFault>
+    ensures answer { IfOk result (λ answer. sum_step node.now.client table row ≡ answered node.now.client answer) }
+    ensures memory { IfErr result (λ fault. fault ≡ WorldFault.Memory) }
+{
+    match node.sum(table, row) {
+        Ok(answer) => Ok(answer),
         Err(fault) => Ok(Answer::Refused(refusal_of(fault)?)),
     }
 }

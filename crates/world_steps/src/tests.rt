@@ -16,6 +16,7 @@ enum Seen {
     Number(u64),
     Mine { number: WriteNo, cell: i64 },
     Clean { version: Version, cell: i64 },
+    Summed,
     Stored { version: Version, cell: i64 },
     Refused(Refusal),
     Entry(Version),
@@ -34,6 +35,7 @@ enum Step {
     Client(u32),
     Write(u32, i64),
     Show(u32),
+    Sum(u32),
     Sync(u32),
     Pull(u32),
     Deliver(u64),
@@ -42,9 +44,10 @@ enum Step {
 }
 
 use Seen::{
-    Accepted, Acked, Clean, Done, Entry, Mine, New, Number, Position, Refused, Sent, Stored, Wrote,
+    Accepted, Acked, Clean, Done, Entry, Mine, New, Number, Position, Refused, Sent, Stored,
+    Summed, Wrote,
 };
-use Step::{Client, Deliver, History, Pull, Show, StoreShow, Sync, Table, Write};
+use Step::{Client, Deliver, History, Pull, Show, StoreShow, Sum, Sync, Table, Write};
 
 fn cell_in(content: &Content) -> i64 {
     let Content::Row { cells, .. } = content else {
@@ -68,6 +71,7 @@ fn seen_answer(answer: &Answer) -> Seen {
             version: *version,
             cell: cell_in(content),
         },
+        Answer::Sums(_) => Summed,
         Answer::Stored { version, content } => Stored {
             version: *version,
             cell: cell_in(content),
@@ -152,6 +156,11 @@ fn event(alloc: Global, step: Step) -> Result<Event, AllocError> {
             table,
             row: row(1),
         },
+        Sum(client) => Event::Sum {
+            client,
+            table,
+            row: row(1),
+        },
         Sync(client) => Event::Sync { client, table },
         Pull(client) => Event::Pull { client, table },
         Deliver(packet) => Event::Deliver { packet },
@@ -174,7 +183,7 @@ fn lines_of(world: &mut World, event: &Event) -> Result<[Option<Seen>; 3], World
 }
 
 /// An old request that comes again behind a newer one is answered, and changes nothing.
-const LATE_REPEAT: [(Step, [Option<Seen>; 3]); 14] = [
+const LATE_REPEAT: [(Step, [Option<Seen>; 3]); 15] = [
     (Table, [None, None, None]),
     (Client(1), [None, None, None]),
     (Write(1, 5), [Some(Number(1)), Some(Wrote(1)), None]),
@@ -197,6 +206,7 @@ const LATE_REPEAT: [(Step, [Option<Seen>; 3]); 14] = [
         ],
     ),
     (Show(1), [Some(Mine { number: 2, cell: 6 }), None, None]),
+    (Sum(1), [Some(Mine { number: 2, cell: 6 }), None, None]),
     (Deliver(4), [Some(Done), None, None]),
     (
         History(TABLE),
@@ -248,9 +258,10 @@ const READ_BY_ANOTHER: [(Step, [Option<Seen>; 3]); 16] = [
 ];
 
 /// Nothing is declared.
-const NOWHERE: [(Step, [Option<Seen>; 3]); 5] = [
+const NOWHERE: [(Step, [Option<Seen>; 3]); 6] = [
     (Write(1, 5), [Some(Refused(Refusal::NoTable)), None, None]),
     (Show(1), [Some(Refused(Refusal::NoTable)), None, None]),
+    (Sum(1), [Some(Refused(Refusal::NoTable)), None, None]),
     (StoreShow(1), [Some(Refused(Refusal::NoTable)), None, None]),
     (
         History(TABLE),

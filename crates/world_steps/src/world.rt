@@ -1,6 +1,6 @@
 ghost use Rattle.std.specs.Prelude.{◌≡◌, [], ◌∷◌, ◌++◌, List, length, slice_get, IfOk, IfErr, OnOk, None};
 ghost use Rattle.table_model.specs.declared.event.Event.{Event as AnEvent};
-ghost use Rattle.step_tables.specs.Client.{Client, write_step, show_step, sync_step, pull_step};
+ghost use Rattle.step_tables.specs.Client.{Client, write_step, show_step, sum_step, sync_step, pull_step};
 ghost use Rattle.run_laws.specs.World.{World as AWorld, start, step, declared, joined, open_all, with_opened, call};
 ghost use Rattle.run_laws.specs.World.{delivered, store_shows, history_lines, answer_lines, entry_lines, sent_from};
 ghost use Rattle.run_laws.specs.World.{schema_at, stored_at, client_at};
@@ -78,6 +78,7 @@ impl World {
                 content,
             } => self.write(*client, *table, *row, content),
             Event::Show { client, table, row } => self.show(*client, *table, *row),
+            Event::Sum { client, table, row } => self.sum(*client, *table, *row),
             Event::Sync { client, table } => self.sync(*client, *table),
             Event::Pull { client, table } => self.pull(*client, *table),
             Event::Deliver { packet } => self.deliver(*packet),
@@ -232,6 +233,19 @@ impl World {
             return self.only(Answer::Refused(Refusal::NoTable));
         };
         self.only(calls::show(node, table, row)?)
+    }
+
+    fn sum(&self, client: ClientNo, table: TableNo, row: RowId) -> Result<Lines, WorldFault>
+        ensures lines { (w : AWorld) → Holds w self.now
+            → IfOk result (λ lines. lines ≡ (call w client (λ node. sum_step node table row)).lines) }
+        ensures world { (w : AWorld) → Holds w self.now
+            → OnOk result (Holds (call w client (λ node. sum_step node table row)).world self.now) }
+        ensures memory { IfErr result (λ fault. fault ≡ WorldFault.Memory) }
+    {
+        let Some(node) = self.clients.get(&client) else {
+            return self.only(Answer::Refused(Refusal::NoTable));
+        };
+        self.only(calls::sum(node, table, row)?)
     }
 
     fn sync(&mut self, client: ClientNo, table: TableNo) -> Result<Lines, WorldFault>

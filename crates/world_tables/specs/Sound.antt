@@ -12,6 +12,7 @@ use Rattle.table_model.specs.declared.line.Write.{Write}
 use Rattle.table_model.specs.History.{current}
 use Rattle.step_tables.specs.Facts.{Fact, Answer, Shown, Line, AnswerLine, EntryLine, FactLine}
 use Rattle.step_tables.specs.Facts as facts
+use Rattle.step_tables.specs.Sums.{sum_answer}
 use Rattle.step_tables.specs.Members.{Among}
 use Rattle.step_tables.specs.Sayings.{Saying, SaysNothing, SaysWrite, SaysEntry, SaysBack, SaysAck, SaysLoss}
 use Rattle.step_tables.specs.Sayings.{SaysConflict, SaysResolved, SaysRead, SaysPosition, says, RowHeard, Heard, Said}
@@ -166,6 +167,12 @@ IsShown what (facts.Shows shown) = what ≡ Some shown
 IsShown what (facts.Refuses facts.NoRow) = what ≡ None
 IsShown what other = Unit {0}
 
+-- where a `show` would show this, or nothing, a `sum` shows it by digests, and says so exactly there
+abbrev pub IsSum : Option Shown → Answer → Type 0
+IsSum what (facts.Refuses facts.NoRow) = what ≡ None
+IsSum what (facts.Refuses refusal) = Unit {0}
+IsSum what answer = option_map sum_answer what ≡ Some answer
+
 -- what the Store has of a row: its last entry with its content, and nothing where there is none
 abbrev pub IsStored : Said → ℕ → List ℕ → Answer → Type 0
 IsStored s table row (facts.Stores version content) =
@@ -173,10 +180,11 @@ IsStored s table row (facts.Stores version content) =
 IsStored s table row (facts.Refuses facts.NoRow) = current (s.history table) row ≡ 0
 IsStored s table row other = Unit {0}
 
--- an answer with the lines that it counts: a `show` gives what the client's lines make it show, the Store gives its
--- rows and histories as its lines make them
+-- an answer with the lines that it counts: a `show` gives what the client's lines make it show, a `sum` gives it by
+-- digests, the Store gives its rows and histories as its lines make them
 abbrev pub IsAnswer : (ℕ → Scheme) → Said → Event → Answer → List Line → Type 0
 IsAnswer g s (events.Show client table row) answer counted = IsShown (shown_of g s client table row) answer
+IsAnswer g s (events.Sum client table row) answer counted = IsSum (shown_of g s client table row) answer
 IsAnswer g s (events.StoreShow table row) answer counted = IsStored s table row answer
 IsAnswer g s (events.History table) (facts.Number number) counted =
     (number ≡ length (s.history table)) × (counted ≡ entry_lines table (s.history table))
@@ -195,6 +203,8 @@ abbrev pub IsForm : Event → Answer → Type 0
 IsForm event (facts.Refuses refusal) = Unit {0}
 IsForm (events.Write client table row content) (facts.Number number) = Unit {0}
 IsForm (events.Show client table row) (facts.Shows what) = Unit {0}
+IsForm (events.Sum client table row) (facts.Shows what) = Unit {0}
+IsForm (events.Sum client table row) (facts.Sums sum) = Unit {0}
 IsForm (events.Sync client table) (facts.Number number) = Unit {0}
 IsForm (events.Pull client table) facts.Done = Unit {0}
 IsForm (events.Deliver packet) facts.Done = Unit {0}

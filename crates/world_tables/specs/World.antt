@@ -110,6 +110,7 @@ abbrev pub is_fault : Answer → Bool
 is_fault facts.Done = false
 is_fault (facts.Number number) = false
 is_fault (facts.Shows shown) = false
+is_fault (facts.Sums sum) = false
 is_fault (facts.Stores version content) = false
 is_fault (facts.Refuses refusal) = is_device refusal
   where
@@ -326,6 +327,7 @@ step w (events.Table table schema) lucks = silent (declared w table schema (host
 step w (events.Client c gate tables) lucks = silent (joined w c tables (client_at w c))
 step w (events.Write c table row content) lucks = call w c (client.Write table row content) lucks
 step w (events.Show c table row) lucks = call w c (client.Show table row) lucks
+step w (events.Sum c table row) lucks = call w c (client.Sum table row) lucks
 step w (events.Sync c table) lucks = call w c (client.Sync table) lucks
 step w (events.Pull c table) lucks = call w c (client.Next table) lucks
 step w (events.Deliver packet) lucks = delivered w lucks (slice_get w.packets packet)

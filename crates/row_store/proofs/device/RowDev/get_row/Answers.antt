@@ -1,5 +1,6 @@
-use Rattle.std.proofs.Common.{◌≡◌, [], get_or, Some, Ok, refl, sym, ◌∙◌, ap}
+use Rattle.std.proofs.Common.{◌≡◌, ◌≤◌, ℕ, List, [], length, get_or, Some, Ok, refl, sym, ◌∙◌, ap, subst}
 use Rattle.std.proofs.lemmas.Option.{get_or_from_slice_get}
+use Rattle.vault.specs.Limit.{payload_most}
 use Rattle.vault.specs.Standing.{payloads}
 use Rattle.std.proofs.lemmas.Result.{err_from_is_err_and}
 use Rattle.vault.proofs.Devices.{reads_none, reads_failed, reads_short, reads_done}
@@ -11,6 +12,7 @@ use Rattle.row_store.specs.Reading.{row_in}
 use Rattle.row_store.specs.Data.{data_of}
 use Rattle.row_store.specs.Memory.{Fits, HasSpare, row_at, stored_or}
 use Rattle.row_store.specs.Standing.{vault_of}
+use Rattle.row_store.proofs.Found.{short_at}
 use Rattle.row_store.proofs.device.RowDev.get_row.Goals as goal
 
 pub returns-in_default-clause-reads : goal.returns-in_default-clause-reads
@@ -47,3 +49,12 @@ returns-clause-row g c =
     let read : row_in (get_or ps place.index []) ≡ Ok c.in_ok-stored.stored = ap row_in found ∙ c.in_ok-stored.ensures.row in
     let same : row_at ps place ≡ c.in_ok-stored.stored = ap stored_or read in
     c.in-Some.ensures.some c.if-is_down.ensures ∙ ap (λ (s : StoredRow). Some s) same
+
+pub returns-clause-short : goal.returns-clause-short
+returns-clause-short g c =
+    let ps = payloads g.D.Disk.state (vault_of c.args.self.now) in
+    let place = c.in-Some.place in
+    let is = c.in-Some.ensures.place c.if-is_down.ensures in
+    let found : get_or ps place.index [] ≡ c.deref.result.now = get_or_from_slice_get ps place.index c.read.new.self.found.items [] c.in_ok-read.ensures.payload ∙ sym c.deref.ensures.value in
+    let ready = c.requires.ready c.if-is_down.ensures in
+    subst (λ (l : List ℕ). length l ≤ payload_most) (found ∙ sym c.in_ok-stored.ensures.same) (short_at ps place.index ready.vault.ends.front.short is.within)

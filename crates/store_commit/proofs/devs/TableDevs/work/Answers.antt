@@ -1,8 +1,16 @@
-use Rattle.std.proofs.Common.{◌≡◌, ◌∷◌, ◌++◌, List, map, Option, Ok, Err, refl, sym, ◌∙◌, ap, subst}
+use Rattle.std.proofs.Common.{◌≡◌, [], ◌∷◌, ◌++◌, List, map, length, arith, rules, Option, Ok, Err, refl, sym, ◌∙◌, ap, subst}
 use Rattle.std.specs.Prelude.{option_to_list}
+use Rattle.std.proofs.lemmas.Bool.Decides.{nat_tests}
+use Rattle.std.proofs.lemmas.Bool.{eqb-true}
+use Rattle.std.proofs.lemmas.Grind.{common_steps}
+use Rattle.std.proofs.lemmas.List.{nil_from_length}
 use Rattle.store_commit.specs.declared.task.Task.{Task}
-use Rattle.store_commit.specs.Standing.{write_of, writes_of, IsReady, WorksOn}
+use Rattle.stab_base.specs.declared.step.Step.TheVariants.{Idle}
+use Rattle.store_commit.specs.Devs.{Write}
+use Rattle.store_commit.specs.Agenda.{Runs, IsMoment, IsRecovering}
+use Rattle.store_commit.specs.Standing.{write_of, writes_of, devs, IsReady, WorksOn}
 use Rattle.store_commit.proofs.Works.{works_named, works_failed, same_ready, same_works}
+use Rattle.store_commit.proofs.Moments.{goes_on}
 use Rattle.store_commit.proofs.devs.TableDevs.work.Goals as goal
 
 pub perform-requires-clause-ready : goal.perform-requires-clause-ready
@@ -34,3 +42,41 @@ returns-in-Err-clause-works g c up =
     let works = same_works s i old _ refl refl refl w ws c.perform.new.self (Err c.in-Err.fault) (works_failed s i w ws _ c.perform.new.self c.in-Err.fault c.in-Err.ensures.works) in
     let rest : writes_of c.perform.new.self ≡ ws = ap (λ a. map write_of a.items) c.perform.ensures.agenda in
     subst (λ (l : List Task). WorksOn s i old c.perform.new.self (Err c.in-Err.fault) (map write_of l)) (sym items) (works, rest, tt)
+
+pub returns-in-Ok-clause-updating : goal.returns-in-Ok-clause-updating
+returns-in-Ok-clause-updating g c meaning before stored up runs =
+    let old = c.args.self.now in
+    goes_on g.D.Disk.state g.D.Disk.images g.met.D.Disk.only_now (IsMoment meaning before stored) old c.perform.new.self (Ok c.step-step.result) (writes_of old) refl (c.requires.ready up) (returns-in-Ok-clause-works g c up) runs
+
+pub returns-in-Ok-clause-recovering : goal.returns-in-Ok-clause-recovering
+returns-in-Ok-clause-recovering g c meaning before up runs =
+    let old = c.args.self.now in
+    goes_on g.D.Disk.state g.D.Disk.images g.met.D.Disk.only_now (IsRecovering meaning before) old c.perform.new.self (Ok c.step-step.result) (writes_of old) refl (c.requires.ready up) (returns-in-Ok-clause-works g c up) runs
+
+pub returns-in-Err-clause-updating : goal.returns-in-Err-clause-updating
+returns-in-Err-clause-updating g c meaning before stored up runs =
+    let old = c.args.self.now in
+    goes_on g.D.Disk.state g.D.Disk.images g.met.D.Disk.only_now (IsMoment meaning before stored) old c.perform.new.self (Err c.in-Err.fault) (writes_of old) refl (c.requires.ready up) (returns-in-Err-clause-works g c up) runs
+
+pub returns-in-Err-clause-recovering : goal.returns-in-Err-clause-recovering
+returns-in-Err-clause-recovering g c meaning before up runs =
+    let old = c.args.self.now in
+    goes_on g.D.Disk.state g.D.Disk.images g.met.D.Disk.only_now (IsRecovering meaning before) old c.perform.new.self (Err c.in-Err.fault) (writes_of old) refl (c.requires.ready up) (returns-in-Err-clause-works g c up) runs
+
+pub returns-then-is_empty-clause-updating : goal.returns-then-is_empty-clause-updating
+returns-then-is_empty-clause-updating g c meaning before stored up runs =
+    let old = c.args.self.now in
+    let s = g.D.Disk.state in
+    let test = c.if-is_empty.ensures in
+    let none : length old.agenda.items ≡ 0 = first_of (grind (arith, nat_tests), grind (arith, common_steps), search (rules, eqb-true)) in
+    let is : writes_of old ≡ [] = ap (map write_of) (nil_from_length old.agenda.items none) in
+    goes_on s g.D.Disk.images g.met.D.Disk.only_now (IsMoment meaning before stored) old old (Ok Idle) [] is (subst (λ (l : List Write). IsReady s old l) is (c.requires.ready up)) (refl, refl) (subst (λ (l : List Write). Runs (IsMoment meaning before stored) (devs s old) l) is runs)
+
+pub returns-then-is_empty-clause-recovering : goal.returns-then-is_empty-clause-recovering
+returns-then-is_empty-clause-recovering g c meaning before up runs =
+    let old = c.args.self.now in
+    let s = g.D.Disk.state in
+    let test = c.if-is_empty.ensures in
+    let none : length old.agenda.items ≡ 0 = first_of (grind (arith, nat_tests), grind (arith, common_steps), search (rules, eqb-true)) in
+    let is : writes_of old ≡ [] = ap (map write_of) (nil_from_length old.agenda.items none) in
+    goes_on s g.D.Disk.images g.met.D.Disk.only_now (IsRecovering meaning before) old old (Ok Idle) [] is (subst (λ (l : List Write). IsReady s old l) is (c.requires.ready up)) (refl, refl) (subst (λ (l : List Write). Runs (IsRecovering meaning before) (devs s old) l) is runs)

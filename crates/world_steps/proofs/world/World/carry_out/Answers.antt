@@ -36,6 +36,14 @@ pub returns-in-Show-clause-world : goal.returns-in-Show-clause-world
 returns-in-Show-clause-world c = λ w h.
     subst (λ (e : Event). OnOk c.show.result (Holds (step w e).world c.args.self.now)) (sym c.in-Show.is) (c.show.ensures.world w h)
 
+pub returns-in-Sum-clause-lines : goal.returns-in-Sum-clause-lines
+returns-in-Sum-clause-lines c = λ w h.
+    subst (λ (e : Event). IfOk c.sum.result (λ ls. ls ≡ (step w e).lines)) (sym c.in-Sum.is) (c.sum.ensures.lines w h)
+
+pub returns-in-Sum-clause-world : goal.returns-in-Sum-clause-world
+returns-in-Sum-clause-world c = λ w h.
+    subst (λ (e : Event). OnOk c.sum.result (Holds (step w e).world c.args.self.now)) (sym c.in-Sum.is) (c.sum.ensures.world w h)
+
 pub returns-in-Sync-clause-lines : goal.returns-in-Sync-clause-lines
 returns-in-Sync-clause-lines c = λ w h.
     subst (λ (e : Event). IfOk c.sync.result (λ ls. ls ≡ (step w e).lines)) (sym c.in-Sync.is) (c.sync.ensures.lines w h)

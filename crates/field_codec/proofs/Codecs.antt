@@ -4,7 +4,7 @@ use Rattle.stab_base.specs.Codec.{IsBytes}
 use Rattle.value_codec.specs.FirstBad.{IsFirstBad}
 use Rattle.value_codec.proofs.FieldReads.{Reads, one_takes, one_again, gives}
 use Rattle.value_codec.proofs.Stops.{Stops, moved, one_err, pair_reads, pair_stop}
-use Rattle.sync_msgs.specs.Fields.{Reader, then_at, made_at}
+use Rattle.field_codec.specs.Fields.{Reader, then_at, made_at}
 
 pub record Codec {X : Type 0} (P : X → Type 0) (spell : X → List ℕ) (read : List ℕ → Result (X × List ℕ) ℕ) : Type 0 where
   pub reads : Reads P spell read

@@ -7,9 +7,9 @@ use Rattle.value_codec.specs.FirstBad.{IsFirstBad}
 use Rattle.value_codec.specs.Reading.{byte_at}
 use Rattle.value_codec.proofs.FieldReads.{Reads, bind_ok, branch, ok_is, no_fault, gives, byte_reads}
 use Rattle.value_codec.proofs.Stops.{Stops, branch_err, err_is, not_ok, head_is, no_byte, bad_byte, pair_reads, pair_stop}
-use Rattle.sync_msgs.specs.Fields.{Reader, then_at, byte_if, may_be, ranged_at}
-use Rattle.sync_msgs.specs.Spelling.{IsBetween, four}
-use Rattle.sync_msgs.proofs.Codecs.{Codec, made, followed}
+use Rattle.field_codec.specs.Fields.{Reader, then_at, byte_if, may_be, ranged_at}
+use Rattle.field_codec.specs.Forms.{IsBetween, four}
+use Rattle.field_codec.proofs.Codecs.{Codec, made, followed}
 
 -- ---- a byte that passes a test
 

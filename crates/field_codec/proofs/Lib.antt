@@ -1,0 +1,3 @@
+pub mod Codecs
+pub mod Ranges
+pub mod FieldCodecs

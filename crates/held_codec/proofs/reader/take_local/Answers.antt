@@ -1,0 +1,17 @@
+use Rattle.std.proofs.Common.{drop, arith}
+use Rattle.stab_base.specs.Codec.{IsBytes}
+use Rattle.value_codec.proofs.Answering.{found, refused}
+use Rattle.held_codec.specs.Spelling.{local_spelling, HasLocalSpelling}
+use Rattle.held_codec.specs.Reading.{local_at}
+use Rattle.held_codec.proofs.HeldCodecs.{local_codec}
+use Rattle.held_codec.proofs.reader.take_local.Goals as goal
+
+pub returns-clause-found : goal.returns-clause-found
+returns-clause-found c =
+    let fits : IsBytes c.args.bytes.now = λ i. omega (arith, c.type_inv.bytes i) in
+    found HasLocalSpelling local_spelling local_at local_codec.reads c.args.bytes.now c.args.at c.read_local.result fits c.read_local.ensures.value
+
+pub returns-clause-refused : goal.returns-clause-refused
+returns-clause-refused c =
+    let fits : IsBytes c.args.bytes.now = λ i. omega (arith, c.type_inv.bytes i) in
+    refused HasLocalSpelling local_spelling local_at local_codec.stops c.args.bytes.now c.args.at (λ x. (x.0, drop x.1 c.args.bytes.now)) c.read_local.result fits c.read_local.ensures.value

@@ -1,0 +1,23 @@
+use Rattle.std.proofs.Common.{◌≡◌, Some, sym, ◌∙◌, subst, List}
+use Rattle.stab_base.specs.declared.chunk_name.ChunkName.{ChunkName}
+use Rattle.row_store.specs.Data.{version_of}
+use Rattle.status_log.specs.Entry.{Entry, entry_of}
+use Rattle.store_commit.specs.Standing.{devs}
+use Rattle.store_commit.specs.Recover.{AreStillThere}
+use Rattle.store_commit.proofs.Leftovers.{old_left, new_left}
+use Rattle.store_commit.proofs.devs.TableDevs.plan.Goals as goal
+
+pub returns-then-version_of-entry-clause-names : goal.returns-then-version_of-entry-clause-names
+returns-then-version_of-entry-clause-names g c =
+    let d = devs g.D.Disk.state c.args.self.now in
+    let entry : Entry = entry_of c.in-Some.entry.now in
+    let is : d.pending ≡ Some entry = sym (c.in-Some.ensures c.requires.looked.log.vault.up) in
+    let put : version_of d.held entry.row ≡ entry.version = sym (c.version_of.ensures c.requires.looked.rows.vault.up) ∙ c.if-version_of-entry.true in
+    old_left d entry is c.in_ok-names.names c.in_ok-names.ensures.rising put (subst (λ (l : List ChunkName). AreStillThere d.chunks l c.in_ok-names.names) c.deref.ensures.value c.in_ok-names.ensures.names)
+
+pub returns-in-Ok-clause-names : goal.returns-in-Ok-clause-names
+returns-in-Ok-clause-names g c =
+    let d = devs g.D.Disk.state c.args.self.now in
+    let entry : Entry = entry_of c.in-Some.entry.now in
+    let is : d.pending ≡ Some entry = sym (c.in-Some.ensures c.requires.looked.log.vault.up) in
+    new_left d entry is c.in-Ok.names c.in-Ok.ensures.rising (λ same. c.if-version_of-entry.false (c.version_of.ensures c.requires.looked.rows.vault.up ∙ same)) c.in-Ok.ensures.names

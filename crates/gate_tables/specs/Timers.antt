@@ -1,5 +1,5 @@
 -- Timers of a client: which fire, and what is told of them.
-use Rattle.std.specs.Prelude.{ℕ, ◌+◌, ◌-◌, ◌^◌, min, Bool, true, false, ◌&&◌, nat_le, if◌then◌else◌, List, [], ◌∷◌, map}
+use Rattle.std.specs.Prelude.{ℕ, ◌+◌, ◌-◌, ◌^◌, min, Bool, true, false, ◌&&◌, nat_le, if◌then◌else◌, List, map}
 use Rattle.std.specs.Prelude.{fold, bit_or, Option, Some, None}
 use Rattle.std.specs.List.{list_any}
 use Rattle.gate_tables.specs.declared.timer.Timer.{Timer}

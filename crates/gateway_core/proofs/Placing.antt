@@ -1,11 +1,7 @@
 -- Tables put into a directory one by one.
-use Rattle.std.proofs.Common.{◌≡◌, ℕ, Bool, true, false, cond, List, [], ◌∷◌, ◌++◌, Option, Some, None, refl, sym, ap, ◌∙◌, subst}
-use Rattle.std.specs.Prelude.{string_bytes}
+use Rattle.std.proofs.Common.{◌≡◌, Bool, true, false, cond, Option, Some, None, sym, ap, ◌∙◌}
 use Rattle.std.specs.Ordering.{nat_cmp}
 use Rattle.std.specs.FinSet as set
-use Rattle.std.proofs.lemmas.List.{reverse-append}
-use Rattle.table_model.specs.Last.{last_where}
-use Rattle.ring_map.specs.Ring.{IsOwner}
 use Rattle.gate_tables.specs.declared.timer.Placed.{Placed}
 use Rattle.gateway_core.specs.declared.directory.NamedTable.{NamedTable}
 use Rattle.gateway_core.specs.Directories.{IsPlacedBy}

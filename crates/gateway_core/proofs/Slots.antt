@@ -158,8 +158,10 @@ module _ (client slot : ℕ) (session : Session) (old new : Slab Held) (updates 
                 ∙ ap (λ (es : List (ℕ × Session)). (e.0, session) ∷ es) (others_kept client slot old new (Some (client, session)) updates whose places own.1 past)
                 ∙ ap (λ (r : Ordering). match_ordering r ((client, session) ∷ (e.0, at_slot old e.1) ∷ sessions_in old places)
                 ((e.0, session) ∷ sessions_in old places) ((e.0, at_slot old e.1) ∷ insert_entry nat_cmp (sessions_in old places) client session)) (sym is);
-            own = (subst (λ (n : ℕ). option_map (λ (h : Held). h.0) (get new n) ≡ Some e.0) (sym at) (now_own ∙ ap Some its_number),
-                others_own client slot old new (Some (client, session)) updates whose places own.1 past);
+            own = (
+              subst (λ (n : ℕ). option_map (λ (h : Held). h.0) (get new n) ≡ Some e.0) (sym at) (now_own ∙ ap Some its_number),
+              others_own client slot old new (Some (client, session)) updates whose places own.1 past,
+            );
           }
         where
           same_slot : nat_cmp client e.0 ≡ Equal → e.1 ≡ slot

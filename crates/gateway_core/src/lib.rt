@@ -14,3 +14,6 @@ pub use directory::{Directory, NamedTable};
 pub use gate_fault::GateFault;
 pub use gateway::Gateway;
 pub use out::{Out, Sent};
+
+#[cfg(test)]
+mod tests;

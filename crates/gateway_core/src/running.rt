@@ -106,24 +106,13 @@ impl Running {
     }
 
     // Refuses what a client asks.
-    fn refuse(
-        &self,
-        asked: Asked,
-        status: u32,
-        messages: &mut Vec<Sent>,
-    ) -> Result<(), GateFault>
+    fn refuse(&self, asked: Asked, status: u32, messages: &mut Vec<Sent>) -> Result<(), GateFault>
         ensures sends { OnOk result (messages.new.items ≡ messages.old.items
             ++ (refused self.now asked status).sends) }
         ensures same { OnErr result (messages.new.items ≡ messages.old.items) }
         ensures memory { IfErr result (λ e. e ≡ GateFault.Memory) }
     {
-        messages.push(answer(
-            asked.client,
-            asked.table,
-            asked.kind,
-            status,
-            asked.token,
-        ))?;
+        messages.push(answer(asked.client, asked.table, asked.kind, status, asked.token))?;
         Ok(())
     }
 

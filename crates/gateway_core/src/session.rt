@@ -153,10 +153,7 @@ impl Session {
     {
         let mut made = self.copy()?;
         for kept in some {
-            made.set_timer(
-                kept.table,
-                Timer::new(kept.period, kept.tolerance, true),
-            )?;
+            made.set_timer(kept.table, Timer::new(kept.period, kept.tolerance, true))?;
         }
         Ok(made)
     }

@@ -1,11 +1,8 @@
-use Rattle.std.proofs.Common.{◌≡◌, ℕ, List, Option, Some, None, refl, sym, ap, ◌∙◌, subst}
-use Rattle.std.specs.Prelude.{option_map}
+use Rattle.std.proofs.Common.{◌≡◌, refl, sym, ap, ◌∙◌}
 use Rattle.std.specs.Ordering.{nat_cmp}
 use Rattle.std.specs.BTreeMap.{is_at, insert_entry}
 use Rattle.std.specs.Map.{lookup}
-use Rattle.gate_tables.specs.Gate.{Session}
-use Rattle.gateway_core.specs.Sessions.{ArePlaced}
-use Rattle.gateway_core.proofs.Slots.{look, look_in, look_none, full, unplaced, found_own, adds_own, writes_own, writes_placed, IsChanged}
+use Rattle.gateway_core.proofs.Slots.{unplaced, adds_own, IsChanged}
 use Rattle.gateway_core.proofs.sessions.Sessions.add.Goals as goal
 
 placed : (c : goal.After-insert_reserved) → c.insert.new.self.entries ≡ insert_entry nat_cmp c.self.inside.places.entries c.args.client c.insert_reserved.result

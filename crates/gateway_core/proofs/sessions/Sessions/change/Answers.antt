@@ -1,4 +1,4 @@
-use Rattle.std.proofs.Common.{◌≡◌, ℕ, refl, rules}
+use Rattle.std.proofs.Common.{◌≡◌, ℕ, rules}
 use Rattle.std.specs.Prelude.{option_map}
 use Rattle.slab.specs.Slab.{get}
 use Rattle.gate_tables.specs.Gate.{Session, after_change}

@@ -1,11 +1,5 @@
-use Rattle.std.proofs.Common.{◌≡◌, ℕ, List, Option, Some, None, refl, sym, ap, ◌∙◌, subst}
-use Rattle.std.specs.Prelude.{option_map}
-use Rattle.std.specs.Ordering.{nat_cmp}
-use Rattle.std.specs.BTreeMap.{is_at, insert_entry}
-use Rattle.std.specs.Map.{lookup}
-use Rattle.gate_tables.specs.Gate.{Session}
-use Rattle.gateway_core.specs.Sessions.{ArePlaced}
-use Rattle.gateway_core.proofs.Slots.{look, look_in, look_none, full, unplaced, found_own, adds_own, writes_own, writes_placed, IsChanged}
+use Rattle.std.proofs.Common.{sym}
+use Rattle.gateway_core.proofs.Slots.{look_in, look_none, full}
 use Rattle.gateway_core.proofs.sessions.Sessions.get.Goals as goal
 
 pub returns-in_default : goal.returns-in_default

@@ -1,6 +1,5 @@
 use Rattle.std.proofs.Common.{sym, ◌∙◌}
-use Rattle.gate_tables.specs.declared.timer.Timer.{Timer}
-use Rattle.gate_tables.specs.Gate.{Session, with_timer, without_timer}
+use Rattle.gate_tables.specs.Gate.{Session, without_timer}
 use Rattle.gateway_core.proofs.Slots.{full, written, written_placed, unchanged}
 use Rattle.gateway_core.proofs.sessions.Sessions.remove_timer.Goals as goal
 

@@ -1,6 +1,5 @@
 use Rattle.std.proofs.Common.{sym, ◌∙◌}
-use Rattle.gate_tables.specs.declared.timer.Timer.{Timer}
-use Rattle.gate_tables.specs.Gate.{Session, with_timer, without_timer}
+use Rattle.gate_tables.specs.Gate.{Session, with_timer}
 use Rattle.gateway_core.proofs.Slots.{full, ok_then, written, written_placed, unchanged}
 use Rattle.gateway_core.proofs.sessions.Sessions.set_timer.Goals as goal
 

@@ -4,5 +4,8 @@ pub mod Recoveries
 pub mod Works
 pub mod Moments
 pub mod Replacing
-pub mod Taking
+pub mod Rooms
 pub mod Waiting
+pub mod Begins
+pub mod Plans
+pub mod Stored

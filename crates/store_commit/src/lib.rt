@@ -4,6 +4,8 @@
 mod devs;
 mod fault;
 mod laws;
+mod plan;
+mod taking;
 mod task;
 mod update;
 

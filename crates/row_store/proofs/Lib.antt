@@ -1,6 +1,6 @@
 pub mod Again
 pub mod Versions
-mod Lengths
+pub mod Lengths
 mod Above
 mod Found
 mod Shapes

@@ -6,7 +6,10 @@ pub mod Leftovers
 pub mod Recovers
 pub mod Moments
 pub mod Replacing
-pub mod Taking
+pub mod Rooms
 pub mod Waiting
 pub mod Fuses
 pub mod Restarts
+pub mod Begins
+pub mod Plans
+pub mod Stored

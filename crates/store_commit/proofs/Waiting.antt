@@ -279,3 +279,37 @@ found_is held row (Err row_faults.NoRow) is spelled short none = record { is = n
 found_is held row (Err row_faults.Disk) is spelled short none = tt
 found_is held row (Err row_faults.Memory) is spelled short none = tt
 found_is held row (Err row_faults.Down) is spelled short none = tt
+
+-- the same under another answer, which isn't that of a disk
+pub waits_other : {D T S : Type 0} (state : D → DiskState) (images : D → ℕ → List ℕ → Type 0) (old new : TableDevs D) (first : Result S CommitFault) → IsNotDisk first → Waits state images old new first → (r : Result T CommitFault) → IsNotDisk r
+    → IfErr r (λ e. (e ≡ Disk) ⊎ (e ≡ Memory)) → Waits state images old new r
+waits_other state images old new first was_not w r not_disk only = record {
+  agenda = w.agenda;
+  same = λ n. w.same was_not;
+  up = λ n. w.up was_not;
+  rests = λ n. w.rests was_not;
+  counted = λ n. w.counted was_not;
+  disk = λ is. absurd (not_disk is);
+  only = only;
+  chunks = w.chunks;
+  rows = w.rows;
+  log = w.log;
+}
+
+-- the same fault in another answer
+pub waits_err : {D T S : Type 0} (state : D → DiskState) (images : D → ℕ → List ℕ → Type 0) (old new : TableDevs D) (e : CommitFault) → Waits {T = S} state images old new (Err e) → Waits {T = T} state images old new (Err e)
+waits_err {D} {T} {S} state images old new e w = record {
+  agenda = w.agenda;
+  same = λ n. w.same (not_it n);
+  up = λ n. w.up (not_it n);
+  rests = λ n. w.rests (not_it n);
+  counted = λ n. w.counted (not_it n);
+  disk = λ is. w.disk (let same : e ≡ Disk = cc in ap (λ (x : CommitFault). Err x) same);
+  only = w.only;
+  chunks = w.chunks;
+  rows = w.rows;
+  log = w.log;
+}
+  where
+    not_it : IsNotDisk {T = T} (Err e) → IsNotDisk {T = S} (Err e)
+    not_it n is = n (let same : e ≡ Disk = cc in ap (λ (x : CommitFault). Err x) same)

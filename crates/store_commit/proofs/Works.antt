@@ -57,7 +57,7 @@ must_be_disk state fault old new before after x refuses only no_memory up = pick
     pick causes.Memory same = absurd (no_memory (ap (λ e. Err e) same))
 
 -- what is opened needs no opening
-all_chunk : (opened : Type 0) (ws : List Write) → opened → chunk_opened opened ws
+pub all_chunk : (opened : Type 0) (ws : List Write) → opened → chunk_opened opened ws
 all_chunk opened [] h = h
 all_chunk opened (OpenChunks ∷ ws) h = tt
 all_chunk opened (OpenRows ∷ ws) h = all_chunk opened ws h
@@ -71,7 +71,7 @@ all_chunk opened (PutTable schema state ∷ ws) h = all_chunk opened ws h
 all_chunk opened (PutSub client terms ∷ ws) h = all_chunk opened ws h
 
 -- what is opened needs no opening
-all_row : (opened : Type 0) (ws : List Write) → opened → row_opened opened ws
+pub all_row : (opened : Type 0) (ws : List Write) → opened → row_opened opened ws
 all_row opened [] h = h
 all_row opened (OpenChunks ∷ ws) h = all_row opened ws h
 all_row opened (OpenRows ∷ ws) h = tt
@@ -85,7 +85,7 @@ all_row opened (PutTable schema state ∷ ws) h = h
 all_row opened (PutSub client terms ∷ ws) h = h
 
 -- what is opened needs no opening
-all_log : (opened : Type 0) (ws : List Write) → opened → log_opened opened ws
+pub all_log : (opened : Type 0) (ws : List Write) → opened → log_opened opened ws
 all_log opened [] h = h
 all_log opened (OpenChunks ∷ ws) h = all_log opened ws h
 all_log opened (OpenRows ∷ ws) h = all_log opened ws h
@@ -720,23 +720,4 @@ module _ {D : Type 0} (state : D → DiskState) (images : D → ℕ → List ℕ
     log_sound = opened_sound state (logs.vault_of table.log) c.vault;
     log_is_opened = c;
     log_room = record { vault = less_room state (logs.vault_of table.log) 1 0 0 0 0 0 (omega arith) (omega arith) (omega arith) z.vault; memory = z.memory; payload = z.payload };
-  }
-
-  -- room for one put of a row's device
-  pub ready_sub : (old new : TableDevs D) (client : ℕ) (terms : Option Terms) → IsClient client → new.chunks ≡ old.chunks → new.log ≡ old.log → rows.Stays state old.rows new.rows
-      → rows.HasRoom state new.rows 1 1 18 → IsReady state old [] → IsReady state new (PutSub client terms ∷ [])
-  ready_sub old new client terms is cs ls stays room r = record {
-    may = (is, tt);
-    chunk_looked = rw cs r.chunk_looked;
-    chunk_sound = rw cs r.chunk_sound;
-    chunk_is_opened = rw cs r.chunk_is_opened;
-    chunk_room = rw cs r.chunk_room;
-    row_looked = stays.looked r.row_looked;
-    row_sound = stays.sound r.row_sound;
-    row_is_opened = stays.opened r.row_is_opened;
-    row_room = record { vault = less_room state (rows.vault_of new.rows) 1 1 18 0 1 18 (omega arith) (omega arith) (omega arith) room.vault; memory = room.memory; payload = room.payload };
-    log_looked = rw ls r.log_looked;
-    log_sound = rw ls r.log_sound;
-    log_is_opened = rw ls r.log_is_opened;
-    log_room = rw ls r.log_room;
   }

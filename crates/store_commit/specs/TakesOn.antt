@@ -1,6 +1,7 @@
 -- What the calls promise that take writes on, and do none.
 use Rattle.std.specs.Prelude.{◌≡◌, ◌⊎◌, ◌↔◌, ℕ, ◌<◌, ◌≤◌, List, [], length, Option, IfSome, Result, Ok, Err}
 use Rattle.std.specs.Prelude.{OnOk, OnErr, IfOk, IfErr, IsErrOf}
+use Rattle.std.specs.List.{AllByRecursion}
 use Rattle.disk_trait.specs.Calls.{DiskState}
 use Rattle.vault.specs.Limit.{payload_most}
 use Rattle.chunk_store.specs.Standing as chunks
@@ -8,13 +9,14 @@ use Rattle.row_store.specs.declared.stored.StoredRow.{StoredRow}
 use Rattle.row_store.specs.Data.{TableData, row_of}
 use Rattle.row_store.specs.Spelling.{HasStoredSpelling, row_payload}
 use Rattle.row_store.specs.Standing as rows
+use Rattle.status_log.specs.Entry.{Entry, HasSpelling}
 use Rattle.status_log.specs.Standing as logs
 use Rattle.store_commit.specs.declared.devs.TableDevs.{TableDevs}
 use Rattle.store_commit.specs.declared.fault.CommitFault.{CommitFault}
 use Rattle.store_commit.specs.declared.fault.CommitFault.TheVariants.{Busy, Spent, Disk, Down, Memory}
 use Rattle.store_commit.specs.Devs.{Devs, Write}
 use Rattle.store_commit.specs.Standing.{devs, writes_of, AreUp, IsOneDown, all_faults, IsReady, DevsLeave}
-use Rattle.store_commit.specs.Update.{at_work}
+use Rattle.store_commit.specs.Update.{at_work, chunk_most}
 
 abbrev pub IsNotDisk : {T : Type 0} → Result T CommitFault → Type 0
 IsNotDisk result = IsErrOf result Disk → ⊥
@@ -39,6 +41,14 @@ pub record IsStanding (held : TableData) (row : List ℕ) (found : Option Stored
   pub is : row_of held row ≡ found
   pub spelled : IfSome found HasStoredSpelling
   pub short : IfSome found (λ stored. length (row_payload stored) ≤ payload_most)
+
+-- What is known of an update that is worked out.
+pub record IsPlan (entry : Entry) (fresh : List (List ℕ)) (stored : StoredRow) : Type 0 where
+  pub spelled : HasSpelling entry
+  pub row_spelled : HasStoredSpelling stored
+  pub short : length (row_payload stored) ≤ payload_most
+  pub few : length fresh ≤ 645176
+  pub chunks : AllByRecursion (λ bytes. length bytes ≤ chunk_most) fresh
 
 -- Whether writes can be taken on: each device is up, and none is to be done.
 pub record IsFree {D : Type 0} (state : D → DiskState) (table : TableDevs D)

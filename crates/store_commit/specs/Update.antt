@@ -1,6 +1,6 @@
 -- A write that is to be taken on: what is asked of it, and what it makes of what the devices hold.
-use Rattle.std.specs.Prelude.{◌≡◌, ℕ, ◌+◌, ◌*◌, ◌≤◌, ◌&&◌, Bool, not, nat_lt, if◌then◌else◌, List, [], ◌∷◌, ◌++◌}
-use Rattle.std.specs.Prelude.{length, filter, sum_by, is_some, Option, Some, None}
+use Rattle.std.specs.Prelude.{◌≡◌, ℕ, ◌+◌, ◌*◌, ◌≤◌, ◌&&◌, Bool, true, false, not, nat_lt, if◌then◌else◌, List, [], ◌∷◌, ◌++◌}
+use Rattle.std.specs.Prelude.{length, filter, sum_by, is_some, Option, Some, None, unwrap_or}
 use Rattle.std.specs.List.{list_any, AllByRecursion}
 use Rattle.std.specs.BTreeMap.{is_at}
 use Rattle.std.specs.BTreeSet.{BTreeSet, contains}
@@ -45,6 +45,14 @@ is_among name names = list_any (is_at (name_cmp name)) names
 -- the set has these names
 pub record HasNames (names : List ChunkName) (set : BTreeSet ChunkName) : Type 0 where
   pub same : (name : ChunkName) → contains name_cmp set name ≡ is_among name names
+
+-- A name is met, where these were before: it is one of the old ones if there is one and it wasn't met.
+pub record Meets (there : ChunkName → Bool) (name : ChunkName) (met met_then : BTreeSet ChunkName)
+    (old old_then : List ChunkName) : Type 0 where
+  pub added : (seen : List ChunkName) → HasNames seen met → there name && not (is_among name seen) ≡ true
+      → (old_then ≡ old ++ name ∷ []) × HasNames (name ∷ seen) met_then
+  pub kept : (seen : List ChunkName) → HasNames seen met → there name && not (is_among name seen) ≡ false
+      → (old_then ≡ old) × HasNames seen met_then
 
 -- of these names those that there are and that weren't met, each once
 abbrev pub unmet : (ChunkName → Bool) → List ChunkName → List ChunkName → List ChunkName
@@ -120,8 +128,15 @@ abbrev pub version_if : Option Entry → ℕ
 version_if None = 0
 version_if (Some entry) = entry.version
 
+-- the version of the entry that a write opens
+abbrev pub version_opened : Write → Option ℕ
+version_opened (OpenEntry entry) = Some entry.version
+version_opened _ = None
+
+abbrev pub opened_first : List Write → Option ℕ
+opened_first [] = None
+opened_first (w ∷ ws) = version_opened w
+
 -- that of the entry which is opened next or is open, else 0
 abbrev pub at_work : Devs → List Write → ℕ
-at_work d [] = version_if d.pending
-at_work d (OpenEntry entry ∷ ws) = entry.version
-at_work d (_ ∷ ws) = version_if d.pending
+at_work d ws = unwrap_or (opened_first ws) (version_if d.pending)

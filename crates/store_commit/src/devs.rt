@@ -8,7 +8,6 @@ ghost use Rattle.chunk_store.specs.Standing as chunks;
 ghost use Rattle.row_store.specs.declared.stored.StoredRow.{StoredRow};
 ghost use Rattle.row_store.specs.Data.{TableData};
 ghost use Rattle.row_store.specs.Reading.{terms_if};
-ghost use Rattle.row_store.specs.Spelling.{IsClient};
 ghost use Rattle.row_store.specs.Standing as rows;
 ghost use Rattle.status_log.specs.Entry.{entry_of};
 ghost use Rattle.status_log.specs.Standing as logs;
@@ -23,7 +22,7 @@ use crate::fault::{CommitFault, told};
 use crate::task::Task;
 use chunk_store::{ChunkDev, ChunkName};
 use disk_trait::Disk;
-use row_store::{RowDev, RowFault, StoredRow};
+use row_store::{RowDev, StoredRow};
 use row_value::Schema;
 use stab_base::{ClientNo, GateNo, Step};
 use status_log::{LogEntry, StatusLog};
@@ -304,50 +303,6 @@ impl<D: Disk + Drop> TableDevs<D> {
         self.chunks.format()?;
         self.rows.format()?;
         self.log.format()?;
-        Ok(())
-    }
-
-    /// Takes on the put of a client's subscription, or that it is taken away where `on` is false; period and tolerance
-    /// are in ticks. Its one write is then to be done, and takes no memory.
-    pub fn begin_sub(
-        &mut self,
-        client: ClientNo,
-        on: bool,
-        gate: GateNo,
-        period: u32,
-        tolerance: u32,
-    ) -> Result<(), CommitFault>
-        requires rests { AreUp self.old → writes_of self.old ≡ [] → IsReady D.state self.old [] }
-        requires client { IsClient client }
-        ensures taken { OnOk result (writes_of self.new
-            ≡ PutSub client (terms_if on (record { gate = gate; period = period; tolerance = tolerance })) ∷ []) }
-        ensures ready { OnOk result (IsReady D.state self.new (writes_of self.new)) }
-        ensures same { OnOk result (devs D.state self.new ≡ devs D.state self.old) }
-        ensures busy { IsErrOf result (CommitFault.Busy 0) ↔ (AreUp self.old × (writes_of self.old ≡ [] → ⊥)) }
-        ensures busy_unchanged { IsErrOf result (CommitFault.Busy 0) → self.new ≡ self.old }
-        ensures down { IsErrOf result CommitFault.Down ↔ IsOneDown self.old }
-        ensures unchanged { IsErrOf result CommitFault.Down → self.new ≡ self.old }
-    {
-        if self.is_down() {
-            return Err(CommitFault::Down);
-        }
-        if !self.idle() {
-            return Err(CommitFault::Busy { with: 0 });
-        }
-        self.agenda.reserve(1)?;
-        match self.rows.reserve(1, 18) {
-            Ok(()) => {}
-            Err(RowFault::Memory) => return Err(CommitFault::Memory),
-            Err(_) => return Err(CommitFault::Disk),
-        }
-        let task = Task::PutSub {
-            client,
-            on,
-            gate,
-            period,
-            tolerance,
-        };
-        self.agenda.push_back(task).unwrap();
         Ok(())
     }
 }

@@ -5,8 +5,10 @@ mod devs;
 mod fault;
 mod fused;
 mod laws;
+mod plan;
 mod recover;
 mod recovery;
+mod taking;
 mod task;
 mod update;
 

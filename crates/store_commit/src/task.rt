@@ -1,11 +1,12 @@
 //! One write of one device, with all that it needs.
 ghost use Rattle.std.specs.Prelude.{◌≡◌};
 ghost use Rattle.store_commit.specs.Standing.{write_of, step_of};
+ghost use Rattle.store_commit.specs.Update.{version_opened};
 
 use chunk_store::{Bytes, ChunkName};
 use row_store::StoredRow;
 use row_value::Schema;
-use stab_base::{ClientNo, GateNo, Step};
+use stab_base::{ClientNo, GateNo, Step, Version};
 use status_log::LogEntry;
 
 #[derive(Debug, Drop)]
@@ -45,6 +46,16 @@ impl Task {
             Task::CloseEntry => Step::LogClose,
             Task::PutTable(_, _) => Step::TablePut,
             Task::PutSub { .. } => Step::SubPut,
+        }
+    }
+
+    /// The version of the entry that the write opens.
+    pub(crate) fn opens(&self) -> Option<Version>
+        ensures { result ≡ version_opened (write_of self.now) }
+    {
+        match self {
+            Task::OpenEntry(entry) => Some(entry.version),
+            _ => None,
         }
     }
 }

@@ -1,15 +1,53 @@
-use Rattle.std.proofs.Common.{◌≡◌, ◌∷◌, [], map, refl, rules, arith}
-use Rattle.std.proofs.lemmas.Grind.{common_steps}
+use Rattle.std.proofs.Common.{◌≡◌, List, [], ◌∷◌, map, Result, Ok, Err, inr, refl, sym, ap, subst, arith}
+use Rattle.std.proofs.lemmas.Result.{err_from_is_err_and}
 use Rattle.row_store.specs.Reading.{terms_if}
-use Rattle.store_commit.specs.Devs.{PutSub}
-use Rattle.store_commit.specs.Standing.{write_of, writes_of}
-use Rattle.store_commit.proofs.Works.{ready_sub}
+use Rattle.store_commit.specs.declared.task.Task.{Task}
+use Rattle.store_commit.specs.declared.fault.CommitFault.{CommitFault}
+use Rattle.store_commit.specs.declared.fault.CommitFault.TheVariants.{Memory}
+use Rattle.store_commit.specs.Devs.{Write, PutSub}
+use Rattle.store_commit.specs.Standing.{devs, write_of, writes_of, IsReady}
+use Rattle.store_commit.proofs.Works.{same_ready}
+use Rattle.store_commit.proofs.Rooms.{sub_ready}
+use Rattle.store_commit.proofs.Waiting.{none_waits}
+use Rattle.store_commit.proofs.Begins.{isnt_free, wasnt_taken, was_taken}
 use Rattle.store_commit.proofs.devs.TableDevs.begin_sub.Goals as goal
 
-pub returns-clause-ready : goal.returns-clause-ready
-returns-clause-ready g c =
+pub returns-in_err-free : goal.returns-in_err-free
+returns-in_err-free g c =
+    let p = err_from_is_err_and c.from_residual.result c.from_residual.ensures.1 in
+    record { takes = rw (p.1, p.2) (isnt_free g.D.Disk.state g.D.Disk.images g.met.D.Disk.only_now ⊥ (λ (x : Unit {0}). PutSub c.args.client (terms_if c.args.on (record { gate = c.args.gate; period = c.args.period; tolerance = c.args.tolerance })) ∷ []) c.args.self.now c.in_err-free.field-0.0 c.requires.ready c.in_err-free.ensures) }
+
+pub returns-in_err-tasks : goal.returns-in_err-tasks
+returns-in_err-tasks g c =
+    let s = g.D.Disk.state in
     let old = c.args.self.now in
-    let terms = terms_if c.args.on (record { gate = c.args.gate; period = c.args.period; tolerance = c.args.tolerance }) in
-    let idle : writes_of old ≡ [] = search rules in
-    let is : map write_of c.push_back.new.self.items ≡ PutSub c.args.client terms ∷ [] = first_of (search rules, grind (arith, common_steps)) in
-    rw is (ready_sub g.D.Disk.state g.D.Disk.images g.met.D.Disk.only_now old _ c.args.client terms c.requires.client refl refl c.in-Ok.ensures.reserves.stays c.in-Ok.ensures.reserves.room (c.requires.rests c.if-is_down.ensures idle))
+    let f = c.in_ok-free.ensures.free in
+    let rests : IsReady s old [] = subst (λ (l : List Write). IsReady s old l) f.1 (c.requires.ready f.0) in
+    let short : Result (Unit {0}) CommitFault = Err Memory in
+    let p = err_from_is_err_and c.from_residual-in_err-tasks.result c.from_residual-in_err-tasks.ensures.1 in
+    record { takes = rw (p.1, p.2) (wasnt_taken s g.D.Disk.images g.met.D.Disk.only_now ⊥ (λ (x : Unit {0}). PutSub c.args.client (terms_if c.args.on (record { gate = c.args.gate; period = c.args.period; tolerance = c.args.tolerance })) ∷ []) old f.0 f.1 rests (λ x. x) old Memory (none_waits s g.D.Disk.images g.met.D.Disk.only_now old f.0 rests short (λ is. cc) (inr refl))) }
+
+pub returns-in_err-reserve_rows : goal.returns-in_err-reserve_rows
+returns-in_err-reserve_rows g c =
+    let s = g.D.Disk.state in
+    let old = c.args.self.now in
+    let f = c.in_ok-free.ensures.free in
+    let rests : IsReady s old [] = subst (λ (l : List Write). IsReady s old l) f.1 (c.requires.ready f.0) in
+    let p = err_from_is_err_and c.from_residual-in_err-reserve_rows.result c.from_residual-in_err-reserve_rows.ensures.1 in
+    record { takes = rw (p.1, p.2) (wasnt_taken s g.D.Disk.images g.met.D.Disk.only_now ⊥ (λ (x : Unit {0}). PutSub c.args.client (terms_if c.args.on (record { gate = c.args.gate; period = c.args.period; tolerance = c.args.tolerance })) ∷ []) old f.0 f.1 rests (λ x. x) c.reserve_rows.new.self c.in_err-reserve_rows.field-0.0 c.in_err-reserve_rows.ensures.waits) }
+
+pub returns : goal.returns
+returns g c =
+    let s = g.D.Disk.state in
+    let old = c.args.self.now in
+    let f = c.in_ok-free.ensures.free in
+    let rests : IsReady s old [] = subst (λ (l : List Write). IsReady s old l) f.1 (c.requires.ready f.0) in
+    let mid = c.reserve_rows.new.self in
+    let new = record mid { agenda = c.in_ok-tasks.tasks } in
+    let w : Write = PutSub c.args.client (terms_if c.args.on (record { gate = c.args.gate; period = c.args.period; tolerance = c.args.tolerance })) in
+    let is : writes_of new ≡ w ∷ [] = ap (map write_of) c.in_ok-tasks.ensures in
+    let ready = sub_ready s mid (c.in_ok-reserve_rows.ensures.waits.rests (λ is. cc)) c.args.client (terms_if c.args.on (record { gate = c.args.gate; period = c.args.period; tolerance = c.args.tolerance })) c.requires.client c.in_ok-reserve_rows.ensures.room in
+    record {
+      takes = was_taken s g.D.Disk.images g.met.D.Disk.only_now ⊥ (λ (x : Unit {0}). PutSub c.args.client (terms_if c.args.on (record { gate = c.args.gate; period = c.args.period; tolerance = c.args.tolerance })) ∷ []) old f.0 f.1 rests (λ x. x) new mid tt tt c.in_ok-reserve_rows.ensures.waits refl refl refl is
+          (subst (λ (l : List Write). IsReady s new l) (sym is) (same_ready s g.D.Disk.images mid new refl refl refl (w ∷ []) ready));
+    }

@@ -457,7 +457,10 @@ fn calls_at_another_table_are_refused(rt: HostRuntime) -> Result<(), Fail> {
         Err(CallFault::NoTable)
     );
     assert_eq!(rt; shown_at(&node, other), Seen::Refused(CallFault::NoTable));
-    assert_eq!(rt; summed_at(&node, other), Some(Seen::Refused(CallFault::NoTable)));
+    assert_eq!(rt;
+        summed_at(&node, other),
+        Some(Seen::Refused(CallFault::NoTable))
+    );
     assert_eq!(rt; node.sync_now(other), Err(CallFault::NoTable));
     assert_eq!(rt; node.pull_now(other), Err(CallFault::NoTable));
     Ok(())
@@ -466,9 +469,15 @@ fn calls_at_another_table_are_refused(rt: HostRuntime) -> Result<(), Fail> {
 #[test]
 fn a_row_without_objects_is_summed_as_it_is_shown(rt: HostRuntime) -> Result<(), Fail> {
     let mut node = client(rt.alloc())?;
-    assert_eq!(rt; summed_at(&node, TABLE), Some(Seen::Refused(CallFault::NoRow)));
+    assert_eq!(rt;
+        summed_at(&node, TABLE),
+        Some(Seen::Refused(CallFault::NoRow))
+    );
     assert_eq!(rt; write(rt.alloc(), &mut node, 1, 7), Ok(1));
-    assert_eq!(rt; summed_at(&node, TABLE), Some(Seen::Mine { number: 1, cell: 7 }));
+    assert_eq!(rt;
+        summed_at(&node, TABLE),
+        Some(Seen::Mine { number: 1, cell: 7 })
+    );
     Ok(())
 }
 

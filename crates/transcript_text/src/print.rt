@@ -10,8 +10,10 @@ ghost use Rattle.transcript_text.specs.Text.{text_of, stop_text};
 use percent_encoding::{AsciiSet, NON_ALPHANUMERIC, ascii_set, percent_encode};
 use row_value::{Bytes, Cell, Cells, Content, Objects, TableNo};
 use std::alloc::{AllocError, Global};
-use table_model::{Answer, Entry, Fact, MessageName, Node, Refusal, Shown, TextLine, Write};
-use table_model::{ObjectSum, ObjectSums, RowSum, ShownSum};
+use table_model::{
+    Answer, Entry, Fact, MessageName, Node, ObjectSum, ObjectSums, Refusal, RowSum, Shown,
+    ShownSum, TextLine, Write,
+};
 
 /// The bytes of a text cell that are written as `%` and two hex digits: all but the unreserved characters of RFC 3986,
 /// section 2.3.

@@ -3,8 +3,10 @@ use row_value::{Bytes, Cell, Content, RowId, Sequence};
 use std::alloc::Global;
 use std::process::Abort;
 use std::test::Fail;
-use table_model::{Answer, Entry, Fact, MessageName, Node, Refusal, Shown, TextLine, Write};
-use table_model::{ObjectSum, RowSum, ShownSum};
+use table_model::{
+    Answer, Entry, Fact, MessageName, Node, ObjectSum, Refusal, RowSum, Shown, ShownSum, TextLine,
+    Write,
+};
 
 fn row(last: u8) -> RowId {
     RowId::from_bytes([0, 0, 0, 0, 0, 0, 0x40, 0, 0x80, 0, 0, 0, 0, 0, 0, last])

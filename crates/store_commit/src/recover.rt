@@ -19,7 +19,7 @@ const DROPS_MAX: usize = 16_777_216;
 
 impl<D: Disk + Drop> TableDevs<D> {
     // What was cut short, and the names of what it left that are still there.
-    fn plan(&mut self) -> Result<(Recovery, Names), CommitFault>
+    fn left_over(&mut self) -> Result<(Recovery, Names), CommitFault>
         requires { IsStarting D.state self.old }
         ensures recovery { IfOk result (λ p. IsRecovery (devs D.state self.old) p.0) }
         ensures names { IfOk result (λ p. AreLeftovers (devs D.state self.old) p.1) }
@@ -96,7 +96,7 @@ impl<D: Disk + Drop> TableDevs<D> {
         if self.is_down() {
             return Err(CommitFault::Down);
         }
-        let (recovery, names) = self.plan()?;
+        let (recovery, names) = self.left_over()?;
         self.make_room(names.len())?;
         let is_open = recovery.is_open();
         self.take_on(names.as_slice(), is_open);

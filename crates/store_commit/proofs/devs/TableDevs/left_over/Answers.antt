@@ -5,7 +5,7 @@ use Rattle.status_log.specs.Entry.{Entry, entry_of}
 use Rattle.store_commit.specs.Standing.{devs}
 use Rattle.store_commit.specs.Recover.{AreStillThere}
 use Rattle.store_commit.proofs.Leftovers.{old_left, new_left}
-use Rattle.store_commit.proofs.devs.TableDevs.plan.Goals as goal
+use Rattle.store_commit.proofs.devs.TableDevs.left_over.Goals as goal
 
 pub returns-then-version_of-entry-clause-names : goal.returns-then-version_of-entry-clause-names
 returns-then-version_of-entry-clause-names g c =

@@ -1,2 +1,3 @@
 mod NameSets
 mod Numbering
+mod KnownNames

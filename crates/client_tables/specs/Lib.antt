@@ -5,3 +5,4 @@ pub mod Transitions
 pub mod Kept
 pub mod Drops
 pub mod Held
+pub mod Plan

@@ -1,6 +1,7 @@
 use crate::{
     Change, HeldChoice, HeldChunks, Sending, ShownAs, can_send, dropped, held_against,
-    is_countable, resolve, send, shown_as, take_header, take_response, write, write_strong,
+    is_countable, plan_header, plan_write, resolve, send, shown_as, take_header, take_response,
+    write, write_strong,
 };
 use held_value::{HeldContent, HeldObject, HeldPiece, LocalName, Main, Shadow, Slots, Tell};
 use row_value::{Piece, Pieces, Scheme};
@@ -674,5 +675,59 @@ fn first_dropped(alloc: Global) -> Result<(Option<LocalName>, usize), AllocError
 #[test]
 fn chunks_that_no_slot_names_are_dropped(rt: HostRuntime) -> Result<(), Fail> {
     assert_eq!(rt; first_dropped(rt.alloc())?, (Some(local(3, 2).local), 1));
+    Ok(())
+}
+
+fn content_of(main: &Slots) -> Result<HeldContent, AllocError> {
+    match &main.main {
+        Some(main) => main.content.copy(),
+        None => Ok(HeldContent::Gone),
+    }
+}
+
+// A write of another content over a row: the chunks that are brought and dropped, and the first that is dropped.
+fn write_planned(alloc: Global) -> Result<(usize, usize, Option<LocalName>), AllocError> {
+    let content = content_of(&main_of(alloc, 1, 4)?)?;
+    let mut chunks = Sequence::new(alloc);
+    chunks.push(Bytes::from_slice(alloc, b"c")?)?;
+    let plan = plan_write(alloc, &main_of(alloc, 2, 1)?, 2, content, chunks)?;
+    Ok((
+        plan.chunks.len(),
+        plan.drops.len(),
+        plan.drops.get(0).copied(),
+    ))
+}
+
+// A row that was seen before: it brings nothing.
+fn old_row_planned(alloc: Global) -> Result<(bool, usize, usize), AllocError> {
+    let row = Shadow {
+        version: 0,
+        content: HeldContent::Gone,
+    };
+    let mut chunks = Sequence::new(alloc);
+    chunks.push(Bytes::from_slice(alloc, b"c")?)?;
+    let yours = Yours {
+        number: 0,
+        version: 0,
+    };
+    let plan = plan_header(
+        alloc,
+        Scheme::Causal,
+        &main_of(alloc, 2, 1)?,
+        yours,
+        row,
+        chunks,
+    )?;
+    Ok((
+        plan.change.slots.is_none(),
+        plan.chunks.len(),
+        plan.drops.len(),
+    ))
+}
+
+#[test]
+fn plans_bring_and_drop_chunks(rt: HostRuntime) -> Result<(), Fail> {
+    assert_eq!(rt; write_planned(rt.alloc())?, (1, 1, Some(local(3, 2).local)));
+    assert_eq!(rt; old_row_planned(rt.alloc())?, (true, 0, 0));
     Ok(())
 }

@@ -8,11 +8,12 @@ ghost use Rattle.stab_base.specs.declared.limits.TheConstants.{NUMBER_MAX};
 ghost use Rattle.chunk_store.specs.Standing as chunks;
 ghost use Rattle.row_store.specs.Data.{row_of, IsTableVersion};
 ghost use Rattle.row_store.specs.Reading.{terms_if};
-ghost use Rattle.row_store.specs.Spelling.{HasStoredSpelling, row_payload, IsClient};
+ghost use Rattle.row_store.specs.Spelling.{HasStoredSpelling, row_payload, table_payload, IsState, IsClient};
 ghost use Rattle.row_store.specs.Standing as rows;
 ghost use Rattle.status_log.specs.Entry.{entry_of, HasSpelling};
 ghost use Rattle.status_log.specs.Standing as logs;
-ghost use Rattle.store_commit.specs.Devs.{PutSub};
+ghost use Rattle.value_codec.specs.SchemaSpelling.{HasSchemaSpelling};
+ghost use Rattle.store_commit.specs.Devs.{PutTable, PutSub};
 ghost use Rattle.store_commit.specs.NamedChunks.{NamedChunks};
 ghost use Rattle.store_commit.specs.Agenda.{update_writes, Replaces, meaning_with, IsMoment, Runs};
 ghost use Rattle.store_commit.specs.Standing.{write_of, writes_of, AreUp, IsReady, devs};
@@ -29,10 +30,12 @@ use crate::task::Task;
 use crate::update::Update;
 use disk_trait::Disk;
 use row_store::{LastWrite, LastWrites, StoredRow, row_size};
+use row_value::Schema;
 use stab_base::{ClientNo, GateNo, NUMBER_MAX, RowId, Version};
 use status_log::LogEntry;
 use std::alloc::{AllocError, Global};
 use std::collections::VecDeque;
+use value_codec::put_schema;
 
 fn one_task(alloc: Global, task: Task) -> Result<VecDeque<Task>, AllocError>
     ensures { IfOk result (λ tasks. tasks.items ≡ task ∷ []) }
@@ -40,6 +43,24 @@ fn one_task(alloc: Global, task: Task) -> Result<VecDeque<Task>, AllocError>
     let mut tasks = VecDeque::new(alloc);
     tasks.push_back(task)?;
     Ok(tasks)
+}
+
+fn table_task(alloc: Global, schema: &Schema, state: u8) -> Result<VecDeque<Task>, AllocError>
+    ensures { IfOk result (λ tasks. map write_of tasks.items ≡ PutTable schema.now state ∷ []) }
+{
+    one_task(alloc, Task::PutTable(schema.copy()?, state))
+}
+
+// How many bytes the payload of a table has.
+fn table_size(alloc: Global, schema: &Schema, state: u8) -> Result<u64, AllocError>
+    requires spelled { HasSchemaSpelling schema.now }
+    requires short { length (table_payload schema.now state) ≤ payload_most }
+    ensures { IfOk result (λ size. size ≡ length (table_payload schema.now state)) }
+{
+    let mut payload = vec![in alloc; 2u8]?;
+    put_schema(&mut payload, schema)?;
+    payload.push(state)?;
+    Ok(payload.len() as u64)
 }
 
 impl<D: Disk + Drop> TableDevs<D> {
@@ -287,6 +308,23 @@ impl<D: Disk + Drop> TableDevs<D> {
         };
         let tasks = one_task(self.alloc, task)?;
         self.reserve_rows(1, 18)?;
+        self.agenda = tasks;
+        Ok(())
+    }
+
+    /// Takes on the put of the table's schema and its state: 1 draft, 2 live, 3 dropped. Its one write is then to be
+    /// done, and takes no memory.
+    pub fn begin_table(&mut self, schema: &Schema, state: u8) -> Result<(), CommitFault>
+        requires ready { AreUp self.old → IsReady D.state self.old (writes_of self.old) }
+        requires spelled { HasSchemaSpelling schema.now }
+        requires state { IsState state }
+        requires short { length (table_payload schema.now state) ≤ payload_most }
+        ensures takes { TakesOn D.state D.images ⊥ (λ _. PutTable schema.now state ∷ []) self.old self.new result }
+    {
+        self.free()?;
+        let tasks = table_task(self.alloc, schema, state)?;
+        let size = table_size(self.alloc, schema, state)?;
+        self.reserve_rows(1, size)?;
         self.agenda = tasks;
         Ok(())
     }

@@ -22,7 +22,8 @@ use Rattle.status_log.specs.Payload.{pending_of}
 use Rattle.status_log.specs.Standing as logs
 use Rattle.store_commit.specs.declared.devs.TableDevs.{TableDevs}
 use Rattle.store_commit.specs.Devs.{Devs, Write, OpenChunks, OpenRows, OpenLog, OpenEntry, PutChunk, PutRow, DropChunk, CloseEntry, PutTable, PutSub}
-use Rattle.store_commit.specs.Standing.{devs, AreUp, AreSynced, AreSound, IsReady, DevsLeave, MayDoAll, chunk_opens, chunk_puts, chunk_bytes, row_opens, row_puts, row_bytes, log_opens, log_puts, log_bytes, chunk_opened, row_opened, log_opened}
+use Rattle.store_commit.specs.Standing.{devs, AreUp, AreSynced, AreSound, IsReady, DevsLeave, MayDoAll, chunk_opens, chunk_puts, chunk_bytes, row_opens, row_puts, row_bytes, log_opens, log_puts}
+use Rattle.store_commit.specs.Standing.{log_bytes, chunk_opened, row_opened, log_opened}
 use Rattle.store_commit.proofs.Works.{all_same}
 
 -- ---- an opened device stays opened

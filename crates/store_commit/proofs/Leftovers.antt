@@ -67,7 +67,8 @@ pub insert_among : (q k : ChunkName) (ks : List ChunkName) → (q ≡ k) ⊎ Amo
 insert_among q k [] h = h
 insert_among q k (x ∷ xs) h = pick (insert_among q k xs) (name_cmp k x) refl h
   where
-    pick : ((q ≡ k) ⊎ Among q xs → Among q (insert_key name_cmp xs k)) → (o : Ordering) → name_cmp k x ≡ o → (q ≡ k) ⊎ Among q (x ∷ xs) → Among q (match_ordering o (k ∷ x ∷ xs) (x ∷ xs) (x ∷ insert_key name_cmp xs k))
+    pick : ((q ≡ k) ⊎ Among q xs → Among q (insert_key name_cmp xs k)) → (o : Ordering) → name_cmp k x ≡ o → (q ≡ k) ⊎ Among q (x ∷ xs)
+        → Among q (match_ordering o (k ∷ x ∷ xs) (x ∷ xs) (x ∷ insert_key name_cmp xs k))
     pick go Less is a = a
     pick go Equal is a = ⊎_elim (λ same. inl (same ∙ one_name k x (ap is_eq is))) (λ more. more) a
     pick go Greater is a = ⊎_elim (λ same. inr (go (inl same))) (λ more. ⊎_elim (λ same. inl same) (λ rest. inr (go (inr rest))) more) a

@@ -1,5 +1,6 @@
 -- The loops that work an update out.
-use Rattle.std.proofs.Common.{◌≡◌, inl, inr, ⊎_elim, ℕ, zero, suc, ◌+◌, ◌<◌, Bool, true, false, cond, List, [], ◌∷◌, ◌++◌, length, take, drop, get_or, Option, Some, None, refl, sym, ◌∙◌, ap, subst, arith, append_assoc, add-one, drop-cons}
+use Rattle.std.proofs.Common.{◌≡◌, inl, inr, ⊎_elim, ℕ, zero, suc, ◌+◌, ◌<◌, Bool, true, false, cond, List, [], ◌∷◌, ◌++◌, length, take, drop, get_or, Option, Some, None, refl, sym, ◌∙◌, ap, subst}
+use Rattle.std.proofs.Common.{arith, append_assoc, add-one, drop-cons}
 use Rattle.std.specs.Prelude.{◌||◌, ◌&&◌, not, map, unwrap_or, if◌then◌else◌, slice_index_or}
 use Rattle.std.specs.List.{flat_map, list_any}
 use Rattle.std.specs.BTreeMap.{is_at}
@@ -42,7 +43,8 @@ abbrev pieces_in : PieceObject → List Piece
 pieces_in object = object.pieces
 
 -- one object more
-pub objects_more : (now next : List ChunkName) (os : List PieceObject) (i : ℕ) (o e : PieceObject) → i < length os → o ≡ get_or os i e → now ≡ names_in (pieces_of (take i os)) → next ≡ now ++ names_in o.pieces
+pub objects_more : (now next : List ChunkName) (os : List PieceObject) (i : ℕ) (o e : PieceObject) → i < length os → o ≡ get_or os i e → now ≡ names_in (pieces_of (take i os))
+    → next ≡ now ++ names_in o.pieces
     → next ≡ names_in (pieces_of (take (i + 1) os))
 objects_more now next os i o e lt is so_far push =
     let more : take (i + 1) os ≡ take i os ++ o ∷ [] = take_more os i e lt ∙ ap (λ (q : PieceObject). take i os ++ q ∷ []) (sym is) in
@@ -61,7 +63,8 @@ drops-append : (xs ys : List ChunkName) → drops (xs ++ ys) ≡ drops xs ++ dro
 drops-append [] ys = refl
 drops-append (x ∷ xs) ys = ap (λ (l : List Write). DropChunk x ∷ l) (drops-append xs ys)
 
-pub drops_more : (start now next : List Write) (names : List ChunkName) (i : ℕ) (name e : ChunkName) → i < length names → name ≡ get_or names i e → now ≡ start ++ drops (take i names) → next ≡ now ++ drops (name ∷ [])
+pub drops_more : (start now next : List Write) (names : List ChunkName) (i : ℕ) (name e : ChunkName) → i < length names → name ≡ get_or names i e → now ≡ start ++ drops (take i names)
+    → next ≡ now ++ drops (name ∷ [])
     → next ≡ start ++ drops (take (i + 1) names)
 drops_more start now next names i name e lt is so_far push =
     let more : take (i + 1) names ≡ take i names ++ name ∷ [] = take_more names i e lt ∙ ap (λ (q : ChunkName). take i names ++ q ∷ []) (sym is) in
@@ -155,7 +158,8 @@ unmet_more there start before after names seen i name e lt is so_far b test adde
     go true added kept rest now = ap (λ (l : List ChunkName). l ++ unmet there (name ∷ seen) rest) (added refl) ∙ (append_assoc before (name ∷ []) (unmet there (name ∷ seen) rest) ∙ now)
     go false added kept rest now = ap (λ (l : List ChunkName). l ++ unmet there seen rest) (kept refl) ∙ now
 
-pub old_more : (there : ChunkName → Bool) (kept names : List ChunkName) (met next : BTreeSet ChunkName) (before after : List ChunkName) (i : ℕ) (name e : ChunkName) → i < length names → name ≡ get_or names i e
+pub old_more : (there : ChunkName → Bool) (kept names : List ChunkName) (met next : BTreeSet ChunkName) (before after : List ChunkName) (i : ℕ) (name e : ChunkName) → i < length names
+    → name ≡ get_or names i e
     → (seen : List ChunkName) × HasNames seen met × (before ++ unmet there seen (drop i names) ≡ unmet there kept names) → Meets there name met next before after
     → (seen : List ChunkName) × HasNames seen next × (after ++ unmet there seen (drop (i + 1) names) ≡ unmet there kept names)
 old_more there kept names met next before after i name e lt is inv m = go (there name && not (is_among name inv.0)) refl

@@ -1,5 +1,6 @@
 -- What a start makes of the three devices.
-use Rattle.std.proofs.Common.{◌≡◌, inl, inr, ⊎_elim, ◌⊎◌, ℕ, suc, ◌+◌, ◌*◌, ◌<◌, ◌≤◌, Bool, true, false, List, [], ◌∷◌, ◌++◌, length, Option, Some, None, Result, Ok, Err, refl, sym, ◌∙◌, ap, subst, arith}
+use Rattle.std.proofs.Common.{◌≡◌, inl, inr, ⊎_elim, ◌⊎◌, ℕ, suc, ◌+◌, ◌*◌, ◌<◌, ◌≤◌, Bool, true, false, List, [], ◌∷◌, ◌++◌, length, Option, Some, None, Result, Ok, Err, refl, sym, ◌∙◌, ap, subst}
+use Rattle.std.proofs.Common.{arith}
 use Rattle.std.specs.Prelude.{IsErrOf, IsSome, is_some, if◌then◌else◌}
 use Rattle.std.specs.VecDeque.{deque_len, deque_capacity}
 use Rattle.disk_trait.specs.Image.{IsImage}
@@ -107,7 +108,8 @@ may_end : (is_open : Bool) (d : Devs) → is_some d.pending ≡ is_open → MayD
 may_end true d is = (is, tt)
 may_end false d is = tt
 
-may_drop : (names : List ChunkName) (is_open : Bool) (d : Devs) → is_some d.pending ≡ is_open → AreDifferent names → ((name : ChunkName) → Among name names → IsSome (chunk_in d.chunks name)) → MayDoAll d (drops names ++ last is_open)
+may_drop : (names : List ChunkName) (is_open : Bool) (d : Devs) → is_some d.pending ≡ is_open → AreDifferent names → ((name : ChunkName) → Among name names → IsSome (chunk_in d.chunks name))
+    → MayDoAll d (drops names ++ last is_open)
 may_drop [] is_open d is different there = may_end is_open d is
 may_drop (name ∷ names) is_open d is different there =
     let after : (q : ChunkName) → Among q names → IsSome (chunk_in (without name_cmp d.chunks name) q) = λ q among.
@@ -127,7 +129,8 @@ ok_if (Err x) none = absurd (none x refl)
 -- ---- at the start
 
 module _ {D : Type 0} (state : D → DiskState) (images : D → ℕ → List ℕ → Type 0) (only_now : (disk : D) (image : List ℕ) → images disk (state disk).moment image → IsImage (state disk).pending image) where
-  chunk_rests : (dev : ChunkDev D) → vaults.IsLookedAt state (chunks.vault_of dev) → vaults.IsSound state (chunks.vault_of dev) → chunks.Leaves state images dev dev (λ here. here ≡ chunks.chunks state dev)
+  chunk_rests : (dev : ChunkDev D) → vaults.IsLookedAt state (chunks.vault_of dev) → vaults.IsSound state (chunks.vault_of dev)
+      → chunks.Leaves state images dev dev (λ here. here ≡ chunks.chunks state dev)
   chunk_rests dev looked sound = runs_weaker state images (chunks.vault_of dev) (chunks.vault_of dev) (λ l. l ≡ payloads state (chunks.vault_of dev)) (λ l. chunks_of l ≡ chunks.chunks state dev) (looked_leaves state images only_now (chunks.vault_of dev) looked sound) (λ l is. ap chunks_of is)
 
   row_rests : (dev : RowDev D) → vaults.IsLookedAt state (rows.vault_of dev) → vaults.IsSound state (rows.vault_of dev) → rows.Leaves state images dev dev (λ here. here ≡ rows.held state dev)
@@ -404,7 +407,8 @@ module _ {D : Type 0} (state : D → DiskState) (images : D → ℕ → List ℕ
 
       -- it was taken on
       pub recovered : (end : TableDevs D) → end.chunks ≡ new.chunks → end.rows ≡ new.rows → end.log ≡ new.log → (recovery : Recovery) → IsRecovery (devs state old) recovery
-          → (names : List ChunkName) → AreLeftovers (devs state old) names → (is_open : Bool) → is_open ≡ is_some (devs state old).pending → writes_of end ≡ recovery_writes names is_open → drops ≡ length names
+          → (names : List ChunkName) → AreLeftovers (devs state old) names → (is_open : Bool) → is_open ≡ is_some (devs state old).pending → writes_of end ≡ recovery_writes names is_open
+          → drops ≡ length names
           → MakesRoom state images drops mid new (Ok tt) → Recovers state images old end (Ok recovery)
       recovered end ce re le recovery answer names l is_open open_is writes size m = record {
         answer = answer;

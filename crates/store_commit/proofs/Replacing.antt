@@ -105,7 +105,8 @@ module _ (v : ℕ) where
   content_ordinal Gone s ordinal h = absurd h
   content_ordinal (Row some objects) s ordinal h = let r = (within 0 (fresh_in (pieces_of objects)) ordinal s.fresh h).1 in omega arith
 
-  pub content_different : (c : PieceContent) → HasContentSpelling c → AreDifferent (names_of c) → ((name : ChunkName) → Among name (names_of c) → name.version < v) → AreDifferent (names_of (named_content v c))
+  pub content_different : (c : PieceContent) → HasContentSpelling c → AreDifferent (names_of c) → ((name : ChunkName) → Among name (names_of c) → name.version < v)
+      → AreDifferent (names_of (named_content v c))
   content_different Gone s d below = tt
   content_different (Row some objects) s d below =
       subst (λ (ps : List Piece). AreDifferent (names_in ps)) (sym (pieces_named v objects)) (named_different v (pieces_of objects) 0 d below s.fresh)

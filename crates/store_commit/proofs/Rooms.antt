@@ -62,7 +62,8 @@ may_drop (name ∷ names) d different a = (
   }),
 )
 
-may_put : (v k : ℕ) (fresh : List (List ℕ)) (d : Devs) (names : List ChunkName) (rest : List Write) → v ≤ NUMBER_MAX → AllByRecursion (λ (bytes : List ℕ). length bytes ≤ chunk_most) fresh → AreThere d names
+may_put : (v k : ℕ) (fresh : List (List ℕ)) (d : Devs) (names : List ChunkName) (rest : List Write) → v ≤ NUMBER_MAX → AllByRecursion (λ (bytes : List ℕ). length bytes ≤ chunk_most) fresh
+    → AreThere d names
     → ((e : Devs) → AreThere e names → MayDoAll e rest) → MayDoAll d (puts v k fresh ++ rest)
 may_put v k [] d names rest most short a last = last d a
 may_put v k (bytes ∷ fresh) d names rest most short a last = (
@@ -154,15 +155,18 @@ update_room entry fresh stored =
 
 -- ---- ready
 
-unopened : {D F : Type 0} (state : D → DiskState) (has_spare : F → ℕ → ℕ → Type 0) (folded_ : Folded D F) (p b o n m : ℕ) → o ≡ 0 → n ≡ p → m ≡ b → folded.HasRoom state has_spare folded_ 1 p b → folded.HasRoom state has_spare folded_ o n m
+unopened : {D F : Type 0} (state : D → DiskState) (has_spare : F → ℕ → ℕ → Type 0) (folded_ : Folded D F) (p b o n m : ℕ) → o ≡ 0 → n ≡ p → m ≡ b → folded.HasRoom state has_spare folded_ 1 p b
+    → folded.HasRoom state has_spare folded_ o n m
 unopened state has_spare folded_ p b o n m none same_puts same_bytes r =
     subst (λ (x : ℕ). folded.HasRoom state has_spare folded_ o x m) (sym same_puts)
     (subst (λ (x : ℕ). folded.HasRoom state has_spare folded_ o p x) (sym same_bytes)
     (record { vault = less_room state folded_.vault 1 p b o p b (omega (arith, none)) (omega arith) (omega arith) r.vault; memory = r.memory; payload = r.payload }))
 
-pub ready_update : {D : Type 0} (state : D → DiskState) (table : TableDevs D) (entry : Entry) (fresh : List (List ℕ)) (stored : StoredRow) → IsReady state table [] → IsPlan entry fresh stored → (devs state table).pending ≡ None → AreDifferent entry.old
+pub ready_update : {D : Type 0} (state : D → DiskState) (table : TableDevs D) (entry : Entry) (fresh : List (List ℕ)) (stored : StoredRow) → IsReady state table [] → IsPlan entry fresh stored
+    → (devs state table).pending ≡ None → AreDifferent entry.old
     → ((name : ChunkName) → Among name entry.old → IsSome (chunk_in (devs state table).chunks name))
-    → chunks.HasRoom state table.chunks 1 (length fresh + length entry.old) (13 * (length fresh + length entry.old) + sum_by length fresh) → rows.HasRoom state table.rows 1 1 (length (row_payload stored)) → logs.HasRoom state table.log 1 2 (62 + 12 * length entry.old)
+    → chunks.HasRoom state table.chunks 1 (length fresh + length entry.old) (13 * (length fresh + length entry.old) + sum_by length fresh)
+    → rows.HasRoom state table.rows 1 1 (length (row_payload stored)) → logs.HasRoom state table.log 1 2 (62 + 12 * length entry.old)
     → IsReady state table (update_writes entry fresh stored)
 ready_update state table entry fresh stored r plan closed different there chunk_room row_room log_room =
     let ws = update_writes entry fresh stored in
@@ -189,9 +193,11 @@ bytes_few [] h = omega arith
 bytes_few (bytes ∷ fresh) h = omega (arith, sum_by-cons (λ (b : List ℕ). length b) bytes fresh, bytes_few fresh h.1, h.0)
 
 -- an update that was worked out over devices with the same chunks
-pub prepared : {D : Type 0} (state : D → DiskState) (mid new : TableDevs D) (version : ℕ) (update : Update) (entry : Entry) (fresh : List (List ℕ)) (stored : StoredRow) → entry ≡ entry_for (devs state mid) version update → devs state new ≡ devs state mid
+pub prepared : {D : Type 0} (state : D → DiskState) (mid new : TableDevs D) (version : ℕ) (update : Update) (entry : Entry) (fresh : List (List ℕ)) (stored : StoredRow)
+    → entry ≡ entry_for (devs state mid) version update → devs state new ≡ devs state mid
     → IsPlan entry fresh stored → (devs state new).pending ≡ None → IsReady state new []
-    → chunks.HasRoom state new.chunks 1 (length fresh + length entry.old) (13 * (length fresh + length entry.old) + sum_by length fresh) → rows.HasRoom state new.rows 1 1 (length (row_payload stored)) → logs.HasRoom state new.log 1 2 (62 + 12 * length entry.old)
+    → chunks.HasRoom state new.chunks 1 (length fresh + length entry.old) (13 * (length fresh + length entry.old) + sum_by length fresh) → rows.HasRoom state new.rows 1 1 (length (row_payload stored))
+    → logs.HasRoom state new.log 1 2 (62 + 12 * length entry.old)
     → IsReady state new (update_writes entry fresh stored)
 prepared state mid new version update entry fresh stored is same plan closed rests chunk_room row_room log_room =
     let there : ChunkName → Bool = λ name. is_some (chunk_in (devs state mid).chunks name) in
@@ -206,7 +212,8 @@ prepared state mid new version update entry fresh stored is same plan closed res
 
 -- one put of the rows' device
 module _ {D : Type 0} (state : D → DiskState) (table : TableDevs D) (r : IsReady state table []) where
-  put_ready : (w : Write) (bytes : ℕ) → MayDo (devs state table) w → chunk_opened (chunks.IsOpened state table.chunks) (w ∷ []) → row_opened (rows.IsOpened state table.rows) (w ∷ []) → log_opened (logs.IsOpened state table.log) (w ∷ [])
+  put_ready : (w : Write) (bytes : ℕ) → MayDo (devs state table) w → chunk_opened (chunks.IsOpened state table.chunks) (w ∷ []) → row_opened (rows.IsOpened state table.rows) (w ∷ [])
+      → log_opened (logs.IsOpened state table.log) (w ∷ [])
       → chunk_opens (w ∷ []) ≡ 0 → chunk_puts (w ∷ []) ≡ 0 → chunk_bytes (w ∷ []) ≡ 0 → row_opens (w ∷ []) ≡ 0 → row_puts (w ∷ []) ≡ 1 → row_bytes (w ∷ []) ≡ bytes
       → log_opens (w ∷ []) ≡ 0 → log_puts (w ∷ []) ≡ 0 → log_bytes (w ∷ []) ≡ 0 → rows.HasRoom state table.rows 1 1 bytes → IsReady state table (w ∷ [])
   put_ready w bytes may co ro lo a b c d e f x y z room = record {
@@ -228,5 +235,6 @@ module _ {D : Type 0} (state : D → DiskState) (table : TableDevs D) (r : IsRea
   pub sub_ready : (client : ℕ) (terms : Option Terms) → IsClient client → rows.HasRoom state table.rows 1 1 18 → IsReady state table (PutSub client terms ∷ [])
   sub_ready client terms is room = put_ready (PutSub client terms) 18 is r.chunk_is_opened r.row_is_opened r.log_is_opened refl refl refl refl refl refl refl refl refl room
 
-  pub table_ready : (schema : Schema) (number : ℕ) → MayDo (devs state table) (PutTable schema number) → rows.HasRoom state table.rows 1 1 (length (table_payload schema number)) → IsReady state table (PutTable schema number ∷ [])
+  pub table_ready : (schema : Schema) (number : ℕ) → MayDo (devs state table) (PutTable schema number) → rows.HasRoom state table.rows 1 1 (length (table_payload schema number))
+      → IsReady state table (PutTable schema number ∷ [])
   table_ready schema number may room = put_ready (PutTable schema number) (length (table_payload schema number)) may r.chunk_is_opened r.row_is_opened r.log_is_opened refl refl refl refl refl (omega arith) refl refl refl room

@@ -1,5 +1,6 @@
 -- The row and the entry of an update have spellings, and their payloads are short.
-use Rattle.std.proofs.Common.{◌≡◌, inl, inr, ⊎_elim, ℕ, ◌+◌, ◌*◌, ◌<◌, ◌≤◌, ◌^◌, Bool, true, false, cond, List, [], ◌∷◌, ◌++◌, length, Option, Some, None, refl, sym, ◌∙◌, ap, subst, arith, length-append}
+use Rattle.std.proofs.Common.{◌≡◌, inl, inr, ⊎_elim, ℕ, ◌+◌, ◌*◌, ◌<◌, ◌≤◌, ◌^◌, Bool, true, false, cond, List, [], ◌∷◌, ◌++◌, length, Option, Some, None, refl, sym, ◌∙◌, ap, subst, arith}
+use Rattle.std.proofs.Common.{length-append}
 use Rattle.std.specs.Prelude.{◌&&◌, not, map, nat_lt, filter, sum_by, is_some, IfSome, if◌then◌else◌}
 use Rattle.std.specs.Int.{w32, to_be_bytes}
 use Rattle.std.specs.List.{flat_map, list_all, AllByRecursion}
@@ -98,7 +99,8 @@ both : (a b : Bool) → a && b ≡ true → (a ≡ true) × (b ≡ true)
 both true b h = (refl, h)
 both false b h = absurd cc
 
-objects_len : (os : List PieceObject) → list_all (λ (o : PieceObject). list_all is_keep o.pieces) os ≡ true → length (flat_map object_spelling os) ≡ sum_by (λ (o : PieceObject). 8 + 13 * length o.pieces) os
+objects_len : (os : List PieceObject) → list_all (λ (o : PieceObject). list_all is_keep o.pieces) os ≡ true
+    → length (flat_map object_spelling os) ≡ sum_by (λ (o : PieceObject). 8 + 13 * length o.pieces) os
 objects_len [] h = refl
 objects_len (o ∷ os) h =
     let k = both (list_all is_keep o.pieces) (list_all (λ (q : PieceObject). list_all is_keep q.pieces) os) h in
@@ -162,14 +164,16 @@ put_front before lasts last h more =
 with_same : (l : LastWrite) (lasts : List LastWrite) (last : LastWrite) → nat_lt l.client last.client ≡ false → nat_lt last.client l.client ≡ false → with_last (l ∷ lasts) last ≡ with_last lasts last
 with_same l lasts last p q = rw (p, q) refl
 
-with_smaller : (l : LastWrite) (lasts : List LastWrite) (last : LastWrite) → nat_lt l.client last.client ≡ true → nat_lt last.client l.client ≡ false → with_last (l ∷ lasts) last ≡ l ∷ with_last lasts last
+with_smaller : (l : LastWrite) (lasts : List LastWrite) (last : LastWrite) → nat_lt l.client last.client ≡ true → nat_lt last.client l.client ≡ false
+    → with_last (l ∷ lasts) last ≡ l ∷ with_last lasts last
 with_smaller l lasts last p q = rw (p, q) refl
 
 pub lasts_put : (before : ℕ) (lasts : List LastWrite) (last : LastWrite) → AreLasts before lasts → IsNextLast before last → AreLasts before (with_last lasts last)
 lasts_put before [] last h next = (next, tt)
 lasts_put before (l ∷ lasts) last h next = pick (nat_lt l.client last.client) refl (nat_lt last.client l.client) refl (lasts_put l.client lasts last h.1)
   where
-    pick : (a : Bool) → nat_lt l.client last.client ≡ a → (b : Bool) → nat_lt last.client l.client ≡ b → (IsNextLast l.client last → AreLasts l.client (with_last lasts last)) → AreLasts before (with_last (l ∷ lasts) last)
+    pick : (a : Bool) → nat_lt l.client last.client ≡ a → (b : Bool) → nat_lt last.client l.client ≡ b → (IsNextLast l.client last → AreLasts l.client (with_last lasts last))
+        → AreLasts before (with_last (l ∷ lasts) last)
     pick true p true q more = absurd (let x : l.client < last.client = grind (arith, nat_tests) in let y : last.client < l.client = grind (arith, nat_tests) in omega arith)
     pick true p false q more =
         let above : l.client < last.client = grind (arith, nat_tests) in
@@ -185,7 +189,8 @@ unmet_few : (there : ChunkName → Bool) (met names : List ChunkName) → length
 unmet_few there met [] = omega arith
 unmet_few there met (n ∷ names) = pick (there n && not (is_among n met)) (unmet_few there (n ∷ met) names) (unmet_few there met names)
   where
-    pick : (b : Bool) → length (unmet there (n ∷ met) names) ≤ length names → length (unmet there met names) ≤ length names → length (if b then n ∷ unmet there (n ∷ met) names else unmet there met names) ≤ length (n ∷ names)
+    pick : (b : Bool) → length (unmet there (n ∷ met) names) ≤ length names → length (unmet there met names) ≤ length names
+        → length (if b then n ∷ unmet there (n ∷ met) names else unmet there met names) ≤ length (n ∷ names)
     pick true x y = omega arith
     pick false x y = omega arith
 
@@ -221,7 +226,8 @@ standing_spelled : (found : Option StoredRow) → IfSome found HasStoredSpelling
 standing_spelled None h = tt
 standing_spelled (Some stored) h = names_spelled stored.content h.content
 
-standing_few : (found : Option StoredRow) → IfSome found HasStoredSpelling → IfSome found (λ (stored : StoredRow). length (row_payload stored) ≤ payload_most) → 13 * length (names_if found) + 29 ≤ payload_most
+standing_few : (found : Option StoredRow) → IfSome found HasStoredSpelling → IfSome found (λ (stored : StoredRow). length (row_payload stored) ≤ payload_most)
+    → 13 * length (names_if found) + 29 ≤ payload_most
 standing_few None h short = omega arith
 standing_few (Some stored) h short = omega (arith, row_len stored, h.row, content_len stored.content h.keeps, content_names stored.content, short)
 
@@ -231,7 +237,8 @@ standing_lasts (Some stored) h = h.lasts
 
 -- ---- the update
 
-pub plan_is : (d : Devs) (version : ℕ) (update : Update) (found : Option StoredRow) → version ≤ NUMBER_MAX → length update.row ≡ 16 → update.number < 2 ^ 64 → update.base < 2 ^ 64 → IsUpdate d.held update → IsStanding d.held update.row found
+pub plan_is : (d : Devs) (version : ℕ) (update : Update) (found : Option StoredRow) → version ≤ NUMBER_MAX → length update.row ≡ 16 → update.number < 2 ^ 64 → update.base < 2 ^ 64
+    → IsUpdate d.held update → IsStanding d.held update.row found
     → IsPlan (entry_for d version update) update.fresh (stored_for d version update)
 plan_is d version update found most row number base u s =
     let is = s.is in

@@ -60,7 +60,8 @@ module _ {D : Type 0} (state : D → DiskState) (images : D → ℕ → List ℕ
   }
 
   module _ (dev : ChunkDev D) (leaves : chunks.Leaves state images old.chunks dev (λ here. here ≡ chunks.chunks state old.chunks)) where
-    chunk_stays : {T : Type 0} (r : Result T CommitFault) → chunks.Stays state old.chunks dev → faults state (chunks.vault_of dev) ≡ faults state (chunks.vault_of old.chunks) → IsNotDisk r → OnlyThese r
+    chunk_stays : {T : Type 0} (r : Result T CommitFault) → chunks.Stays state old.chunks dev → faults state (chunks.vault_of dev) ≡ faults state (chunks.vault_of old.chunks) → IsNotDisk r
+        → OnlyThese r
         → Waits state images old (record old { chunks = dev }) r
     chunk_stays r stays counted not_disk only = record {
       agenda = refl;
@@ -281,7 +282,8 @@ found_is held row (Err row_faults.Memory) is spelled short none = tt
 found_is held row (Err row_faults.Down) is spelled short none = tt
 
 -- the same under another answer, which isn't that of a disk
-pub waits_other : {D T S : Type 0} (state : D → DiskState) (images : D → ℕ → List ℕ → Type 0) (old new : TableDevs D) (first : Result S CommitFault) → IsNotDisk first → Waits state images old new first → (r : Result T CommitFault) → IsNotDisk r
+pub waits_other : {D T S : Type 0} (state : D → DiskState) (images : D → ℕ → List ℕ → Type 0) (old new : TableDevs D) (first : Result S CommitFault) → IsNotDisk first
+    → Waits state images old new first → (r : Result T CommitFault) → IsNotDisk r
     → IfErr r (λ e. (e ≡ Disk) ⊎ (e ≡ Memory)) → Waits state images old new r
 waits_other state images old new first was_not w r not_disk only = record {
   agenda = w.agenda;

@@ -17,7 +17,8 @@ use Rattle.store_commit.specs.declared.fault.CommitFault.TheVariants.{Disk, Memo
 use Rattle.store_commit.specs.Devs.{Devs, Write}
 use Rattle.store_commit.specs.NamedChunks.{Among, NamedChunks}
 use Rattle.store_commit.specs.Agenda.{Runs, IsRecovering, recovery_writes, AreLeftovers}
-use Rattle.store_commit.specs.Standing.{devs, writes_of, all_faults, AreUp, IsOneDown, AreLookedAt, AreSound, HaveOpenings}
+use Rattle.store_commit.specs.Standing.{devs, writes_of, all_faults, AreUp, IsOneDown, AreLookedAt, AreSound}
+use Rattle.store_commit.specs.Standing.{HaveOpenings}
 use Rattle.store_commit.specs.Standing.{IsReady, DevsLeave}
 
 -- What was cut short: nothing; the entry of an update whose row was put; or the version of one whose row wasn't.
@@ -35,7 +36,8 @@ pub record AreStillThere (map : List (ChunkName × List ℕ)) (old names : List 
 -- These are the writes that recover what the devices hold: of all that is left and still there each is dropped, and
 -- what is open is closed.
 abbrev pub AreRecoveryWrites : Devs → List Write → Type 0
-AreRecoveryWrites d ws = (names : List ChunkName) × AreLeftovers d names × (ws ≡ recovery_writes names (is_some d.pending))
+AreRecoveryWrites d ws = (names : List ChunkName) × AreLeftovers d names
+    × (ws ≡ recovery_writes names (is_some d.pending))
 
 -- as a look leaves them: sound, with room for an opening of each vault, and no write to come
 pub record IsStarting {D : Type 0} (state : D → DiskState) (table : TableDevs D) : Type 0 where

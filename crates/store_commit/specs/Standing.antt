@@ -1,5 +1,6 @@
 -- A table's devices between calls, as what they hold and the writes that are still to come.
-use Rattle.std.specs.Prelude.{◌≡◌, ◌⊎◌, ℕ, ◌+◌, ◌<◌, ◌≤◌, List, [], ◌∷◌, length, map, drop, None, IsSome, Result, Ok, Err}
+use Rattle.std.specs.Prelude.{◌≡◌, ◌⊎◌, ℕ, ◌+◌, ◌<◌, ◌≤◌, List, [], ◌∷◌, length, map, drop, None, IsSome, Result, Ok}
+use Rattle.std.specs.Prelude.{Err}
 use Rattle.std.specs.Prelude.{OnOk, IfOk}
 use Rattle.disk_trait.specs.Calls.{DiskState}
 use Rattle.vault.specs.Limit.{payload_most}

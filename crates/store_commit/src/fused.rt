@@ -2,7 +2,8 @@
 ghost use Rattle.std.specs.Prelude.{◌≡◌, List};
 ghost use Rattle.disk_trait.specs.Fuse.{behind, inner_of};
 ghost use Rattle.store_commit.specs.Devs.{Write};
-ghost use Rattle.store_commit.specs.Standing.{devs, write_of, writes_of, AreUp, AreSynced, AreSound, IsReady, DevsLeave};
+ghost use Rattle.store_commit.specs.Standing.{devs, write_of, writes_of, AreUp, AreSynced, AreSound, IsReady};
+ghost use Rattle.store_commit.specs.Standing.{DevsLeave};
 ghost use Rattle.store_commit.specs.Fused.{device_of, StopsNext};
 
 use crate::devs::TableDevs;
@@ -41,7 +42,8 @@ impl<D: Disk + Drop> TableDevs<FuseDisk<D>> {
         ensures agenda { self.new.agenda ≡ self.old.agenda }
         ensures up { AreUp self.old → AreUp self.new }
         ensures same { devs (behind D.state) self.new ≡ devs (behind D.state) self.old }
-        ensures ready { (ws : List Write) → IsReady (behind D.state) self.old ws → IsReady (behind D.state) self.new ws }
+        ensures ready { (ws : List Write) → IsReady (behind D.state) self.old ws
+            → IsReady (behind D.state) self.new ws }
         ensures any_moment { AreUp self.old → AreSynced (behind D.state) self.old → AreSound (behind D.state) self.old
             → DevsLeave (behind D.state) (λ f. D.images (inner_of f)) self.old self.new
             (λ d. d ≡ devs (behind D.state) self.old) }

@@ -1,5 +1,6 @@
 //! What an update makes of a table, as it is worked out before anything is written.
-ghost use Rattle.std.specs.Prelude.{◌≡◌, ◌+◌, ◌*◌, ◌<◌, ◌^◌, ◌≤◌, ◌++◌, [], ◌∷◌, IfOk, OnOk, is_some, length, map, filter, nat_lt, sum_by};
+ghost use Rattle.std.specs.Prelude.{◌≡◌, ◌+◌, ◌*◌, ◌<◌, ◌^◌, ◌≤◌, ◌++◌, [], ◌∷◌, IfOk, OnOk, is_some, length, map};
+ghost use Rattle.std.specs.Prelude.{filter, nat_lt, sum_by};
 ghost use Rattle.vault.specs.Standing.{IsUp};
 ghost use Rattle.value_codec.specs.Spelling.{pieces_of};
 ghost use Rattle.chunk_store.specs.Standing as chunks;

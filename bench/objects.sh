@@ -13,23 +13,28 @@ ROW = "00000000-0000-4000-8000-000000000001"
 LENGTH = 4_194_304
 SUMS = 32
 
-def spent(command, text):
-    """The least time of three runs in seconds, what the last one wrote, and its own peak memory in MB."""
+def script(text):
+    """A file with the text, to be read from its start."""
+    source = tempfile.TemporaryFile()
+    source.write(text)
+    return source
+
+def spent(command, source):
+    """The least time of three runs in seconds, a file with what the last one wrote, and its peak memory in MB.
+
+    What was written stays in files: a child's peak counts this program's memory too."""
     best = None
     for _ in range(3):
-        with tempfile.TemporaryFile() as script, tempfile.TemporaryFile() as out:
-            script.write(text)
-            script.seek(0)
-            begun = time.monotonic()
-            child = subprocess.Popen(command, stdin=script, stdout=out)
-            _, status, used = os.wait4(child.pid, 0)
-            took = time.monotonic() - begun
-            child.returncode = os.waitstatus_to_exitcode(status)
-            if child.returncode != 0:
-                sys.exit(f"{command[0]} ended with {child.returncode}")
-            best = took if best is None else min(best, took)
-            out.seek(0)
-            written = out.read()
+        written = tempfile.TemporaryFile()
+        source.seek(0)
+        begun = time.monotonic()
+        child = subprocess.Popen(command, stdin=source, stdout=written)
+        _, status, used = os.wait4(child.pid, 0)
+        took = time.monotonic() - begun
+        child.returncode = os.waitstatus_to_exitcode(status)
+        if child.returncode != 0:
+            sys.exit(f"{command[0]} ended with {child.returncode}")
+        best = took if best is None else min(best, took)
     return best, written, used.ru_maxrss // 1024
 
 def declared(clients):
@@ -47,21 +52,22 @@ def shared(clients, shows):
     return "\n".join(lines + [""]).encode()
 
 def repeated(length):
-    """A write that is refused for its length, which is shorter than 33,554,432 in the line's own form."""
+    """A write that is refused for the length of its object."""
     return "\n".join(declared(1) + [f"write C1 T1 {ROW} r:{length}:ffd8", ""]).encode()
 
 program = [sys.argv[1], "run"]
-written_only, _, least = spent(program, shared(8, []))
-print(f"eight clients, one writes and seven pull: {written_only:.3f} s, {least} MB")
-took, written, peak = spent(program, shared(8, ["show"]))
+alone, written, peak = spent(program, script(shared(8, [])))
+print(f"eight clients, one writes and seven pull: {alone:.3f} s, {peak} MB")
+took, written, peak = spent(program, script(shared(8, ["sum"] * (SUMS // 8))))
+copy, _, _ = spent(["cat"], script(bytes(LENGTH)))
+each = (took - alone) / SUMS
+print(f"and {SUMS} sums: {took:.3f} s, {peak} MB; each {each:.4f} s; cat of the object: {copy:.4f} s")
+took, written, peak = spent(program, script(shared(8, ["show"])))
 copy, _, _ = spent(["cat"], written)
-print(f"and eight shows: {took:.3f} s, {len(written)} bytes written, {peak} MB; cat of the same bytes: {copy:.3f} s")
-took, _, peak = spent(program, shared(8, ["sum"] * (SUMS // 8)))
-copy, _, _ = spent(["cat"], bytes(LENGTH))
-each = (took - written_only) / SUMS
-print(f"and {SUMS} sums in place of the shows: {took:.3f} s, {peak} MB; each {each:.4f} s; cat of its object: {copy:.4f} s")
-eighth, _, _ = spent(program, repeated(LENGTH + 1))
-whole, _, _ = spent(program, repeated(8 * LENGTH))
+size = os.fstat(written.fileno()).st_size
+print(f"and eight shows: {took:.3f} s, {size} bytes written, {peak} MB; cat of the same bytes: {copy:.3f} s")
+eighth, _, _ = spent(program, script(repeated(LENGTH + 1)))
+whole, _, _ = spent(program, script(repeated(8 * LENGTH)))
 print(f"a refused r: of 4,194,305 bytes: {eighth:.3f} s; of 33,554,432: {whole:.3f} s")
 if whole > 12 * eighth:
     sys.exit("grows more than it may")

@@ -11,3 +11,5 @@ mod logs;
 mod rows;
 #[cfg(test)]
 mod tables;
+#[cfg(test)]
+mod updates;

@@ -77,7 +77,12 @@ fn content_with(alloc: Global, cell: Option<u8>) -> Result<Vec<u8>, AllocError> 
 }
 
 // A row of which two clients have written.
-fn row_with(alloc: Global, id: u8, version: Version, content: &[u8]) -> Result<StoredRow, Fail>
+pub(crate) fn row_with(
+    alloc: Global,
+    id: u8,
+    version: Version,
+    content: &[u8],
+) -> Result<StoredRow, Fail>
     requires { version ≤ NUMBER_MAX }
     ensures { IfOk result HasStoredSpelling }
 {

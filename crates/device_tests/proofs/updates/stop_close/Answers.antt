@@ -1,4 +1,4 @@
-use Rattle.std.proofs.Common.{◌≡◌, ◌∙◌, None}
+use Rattle.std.proofs.Common.{◌∙◌, None}
 use Rattle.disk_trait.specs.Fuse.{behind, inner_of}
 use Rattle.vault.specs.Standing.{IsUp}
 use Rattle.vault.proofs.Uppers.{opened_sound}

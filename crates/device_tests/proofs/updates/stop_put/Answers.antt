@@ -1,4 +1,4 @@
-use Rattle.std.proofs.Common.{◌≡◌, ◌∙◌, ◌+◌, length}
+use Rattle.std.proofs.Common.{◌∙◌, ◌+◌, length}
 use Rattle.std.specs.BTreeMap.{insert_entry}
 use Rattle.disk_trait.specs.Fuse.{behind, inner_of}
 use Rattle.vault.specs.Standing.{IsUp}

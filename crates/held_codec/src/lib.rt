@@ -1,5 +1,5 @@
-//! How local names, held contents, slots and tells are spelled on a client's devices: what is put is the spelling, and a
-//! reader answers a value exactly where the bytes are its spelling.
+//! How local names, held contents, slots and tells are spelled on a client's devices: what is put is the spelling, and
+//! a reader answers a value exactly where the bytes are its spelling.
 #![tactic(auto)]
 
 mod laws;

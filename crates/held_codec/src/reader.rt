@@ -7,7 +7,8 @@ ghost use Rattle.field_codec.specs.Forms.{AreEach};
 ghost use Rattle.held_codec.specs.Spelling.{local_spelling, HasLocalSpelling, slots_spelling, HasSlots};
 ghost use Rattle.held_codec.specs.Spelling.{tell_spelling, HasTell};
 ghost use Rattle.field_codec.specs.Fields.{then_at, option_at, inside_if, byte_if, all_at};
-ghost use Rattle.held_codec.specs.Reading.{local_at, held_piece_at, held_object_at, held_at, main_at, shadow_at, out_at};
+ghost use Rattle.held_codec.specs.Reading.{local_at, held_piece_at, held_object_at, held_at, main_at, shadow_at};
+ghost use Rattle.held_codec.specs.Reading.{out_at};
 ghost use Rattle.held_codec.specs.Reading.{slots_at, is_tell, has_first, has_second, number_or, tell_of, tell_at};
 
 use crate::taken::{Taken, take_list, take_option};
@@ -39,7 +40,8 @@ pub fn take_local(bytes: &[u8], at: usize) -> Result<(LocalName, usize), SpellFa
     ensures value { Gives bytes.now (λ x. (x.0, drop x.1 bytes.now)) result (local_at (drop at bytes.now)) }
     ensures within { IfOk result (λ x. x.1 ≤ length bytes.now) }
     // What is found stands there as it is spelled.
-    ensures found { IfOk result (λ x. HasLocalSpelling x.0 × (drop at bytes.now ≡ local_spelling x.0 ++ drop x.1 bytes.now)) }
+    ensures found { IfOk result (λ x. HasLocalSpelling x.0
+        × (drop at bytes.now ≡ local_spelling x.0 ++ drop x.1 bytes.now)) }
     // A fault tells the first place at which no spelling goes on.
     ensures refused { Refuses HasLocalSpelling local_spelling bytes.now at result }
 {
@@ -101,7 +103,8 @@ fn take_row(
     at: usize,
 ) -> Result<((Cells, HeldObjects), usize), SpellFault>
     requires { at ≤ length bytes.now }
-    ensures value { Gives bytes.now (λ x. (x.0, drop x.1 bytes.now)) result (then_at (all_at cell_at) (λ some. all_at held_object_at) (drop at bytes.now)) }
+    ensures value { Gives bytes.now (λ x. (x.0, drop x.1 bytes.now)) result
+        (then_at (all_at cell_at) (λ some. all_at held_object_at) (drop at bytes.now)) }
     ensures within { IfOk result (λ x. x.1 ≤ length bytes.now) }
 {
     let (cells, behind) = take_list::<Cell>(alloc, bytes, at)?;
@@ -345,7 +348,8 @@ pub fn take_locals(
     ensures value { Gives bytes.now (λ x. (x.0, drop x.1 bytes.now)) result (all_at local_at (drop at bytes.now)) }
     ensures within { IfOk result (λ x. x.1 ≤ length bytes.now) }
     // What is found stands there as it is spelled.
-    ensures found { IfOk result (λ x. AreEach HasLocalSpelling x.0 × (drop at bytes.now ≡ list_spelling local_spelling x.0 ++ drop x.1 bytes.now)) }
+    ensures found { IfOk result (λ x. AreEach HasLocalSpelling x.0
+        × (drop at bytes.now ≡ list_spelling local_spelling x.0 ++ drop x.1 bytes.now)) }
     // A fault tells the first place at which no spelling goes on.
     ensures refused { Refuses (AreEach HasLocalSpelling) (list_spelling local_spelling) bytes.now at result }
 {
@@ -358,7 +362,8 @@ pub fn take_tells(alloc: Global, bytes: &[u8], at: usize) -> Result<(Tells, usiz
     ensures value { Gives bytes.now (λ x. (x.0, drop x.1 bytes.now)) result (all_at tell_at (drop at bytes.now)) }
     ensures within { IfOk result (λ x. x.1 ≤ length bytes.now) }
     // What is found stands there as it is spelled.
-    ensures found { IfOk result (λ x. AreEach HasTell x.0 × (drop at bytes.now ≡ list_spelling tell_spelling x.0 ++ drop x.1 bytes.now)) }
+    ensures found { IfOk result (λ x. AreEach HasTell x.0
+        × (drop at bytes.now ≡ list_spelling tell_spelling x.0 ++ drop x.1 bytes.now)) }
     // A fault tells the first place at which no spelling goes on.
     ensures refused { Refuses (AreEach HasTell) (list_spelling tell_spelling) bytes.now at result }
 {

@@ -1,5 +1,6 @@
 -- What is read as a put or a drop of a chunk was put as its one payload.
-use Rattle.std.proofs.Common.{◌≡◌, ℕ, ◌^◌, ◌<◌, ◌≤◌, Bool, true, false, cond, eqb, ltb, List, [], ◌∷◌, ◌++◌, length, Option, Some, None, Result, Ok, Err, refl, sym, ◌∙◌, ap, subst, append_assoc, ◌⊎◌, inl, inr}
+use Rattle.std.proofs.Common.{◌≡◌, ℕ, ◌^◌, ◌<◌, ◌≤◌, Bool, true, false, cond, eqb, ltb, List, [], ◌∷◌, ◌++◌, length, Option, Some, None, Result, Ok, Err, refl, sym, ◌∙◌, ap, subst, append_assoc, ◌⊎◌}
+use Rattle.std.proofs.Common.{inl, inr}
 use Rattle.std.specs.Prelude.{◌&&◌}
 use Rattle.std.specs.Int.{w32, w64, to_be_bytes}
 use Rattle.std.proofs.lemmas.Bool.{eqb-true, ltb-false}
@@ -51,7 +52,8 @@ for_takes tag name rest name' bytes e = past (ltb NUMBER_MAX name.version) refl 
         record { within = ltb-false _ _ w; same = named; kind = inr (eqb-true _ _ both.0, nil_from_length rest (eqb-true _ _ both.1), same) }
     ended false is w e = absurd cc
 
-    putting : (b : Bool) → eqb tag 1 ≡ b → ltb NUMBER_MAX name.version ≡ false → cond b (put name rest) (cond ((eqb tag 2) && (eqb (length rest) 0)) (gone name) nothing) ≡ Some (name', bytes) → IsChange tag name rest name' bytes
+    putting : (b : Bool) → eqb tag 1 ≡ b → ltb NUMBER_MAX name.version ≡ false → cond b (put name rest) (cond ((eqb tag 2) && (eqb (length rest) 0)) (gone name) nothing) ≡ Some (name', bytes)
+        → IsChange tag name rest name' bytes
     putting true is w e =
         let some : Option (List ℕ) = Some rest in
         let pair = some_is (name, some) (name', bytes) e in
@@ -60,7 +62,8 @@ for_takes tag name rest name' bytes e = past (ltb NUMBER_MAX name.version) refl 
         record { within = ltb-false _ _ w; same = named; kind = inl (eqb-true _ _ is, same) }
     putting false is w e = ended ((eqb tag 2) && (eqb (length rest) 0)) refl w e
 
-    past : (b : Bool) → ltb NUMBER_MAX name.version ≡ b → cond b nothing (cond (eqb tag 1) (put name rest) (cond ((eqb tag 2) && (eqb (length rest) 0)) (gone name) nothing)) ≡ Some (name', bytes) → IsChange tag name rest name' bytes
+    past : (b : Bool) → ltb NUMBER_MAX name.version ≡ b → cond b nothing (cond (eqb tag 1) (put name rest) (cond ((eqb tag 2) && (eqb (length rest) 0)) (gone name) nothing)) ≡ Some (name', bytes)
+        → IsChange tag name rest name' bytes
     past true w e = absurd cc
     past false w e = putting (eqb tag 1) refl w e
 

@@ -1,5 +1,6 @@
 -- What is read as the opening or the close of an entry was put as its one payload.
-use Rattle.std.proofs.Common.{◌≡◌, ℕ, zero, suc, ◌*◌, ◌^◌, ◌≤◌, Bool, true, false, cond, eqb, ltb, leb, List, [], ◌∷◌, ◌++◌, length, take, drop, Option, Some, None, Result, Ok, Err, refl, sym, ◌∙◌, ap, subst, append_assoc, arith}
+use Rattle.std.proofs.Common.{◌≡◌, ℕ, zero, suc, ◌*◌, ◌^◌, ◌≤◌, Bool, true, false, cond, eqb, ltb, leb, List, [], ◌∷◌, ◌++◌, length, take, drop, Option, Some, None, Result, Ok, Err, refl, sym, ◌∙◌}
+use Rattle.std.proofs.Common.{ap, subst, append_assoc, arith}
 use Rattle.std.specs.Prelude.{◌==◌, ◌&&◌, nat_le}
 use Rattle.std.specs.List.{flat_map}
 use Rattle.std.specs.Int.{w32, w64, to_be_bytes, from_be_bytes}
@@ -53,7 +54,8 @@ only_close payload version fits e = first (byte_at payload) refl e
     second tag is two (Ok found) read e = third tag found is two read ((length found.1 == 0) && nat_le found.0 NUMBER_MAX) refl e
     second tag is two (Err fault) read e = absurd cc
 
-    by_tag : (tag : ℕ × List ℕ) → byte_at payload ≡ Ok tag → (b : Bool) → (tag.0 == 2) ≡ b → cond b (closed (number_at w64 tag.1)) None ≡ Some version → (version ≤ NUMBER_MAX) × (payload ≡ close_payload version)
+    by_tag : (tag : ℕ × List ℕ) → byte_at payload ≡ Ok tag → (b : Bool) → (tag.0 == 2) ≡ b → cond b (closed (number_at w64 tag.1)) None ≡ Some version
+        → (version ≤ NUMBER_MAX) × (payload ≡ close_payload version)
     by_tag tag is true test e = second tag is (eqb-true _ _ test) (number_at w64 tag.1) refl e
     by_tag tag is false test e = absurd cc
 
@@ -118,7 +120,8 @@ record Behind (version : ℕ) (row : List ℕ) (client : ℕ) (bytes : List ℕ)
   pub parts : bytes ≡ to_be_bytes w64 n ++ (to_be_bytes w64 b ++ (to_be_bytes w32 f ++ (to_be_bytes w32 k ++ rest)))
   pub fits : IsBytes rest
 
-behind_takes : (version : ℕ) (row : List ℕ) (client : ℕ) (bytes : List ℕ) (o : Opening) (rest : List ℕ) → IsBytes bytes → behind_client version row client bytes ≡ Ok (o, rest) → Behind version row client bytes o rest
+behind_takes : (version : ℕ) (row : List ℕ) (client : ℕ) (bytes : List ℕ) (o : Opening) (rest : List ℕ) → IsBytes bytes → behind_client version row client bytes ≡ Ok (o, rest)
+    → Behind version row client bytes o rest
 unfolding behind_client
 behind_takes version row client bytes o rest fits e =
     let f3 : ℕ × List ℕ → ℕ × List ℕ → ℕ × List ℕ → ℕ × List ℕ → Result (Opening × List ℕ) TakeFault = λ n b f k. Ok (made version row client n.0 b.0 f.0 k.0, k.1) in
@@ -166,7 +169,10 @@ head_takes bytes o rest fits e =
     subst (λ (p : Opening). (bytes ≡ head_spelling p ++ rest) × (length p.row ≡ 16) × IsBytes rest) d.is
     (apart ∙ seven (to_be_bytes w64 v.0.0) i.0.0 (to_be_bytes w32 c.0.0) (to_be_bytes w64 d.n) (to_be_bytes w64 d.b) (to_be_bytes w32 d.f) (to_be_bytes w32 d.k) rest, ti.1, d.fits)
 
-flat : (entry : Entry) → open_payload entry ≡ 1 ∷ (to_be_bytes w64 entry.version ++ (entry.row ++ (to_be_bytes w32 entry.client ++ (to_be_bytes w64 entry.number ++ (to_be_bytes w64 entry.base ++ (to_be_bytes w32 entry.fresh ++ (to_be_bytes w32 (length entry.old) ++ flat_map name_spelling entry.old)))))))
+flat : (entry : Entry) → open_payload entry ≡ 1
+    ∷ (to_be_bytes w64 entry.version
+    ++ (entry.row ++ (to_be_bytes w32 entry.client
+    ++ (to_be_bytes w64 entry.number ++ (to_be_bytes w64 entry.base ++ (to_be_bytes w32 entry.fresh ++ (to_be_bytes w32 (length entry.old) ++ flat_map name_spelling entry.old)))))))
 flat entry = simp append_assoc
 
 opened : (o : Opening) (names : List ℕ) (entry : Entry) → IsBytes names → length o.row ≡ 16 → opened_by o names ≡ Some entry → IsOpening (1 ∷ (head_spelling o ++ names)) entry

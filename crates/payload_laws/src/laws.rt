@@ -7,7 +7,8 @@ ghost use Rattle.value_codec.specs.SchemaSpelling.{HasSchemaSpelling};
 ghost use Rattle.row_store.specs.declared.stored.StoredRow.{StoredRow};
 ghost use Rattle.row_store.specs.declared.stored.SubChange.{SubChange};
 ghost use Rattle.row_store.specs.declared.stored.Terms.{Terms};
-ghost use Rattle.row_store.specs.Spelling.{HasStoredSpelling, row_payload, IsState, table_payload, IsClient, sub_payload};
+ghost use Rattle.row_store.specs.Spelling.{HasStoredSpelling, row_payload, IsState, table_payload, IsClient};
+ghost use Rattle.row_store.specs.Spelling.{sub_payload};
 ghost use Rattle.row_store.specs.Reading.{said_by, terms_if, SaysRow, SaysTable, SaysSub};
 ghost use Rattle.payload_laws.specs.Subs.{IsSub};
 ghost use Rattle.payload_laws.specs.Entries.{IsOpening};
@@ -15,8 +16,8 @@ ghost use Rattle.status_log.specs.Entry.{Entry, HasSpelling};
 ghost use Rattle.status_log.specs.Payload.{open_payload, close_payload, opens, closes};
 ghost use Rattle.chunk_store.specs.Payload.{put_payload, drop_payload, change_of};
 
-/// What a payload of the device of rows says is a row, a table or a subscription whose one payload it is. (Does nothing:
-/// its clauses are laws.)
+/// What a payload of the device of rows says is a row, a table or a subscription whose one payload it is. (Does
+/// nothing: its clauses are laws.)
 pub fn rows_have_one_payload()
     // A row is one with a version within the limit, whose pieces are all kept, and whose clients' last writes stand by
     // rising client.

@@ -6,6 +6,7 @@ use Rattle.held_codec.proofs.taken.take_items.Given as goal
 
 abbrev pub invariant-loop : goal.invariant-loop
 invariant-loop g l = record {
-  so_far : with_front l.items (items_at after_item (item_in g.T.Taken.reading) tt (l.count - l.counter) (drop l.place l.bytes)) ≡ items_at after_item (item_in g.T.Taken.reading) tt l.count (drop l.at l.bytes);
+  so_far : with_front l.items (items_at after_item (item_in g.T.Taken.reading) tt (l.count - l.counter) (drop l.place l.bytes))
+      ≡ items_at after_item (item_in g.T.Taken.reading) tt l.count (drop l.at l.bytes);
   within : l.place ≤ length l.bytes;
 }

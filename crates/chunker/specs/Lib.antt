@@ -1,2 +1,3 @@
 pub mod Cut
 pub mod Against
+pub mod Sized

@@ -5,11 +5,13 @@
 mod against;
 mod cutting;
 mod laws;
+mod sized;
 
 pub use against::{NamedChunks, pieces_against};
 pub use cutting::{Chunks, cut, join};
-pub use laws::{chunks_are_counted, one_cut, one_list_of_pieces};
+pub use laws::{chunks_are_counted, chunks_have_their_lengths, one_cut, one_list_of_pieces};
 pub use row_value::{Piece, Pieces};
+pub use sized::{count_of, fits_by_len, len_at};
 pub use stab_base::ChunkName;
 
 #[cfg(test)]

@@ -52,6 +52,8 @@ digests_are_taken (answers.Number number) taken = tt
 digests_are_taken (answers.Shown what) taken = sum_is_taken what
 digests_are_taken (answers.Sums sum) taken = tt
 digests_are_taken (answers.Stored version content) taken = tt
+digests_are_taken (answers.Did step) taken = tt
+digests_are_taken (answers.Names names) taken = tt
 digests_are_taken (answers.Refused refusal) taken = absurd taken
 
 pub sum_step_is_taken : (client : Client) (number : ℕ) (row : List ℕ) (opened : ClientTable) → Some opened ≡ table_at client number

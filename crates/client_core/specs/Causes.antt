@@ -15,6 +15,8 @@ IsTaken (answers.Number number) = Unit {0}
 IsTaken (answers.Shown what) = Unit {0}
 IsTaken (answers.Sums sum) = Unit {0}
 IsTaken (answers.Stored version content) = Unit {0}
+IsTaken (answers.Did step) = Unit {0}
+IsTaken (answers.Names names) = Unit {0}
 IsTaken (answers.Refused refusal) = ⊥
 
 -- a refusal is answered exactly where the step refuses so; memory may be wanting where it doesn't refuse

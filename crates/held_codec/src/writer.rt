@@ -1,4 +1,5 @@
-ghost use Rattle.std.specs.Prelude.{◌≡◌, ◌++◌, ◌∷◌, OnOk};
+ghost use Rattle.std.specs.Prelude.{◌≡◌, ◌+◌, ◌≤◌, ◌<◌, ◌++◌, ◌∷◌, length, OnOk, OnErr};
+ghost use Rattle.std.specs.Vec.{vec_capacity, vec_len};
 ghost use Rattle.value_codec.specs.Spelling.{list_spelling, HasNameSpelling, name_spelling, HasCellSpelling};
 ghost use Rattle.value_codec.specs.Spelling.{cell_spelling, HasPieceSpelling, piece_spelling};
 ghost use Rattle.field_codec.specs.Forms.{eight, IsOption, option_spelling, AreEach};
@@ -16,7 +17,8 @@ use value_codec::{put_cell, put_name, put_piece};
 
 /// A value that has a spelling.
 trait Spelled {
-    ghost use Rattle.std.specs.Prelude.{◌≡◌, ◌++◌, ℕ, List, OnOk};
+    ghost use Rattle.std.specs.Prelude.{◌≡◌, ◌+◌, ◌≤◌, ◌<◌, ◌++◌, ℕ, List, length, OnOk, OnErr};
+    ghost use Rattle.std.specs.Vec.{vec_capacity, vec_len};
 
     ghost spelling: { Self → List ℕ };
 
@@ -25,12 +27,16 @@ trait Spelled {
     /// Appends the spelling, and a part of it where memory is refused.
     fn put(&self, out: &mut Vec<u8>) -> Result<(), AllocError>
         requires { has_spelling self.now }
-        ensures { OnOk result (out.new.items ≡ out.old.items ++ spelling self.now) };
+        ensures ok { OnOk result (out.new.items ≡ out.old.items ++ spelling self.now) }
+        ensures full { OnErr result (vec_capacity out.old < vec_len out.old + length (spelling self.now)) }
+        ensures capacity { vec_capacity out.old ≤ vec_capacity out.new };
 }
 
 fn put_list<T: Spelled>(out: &mut Vec<u8>, items: &[T]) -> Result<(), AllocError>
     requires { AreEach T.has_spelling items.now }
-    ensures { OnOk result (out.new.items ≡ out.old.items ++ list_spelling T.spelling items.now) }
+    ensures ok { OnOk result (out.new.items ≡ out.old.items ++ list_spelling T.spelling items.now) }
+    ensures full { OnErr result (vec_capacity out.old < vec_len out.old + length (list_spelling T.spelling items.now)) }
+    ensures capacity { vec_capacity out.old ≤ vec_capacity out.new }
 {
     put_u32(out, items.len() as u32)?;
     for item in items {
@@ -41,7 +47,10 @@ fn put_list<T: Spelled>(out: &mut Vec<u8>, items: &[T]) -> Result<(), AllocError
 
 fn put_option<T: Spelled>(out: &mut Vec<u8>, value: &Option<T>) -> Result<(), AllocError>
     requires { IsOption T.has_spelling value.now }
-    ensures { OnOk result (out.new.items ≡ out.old.items ++ option_spelling T.spelling value.now) }
+    ensures ok { OnOk result (out.new.items ≡ out.old.items ++ option_spelling T.spelling value.now) }
+    ensures full { OnErr result (vec_capacity out.old
+        < vec_len out.old + length (option_spelling T.spelling value.now)) }
+    ensures capacity { vec_capacity out.old ≤ vec_capacity out.new }
 {
     match value {
         None => put_u8(out, 0),
@@ -90,7 +99,9 @@ impl Spelled for Piece {
 
 /// Appends the spelling of a local name.
 pub fn put_local(out: &mut Vec<u8>, name: LocalName) -> Result<(), AllocError>
-    ensures { OnOk result (out.new.items ≡ out.old.items ++ local_spelling name) }
+    ensures ok { OnOk result (out.new.items ≡ out.old.items ++ local_spelling name) }
+    ensures full { OnErr result (vec_capacity out.old < vec_len out.old + length (local_spelling name)) }
+    ensures capacity { vec_capacity out.old ≤ vec_capacity out.new }
 {
     put_eight(out, name.plan)?;
     put_four(out, name.ordinal)
@@ -110,7 +121,9 @@ impl Spelled for LocalName {
 
 fn put_held_piece(out: &mut Vec<u8>, piece: HeldPiece) -> Result<(), AllocError>
     requires { HasHeldPiece piece }
-    ensures { OnOk result (out.new.items ≡ out.old.items ++ held_piece_spelling piece) }
+    ensures ok { OnOk result (out.new.items ≡ out.old.items ++ held_piece_spelling piece) }
+    ensures full { OnErr result (vec_capacity out.old < vec_len out.old + length (held_piece_spelling piece)) }
+    ensures capacity { vec_capacity out.old ≤ vec_capacity out.new }
 {
     put_local(out, piece.local)?;
     put_option(out, &piece.name)
@@ -130,7 +143,9 @@ impl Spelled for HeldPiece {
 
 fn put_held_object(out: &mut Vec<u8>, object: &HeldObject) -> Result<(), AllocError>
     requires { HasHeldObject object.now }
-    ensures { OnOk result (out.new.items ≡ out.old.items ++ held_object_spelling object.now) }
+    ensures ok { OnOk result (out.new.items ≡ out.old.items ++ held_object_spelling object.now) }
+    ensures full { OnErr result (vec_capacity out.old < vec_len out.old + length (held_object_spelling object.now)) }
+    ensures capacity { vec_capacity out.old ≤ vec_capacity out.new }
 {
     put_four(out, object.len)?;
     put_list(out, object.pieces.as_slice())
@@ -150,7 +165,9 @@ impl Spelled for HeldObject {
 
 fn put_held(out: &mut Vec<u8>, content: &HeldContent) -> Result<(), AllocError>
     requires { HasHeld content.now }
-    ensures { OnOk result (out.new.items ≡ out.old.items ++ held_spelling content.now) }
+    ensures ok { OnOk result (out.new.items ≡ out.old.items ++ held_spelling content.now) }
+    ensures full { OnErr result (vec_capacity out.old < vec_len out.old + length (held_spelling content.now)) }
+    ensures capacity { vec_capacity out.old ≤ vec_capacity out.new }
 {
     match content {
         HeldContent::Gone => put_u8(out, 0),
@@ -164,7 +181,9 @@ fn put_held(out: &mut Vec<u8>, content: &HeldContent) -> Result<(), AllocError>
 
 fn put_main(out: &mut Vec<u8>, main: &Main) -> Result<(), AllocError>
     requires { HasMain main.now }
-    ensures { OnOk result (out.new.items ≡ out.old.items ++ main_spelling main.now) }
+    ensures ok { OnOk result (out.new.items ≡ out.old.items ++ main_spelling main.now) }
+    ensures full { OnErr result (vec_capacity out.old < vec_len out.old + length (main_spelling main.now)) }
+    ensures capacity { vec_capacity out.old ≤ vec_capacity out.new }
 {
     put_eight(out, main.number)?;
     put_eight(out, main.read)?;
@@ -185,7 +204,9 @@ impl Spelled for Main {
 
 fn put_shadow(out: &mut Vec<u8>, shadow: &Shadow) -> Result<(), AllocError>
     requires { HasShadow shadow.now }
-    ensures { OnOk result (out.new.items ≡ out.old.items ++ shadow_spelling shadow.now) }
+    ensures ok { OnOk result (out.new.items ≡ out.old.items ++ shadow_spelling shadow.now) }
+    ensures full { OnErr result (vec_capacity out.old < vec_len out.old + length (shadow_spelling shadow.now)) }
+    ensures capacity { vec_capacity out.old ≤ vec_capacity out.new }
 {
     put_eight(out, shadow.version)?;
     put_held(out, &shadow.content)
@@ -205,7 +226,9 @@ impl Spelled for Shadow {
 
 fn put_out(out: &mut Vec<u8>, sent: &Out) -> Result<(), AllocError>
     requires { HasOut sent.now }
-    ensures { OnOk result (out.new.items ≡ out.old.items ++ out_spelling sent.now) }
+    ensures ok { OnOk result (out.new.items ≡ out.old.items ++ out_spelling sent.now) }
+    ensures full { OnErr result (vec_capacity out.old < vec_len out.old + length (out_spelling sent.now)) }
+    ensures capacity { vec_capacity out.old ≤ vec_capacity out.new }
 {
     put_eight(out, sent.number)?;
     put_eight(out, sent.read)?;
@@ -230,7 +253,9 @@ impl Spelled for Out {
 /// Appends the spelling of a row's four slots, and a part of it where memory is refused.
 pub fn put_slots(out: &mut Vec<u8>, slots: &Slots) -> Result<(), AllocError>
     requires { HasSlots slots.now }
-    ensures { OnOk result (out.new.items ≡ out.old.items ++ slots_spelling slots.now) }
+    ensures ok { OnOk result (out.new.items ≡ out.old.items ++ slots_spelling slots.now) }
+    ensures full { OnErr result (vec_capacity out.old < vec_len out.old + length (slots_spelling slots.now)) }
+    ensures capacity { vec_capacity out.old ≤ vec_capacity out.new }
 {
     put_option(out, &slots.main)?;
     put_option(out, &slots.shadow)?;
@@ -239,7 +264,9 @@ pub fn put_slots(out: &mut Vec<u8>, slots: &Slots) -> Result<(), AllocError>
 }
 
 fn put_numbers(out: &mut Vec<u8>, code: u8, a: u64, b: u64) -> Result<(), AllocError>
-    ensures { OnOk result (out.new.items ≡ out.old.items ++ code ∷ (eight a ++ eight b)) }
+    ensures ok { OnOk result (out.new.items ≡ out.old.items ++ code ∷ (eight a ++ eight b)) }
+    ensures full { OnErr result (vec_capacity out.old < vec_len out.old + length (code ∷ (eight a ++ eight b))) }
+    ensures capacity { vec_capacity out.old ≤ vec_capacity out.new }
 {
     put_u8(out, code)?;
     put_eight(out, a)?;
@@ -247,14 +274,18 @@ fn put_numbers(out: &mut Vec<u8>, code: u8, a: u64, b: u64) -> Result<(), AllocE
 }
 
 fn put_number(out: &mut Vec<u8>, code: u8, a: u64) -> Result<(), AllocError>
-    ensures { OnOk result (out.new.items ≡ out.old.items ++ code ∷ eight a) }
+    ensures ok { OnOk result (out.new.items ≡ out.old.items ++ code ∷ eight a) }
+    ensures full { OnErr result (vec_capacity out.old < vec_len out.old + length (code ∷ eight a)) }
+    ensures capacity { vec_capacity out.old ≤ vec_capacity out.new }
 {
     put_u8(out, code)?;
     put_eight(out, a)
 }
 
 fn put_tell(out: &mut Vec<u8>, tell: Tell) -> Result<(), AllocError>
-    ensures { OnOk result (out.new.items ≡ out.old.items ++ tell_spelling tell) }
+    ensures ok { OnOk result (out.new.items ≡ out.old.items ++ tell_spelling tell) }
+    ensures full { OnErr result (vec_capacity out.old < vec_len out.old + length (tell_spelling tell)) }
+    ensures capacity { vec_capacity out.old ≤ vec_capacity out.new }
 {
     match tell {
         Tell::Wrote { number, read } => put_numbers(out, 1, number, read),
@@ -284,7 +315,10 @@ impl Spelled for Tell {
 /// Appends the spelling of a list of local names, and a part of it where memory is refused.
 pub fn put_locals(out: &mut Vec<u8>, names: &[LocalName]) -> Result<(), AllocError>
     requires { AreEach HasLocalSpelling names.now }
-    ensures { OnOk result (out.new.items ≡ out.old.items ++ list_spelling local_spelling names.now) }
+    ensures ok { OnOk result (out.new.items ≡ out.old.items ++ list_spelling local_spelling names.now) }
+    ensures full { OnErr result (vec_capacity out.old
+        < vec_len out.old + length (list_spelling local_spelling names.now)) }
+    ensures capacity { vec_capacity out.old ≤ vec_capacity out.new }
 {
     put_list(out, names)
 }
@@ -292,7 +326,10 @@ pub fn put_locals(out: &mut Vec<u8>, names: &[LocalName]) -> Result<(), AllocErr
 /// Appends the spelling of a list of tells, and a part of it where memory is refused.
 pub fn put_tells(out: &mut Vec<u8>, tells: &[Tell]) -> Result<(), AllocError>
     requires { AreEach HasTell tells.now }
-    ensures { OnOk result (out.new.items ≡ out.old.items ++ list_spelling tell_spelling tells.now) }
+    ensures ok { OnOk result (out.new.items ≡ out.old.items ++ list_spelling tell_spelling tells.now) }
+    ensures full { OnErr result (vec_capacity out.old
+        < vec_len out.old + length (list_spelling tell_spelling tells.now)) }
+    ensures capacity { vec_capacity out.old ≤ vec_capacity out.new }
 {
     put_list(out, tells)
 }

@@ -1,12 +1,12 @@
 ghost use Rattle.std.specs.Prelude.{◌≡◌, map, IfOk};
 ghost use Rattle.table_model.specs.Sums.{object_sum, row_sum, sum_answer};
 
-use row_value::{Bytes, Cells, Content, Sequence, Version, WriteNo};
+use row_value::{Cells, Content, Sequence, SharedBytes, Version, WriteNo};
 use sha2::{Digest, Sha256};
 use std::alloc::{AllocError, Global};
 use table_model::{Answer, ObjectSum, RowSum, Shown, ShownSum};
 
-fn object_sum(object: &Bytes) -> ObjectSum
+fn object_sum(object: &SharedBytes) -> ObjectSum
     ensures { result ≡ object_sum object.now }
 {
     ObjectSum {
@@ -15,7 +15,7 @@ fn object_sum(object: &Bytes) -> ObjectSum
     }
 }
 
-fn object_sums(alloc: Global, objects: &[Bytes]) -> Result<Vec<ObjectSum>, AllocError>
+fn object_sums(alloc: Global, objects: &[SharedBytes]) -> Result<Vec<ObjectSum>, AllocError>
     ensures { IfOk result (λ sums. sums.items ≡ map object_sum objects.now) }
 {
     objects

@@ -1,5 +1,5 @@
 use crate::{clean_sum, mine_sum};
-use row_value::{Bytes, Cell, Content, Sequence};
+use row_value::{Cell, Content, Sequence, SharedBytes};
 use std::alloc::Global;
 use std::test::Fail;
 use table_model::{Answer, ShownSum};
@@ -20,7 +20,7 @@ fn row_of(alloc: Global, objects: &[&[u8]]) -> Result<Content, Fail> {
     cells.push(Cell::Int(7))?;
     let mut some = Sequence::new(alloc);
     for object in objects {
-        some.push(Bytes::from_slice(alloc, object)?)?;
+        some.push(SharedBytes::from_slice(alloc, object)?)?;
     }
     Ok(Content::Row {
         cells,

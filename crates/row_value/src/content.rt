@@ -1,6 +1,6 @@
 ghost use Rattle.std.specs.Prelude.{◌≡◌, IfOk};
 
-use stab_base::{Bytes, Sequence};
+use stab_base::{Bytes, Sequence, SharedBytes};
 use std::alloc::{AllocError, Global};
 
 /// One cell of a row.
@@ -17,8 +17,9 @@ pub enum Cell {
 /// The cells of a row, in the order of the columns.
 pub type Cells = Sequence<Cell>;
 
-/// The objects of a row, in the order of the columns; each is a whole string of bytes.
-pub type Objects = Sequence<Bytes>;
+/// The objects of a row, in the order of the columns; each is a whole string of bytes, which copies of the row
+/// share.
+pub type Objects = Sequence<SharedBytes>;
 
 /// What a row holds, whole: nothing, since it was deleted, or cells and objects.
 #[derive(Debug, Drop, Clone)]

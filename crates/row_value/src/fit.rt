@@ -8,7 +8,7 @@ ghost use Rattle.row_value.specs.Fit.{size_fit, fit_of};
 use crate::content::{Cell, Cells, Content, Objects};
 use crate::schema::{Column, ColumnKind, Schema};
 use simdutf8::basic::from_utf8;
-use stab_base::Bytes;
+use stab_base::SharedBytes;
 use thiserror::Error;
 
 /// The most bytes of a text.
@@ -197,7 +197,7 @@ fn len_of_cells(cells: &[Cell]) -> usize
     len
 }
 
-fn len_of_objects(objects: &[Bytes]) -> usize
+fn len_of_objects(objects: &[SharedBytes]) -> usize
     ensures { result ≡ min (sum_by length objects.now) (2 ^ 64 - 1) }
 {
     let mut len: usize = 0;
@@ -207,7 +207,7 @@ fn len_of_objects(objects: &[Bytes]) -> usize
     len
 }
 
-fn chunk_count(size: u32, object: &Bytes) -> usize
+fn chunk_count(size: u32, object: &SharedBytes) -> usize
     ensures { result ≡ chunk_count size object.now }
 {
     match size {
@@ -216,7 +216,7 @@ fn chunk_count(size: u32, object: &Bytes) -> usize
     }
 }
 
-fn chunks_of(size: u32, objects: &[Bytes]) -> usize
+fn chunks_of(size: u32, objects: &[SharedBytes]) -> usize
     requires { sum_by length objects.now < 2 ^ 64 }
     ensures { result ≡ chunks_of size objects.now }
 {
@@ -227,7 +227,7 @@ fn chunks_of(size: u32, objects: &[Bytes]) -> usize
     count
 }
 
-fn size_fit(size: u32, cells: &[Cell], objects: &[Bytes]) -> Result<(), FitFault>
+fn size_fit(size: u32, cells: &[Cell], objects: &[SharedBytes]) -> Result<(), FitFault>
     ensures { result ≡ size_fit size cells.now objects.now }
 {
     let len = len_of_cells(cells).saturating_add(len_of_objects(objects));

@@ -11,5 +11,6 @@ pub use fit::{FitFault, fits};
 pub use pieces::{Piece, PieceContent, PieceObject, PieceObjects, Pieces};
 pub use schema::{Column, ColumnKind, Columns, Schema, Scheme};
 pub use stab_base::{
-    Bytes, ChunkName, ClientNo, GateNo, RowId, Sequence, StoreNo, TableNo, Version, WriteNo,
+    Bytes, ChunkName, ClientNo, GateNo, RowId, Sequence, SharedBytes, StoreNo, TableNo, Version,
+    WriteNo,
 };

@@ -7,7 +7,7 @@ ghost use Rattle.script_text.specs.Reading.{Reads, placed, values_in, content_in
 
 use crate::fault::{ScriptFault, bad};
 use crate::next::next_word;
-use row_value::{Cells, Content, Objects};
+use row_value::{Cells, Content, Objects, SharedBytes};
 use script_words::{Code, Value, ValueFault, value_at};
 use std::alloc::{AllocError, Global};
 
@@ -56,7 +56,7 @@ fn put_value(cells: &mut Cells, objects: &mut Objects, value: Value) -> Result<(
 {
     match value {
         Value::OfCell(cell) => cells.push(cell)?,
-        Value::OfObject(object) => objects.push(object)?,
+        Value::OfObject(object) => objects.push(SharedBytes::new(object)?)?,
     }
     Ok(())
 }

@@ -12,6 +12,7 @@ mod numbers;
 mod row;
 mod row_version;
 mod sequence;
+mod shared;
 mod step;
 
 pub use bytes::Bytes;
@@ -27,4 +28,5 @@ pub use numbers::{ClientNo, GateNo, StoreNo, TableNo, Version, WriteNo};
 pub use row::RowId;
 pub use row_version::{RowVersion, Rows};
 pub use sequence::Sequence;
+pub use shared::SharedBytes;
 pub use step::Step;

@@ -4,7 +4,7 @@ use crate::entry::Entry;
 use crate::message_name::MessageName;
 use crate::sum::ShownSum;
 use row_value::{ClientNo, Content, RowId, Sequence, TableNo, Version, WriteNo};
-use stab_base::Node;
+use stab_base::{Names, Node, Step, StoreNo};
 use std::alloc::AllocError;
 
 /// A write of a client: its number among the client's writes, the version of the row that the client had read, and
@@ -40,6 +40,8 @@ impl Shown {
 /// Why a line of the script isn't done. Each has a number, which its text begins with.
 #[derive(Debug, Clone, Copy, PartialEq, Eq)]
 pub enum Refusal {
+    /// 6: a device failed.
+    NoDevice,
     /// 9: the values' objects have so many chunks, more than a row may have.
     TooManyChunks { count: usize },
     /// 10: the first cell column that the values don't fit.
@@ -48,12 +50,16 @@ pub enum Refusal {
     BadObject { column: usize, len: usize },
     /// 12: the values have so many bytes, more than a row may have.
     RowTooLarge { len: usize },
+    /// 17: a node is at work on the update of this version, or on another write where it is 0.
+    Busy { with: u64 },
     /// 18: the client hasn't opened the table.
     NoTable,
     /// 27: nothing is shown of the row.
     NoRow,
     /// 29: no packet of this number was sent yet, but so many.
     NoPacket { sent: u64 },
+    /// 30: the node is down.
+    Down { node: Node },
 }
 
 /// The answer to a line of the script.
@@ -69,6 +75,10 @@ pub enum Answer {
     Sums(ShownSum),
     /// What the Store has of a row.
     Stored { version: Version, content: Content },
+    /// The device write that was done, or that there was none to do.
+    Did(Step),
+    /// The names of a table's chunks, of which there are some.
+    Names(Names),
     /// Not done.
     Refused(Refusal),
 }
@@ -110,6 +120,21 @@ pub enum Fact {
     Accepted {
         table: TableNo,
         entry: Entry,
+    },
+    /// A Store that starts has found that the write at work was accepted.
+    Forward {
+        table: TableNo,
+        entry: Entry,
+    },
+    /// A Store that starts has found that the write at work, which was to have this version, wasn't accepted.
+    Back {
+        table: TableNo,
+        version: Version,
+    },
+    /// A table at a Store has done what its start had to do.
+    Recovered {
+        store: StoreNo,
+        table: TableNo,
     },
 }
 

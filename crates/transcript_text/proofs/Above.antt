@@ -82,6 +82,21 @@ digits_avoid (c ∷ cs) d = (λ e. omega (arith, e, digit_from_value c d.0), dig
 pub decimal_avoids : (n : ℕ) → n < 2 ^ 64 → Avoids 58 (decimal n)
 decimal_avoids n h = digits_avoid (decimal n) (decimal_is_IsNumeral n h).0.1
 
+digits_avoid_a_point : (ds : List ℕ) → AllDigits 10 ds → Avoids 46 ds
+digits_avoid_a_point [] d = tt
+digits_avoid_a_point (c ∷ cs) d = (λ e. omega (arith, e, digit_from_value c d.0), digits_avoid_a_point cs d.1)
+
+pub decimal_avoids_a_point : (n : ℕ) → n < 2 ^ 64 → Avoids 46 (decimal n)
+decimal_avoids_a_point n h = digits_avoid_a_point (decimal n) (decimal_is_IsNumeral n h).0.1
+
+pub signed_avoids_a_point : (z : ℤ) → FitsSigned w64 z → Avoids 46 (signed_decimal z)
+signed_avoids_a_point (pos n) h = decimal_avoids_a_point n (omega arith)
+signed_avoids_a_point (negsuc n) h = (λ e. omega (arith, e), decimal_avoids_a_point (suc n) (omega arith))
+
+pub has_what_it_avoids : (c : ℕ) (a b : List ℕ) → Avoids c (a ++ c ∷ b) → ⊥
+has_what_it_avoids c [] b h = h.0 refl
+has_what_it_avoids c (x ∷ a) b h = has_what_it_avoids c a b h.1
+
 pub signed_above : (z : ℤ) → FitsSigned w64 z → IsAbove 32 (signed_decimal z)
 signed_above (pos n) h = decimal_above n (omega arith)
 signed_above (negsuc n) h = (omega arith, decimal_above (suc n) (omega arith))

@@ -1,3 +1,4 @@
 mod Above
 mod Values
 mod LineWords
+mod Hex

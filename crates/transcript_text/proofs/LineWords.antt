@@ -2,16 +2,13 @@
 use Rattle.std.proofs.Common.{◌≡◌, ℕ, ◌≤◌, ◌<◌, ◌^◌, Bool, ◌||◌, cond, List, [], ◌∷◌, ◌++◌, map, codes}
 use Rattle.std.proofs.Common.{true, false, refl, sym, subst, ap, ◌∙◌, arith, rules, length, get_or, All, Some, append-nil, inl}
 use Rattle.std.specs.List.{AllByRecursion, flat_map}
-use Rattle.std.specs.Fmt.{decimal, signed_decimal}
+use Rattle.std.specs.Fmt.{decimal}
 use Rattle.std.specs.Str.{bytes_eq}
-use Rattle.std.proofs.lemmas.Fmt.{decimal_injective, signed_decimal_injective}
+use Rattle.std.proofs.lemmas.Fmt.{decimal_injective}
 use Rattle.std.proofs.lemmas.Grind.{flat_map-append}
 use Rattle.std.proofs.lemmas.List.Folds.{flat_map-map}
-use Rattle.percent_encoding.specs.Percent.{percent_encode}
-use Rattle.hex.specs.Hex.{encode_lower}
 use Rattle.uuid.specs.Text.{hyphenated_text, lower, parsed}
 use Rattle.uuid.proofs.RoundTrips.{parses_hyphenated}
-use Rattle.transcript_text.specs.declared.print.TheConstants.{ESCAPED}
 use Rattle.row_value.specs.declared.content.Cell.{Cell}
 use Rattle.row_value.specs.declared.content.Cell.TheVariants as cells
 use Rattle.row_value.specs.declared.content.Content.{Content}
@@ -19,6 +16,9 @@ use Rattle.row_value.specs.declared.content.Content.TheVariants.{Gone, Row}
 use Rattle.table_model.specs.declared.entry.Entry.{Entry}
 use Rattle.table_model.specs.declared.message_name.MessageName.{MessageName}
 use Rattle.table_model.specs.declared.message_name.MessageName.TheVariants as kinds
+use Rattle.stab_base.specs.declared.chunk_name.ChunkName.{ChunkName}
+use Rattle.stab_base.specs.declared.step.Step.{Step}
+use Rattle.stab_base.specs.declared.step.Step.TheVariants as steps
 use Rattle.stab_base.specs.declared.node.Node.{Node}
 use Rattle.stab_base.specs.declared.node.Node.TheVariants as nodes
 use Rattle.table_model.specs.declared.line.Write.{Write}
@@ -37,9 +37,11 @@ use Rattle.table_model.specs.declared.sum.RowSum.{RowSum}
 use Rattle.table_model.specs.declared.sum.ShownSum.{ShownSum}
 use Rattle.table_model.specs.declared.sum.ShownSum.TheVariants as sums
 use Rattle.transcript_text.specs.Text.{cell_text, content_text, row_sum_text, refusal_text, shown_text, shown_sum_text, answer_text, node_text, message_text, entry_text, fact_text, text_of}
+use Rattle.transcript_text.specs.Text.{step_word, names_text}
 use Rattle.transcript_text.specs.OneForm.{AreBytes, HasContentText, HasSumText, HasRowSumText, HasRefusalText, HasValue, HasShownText, HasShownSumText}
-use Rattle.transcript_text.specs.OneForm.{HasAnswerText, HasRowText, HasWriteText, HasEntryText, HasNodeText, HasFactText, HasText}
-use Rattle.transcript_text.proofs.Above.{IsAbove, led, led_same, led_above, decimal_above, row_above, decimal_first}
+use Rattle.transcript_text.specs.OneForm.{HasCellText, HasNameText, HasNamesText, HasAnswerText, HasRowText, HasWriteText, HasEntryText, HasNodeText, HasFactText, HasText}
+use Rattle.transcript_text.proofs.Above.{IsAbove, Avoids, all_append, parted, led, led_same, led_above, decimal_above, row_above, decimal_first}
+use Rattle.transcript_text.proofs.Above.{decimal_avoids_a_point, signed_avoids_a_point, has_what_it_avoids}
 use Rattle.transcript_text.proofs.Values.{cell_word, object_word, sum_word, cells_above, objects_above, sums_above, all_words, object_same, sum_same, no_object, no_sum, values_same, not_gone}
 use Rattle.transcript_text.proofs.Values.{object_not_gone, sum_not_gone, kinds_apart}
 
@@ -47,14 +49,22 @@ abbrev pub content_words : Content → List (List ℕ)
 content_words Gone = codes "gone" ∷ []
 content_words (Row some objects) = map cell_word some ++ map object_word objects
 
+abbrev pub node_word : Node → List ℕ
+node_word (nodes.Client client) = codes "C" ++ decimal client
+node_word (nodes.Gate gate) = codes "G" ++ decimal gate
+node_word (nodes.Store store) = codes "S" ++ decimal store
+
 abbrev pub refusal_words : Refusal → List (List ℕ)
+refusal_words refusals.NoDevice = codes "no" ∷ codes "6" ∷ []
 refusal_words (refusals.TooManyChunks count) = codes "no" ∷ codes "9" ∷ decimal count ∷ []
 refusal_words (refusals.BadCell column) = codes "no" ∷ codes "10" ∷ decimal column ∷ []
 refusal_words (refusals.BadObject column len) = codes "no" ∷ codes "11" ∷ decimal column ∷ decimal len ∷ []
 refusal_words (refusals.RowTooLarge len) = codes "no" ∷ codes "12" ∷ decimal len ∷ []
+refusal_words (refusals.Busy with) = codes "no" ∷ codes "17" ∷ decimal with ∷ []
 refusal_words refusals.NoTable = codes "no" ∷ codes "18" ∷ []
 refusal_words refusals.NoRow = codes "no" ∷ codes "27" ∷ []
 refusal_words (refusals.NoPacket sent) = codes "no" ∷ codes "29" ∷ decimal sent ∷ []
+refusal_words (refusals.Down node) = codes "no" ∷ codes "30" ∷ node_word node ∷ []
 
 abbrev pub shown_words : Shown → List (List ℕ)
 shown_words (Clean version content) = codes "ok" ∷ codes "clean" ∷ decimal version ∷ content_words content
@@ -67,12 +77,20 @@ abbrev pub shown_sum_words : ShownSum → List (List ℕ)
 shown_sum_words (sums.Clean version row) = codes "ok" ∷ codes "clean" ∷ decimal version ∷ row_sum_words row
 shown_sum_words (sums.Mine number row) = codes "ok" ∷ codes "mine" ∷ decimal number ∷ row_sum_words row
 
+abbrev pub name_word : ChunkName → List ℕ
+name_word name = decimal name.version ++ (codes "." ++ decimal name.ordinal)
+
+abbrev pub names_words : List ChunkName → List (List ℕ)
+names_words names = codes "ok" ∷ decimal (length names) ∷ map name_word names
+
 abbrev pub answer_words : Answer → List (List ℕ)
 answer_words answers.Done = codes "ok" ∷ []
 answer_words (answers.Number number) = codes "ok" ∷ decimal number ∷ []
 answer_words (answers.Shown shown) = shown_words shown
 answer_words (answers.Sums sum) = shown_sum_words sum
 answer_words (answers.Stored version content) = codes "ok" ∷ decimal version ∷ content_words content
+answer_words (answers.Did step) = codes "ok" ∷ step_word step ∷ []
+answer_words (answers.Names names) = names_words names
 answer_words (answers.Refused refusal) = refusal_words refusal
 
 abbrev pub write_words : Write → List (List ℕ)
@@ -84,11 +102,6 @@ write_words write =
     ∷ hyphenated_text lower write.row
     ∷ decimal write.read
     ∷ content_words write.content
-
-abbrev pub node_word : Node → List ℕ
-node_word (nodes.Client client) = codes "C" ++ decimal client
-node_word (nodes.Gate gate) = codes "G" ++ decimal gate
-node_word (nodes.Store store) = codes "S" ++ decimal store
 
 abbrev pub message_word : MessageName → List ℕ
 message_word kinds.RegisterDevice = codes "registerDevice"
@@ -129,6 +142,9 @@ fact_words (facts.New client table row version) =
 fact_words (facts.Position client table position) =
     codes "position" ∷ (codes "C" ++ decimal client) ∷ (codes "T" ++ decimal table) ∷ decimal position ∷ []
 fact_words (facts.Accepted table entry) = codes "accepted" ∷ entry_words table entry
+fact_words (facts.Forward table entry) = codes "forward" ∷ entry_words table entry
+fact_words (facts.Back table version) = codes "back" ∷ (codes "T" ++ decimal table) ∷ decimal version ∷ []
+fact_words (facts.Recovered store table) = codes "recovered" ∷ (codes "S" ++ decimal store) ∷ (codes "T" ++ decimal table) ∷ []
 
 abbrev pub words_of : TextLine → List (List ℕ)
 words_of (lines.Answer answer) = answer_words answer
@@ -147,14 +163,22 @@ content_led Gone = refl
 content_led (Row some objects) =
     rw (flat_map-append, cells_led some, flat_map-map (λ (word : List ℕ). 32 ∷ word) object_word objects) refl
 
+node_led : (node : Node) → node_text node ≡ 32 ∷ node_word node
+node_led (nodes.Client client) = refl
+node_led (nodes.Gate gate) = refl
+node_led (nodes.Store store) = refl
+
 refusal_led : (refusal : Refusal) → 32 ∷ refusal_text refusal ≡ led 32 (refusal_words refusal)
+refusal_led refusals.NoDevice = refl
 refusal_led (refusals.TooManyChunks count) = simp append-nil
 refusal_led (refusals.BadCell column) = simp append-nil
 refusal_led (refusals.BadObject column len) = simp append-nil
 refusal_led (refusals.RowTooLarge len) = simp append-nil
+refusal_led (refusals.Busy with) = simp append-nil
 refusal_led refusals.NoTable = refl
 refusal_led refusals.NoRow = refl
 refusal_led (refusals.NoPacket sent) = simp append-nil
+refusal_led (refusals.Down node) = simp (node_led, append-nil)
 
 shown_led : (shown : Shown) → 32 ∷ shown_text shown ≡ led 32 (shown_words shown)
 shown_led (Clean version content) = rw content_led refl
@@ -168,18 +192,18 @@ shown_sum_led : (sum : ShownSum) → 32 ∷ shown_sum_text sum ≡ led 32 (shown
 shown_sum_led (sums.Clean version row) = rw row_sum_led refl
 shown_sum_led (sums.Mine number row) = rw row_sum_led refl
 
+names_led : (names : List ChunkName) → 32 ∷ names_text names ≡ led 32 (names_words names)
+names_led names = rw (flat_map-map (λ (word : List ℕ). 32 ∷ word) name_word names) refl
+
 answer_led : (answer : Answer) → 32 ∷ answer_text answer ≡ led 32 (answer_words answer)
 answer_led answers.Done = refl
 answer_led (answers.Number number) = simp append-nil
 answer_led (answers.Shown shown) = shown_led shown
 answer_led (answers.Sums sum) = shown_sum_led sum
 answer_led (answers.Stored version content) = rw content_led refl
+answer_led (answers.Did step) = simp append-nil
+answer_led (answers.Names names) = names_led names
 answer_led (answers.Refused refusal) = refusal_led refusal
-
-node_led : (node : Node) → node_text node ≡ 32 ∷ node_word node
-node_led (nodes.Client client) = refl
-node_led (nodes.Gate gate) = refl
-node_led (nodes.Store store) = refl
 
 message_led : (name : MessageName) → message_text name ≡ 32 ∷ message_word name
 message_led kinds.RegisterDevice = refl
@@ -210,6 +234,9 @@ fact_led (facts.Acked client number table row version) = simp append-nil
 fact_led (facts.New client table row version) = simp append-nil
 fact_led (facts.Position client table position) = simp append-nil
 fact_led (facts.Accepted table entry) = rw entry_led refl
+fact_led (facts.Forward table entry) = rw entry_led refl
+fact_led (facts.Back table version) = simp append-nil
+fact_led (facts.Recovered store table) = simp append-nil
 
 -- a line's text, with a space before it
 text_led : (line : TextLine) → 32 ∷ text_of line ≡ led 32 (words_of line)
@@ -221,14 +248,22 @@ content_above : (content : Content) → HasContentText content → AllByRecursio
 content_above Gone h = search rules
 content_above (Row some objects) h = all_words (IsAbove 32) (map cell_word some) (map object_word objects) (cells_above some h.0) (objects_above objects h.1)
 
+node_above : (node : Node) → HasNodeText node → IsAbove 32 (node_word node)
+node_above (nodes.Client client) h = search (rules, decimal_above)
+node_above (nodes.Gate gate) h = search (rules, decimal_above)
+node_above (nodes.Store store) h = search (rules, decimal_above)
+
 refusal_above : (refusal : Refusal) → HasRefusalText refusal → AllByRecursion (IsAbove 32) (refusal_words refusal)
+refusal_above refusals.NoDevice h = search rules
 refusal_above (refusals.TooManyChunks count) h = search (rules, decimal_above)
 refusal_above (refusals.BadCell column) h = search (rules, decimal_above)
 refusal_above (refusals.BadObject column len) h = search (rules, decimal_above)
 refusal_above (refusals.RowTooLarge len) h = search (rules, decimal_above)
+refusal_above (refusals.Busy with) h = search (rules, decimal_above)
 refusal_above refusals.NoTable h = search rules
 refusal_above refusals.NoRow h = search rules
 refusal_above (refusals.NoPacket sent) h = search (rules, decimal_above)
+refusal_above (refusals.Down node) h = search (rules, node_above)
 
 shown_above : (shown : Shown) → HasShownText shown → AllByRecursion (IsAbove 32) (shown_words shown)
 shown_above (Clean version content) h = search (rules, decimal_above, content_above)
@@ -241,18 +276,47 @@ shown_sum_above : (sum : ShownSum) → HasShownSumText sum → AllByRecursion (I
 shown_sum_above (sums.Clean version row) h = search (rules, decimal_above, row_sum_above)
 shown_sum_above (sums.Mine number row) h = search (rules, decimal_above, row_sum_above)
 
+step_above : (step : Step) → IsAbove 32 (step_word step)
+step_above steps.Idle = search rules
+step_above steps.LogOpen = search rules
+step_above steps.ChunkPut = search rules
+step_above steps.RowPut = search rules
+step_above steps.ChunkDrop = search rules
+step_above steps.LogClose = search rules
+step_above steps.TablePut = search rules
+step_above steps.SubPut = search rules
+step_above steps.OpenChunks = search rules
+step_above steps.OpenRows = search rules
+step_above steps.OpenLog = search rules
+step_above steps.Intend = search rules
+step_above steps.Commit = search rules
+step_above steps.SlotPut = search rules
+step_above steps.Done = search rules
+step_above steps.OpenJournal = search rules
+step_above steps.OpenSlots = search rules
+
+name_above : (name : ChunkName) → HasNameText name → IsAbove 32 (name_word name)
+name_above name h =
+    all_append (λ b. 32 < b) (decimal name.version) (46 ∷ decimal name.ordinal) (decimal_above name.version h.version)
+    (omega arith, decimal_above name.ordinal (omega (arith, h.ordinal)))
+
+all_names_above : (names : List ChunkName) → AllByRecursion HasNameText names → AllByRecursion (IsAbove 32) (map name_word names)
+all_names_above [] h = tt
+all_names_above (name ∷ names) h = (name_above name h.0, all_names_above names h.1)
+
+names_above : (names : List ChunkName) → HasNamesText names → AllByRecursion (IsAbove 32) (names_words names)
+names_above [] h = absurd h
+names_above (name ∷ names) h = ((omega arith, (omega arith, tt)), (decimal_above _ h.0, all_names_above (name ∷ names) h.1))
+
 answer_above : (answer : Answer) → HasAnswerText answer → AllByRecursion (IsAbove 32) (answer_words answer)
 answer_above answers.Done h = search rules
 answer_above (answers.Number number) h = search (rules, decimal_above)
 answer_above (answers.Shown shown) h = shown_above shown h
 answer_above (answers.Sums sum) h = shown_sum_above sum h
 answer_above (answers.Stored version content) h = search (rules, decimal_above, content_above)
+answer_above (answers.Did step) h = search (rules, step_above)
+answer_above (answers.Names names) h = names_above names h
 answer_above (answers.Refused refusal) h = refusal_above refusal h
-
-node_above : (node : Node) → HasNodeText node → IsAbove 32 (node_word node)
-node_above (nodes.Client client) h = search (rules, decimal_above)
-node_above (nodes.Gate gate) h = search (rules, decimal_above)
-node_above (nodes.Store store) h = search (rules, decimal_above)
 
 message_above : (name : MessageName) → IsAbove 32 (message_word name)
 message_above kinds.RegisterDevice = search rules
@@ -283,6 +347,9 @@ fact_above (facts.Acked client number table row version) h = search (rules, deci
 fact_above (facts.New client table row version) h = search (rules, decimal_above, row_above)
 fact_above (facts.Position client table position) h = search (rules, decimal_above)
 fact_above (facts.Accepted table entry) h = search (rules, entry_above)
+fact_above (facts.Forward table entry) h = search (rules, entry_above)
+fact_above (facts.Back table version) h = search (rules, decimal_above)
+fact_above (facts.Recovered store table) h = search (rules, decimal_above)
 
 words_above : (line : TextLine) → HasText line → AllByRecursion (IsAbove 32) (words_of line)
 words_above (lines.Answer answer) h = answer_above answer h
@@ -401,11 +468,15 @@ fact_number (facts.Acked client number table row version) = 2
 fact_number (facts.New client table row version) = 3
 fact_number (facts.Position client table position) = 4
 fact_number (facts.Accepted table entry) = 5
+fact_number (facts.Forward table entry) = 6
+fact_number (facts.Back table version) = 7
+fact_number (facts.Recovered store table) = 8
 
 fact_in : List ℕ → ℕ
 fact_in word =
     cond (bytes_eq word (codes "sent")) 0 (cond (bytes_eq word (codes "wrote")) 1 (cond (bytes_eq word (codes "acked")) 2
-    (cond (bytes_eq word (codes "new")) 3 (cond (bytes_eq word (codes "position")) 4 5))))
+    (cond (bytes_eq word (codes "new")) 3 (cond (bytes_eq word (codes "position")) 4 (cond (bytes_eq word (codes "accepted")) 5
+    (cond (bytes_eq word (codes "forward")) 6 (cond (bytes_eq word (codes "back")) 7 8)))))))
 
 fact_read : (fact : Fact) → fact_in (first_word (fact_words fact)) ≡ fact_number fact
 unfolding fact_in fact_number
@@ -415,6 +486,9 @@ fact_read (facts.Acked client number table row version) = refl
 fact_read (facts.New client table row version) = refl
 fact_read (facts.Position client table position) = refl
 fact_read (facts.Accepted table entry) = refl
+fact_read (facts.Forward table entry) = refl
+fact_read (facts.Back table version) = refl
+fact_read (facts.Recovered store table) = refl
 
 fact_same : (a b : Fact) → HasFactText a → HasFactText b → fact_words a ≡ fact_words b → a ≡ b
 unfolding fact_number
@@ -439,12 +513,16 @@ fact_same (facts.New c t r v) (facts.New c_2 t_2 r_2 v_2) p q e =
 fact_same (facts.Position c t v) (facts.Position c_2 t_2 v_2) p q e =
     cc (decimal_injective c c_2 (omega (arith, p)) (omega (arith, q)) (cc), decimal_injective t t_2 (omega (arith, p)) (omega (arith, q)) (cc), decimal_injective v v_2 p.2 q.2 (cc))
 fact_same (facts.Accepted s a) (facts.Accepted t b) p q e = let same = entry_same s t a b p q (cc) in cc (same.0, same.1)
+fact_same (facts.Forward s a) (facts.Forward t b) p q e = let same = entry_same s t a b p q (cc) in cc (same.0, same.1)
+fact_same (facts.Back t v) (facts.Back t_2 v_2) p q e = cc (decimal_injective t t_2 (omega (arith, p)) (omega (arith, q)) (cc), decimal_injective v v_2 p.1 q.1 (cc))
+fact_same (facts.Recovered s t) (facts.Recovered s_2 t_2) p q e =
+    cc (decimal_injective s s_2 (omega (arith, p)) (omega (arith, q)) (cc), decimal_injective t t_2 (omega (arith, p)) (omega (arith, q)) (cc))
 fact_same a b p q e =
     let same : fact_number a ≡ fact_number b = sym (fact_read a) ∙ ap (λ words. fact_in (first_word words)) e ∙ fact_read b in
     absurd (omega (arith, same))
 
 refusal_same : (a b : Refusal) → HasRefusalText a → HasRefusalText b → refusal_words a ≡ refusal_words b → a ≡ b
-refusal_same a b p q e = grind (arith, decimal_injective)
+refusal_same a b p q e = grind (arith, decimal_injective, node_same)
 
 -- no number begins with a letter
 no_letter : (n c : ℕ) (rest : List ℕ) → n < 2 ^ 64 → decimal n ≡ c ∷ rest → 58 ≤ c → ⊥
@@ -511,6 +589,8 @@ is_refused (answers.Number number) = false
 is_refused (answers.Shown shown) = false
 is_refused (answers.Sums sum) = false
 is_refused (answers.Stored version content) = false
+is_refused (answers.Did step) = false
+is_refused (answers.Names names) = false
 is_refused (answers.Refused refusal) = true
 
 refused_word : (answer : Answer) → bytes_eq (first_word (answer_words answer)) (codes "no") ≡ is_refused answer
@@ -521,6 +601,11 @@ refused_word (answers.Shown (Mine number content)) = refl
 refused_word (answers.Sums (sums.Clean version row)) = refl
 refused_word (answers.Sums (sums.Mine number row)) = refl
 refused_word (answers.Stored version content) = refl
+refused_word (answers.Did step) = refl
+refused_word (answers.Names names) = refl
+refused_word (answers.Refused refusals.NoDevice) = refl
+refused_word (answers.Refused (refusals.Busy with)) = refl
+refused_word (answers.Refused (refusals.Down node)) = refl
 refused_word (answers.Refused (refusals.TooManyChunks count)) = refl
 refused_word (answers.Refused (refusals.BadCell column)) = refl
 refused_word (answers.Refused (refusals.BadObject column len)) = refl
@@ -529,6 +614,156 @@ refused_word (answers.Refused refusals.NoTable) = refl
 refused_word (answers.Refused refusals.NoRow) = refl
 refused_word (answers.Refused (refusals.NoPacket sent)) = refl
 
+-- ---- the name of a device write, and names of chunks
+
+abbrev first_byte : List ℕ → ℕ
+first_byte [] = 0
+first_byte (c ∷ rest) = c
+
+byte_of_number : (word : List ℕ) (n : ℕ) → n < 2 ^ 64 → decimal n ≡ word → first_byte word < 58
+byte_of_number [] n h e = omega arith
+byte_of_number (c ∷ rest) n h e = decimal_first n c rest h e
+
+number_byte : (n : ℕ) → n < 2 ^ 64 → first_byte (decimal n) < 58
+number_byte n h = byte_of_number (decimal n) n h refl
+
+step_byte : (step : Step) → 97 ≤ first_byte (step_word step)
+step_byte steps.Idle = omega arith
+step_byte steps.LogOpen = omega arith
+step_byte steps.ChunkPut = omega arith
+step_byte steps.RowPut = omega arith
+step_byte steps.ChunkDrop = omega arith
+step_byte steps.LogClose = omega arith
+step_byte steps.TablePut = omega arith
+step_byte steps.SubPut = omega arith
+step_byte steps.OpenChunks = omega arith
+step_byte steps.OpenRows = omega arith
+step_byte steps.OpenLog = omega arith
+step_byte steps.Intend = omega arith
+step_byte steps.Commit = omega arith
+step_byte steps.SlotPut = omega arith
+step_byte steps.Done = omega arith
+step_byte steps.OpenJournal = omega arith
+step_byte steps.OpenSlots = omega arith
+
+no_number : (step : Step) (n : ℕ) → n < 2 ^ 64 → step_word step ≡ decimal n → ⊥
+no_number step n h e = omega (arith, step_byte step, number_byte n h, ap first_byte e)
+
+step_in : List ℕ → Step
+step_in word =
+    cond (bytes_eq word (codes "idle")) steps.Idle
+    (cond (bytes_eq word (codes "log-open")) steps.LogOpen
+    (cond (bytes_eq word (codes "chunk-put")) steps.ChunkPut
+    (cond (bytes_eq word (codes "row-put")) steps.RowPut
+    (cond (bytes_eq word (codes "chunk-drop")) steps.ChunkDrop
+    (cond (bytes_eq word (codes "log-close")) steps.LogClose
+    (cond (bytes_eq word (codes "table-put")) steps.TablePut
+    (cond (bytes_eq word (codes "sub-put")) steps.SubPut
+    (cond (bytes_eq word (codes "open-chunks")) steps.OpenChunks
+    (cond (bytes_eq word (codes "open-rows")) steps.OpenRows
+    (cond (bytes_eq word (codes "open-log")) steps.OpenLog
+    (cond (bytes_eq word (codes "intend")) steps.Intend
+    (cond (bytes_eq word (codes "commit")) steps.Commit
+    (cond (bytes_eq word (codes "slot-put")) steps.SlotPut
+    (cond (bytes_eq word (codes "done")) steps.Done
+    (cond (bytes_eq word (codes "open-journal")) steps.OpenJournal steps.OpenSlots)))))))))))))))
+
+step_read : (step : Step) → step_in (step_word step) ≡ step
+unfolding step_in
+step_read steps.Idle = refl
+step_read steps.LogOpen = refl
+step_read steps.ChunkPut = refl
+step_read steps.RowPut = refl
+step_read steps.ChunkDrop = refl
+step_read steps.LogClose = refl
+step_read steps.TablePut = refl
+step_read steps.SubPut = refl
+step_read steps.OpenChunks = refl
+step_read steps.OpenRows = refl
+step_read steps.OpenLog = refl
+step_read steps.Intend = refl
+step_read steps.Commit = refl
+step_read steps.SlotPut = refl
+step_read steps.Done = refl
+step_read steps.OpenJournal = refl
+step_read steps.OpenSlots = refl
+
+step_same : (a b : Step) → step_word a ≡ step_word b → a ≡ b
+step_same a b e = sym (step_read a) ∙ ap step_in e ∙ step_read b
+
+abbrev name_made : ℕ → ℕ → ChunkName
+name_made version ordinal = record { version = version; ordinal = ordinal }
+
+name_same : (a b : ChunkName) → HasNameText a → HasNameText b → name_word a ≡ name_word b → a ≡ b
+name_same a b p q e =
+    let parts = parted 46 (decimal a.version) (decimal b.version) (46 ∷ decimal a.ordinal) (46 ∷ decimal b.ordinal)
+    (decimal_avoids_a_point a.version p.version) (decimal_avoids_a_point b.version q.version) refl refl e in
+    let versions : a.version ≡ b.version = decimal_injective a.version b.version p.version q.version parts.0 in
+    let ordinals : a.ordinal ≡ b.ordinal = decimal_injective a.ordinal b.ordinal (omega (arith, p.ordinal)) (omega (arith, q.ordinal)) (cc parts.1) in
+    ap (λ (n : ℕ). name_made n a.ordinal) versions ∙ ap (name_made b.version) ordinals
+
+all_names_same : (a b : List ChunkName) → AllByRecursion HasNameText a → AllByRecursion HasNameText b → map name_word a ≡ map name_word b → a ≡ b
+all_names_same [] [] p q e = refl
+all_names_same [] (y ∷ ys) p q e = absurd cc
+all_names_same (x ∷ xs) [] p q e = absurd cc
+all_names_same (x ∷ xs) (y ∷ ys) p q e = cc (name_same x y p.0 q.0 (cc), all_names_same xs ys p.1 q.1 (cc))
+
+byte_before_a_point : (word rest : List ℕ) → first_byte word < 58 → first_byte (word ++ 46 ∷ rest) < 58
+byte_before_a_point [] rest h = omega arith
+byte_before_a_point (c ∷ word) rest h = h
+
+name_byte : (name : ChunkName) → HasNameText name → first_byte (name_word name) < 58
+name_byte name h = byte_before_a_point (decimal name.version) (decimal name.ordinal) (number_byte name.version h.version)
+
+no_cell_name : (cell : Cell) (name : ChunkName) → HasCellText cell → HasNameText name → name_word name ≡ cell_word cell → ⊥
+no_cell_name (cells.Int n) name p q e =
+    has_what_it_avoids 46 (decimal name.version) (decimal name.ordinal) (subst (Avoids 46) (sym e) (signed_avoids_a_point n p))
+no_cell_name (cells.Bool true) name p q e = omega (arith, name_byte name q, ap first_byte e)
+no_cell_name (cells.Bool false) name p q e = omega (arith, name_byte name q, ap first_byte e)
+no_cell_name (cells.Text t) name p q e = omega (arith, name_byte name q, ap first_byte e)
+
+-- a row's content has no word of a chunk's name
+no_content_name : (content : Content) (name : ChunkName) (words : List (List ℕ)) → HasContentText content → HasNameText name
+    → name_word name ∷ words ≡ content_words content → ⊥
+no_content_name Gone name words p q e =
+    let same : name_word name ≡ codes "gone" = cc in omega (arith, name_byte name q, ap first_byte same)
+no_content_name (Row [] []) name words p q e = cc
+no_content_name (Row [] (object ∷ objects)) name words p q e =
+    let same : name_word name ≡ object_word object = cc in omega (arith, name_byte name q, ap first_byte same)
+no_content_name (Row (cell ∷ some) objects) name words p q e = no_cell_name cell name p.0.0 q (cc)
+
+not_refused : (refusal : Refusal) (words : List (List ℕ)) → codes "ok" ∷ words ≡ refusal_words refusal → ⊥
+not_refused refusal words e =
+    let same : false ≡ true = ap (λ words. bytes_eq (first_word words) (codes "no")) e ∙ refused_word (answers.Refused refusal) in
+    cc
+
+-- the answer that says a device write is one of that write
+did_is : (step : Step) (b : Answer) → HasAnswerText b → codes "ok" ∷ step_word step ∷ [] ≡ answer_words b → answers.Did step ≡ b
+did_is step answers.Done q e = absurd cc
+did_is step (answers.Number n) q e = absurd (no_number step n q (cc))
+did_is step (answers.Shown (Clean v c)) q e = absurd cc
+did_is step (answers.Shown (Mine v c)) q e = absurd cc
+did_is step (answers.Sums (sums.Clean v row)) q e = absurd cc
+did_is step (answers.Sums (sums.Mine v row)) q e = absurd cc
+did_is step (answers.Stored m content) q e = absurd (no_number step m q.0 (cc))
+did_is step (answers.Did other) q e = ap answers.Did (step_same step other (cc))
+did_is step (answers.Names []) q e = absurd q
+did_is step (answers.Names (name ∷ names)) q e = absurd (no_number step _ q.0 (cc))
+did_is step (answers.Refused refusal) q e = absurd (not_refused refusal _ e)
+
+-- the answer that names chunks is one of those names
+names_are : (names : List ChunkName) (b : Answer) → HasNamesText names → HasAnswerText b → names_words names ≡ answer_words b → answers.Names names ≡ b
+names_are [] b p q e = absurd p
+names_are (name ∷ names) answers.Done p q e = absurd cc
+names_are (name ∷ names) (answers.Number n) p q e = absurd cc
+names_are (name ∷ names) (answers.Shown shown) p q e = absurd (number_shown (length (name ∷ names)) shown _ p.0 e)
+names_are (name ∷ names) (answers.Sums sum) p q e = absurd (number_sum (length (name ∷ names)) sum _ p.0 e)
+names_are (name ∷ names) (answers.Stored m content) p q e = absurd (no_content_name content name (map name_word names) q.1 p.1.0 (cc))
+names_are (name ∷ names) (answers.Did step) p q e = absurd cc
+names_are (name ∷ names) (answers.Names []) p q e = absurd q
+names_are (name ∷ names) (answers.Names (other ∷ others)) p q e = ap answers.Names (all_names_same (name ∷ names) (other ∷ others) p.1 q.1 (cc))
+names_are (name ∷ names) (answers.Refused refusal) p q e = absurd (not_refused refusal _ e)
+
 answer_same : (a b : Answer) → HasAnswerText a → HasAnswerText b → answer_words a ≡ answer_words b → a ≡ b
 answer_same answers.Done answers.Done p q e = refl
 answer_same (answers.Number m) (answers.Number n) p q e = ap answers.Number (decimal_injective m n p q (cc))
@@ -536,6 +771,10 @@ answer_same (answers.Shown a) (answers.Shown b) p q e = ap answers.Shown (shown_
 answer_same (answers.Sums a) (answers.Sums b) p q e = ap answers.Sums (shown_sum_same a b p q e)
 answer_same (answers.Stored m a) (answers.Stored n b) p q e = cc (decimal_injective m n p.0 q.0 (cc), content_same a b p.1 q.1 (cc))
 answer_same (answers.Refused a) (answers.Refused b) p q e = ap answers.Refused (refusal_same a b p q e)
+answer_same (answers.Did step) b p q e = did_is step b q e
+answer_same a (answers.Did step) p q e = sym (did_is step a p (sym e))
+answer_same (answers.Names names) b p q e = names_are names b p q e
+answer_same a (answers.Names names) p q e = sym (names_are names a q p (sym e))
 answer_same (answers.Number m) (answers.Shown shown) p q e = absurd (number_shown m shown [] p e)
 answer_same (answers.Shown shown) (answers.Number n) p q e = absurd (number_shown n shown [] q (sym e))
 answer_same (answers.Stored m content) (answers.Shown shown) p q e = absurd (number_shown m shown (content_words content) p.0 e)
@@ -581,6 +820,11 @@ answer_kind (answers.Shown (Mine number content)) = refl
 answer_kind (answers.Sums (sums.Clean version row)) = refl
 answer_kind (answers.Sums (sums.Mine number row)) = refl
 answer_kind (answers.Stored version content) = refl
+answer_kind (answers.Did step) = refl
+answer_kind (answers.Names names) = refl
+answer_kind (answers.Refused refusals.NoDevice) = refl
+answer_kind (answers.Refused (refusals.Busy with)) = refl
+answer_kind (answers.Refused (refusals.Down node)) = refl
 answer_kind (answers.Refused (refusals.TooManyChunks count)) = refl
 answer_kind (answers.Refused (refusals.BadCell column)) = refl
 answer_kind (answers.Refused (refusals.BadObject column len)) = refl
@@ -597,6 +841,9 @@ fact_kind (facts.Acked client number table row version) = refl
 fact_kind (facts.New client table row version) = refl
 fact_kind (facts.Position client table position) = refl
 fact_kind (facts.Accepted table entry) = refl
+fact_kind (facts.Forward table entry) = refl
+fact_kind (facts.Back table version) = refl
+fact_kind (facts.Recovered store table) = refl
 
 line_kind : (line : TextLine) → kind_in (first_word (words_of line)) ≡ kind_of line
 unfolding kind_in kind_of

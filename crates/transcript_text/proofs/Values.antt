@@ -1,14 +1,14 @@
 -- The words of cells and objects: their bytes, and that each is one value's alone.
-use Rattle.std.proofs.Common.{◌≡◌, ◌≢◌, ℕ, zero, suc, ◌/◌, ◌%◌, ◌<◌, ◌≤◌, Bool, true, false, ◌&&◌, ltb, List, []}
-use Rattle.std.proofs.Common.{◌∷◌, ◌++◌, map, codes, get_or, All, Ok, refl, sym, ap, ◌∙◌, subst, arith, true≢false, inl, inr}
+use Rattle.std.proofs.Common.{◌≡◌, ℕ, zero, suc, ◌/◌, ◌%◌, ◌<◌, ◌≤◌, Bool, true, false, ◌&&◌, ltb, List, []}
+use Rattle.std.proofs.Common.{◌∷◌, ◌++◌, map, codes, get_or, Ok, refl, sym, ap, ◌∙◌, subst, arith, true≢false, inl, inr}
 use Rattle.std.specs.List.{AllByRecursion}
 use Rattle.std.specs.Fmt.{decimal, signed_decimal}
-use Rattle.std.proofs.lemmas.Bool.{ltb-true, cases_Bool, cases_lt}
+use Rattle.std.proofs.lemmas.Bool.{ltb-true, cases_lt}
 use Rattle.std.proofs.lemmas.Fmt.{decimal_injective, signed_decimal_injective}
 use Rattle.std.proofs.lemmas.List.Elements.{All-from_recursion, recursion_from_All}
-use Rattle.percent_encoding.specs.AsciiSet.{contains, should_percent_encode}
+use Rattle.percent_encoding.specs.AsciiSet.{should_percent_encode}
 use Rattle.percent_encoding.specs.Percent.{percent_encode, percent_decode}
-use Rattle.percent_encoding.proofs.PercentLemmas.{IsEscapeByte, All-percent_encode, round_trip}
+use Rattle.percent_encoding.proofs.PercentLemmas.{All-percent_encode, round_trip}
 use Rattle.hex.specs.Hex.{encode_lower, encode_with, lower_digits, decode_of}
 use Rattle.hex.proofs.HexLemmas.{decode_of-encode_lower}
 use Rattle.transcript_text.specs.declared.print.TheConstants.{ESCAPED}

@@ -7,6 +7,7 @@ use Rattle.row_value.specs.declared.content.Cell.TheVariants as cells
 use Rattle.row_value.specs.declared.content.Content.{Content}
 use Rattle.row_value.specs.declared.content.Content.TheVariants.{Gone, Row}
 use Rattle.table_model.specs.declared.entry.Entry.{Entry}
+use Rattle.stab_base.specs.declared.chunk_name.ChunkName.{ChunkName}
 use Rattle.stab_base.specs.declared.node.Node.{Node}
 use Rattle.stab_base.specs.declared.node.Node.TheVariants as nodes
 use Rattle.table_model.specs.declared.line.Write.{Write}
@@ -38,14 +39,22 @@ abbrev pub HasContentText : Content → Type 0
 HasContentText Gone = Unit {0}
 HasContentText (Row some objects) = AllByRecursion HasCellText some × AllByRecursion AreBytes objects
 
+abbrev pub HasNodeText : Node → Type 0
+HasNodeText (nodes.Client client) = client < 2 ^ 32
+HasNodeText (nodes.Gate gate) = gate < 2 ^ 32
+HasNodeText (nodes.Store store) = store < 2 ^ 32
+
 abbrev pub HasRefusalText : Refusal → Type 0
+HasRefusalText refusals.NoDevice = Unit {0}
 HasRefusalText (refusals.TooManyChunks count) = count < 2 ^ 64
 HasRefusalText (refusals.BadCell column) = column < 2 ^ 64
 HasRefusalText (refusals.BadObject column len) = (column < 2 ^ 64) × (len < 2 ^ 64)
 HasRefusalText (refusals.RowTooLarge len) = len < 2 ^ 64
+HasRefusalText (refusals.Busy with) = with < 2 ^ 64
 HasRefusalText refusals.NoTable = Unit {0}
 HasRefusalText refusals.NoRow = Unit {0}
 HasRefusalText (refusals.NoPacket sent) = sent < 2 ^ 64
+HasRefusalText (refusals.Down node) = HasNodeText node
 
 -- gone, or with a value; a row without one has the text of a number
 abbrev pub HasValue : Content → Type 0
@@ -76,12 +85,23 @@ abbrev pub HasShownSumText : ShownSum → Type 0
 HasShownSumText (sums.Clean version row) = (version < 2 ^ 64) × HasRowSumText row
 HasShownSumText (sums.Mine number row) = (number < 2 ^ 64) × HasRowSumText row
 
+pub record HasNameText (name : ChunkName) : Type 0 where
+  pub version : name.version < 2 ^ 64
+  pub ordinal : name.ordinal < 2 ^ 32
+
+-- one at least; none has the text of a number
+abbrev pub HasNamesText : List ChunkName → Type 0
+HasNamesText [] = ⊥
+HasNamesText (name ∷ names) = (length (name ∷ names) < 2 ^ 64) × AllByRecursion HasNameText (name ∷ names)
+
 abbrev pub HasAnswerText : Answer → Type 0
 HasAnswerText answers.Done = Unit {0}
 HasAnswerText (answers.Number number) = number < 2 ^ 64
 HasAnswerText (answers.Shown shown) = HasShownText shown
 HasAnswerText (answers.Sums sum) = HasShownSumText sum
 HasAnswerText (answers.Stored version content) = (version < 2 ^ 64) × HasContentText content × HasValue content
+HasAnswerText (answers.Did step) = Unit {0}
+HasAnswerText (answers.Names names) = HasNamesText names
 HasAnswerText (answers.Refused refusal) = HasRefusalText refusal
 
 -- 16 bytes
@@ -105,11 +125,6 @@ pub record HasEntryText (place : ℕ) (entry : Entry) : Type 0 where
   pub number : entry.number < 2 ^ 64
   pub base : entry.base < 2 ^ 64
 
-abbrev pub HasNodeText : Node → Type 0
-HasNodeText (nodes.Client client) = client < 2 ^ 32
-HasNodeText (nodes.Gate gate) = gate < 2 ^ 32
-HasNodeText (nodes.Store store) = store < 2 ^ 32
-
 abbrev pub HasFactText : Fact → Type 0
 HasFactText (facts.Sent packet from to name) = (packet < 2 ^ 64) × HasNodeText from × HasNodeText to
 HasFactText (facts.Wrote write) = HasWriteText write
@@ -119,6 +134,9 @@ HasFactText (facts.New client table row version) =
     (client < 2 ^ 32) × (table < 2 ^ 32) × HasRowText row × (version < 2 ^ 64)
 HasFactText (facts.Position client table position) = (client < 2 ^ 32) × (table < 2 ^ 32) × (position < 2 ^ 64)
 HasFactText (facts.Accepted table entry) = HasEntryText table entry
+HasFactText (facts.Forward table entry) = HasEntryText table entry
+HasFactText (facts.Back table version) = (table < 2 ^ 32) × (version < 2 ^ 64)
+HasFactText (facts.Recovered store table) = (store < 2 ^ 32) × (table < 2 ^ 32)
 
 abbrev pub HasText : TextLine → Type 0
 HasText (lines.Answer answer) = HasAnswerText answer

@@ -1,5 +1,5 @@
 -- The text of each line of a transcript, without its newline.
-use Rattle.std.specs.Prelude.{ℕ, true, false, List, [], ◌∷◌, ◌++◌, codes}
+use Rattle.std.specs.Prelude.{ℕ, true, false, List, [], ◌∷◌, ◌++◌, codes, length}
 use Rattle.std.specs.List.{flat_map}
 use Rattle.std.specs.Fmt.{decimal, signed_decimal}
 use Rattle.uuid.specs.Text.{hyphenated_text, lower}
@@ -13,6 +13,9 @@ use Rattle.row_value.specs.declared.content.Content.TheVariants.{Gone, Row}
 use Rattle.table_model.specs.declared.entry.Entry.{Entry}
 use Rattle.table_model.specs.declared.message_name.MessageName.{MessageName}
 use Rattle.table_model.specs.declared.message_name.MessageName.TheVariants as kinds
+use Rattle.stab_base.specs.declared.chunk_name.ChunkName.{ChunkName}
+use Rattle.stab_base.specs.declared.step.Step.{Step}
+use Rattle.stab_base.specs.declared.step.Step.TheVariants as steps
 use Rattle.stab_base.specs.declared.node.Node.{Node}
 use Rattle.stab_base.specs.declared.node.Node.TheVariants as nodes
 use Rattle.table_model.specs.declared.line.Write.{Write}
@@ -52,14 +55,23 @@ sum_text object = codes " o:" ++ (decimal object.len ++ (codes ":" ++ encode_low
 abbrev pub row_sum_text : RowSum → List ℕ
 row_sum_text row = flat_map cell_text row.cells ++ flat_map sum_text row.objects
 
+-- each party has a space before it
+abbrev pub node_text : Node → List ℕ
+node_text (nodes.Client client) = codes " C" ++ decimal client
+node_text (nodes.Gate gate) = codes " G" ++ decimal gate
+node_text (nodes.Store store) = codes " S" ++ decimal store
+
 abbrev pub refusal_text : Refusal → List ℕ
+refusal_text refusals.NoDevice = codes "no 6"
 refusal_text (refusals.TooManyChunks count) = codes "no 9 " ++ decimal count
 refusal_text (refusals.BadCell column) = codes "no 10 " ++ decimal column
 refusal_text (refusals.BadObject column len) = codes "no 11 " ++ (decimal column ++ (codes " " ++ decimal len))
 refusal_text (refusals.RowTooLarge len) = codes "no 12 " ++ decimal len
+refusal_text (refusals.Busy with) = codes "no 17 " ++ decimal with
 refusal_text refusals.NoTable = codes "no 18"
 refusal_text refusals.NoRow = codes "no 27"
 refusal_text (refusals.NoPacket sent) = codes "no 29 " ++ decimal sent
+refusal_text (refusals.Down node) = codes "no 30" ++ node_text node
 
 abbrev pub shown_text : Shown → List ℕ
 shown_text (Clean version content) = codes "ok clean " ++ (decimal version ++ content_text content)
@@ -69,12 +81,40 @@ abbrev pub shown_sum_text : ShownSum → List ℕ
 shown_sum_text (sums.Clean version row) = codes "ok clean " ++ (decimal version ++ row_sum_text row)
 shown_sum_text (sums.Mine number row) = codes "ok mine " ++ (decimal number ++ row_sum_text row)
 
+abbrev pub step_word : Step → List ℕ
+step_word steps.Idle = codes "idle"
+step_word steps.LogOpen = codes "log-open"
+step_word steps.ChunkPut = codes "chunk-put"
+step_word steps.RowPut = codes "row-put"
+step_word steps.ChunkDrop = codes "chunk-drop"
+step_word steps.LogClose = codes "log-close"
+step_word steps.TablePut = codes "table-put"
+step_word steps.SubPut = codes "sub-put"
+step_word steps.OpenChunks = codes "open-chunks"
+step_word steps.OpenRows = codes "open-rows"
+step_word steps.OpenLog = codes "open-log"
+step_word steps.Intend = codes "intend"
+step_word steps.Commit = codes "commit"
+step_word steps.SlotPut = codes "slot-put"
+step_word steps.Done = codes "done"
+step_word steps.OpenJournal = codes "open-journal"
+step_word steps.OpenSlots = codes "open-slots"
+
+-- a chunk's name has a space before it
+abbrev pub name_text : ChunkName → List ℕ
+name_text name = codes " " ++ (decimal name.version ++ (codes "." ++ decimal name.ordinal))
+
+abbrev pub names_text : List ChunkName → List ℕ
+names_text names = codes "ok " ++ (decimal (length names) ++ flat_map name_text names)
+
 abbrev pub answer_text : Answer → List ℕ
 answer_text answers.Done = codes "ok"
 answer_text (answers.Number number) = codes "ok " ++ decimal number
 answer_text (answers.Shown shown) = shown_text shown
 answer_text (answers.Sums sum) = shown_sum_text sum
 answer_text (answers.Stored version content) = codes "ok " ++ (decimal version ++ content_text content)
+answer_text (answers.Did step) = codes "ok " ++ step_word step
+answer_text (answers.Names names) = names_text names
 answer_text (answers.Refused refusal) = refusal_text refusal
 
 abbrev pub write_text : Write → List ℕ
@@ -84,12 +124,7 @@ write_text write =
     ++ (codes " " ++ (hyphenated_text lower write.row
     ++ (codes " " ++ (decimal write.read ++ content_text write.content)))))))))
 
--- each party and each name of a message has a space before it
-abbrev pub node_text : Node → List ℕ
-node_text (nodes.Client client) = codes " C" ++ decimal client
-node_text (nodes.Gate gate) = codes " G" ++ decimal gate
-node_text (nodes.Store store) = codes " S" ++ decimal store
-
+-- each name of a message has a space before it
 abbrev pub message_text : MessageName → List ℕ
 message_text kinds.RegisterDevice = codes " registerDevice"
 message_text kinds.CreateTable = codes " createTable"
@@ -132,6 +167,9 @@ fact_text (facts.New client table row version) =
 fact_text (facts.Position client table position) =
     codes "position C" ++ (decimal client ++ (codes " T" ++ (decimal table ++ (codes " " ++ decimal position))))
 fact_text (facts.Accepted table entry) = codes "accepted" ++ entry_text table entry
+fact_text (facts.Forward table entry) = codes "forward" ++ entry_text table entry
+fact_text (facts.Back table version) = codes "back T" ++ (decimal table ++ (codes " " ++ decimal version))
+fact_text (facts.Recovered store table) = codes "recovered S" ++ (decimal store ++ (codes " T" ++ decimal table))
 
 abbrev pub text_of : TextLine → List ℕ
 text_of (lines.Answer answer) = answer_text answer

@@ -1,14 +1,16 @@
 ghost use Rattle.std.specs.Prelude.{◌≡◌, ◌++◌, IfOk, OnOk};
 ghost use Rattle.std.specs.List.{flat_map};
 ghost use Rattle.std.specs.String.{string_bytes};
+ghost use Rattle.hex.specs.Hex.{encode_lower};
 ghost use Rattle.table_model.specs.declared.line.Fact.TheVariants as facts;
 ghost use Rattle.transcript_text.specs.Text.{cell_text, object_text, content_text, refusal_text, shown_text};
 ghost use Rattle.transcript_text.specs.Text.{sum_text, row_sum_text, shown_sum_text};
 ghost use Rattle.transcript_text.specs.Text.{answer_text, write_text, node_text, message_text, entry_text, fact_text};
-ghost use Rattle.transcript_text.specs.Text.{text_of, stop_text};
+ghost use Rattle.transcript_text.specs.Text.{text_of, stop_text, step_word, name_text, names_text};
 
 use percent_encoding::{AsciiSet, NON_ALPHANUMERIC, ascii_set, percent_encode};
-use row_value::{Bytes, Cell, Cells, Content, Objects, TableNo};
+use row_value::{Bytes, Cell, Cells, ChunkName, Content, Objects, SharedBytes, TableNo};
+use stab_base::{Names, Step, StoreNo};
 use std::alloc::{AllocError, Global};
 use table_model::{
     Answer, Entry, Fact, MessageName, Node, ObjectSum, ObjectSums, Refusal, RowSum, Shown,
@@ -25,6 +27,9 @@ pub const ESCAPED: AsciiSet = ascii_set!(
         .remove(b'~')
 );
 
+/// How many bytes of an object are spelled at once.
+const HEX_PART: usize = 4096;
+
 fn put_cell(out: &mut String, cell: &Cell) -> Result<(), AllocError>
     ensures { OnOk result (string_bytes out.new ≡ string_bytes out.old ++ cell_text cell.now) }
 {
@@ -39,12 +44,21 @@ fn put_cell(out: &mut String, cell: &Cell) -> Result<(), AllocError>
     }
 }
 
-fn put_object(alloc: Global, out: &mut String, object: &Bytes) -> Result<(), AllocError>
+fn put_hex(alloc: Global, out: &mut String, bytes: &[u8]) -> Result<(), AllocError>
+    ensures { OnOk result (string_bytes out.new ≡ string_bytes out.old ++ encode_lower bytes.now) }
+{
+    for part in bytes.chunks(HEX_PART) {
+        let digits = hex::encode(alloc, part)?;
+        out.push_str(digits.as_str())?;
+    }
+    Ok(())
+}
+
+fn put_object(alloc: Global, out: &mut String, object: &SharedBytes) -> Result<(), AllocError>
     ensures { OnOk result (string_bytes out.new ≡ string_bytes out.old ++ object_text object.now) }
 {
-    let digits = hex::encode(alloc, object.as_slice())?;
     out.push_str(" h:")?;
-    out.push_str(digits.as_str())
+    put_hex(alloc, out, object.as_slice())
 }
 
 fn put_cells(out: &mut String, cells: &Cells) -> Result<(), AllocError>
@@ -105,13 +119,19 @@ fn put_refusal(out: &mut String, refusal: Refusal) -> Result<(), AllocError>
     ensures { OnOk result (string_bytes out.new ≡ string_bytes out.old ++ refusal_text refusal) }
 {
     match refusal {
+        Refusal::NoDevice => out.push_str("no 6"),
         Refusal::TooManyChunks { count } => write!(out, "no 9 {count}"),
         Refusal::BadCell { column } => write!(out, "no 10 {column}"),
         Refusal::BadObject { column, len } => write!(out, "no 11 {column} {len}"),
         Refusal::RowTooLarge { len } => write!(out, "no 12 {len}"),
+        Refusal::Busy { with } => write!(out, "no 17 {with}"),
         Refusal::NoTable => out.push_str("no 18"),
         Refusal::NoRow => out.push_str("no 27"),
         Refusal::NoPacket { sent } => write!(out, "no 29 {sent}"),
+        Refusal::Down { node } => {
+            out.push_str("no 30")?;
+            put_node(out, node)
+        }
     }
 }
 
@@ -145,6 +165,55 @@ fn put_shown_sum(alloc: Global, out: &mut String, sum: &ShownSum) -> Result<(), 
     }
 }
 
+// The name of a device write.
+fn step_word(step: Step) -> &'static str
+    ensures { result.now ≡ step_word step }
+{
+    match step {
+        Step::Idle => "idle",
+        Step::LogOpen => "log-open",
+        Step::ChunkPut => "chunk-put",
+        Step::RowPut => "row-put",
+        Step::ChunkDrop => "chunk-drop",
+        Step::LogClose => "log-close",
+        Step::TablePut => "table-put",
+        Step::SubPut => "sub-put",
+        Step::OpenChunks => "open-chunks",
+        Step::OpenRows => "open-rows",
+        Step::OpenLog => "open-log",
+        Step::Intend => "intend",
+        Step::Commit => "commit",
+        Step::SlotPut => "slot-put",
+        Step::Done => "done",
+        Step::OpenJournal => "open-journal",
+        Step::OpenSlots => "open-slots",
+    }
+}
+
+fn put_name(out: &mut String, name: ChunkName) -> Result<(), AllocError>
+    ensures { OnOk result (string_bytes out.new ≡ string_bytes out.old ++ name_text name) }
+{
+    let ChunkName { version, ordinal } = name;
+    write!(out, " {version}.{ordinal}")
+}
+
+fn put_all_names(out: &mut String, names: &Names) -> Result<(), AllocError>
+    ensures { OnOk result (string_bytes out.new ≡ string_bytes out.old ++ flat_map name_text names.now) }
+{
+    for name in names.as_slice() {
+        put_name(out, *name)?;
+    }
+    Ok(())
+}
+
+fn put_names(out: &mut String, names: &Names) -> Result<(), AllocError>
+    ensures { OnOk result (string_bytes out.new ≡ string_bytes out.old ++ names_text names.now) }
+{
+    let count = names.len();
+    write!(out, "ok {count}")?;
+    put_all_names(out, names)
+}
+
 fn put_answer(alloc: Global, out: &mut String, answer: &Answer) -> Result<(), AllocError>
     ensures { OnOk result (string_bytes out.new ≡ string_bytes out.old ++ answer_text answer.now) }
 {
@@ -157,6 +226,11 @@ fn put_answer(alloc: Global, out: &mut String, answer: &Answer) -> Result<(), Al
             write!(out, "ok {version}")?;
             put_content(alloc, out, content)
         }
+        Answer::Did(step) => {
+            out.push_str("ok ")?;
+            out.push_str(step_word(*step))
+        }
+        Answer::Names(names) => put_names(out, names),
         Answer::Refused(refusal) => put_refusal(out, *refusal),
     }
 }
@@ -245,6 +319,12 @@ fn put_entry(out: &mut String, table: TableNo, entry: &Entry) -> Result<(), Allo
     write!(out, " T{table} {version} {row} C{client} {number} {base}")
 }
 
+fn put_recovered(out: &mut String, store: StoreNo, table: TableNo) -> Result<(), AllocError>
+    ensures { OnOk result (string_bytes out.new ≡ string_bytes out.old ++ fact_text (facts.Recovered store table)) }
+{
+    write!(out, "recovered S{store} T{table}")
+}
+
 fn put_fact(alloc: Global, out: &mut String, fact: &Fact) -> Result<(), AllocError>
     ensures { OnOk result (string_bytes out.new ≡ string_bytes out.old ++ fact_text fact.now) }
 {
@@ -278,6 +358,12 @@ fn put_fact(alloc: Global, out: &mut String, fact: &Fact) -> Result<(), AllocErr
             out.push_str("accepted")?;
             put_entry(out, *table, entry)
         }
+        Fact::Forward { table, entry } => {
+            out.push_str("forward")?;
+            put_entry(out, *table, entry)
+        }
+        Fact::Back { table, version } => write!(out, "back T{table} {version}"),
+        Fact::Recovered { store, table } => put_recovered(out, *store, *table),
     }
 }
 

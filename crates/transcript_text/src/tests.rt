@@ -1,5 +1,6 @@
 use crate::{line_text, stop_text};
-use row_value::{Bytes, Cell, Content, RowId, Sequence};
+use row_value::{Bytes, Cell, ChunkName, Content, RowId, Sequence, SharedBytes};
+use stab_base::Step;
 use std::alloc::Global;
 use std::process::Abort;
 use std::test::Fail;
@@ -124,6 +125,24 @@ fn facts_have_their_fields_in_order(rt: HostRuntime) -> Result<(), Fail> {
             "accepted T1 3 00000000-0000-4000-8000-000000000002 C4 5 6",
         ),
         (
+            TextLine::Fact(Fact::Forward {
+                table: 3,
+                entry: entry(),
+            }),
+            "forward T3 3 00000000-0000-4000-8000-000000000002 C4 5 6",
+        ),
+        (
+            TextLine::Fact(Fact::Back {
+                table: 3,
+                version: 8,
+            }),
+            "back T3 8",
+        ),
+        (
+            TextLine::Fact(Fact::Recovered { store: 1, table: 3 }),
+            "recovered S1 T3",
+        ),
+        (
             TextLine::Entry {
                 table: 2,
                 entry: entry(),
@@ -243,7 +262,8 @@ fn objects_have_their_digests(rt: HostRuntime) -> Result<(), Fail> {
     Ok(())
 }
 
-const REFUSED: [(Refusal, &str); 7] = [
+const REFUSED: [(Refusal, &str); 12] = [
+    (Refusal::NoDevice, "no 6"),
     (Refusal::TooManyChunks { count: 32769 }, "no 9 32769"),
     (Refusal::BadCell { column: 1 }, "no 10 1"),
     (
@@ -254,9 +274,28 @@ const REFUSED: [(Refusal, &str); 7] = [
         "no 11 0 4194305",
     ),
     (Refusal::RowTooLarge { len: 16777217 }, "no 12 16777217"),
+    (Refusal::Busy { with: 5 }, "no 17 5"),
     (Refusal::NoTable, "no 18"),
     (Refusal::NoRow, "no 27"),
     (Refusal::NoPacket { sent: 3 }, "no 29 3"),
+    (
+        Refusal::Down {
+            node: Node::Store(1),
+        },
+        "no 30 S1",
+    ),
+    (
+        Refusal::Down {
+            node: Node::Client(64),
+        },
+        "no 30 C64",
+    ),
+    (
+        Refusal::Down {
+            node: Node::Gate(2),
+        },
+        "no 30 G2",
+    ),
 ];
 
 #[test]
@@ -272,6 +311,48 @@ fn refusals_have_their_numbers(rt: HostRuntime) -> Result<(), Fail> {
     Ok(())
 }
 
+const STEPS: [(Step, &str); 17] = [
+    (Step::Idle, "ok idle"),
+    (Step::LogOpen, "ok log-open"),
+    (Step::ChunkPut, "ok chunk-put"),
+    (Step::RowPut, "ok row-put"),
+    (Step::ChunkDrop, "ok chunk-drop"),
+    (Step::LogClose, "ok log-close"),
+    (Step::TablePut, "ok table-put"),
+    (Step::SubPut, "ok sub-put"),
+    (Step::OpenChunks, "ok open-chunks"),
+    (Step::OpenRows, "ok open-rows"),
+    (Step::OpenLog, "ok open-log"),
+    (Step::Intend, "ok intend"),
+    (Step::Commit, "ok commit"),
+    (Step::SlotPut, "ok slot-put"),
+    (Step::Done, "ok done"),
+    (Step::OpenJournal, "ok open-journal"),
+    (Step::OpenSlots, "ok open-slots"),
+];
+
+#[test]
+fn device_writes_have_their_names(rt: HostRuntime) -> Result<(), Fail> {
+    for (step, text) in STEPS {
+        check(&rt, rt.alloc(), &TextLine::Answer(Answer::Did(step)), text)?;
+    }
+    Ok(())
+}
+
+#[test]
+fn chunks_are_named_by_version_and_number(rt: HostRuntime) -> Result<(), Fail> {
+    let mut names = Sequence::new(rt.alloc());
+    for (version, ordinal) in [(1, 0), (1, 10), (12, 4294967295)] {
+        names.push(ChunkName { version, ordinal })?;
+    }
+    check(
+        &rt,
+        rt.alloc(),
+        &TextLine::Answer(Answer::Names(names)),
+        "ok 3 1.0 1.10 12.4294967295",
+    )
+}
+
 #[test]
 fn other_values_have_their_texts(rt: HostRuntime) -> Result<(), Fail> {
     let alloc = rt.alloc();
@@ -280,8 +361,8 @@ fn other_values_have_their_texts(rt: HostRuntime) -> Result<(), Fail> {
     cells.push(Cell::Bool(false))?;
     cells.push(Cell::Text(Bytes::from_slice(alloc, b"a b%~")?))?;
     let mut objects = Sequence::new(alloc);
-    objects.push(Bytes::from_slice(alloc, &[0, 0xab])?)?;
-    objects.push(Bytes::new(alloc))?;
+    objects.push(SharedBytes::from_slice(alloc, &[0, 0xab])?)?;
+    objects.push(SharedBytes::from_slice(alloc, b"")?)?;
     let content = Content::Row { cells, objects };
     check(
         &rt,

@@ -1,7 +1,7 @@
 use super::{Words, parse};
 use crate::{SelectFault, holds};
 use row_value::{Cell, Column, ColumnKind, Content, Schema, Scheme};
-use stab_base::{Bytes, Sequence};
+use stab_base::{Bytes, Sequence, SharedBytes};
 use std::alloc::{AllocError, Global};
 use std::test::Fail;
 
@@ -195,7 +195,7 @@ fn row_of(alloc: Global) -> Result<Content, AllocError> {
     cells.push(Cell::Text(Bytes::from_slice(alloc, b" b")?))?;
     cells.push(Cell::Int(7))?;
     let mut objects = Sequence::new(alloc);
-    objects.push(Bytes::new(alloc))?;
+    objects.push(SharedBytes::from_slice(alloc, b"")?)?;
     Ok(Content::Row { cells, objects })
 }
 

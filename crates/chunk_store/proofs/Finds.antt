@@ -10,23 +10,24 @@ use Rattle.chunk_store.specs.Payload.{name_cmp, chunks_of}
 use Rattle.chunk_store.specs.Index.{IsPlace, IsIndex, bytes_at}
 use Rattle.chunk_store.specs.Standing.{chunk_in}
 use Rattle.chunk_store.specs.declared.index.ChunkIndex.{ChunkIndex}
+use Rattle.chunk_store.specs.declared.index.Place.{Place}
 
 module _ (index : ChunkIndex) (ps : List (List ℕ)) (fit : IsIndex index ps) where
-  chunk_is : (name : ChunkName) (found : Option ℕ) → found ≡ lookup (is_at (name_cmp name)) (entries_of name_cmp index.places) → chunk_in (chunks_of ps) name ≡ option_map (bytes_at ps) found
+  chunk_is : (name : ChunkName) (found : Option Place) → found ≡ lookup (is_at (name_cmp name)) (entries_of name_cmp index.places) → chunk_in (chunks_of ps) name ≡ option_map (bytes_at ps) found
   chunk_is name found is =
       ap (λ (map : List (ChunkName × List ℕ)). chunk_in map name) fit.chunks
       ∙ (lookup_with (bytes_at ps) (is_at (name_cmp name)) (entries_of name_cmp index.places) ∙ ap (option_map (bytes_at ps)) (sym is))
 
-  pub none_is : (name : ChunkName) (found : Option ℕ) → found ≡ lookup (is_at (name_cmp name)) (entries_of name_cmp index.places) → IfNone found (chunk_in (chunks_of ps) name ≡ None)
+  pub none_is : (name : ChunkName) (found : Option Place) → found ≡ lookup (is_at (name_cmp name)) (entries_of name_cmp index.places) → IfNone found (chunk_in (chunks_of ps) name ≡ None)
   none_is name None is = chunk_is name None is
   none_is name (Some i) is = tt
 
-  pub some_is : (name : ChunkName) (found : Option ℕ) → found ≡ lookup (is_at (name_cmp name)) (entries_of name_cmp index.places)
+  pub some_is : (name : ChunkName) (found : Option Place) → found ≡ lookup (is_at (name_cmp name)) (entries_of name_cmp index.places)
       → IfSome found (λ i. chunk_in (chunks_of ps) name ≡ Some (bytes_at ps i))
   some_is name None is = tt
   some_is name (Some i) is = chunk_is name (Some i) is
 
-  pub place_at : (name : ChunkName) (found : Option ℕ) → found ≡ lookup (is_at (name_cmp name)) (entries_of name_cmp index.places) → IfSome found (IsPlace ps)
+  pub place_at : (name : ChunkName) (found : Option Place) → found ≡ lookup (is_at (name_cmp name)) (entries_of name_cmp index.places) → IfSome found (IsPlace ps)
   place_at name None is = tt
   place_at name (Some i) is = value_found (IsPlace ps) (is_at (name_cmp name)) (entries_of name_cmp index.places) i fit.places (sym is)
 

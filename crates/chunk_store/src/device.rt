@@ -1,10 +1,12 @@
 //! The device: what its calls promise of its map.
 ghost use Rattle.std.specs.Prelude.{◌≡◌, ◌↔◌, ◌+◌, ◌*◌, ◌<◌, ◌≤◌, false, [], ℕ, List, length, None, Some, OnOk, OnErr};
 ghost use Rattle.std.specs.Prelude.{IfOk, IfSome, IfNone, IsErrOf, IsTrue, IsSome, ◌==◌, ◌&&◌, nat_lt, filter};
+ghost use Rattle.std.specs.Prelude.{option_map};
 ghost use Rattle.std.specs.Bool.{MatchBool};
 ghost use Rattle.std.specs.BTreeMap.{insert_entry};
 ghost use Rattle.std.specs.Map.{keys_of};
 ghost use Rattle.std.specs.List.Sorted.{IsStrictlySortedBy};
+ghost use Rattle.disk_trait.specs.Calls.{Elapses};
 ghost use Rattle.vault.specs.Limit.{payload_most};
 ghost use Rattle.vault.specs.Standing.{payloads, disk_of, IsDown, IsUp, IsSynced, IsRestarted};
 ghost use Rattle.spare_map.specs.Late.{without};
@@ -14,7 +16,7 @@ ghost use Rattle.chunk_store.specs.Standing.{vault_of, chunks, chunk_in, IsLooke
 ghost use Rattle.chunk_store.specs.Standing.{Restarts, OpensWrite, Reserves, Puts, Gets, Stays};
 
 use crate::fault::{ChunkFault, told};
-use crate::index::ChunkIndex;
+use crate::index::{ChunkIndex, Place};
 use crate::payload::{Change, chunk_behind, write_drop, write_put};
 use disk_trait::Disk;
 use stab_base::{Bytes, ChunkName, NUMBER_MAX, Names, Version};
@@ -81,6 +83,8 @@ impl<D: Disk + Drop> ChunkDev<D> {
     pub fn restart(&mut self, pick: u64)
         ensures restarts { Restarts D.state D.images self.old self.new }
         ensures image { IsRestarted D.state (vault_of self.old) (vault_of self.new) }
+        ensures time { Elapses (D.state (disk_of (vault_of self.old))) (D.state (disk_of (vault_of self.new)))
+            (D.images (disk_of (vault_of self.old))) (D.images (disk_of (vault_of self.new))) }
     {
         self.inner.restart(pick);
     }
@@ -136,12 +140,12 @@ impl<D: Disk + Drop> ChunkDev<D> {
         told(self.inner.append(Some(Change::Gone(name))))
     }
 
-    // The index of a name's payload.
-    fn find(&self, name: ChunkName) -> Option<u64>
+    // Where a name's chunk stands.
+    fn find(&self, name: ChunkName) -> Option<Place>
         requires ready { IsUp (vault_of self.now) → IsLookedAt D.state self.now }
         ensures none { IsUp (vault_of self.now) → IfNone result (chunk_in (chunks D.state self.now) name ≡ None) }
-        ensures some { IsUp (vault_of self.now) → IfSome result (λ index.
-            chunk_in (chunks D.state self.now) name ≡ Some (bytes_at (payloads D.state (vault_of self.now)) index)) }
+        ensures some { IsUp (vault_of self.now) → IfSome result (λ place.
+            chunk_in (chunks D.state self.now) name ≡ Some (bytes_at (payloads D.state (vault_of self.now)) place)) }
         ensures place { IsUp (vault_of self.now) → IfSome result (IsPlace (payloads D.state (vault_of self.now))) }
     {
         self.inner.memory.places.get(name)
@@ -159,10 +163,10 @@ impl<D: Disk + Drop> ChunkDev<D> {
         if self.inner.is_down() {
             return Err(ChunkFault::Down);
         }
-        let Some(index) = self.find(name) else {
+        let Some(place) = self.find(name) else {
             return Err(ChunkFault::Absent);
         };
-        self.inner.read(index)?;
+        self.inner.read(place.index)?;
         let bytes = chunk_behind(self.alloc, &self.inner.found)?;
         Ok(bytes)
     }
@@ -173,6 +177,17 @@ impl<D: Disk + Drop> ChunkDev<D> {
         ensures { IsUp (vault_of self.now) → (IsTrue result ↔ IsSome (chunk_in (chunks D.state self.now) name)) }
     {
         self.find(name).is_some()
+    }
+
+    /// How many bytes the chunk of a name has, where it has one. It reads nothing from the disk and takes no memory.
+    pub fn len_of(&self, name: ChunkName) -> Option<u64>
+        requires ready { IsUp (vault_of self.now) → IsLookedAt D.state self.now }
+        ensures { IsUp (vault_of self.now) → result ≡ option_map length (chunk_in (chunks D.state self.now) name) }
+    {
+        match self.find(name) {
+            Some(place) => Some(place.len),
+            None => None,
+        }
     }
 
     /// The names that have a chunk, in rising order.

@@ -1,16 +1,23 @@
 //! What is kept in memory of the payloads.
 ghost use Rattle.std.specs.Prelude.{◌≡◌};
 
-use crate::payload::{Change, change_in};
+use crate::payload::{Change, change_in, chunk_len};
 use spare_map::SpareMap;
 use stab_base::ChunkName;
 use std::alloc::{AllocError, Global};
 use vault::Fold;
 
-/// For each name the index of its payload.
+/// Where a chunk stands: the index of its payload, and how many bytes the chunk has.
+#[derive(Clone, Copy)]
+pub struct Place {
+    pub(crate) index: u64,
+    pub(crate) len: u64,
+}
+
+/// For each name the place of its chunk.
 #[derive(Drop)]
 pub struct ChunkIndex {
-    pub(crate) places: SpareMap<ChunkName, u64>,
+    pub(crate) places: SpareMap<ChunkName, Place>,
 }
 
 impl Fold for ChunkIndex {
@@ -42,12 +49,15 @@ impl Fold for ChunkIndex {
     fn note(
         &mut self,
         change: Option<Change>,
-        _payload: &[u8],
+        payload: &[u8],
         index: u64,
     ) -> Result<(), AllocError> {
         match change {
             None => Ok(()),
-            Some(Change::Put(name)) => self.places.insert(name, index),
+            Some(Change::Put(name)) => {
+                let len = chunk_len(payload);
+                self.places.insert(name, Place { index, len })
+            }
             Some(Change::Gone(name)) => self.places.remove(name),
         }
     }

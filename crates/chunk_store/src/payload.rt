@@ -1,5 +1,6 @@
 //! The payloads of puts and drops.
-ghost use Rattle.std.specs.Prelude.{◌≡◌, ◌+◌, ◌<◌, ◌≤◌, ◌∷◌, ◌^◌, length, drop, Some, None, IfOk};
+ghost use Rattle.std.specs.Prelude.{◌≡◌, ◌+◌, ◌-◌, ◌<◌, ◌≤◌, ◌∷◌, ◌^◌, length, drop, Some, None};
+ghost use Rattle.std.specs.Prelude.{IfOk};
 ghost use Rattle.std.specs.Vec.{vec_capacity};
 ghost use Rattle.stab_base.specs.Codec.{Reads};
 ghost use Rattle.chunk_store.specs.Payload.{put_payload, drop_payload, head_at, change_of, spelled};
@@ -57,6 +58,13 @@ pub(crate) fn write_drop(payload: &mut Vec<u8>, name: ChunkName)
     ensures capacity { vec_capacity payload.old ≤ vec_capacity payload.new }
 {
     write_head(payload, 2, name);
+}
+
+/// How many bytes the chunk has in the payload of a put.
+pub(crate) fn chunk_len(payload: &[u8]) -> u64
+    ensures { result ≡ length payload.now - 13 }
+{
+    payload.len().saturating_sub(HEAD_LEN) as u64
 }
 
 /// A copy of the chunk in the payload of a put.

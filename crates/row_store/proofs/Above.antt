@@ -22,10 +22,10 @@ use Rattle.row_store.proofs.Versions.{version_cmp_total, Versions, at}
 abbrev pub same : RowVersion → RowVersion → Bool
 same a b = is_eq (version_cmp a b)
 
-laws : IsEquivalence same
+pub laws : IsEquivalence same
 laws = eq_by_cmp_equiv version_cmp_total
 
-exact : (a b : RowVersion) → same a b ≡ true → a ≡ b
+pub exact : (a b : RowVersion) → same a b ≡ true → a ≡ b
 exact a b e =
     let t = parts (nat_cmp a.version b.version) (id_cmp a.row b.row) e in
     ap (λ (n : ℕ). at n a.row) (exact_unsigned a.version b.version t.0) ∙ ap (at b.version) (exact_bytes a.row b.row t.1)
@@ -49,7 +49,7 @@ kept false true false r h = refl
 kept true false d r h = refl
 kept false false d r h = refl
 
-any_filter : (p : RowVersion → Bool) (q : RowVersion) (ks : List RowVersion) → list_any (same q) (filter p ks) ≡ p q && list_any (same q) ks
+pub any_filter : (p : RowVersion → Bool) (q : RowVersion) (ks : List RowVersion) → list_any (same q) (filter p ks) ≡ p q && list_any (same q) ks
 any_filter p q [] = none (p q)
   where
     none : (b : Bool) → false ≡ b && false
@@ -60,7 +60,7 @@ any_filter p q (k ∷ ks) =
     ∙ (ap (λ (r : Bool). cond (p k) (same q k || r) r) (any_filter p q ks)
     ∙ kept (p k) (same q k) (p q) (list_any (same q) ks) (λ is. ap p (sym (exact q k is))))
 
-any_found : (q : RowVersion) (es : Versions) → list_any (same q) (keys_of es) ≡ is_some (lookup (is_at (version_cmp q)) es)
+pub any_found : (q : RowVersion) (es : Versions) → list_any (same q) (keys_of es) ≡ is_some (lookup (is_at (version_cmp q)) es)
 any_found q [] = refl
 any_found q (e ∷ es) = split (same q e.0) ∙ ap (λ (b : Bool). cond (same q e.0) true b) (any_found q es) ∙ sym (some (same q e.0) (lookup (is_at (version_cmp q)) es))
   where
@@ -72,11 +72,11 @@ any_found q (e ∷ es) = split (same q e.0) ∙ ap (λ (b : Bool). cond (same q 
     some true v = refl
     some false v = refl
 
-and_left : (a b : Bool) → a && b ≡ true → (a ≡ true) × (b ≡ true)
+pub and_left : (a b : Bool) → a && b ≡ true → (a ≡ true) × (b ≡ true)
 and_left true b h = (refl, h)
 and_left false b h = absurd cc
 
-above_is_from : (n m : ℕ) (o : Ordering) → nat_lt n m ≡ true → is_le (ordering_then (nat_cmp n m) o) ≡ true
+pub above_is_from : (n m : ℕ) (o : Ordering) → nat_lt n m ≡ true → is_le (ordering_then (nat_cmp n m) o) ≡ true
 above_is_from n m o lt = ap (λ (r : Ordering). is_le (ordering_then r o)) less
   where
     less : nat_cmp n m ≡ Less

@@ -3,7 +3,6 @@ use Rattle.std.proofs.Common.{◌≡◌}
 use Rattle.vault.specs.declared.fault.VaultFault.{VaultFault}
 use Rattle.vault.specs.declared.fault.VaultFault.TheVariants as vaults
 use Rattle.vault.specs.Calls.{AreApart}
-use Rattle.row_store.specs.declared.fault.RowFault.{RowFault}
 use Rattle.row_store.specs.declared.fault.RowFault.TheVariants.{NoRow}
 use Rattle.row_store.specs.Fault.{fault_of}
 

@@ -1,5 +1,5 @@
 -- Finding rows in memory.
-use Rattle.std.proofs.Common.{◌≡◌, ◌≤◌, inl, inr, ℕ, true, false, List, [], get_or, Option, Some, None, refl, sym, ◌∙◌, ap, subst, arith}
+use Rattle.std.proofs.Common.{◌≡◌, ◌+◌, ◌≤◌, inl, inr, ℕ, true, false, List, [], length, get_or, Option, Some, None, refl, sym, ◌∙◌, ap, subst, arith}
 use Rattle.std.specs.Prelude.{option_map, unwrap_or, is_some, IfNone, IfSome}
 use Rattle.std.specs.declared.cmp.Ordering.{Ordering}
 use Rattle.std.specs.Ordering.{is_lt, nat_cmp, ordering_then}
@@ -13,10 +13,11 @@ use Rattle.row_store.specs.declared.stored.StoredRow.{StoredRow}
 use Rattle.stab_base.specs.declared.row_version.RowVersion.{RowVersion}
 use Rattle.row_store.specs.declared.memory.RowMemory.{RowMemory}
 use Rattle.row_store.specs.declared.memory.Place.{Place}
-use Rattle.row_store.specs.Data.{id_cmp, version_cmp, data_of, row_of, version_if, version_of, IsTableVersion, AreChangedSince}
-use Rattle.row_store.specs.Memory.{row_at, IsPlace, has_version, AreAbove, Fits}
+use Rattle.row_store.specs.Data.{id_cmp, version_cmp, data_of, row_of, version_if, version_of, IsTableVersion, AreChangedSince, IsNextChanged}
+use Rattle.row_store.specs.Memory.{row_at, IsPlace, has_version, AreAbove, IsFirstFrom, Fits}
 use Rattle.row_store.proofs.Versions.{at}
 use Rattle.row_store.proofs.Found.{row_most}
+use Rattle.row_store.proofs.Ids.{data_ids}
 
 abbrev place_in : RowMemory → List ℕ → Option Place
 place_in memory row = lookup (is_at (id_cmp row)) (entries_of id_cmp memory.places)
@@ -96,6 +97,26 @@ module _ (memory : RowMemory) (ps : List (List ℕ)) (fit : Fits memory ps) wher
     where
       not_above : (other : ℕ) (o : Ordering) → is_lt (ordering_then (nat_cmp last.version other) o) ≡ false → other ≤ last.version
       not_above other o e = grind (arith, nat_tests)
+
+  -- ---- the next change
+
+  sixteen : (row : List ℕ) (n : ℕ) → version_if (data_of ps) row ≡ Some n → length row ≡ 16
+  sixteen row n e = pick (row_of (data_of ps) row) refl e
+    where
+      pick : (o : Option StoredRow) → row_of (data_of ps) row ≡ o → option_map (λ (s : StoredRow). s.version) o ≡ Some n → length row ≡ 16
+      pick None is h = absurd cc
+      pick (Some stored) is h = data_ids ps row stored is
+
+  pub none_changed : (position : ℕ) → NUMBER_MAX ≤ position → IsNextChanged (data_of ps) position None
+  none_changed position most row other e = let le = versions_most row other e in omega (arith, le, most)
+
+  pub next_is : (position : ℕ) (next : Option RowVersion) → IsFirstFrom (entries_of version_cmp memory.versions) (position + 1) next → IsNextChanged (data_of ps) position next
+  next_is position None h = λ row other e. let lt = h (at other row) (sixteen row other e) (by_version (at other row) e) in omega (arith, lt)
+  next_is position (Some next) h = (
+    omega (arith, h.0),
+    of_version next h.1,
+    λ row other e lt. h.2 (at other row) (sixteen row other e) (by_version (at other row) e) (omega (arith, lt)),
+  )
 
 pub version_or : (memory : RowMemory) (ps : List (List ℕ)) → Fits memory ps → (row : List ℕ) (found : Option Place) → found ≡ place_in memory row
     → version_of (data_of ps) row ≡ unwrap_or (option_map (λ place. place.version) found) 0

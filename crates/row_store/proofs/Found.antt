@@ -124,6 +124,34 @@ row_most payload stored e =
       | inr n ↦ absurd (no_fault (length b.0.1) stored n.1)
     ]
 
+-- and its id has sixteen bytes
+stored_sixteen : (bytes : List ℕ) (stored : StoredRow) (rest : List ℕ) → stored_at bytes ≡ Ok (stored, rest) → length stored.row ≡ 16
+unfolding stored_at
+stored_sixteen bytes stored rest e =
+    let f3 : List ℕ × List ℕ → ℕ × List ℕ → PieceContent × List ℕ → List LastWrite × List ℕ → Result (StoredRow × List ℕ) ℕ = λ row version content lasts. allowed_at bytes (made row.0 version.0 content.0 lasts.0) lasts.1 in
+    let f2 : List ℕ × List ℕ → ℕ × List ℕ → PieceContent × List ℕ → Result (StoredRow × List ℕ) ℕ = λ row version content. list_at after_last last_in 0 content.1 >>= f3 row version content in
+    let f1 : List ℕ × List ℕ → ℕ × List ℕ → Result (StoredRow × List ℕ) ℕ = λ row version. content_at version.1 >>= f2 row version in
+    let f0 : List ℕ × List ℕ → Result (StoredRow × List ℕ) ℕ = λ row. number_at w64 row.1 >>= f1 row in
+    let a = bind_ok (id_at bytes) f0 (stored, rest) e in
+    let b = bind_ok (number_at w64 a.0.1) (f1 a.0) (stored, rest) a.2 in
+    let c = bind_ok (content_at b.0.1) (f2 a.0 b.0) (stored, rest) b.2 in
+    let d = bind_ok (list_at after_last last_in 0 c.0.1) (f3 a.0 b.0 c.0) (stored, rest) c.2 in
+    let it : StoredRow = made a.0.0 b.0.0 c.0.0 d.0.0 in
+    elim (branch (is_allowed it) (gives it d.0.1) (Err (length bytes)) (stored, rest) d.2) [
+      | inl y ↦ subst (λ (p : StoredRow × List ℕ). length p.0.row ≡ 16) (ok_is (it, d.0.1) (stored, rest) y.1) (id_takes bytes a.0.0 a.0.1 a.1).0
+      | inr n ↦ absurd (no_fault (length bytes) (stored, rest) n.1)
+    ]
+
+pub row_sixteen : (payload : List ℕ) (stored : StoredRow) → row_in payload ≡ Ok stored → length stored.row ≡ 16
+unfolding row_in whole
+row_sixteen payload stored e =
+    let a = bind_ok (tag_at 1 payload) (λ rest. whole (stored_at rest)) stored e in
+    let b = bind_ok (stored_at a.0) (λ x. cond (eqb (length x.1) 0) (Ok x.0) (Err (length x.1))) stored a.2 in
+    elim (branch (eqb (length b.0.1) 0) (Ok b.0.0) (Err (length b.0.1)) stored b.2) [
+      | inl y ↦ subst (λ (s : StoredRow). length s.row ≡ 16) (ok_is b.0.0 stored y.1) (stored_sixteen a.0 b.0.0 b.0.1 b.1)
+      | inr n ↦ absurd (no_fault (length b.0.1) stored n.1)
+    ]
+
 -- a payload of a vault is short
 pub short_at : (ps : List (List ℕ)) (i : ℕ) → AllShort ps → i < length ps → length (get_or ps i []) ≤ payload_most
 short_at [] i short within = absurd (omega arith)

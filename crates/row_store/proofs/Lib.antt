@@ -6,4 +6,6 @@ mod Found
 mod Shapes
 mod Notes
 mod Faults
+mod Ids
 mod Finds
+mod Firsts

@@ -80,6 +80,12 @@ pub record AreChangedSince (held : TableData) (position : ℕ) (rows : List RowV
   pub all : (each : RowVersion) → position < each.version → version_if held each.row ≡ Some each.version
       → Contains rows each
 
+-- the row with the least version above the position, if one is above it
+abbrev pub IsNextChanged : TableData → ℕ → Option RowVersion → Type 0
+IsNextChanged held position None = (row : List ℕ) (other : ℕ) → version_if held row ≡ Some other → other ≤ position
+IsNextChanged held position (Some next) = (position < next.version) × (version_if held next.row ≡ Some next.version)
+    × ((row : List ℕ) (other : ℕ) → version_if held row ≡ Some other → position < other → next.version ≤ other)
+
 abbrev pub sub_of : ℕ × Terms → Sub
 sub_of entry = record { client = entry.0; gate = entry.1.gate; period = entry.1.period; tolerance = entry.1.tolerance }
 

@@ -56,6 +56,15 @@ pub record AreAbove (versions : List (RowVersion × Unit {0})) (version : ℕ) (
   pub all : (each : RowVersion) → version < each.version → is_some (lookup (is_at (version_cmp each)) versions) ≡ true
       → Contains rows each
 
+-- the first of the rows by version that have this version or a greater one; an id has sixteen bytes
+abbrev pub IsFirstFrom : List (RowVersion × Unit {0}) → ℕ → Option RowVersion → Type 0
+IsFirstFrom versions version None = (each : RowVersion) → length each.row ≡ 16
+    → is_some (lookup (is_at (version_cmp each)) versions) ≡ true → each.version < version
+IsFirstFrom versions version (Some first) = (version ≤ first.version)
+    × (is_some (lookup (is_at (version_cmp first)) versions) ≡ true)
+    × ((each : RowVersion) → length each.row ≡ 16 → is_some (lookup (is_at (version_cmp each)) versions) ≡ true
+    → version ≤ each.version → first.version ≤ each.version)
+
 -- the table in its last payload
 abbrev pub table_or : Result (Schema × ℕ) ℕ → Option (Schema × ℕ)
 table_or (Ok table) = Some table

@@ -3,7 +3,9 @@ ghost use Rattle.std.specs.Prelude.{◌≡◌, ◌↔◌, ◌+◌, ◌*◌, ◌<
 ghost use Rattle.std.specs.Prelude.{IfOk, IfSome, IfNone, IsErrOf, Ok};
 ghost use Rattle.std.specs.Bool.{MatchBool};
 ghost use Rattle.std.specs.List.Sorted.{IsStrictlySortedBy};
+ghost use Rattle.std.specs.Map.{keys_of};
 ghost use Rattle.std.specs.Ordering.{nat_cmp};
+ghost use Rattle.disk_trait.specs.Calls.{Elapses};
 ghost use Rattle.vault.specs.Limit.{payload_most};
 ghost use Rattle.vault.specs.Standing.{payloads, gets, disk_of, IsDown, IsUp, IsSynced, IsRestarted};
 ghost use Rattle.stab_base.specs.declared.limits.TheConstants.{NUMBER_MAX};
@@ -12,7 +14,7 @@ ghost use Rattle.row_store.specs.Spelling.{HasStoredSpelling, row_payload, IsSta
 ghost use Rattle.row_store.specs.declared.stored.StoredRow.{StoredRow};
 ghost use Rattle.row_store.specs.Reading.{row_in, terms_if};
 ghost use Rattle.row_store.specs.Data.{nothing_held, with_row, with_table, with_sub, row_of, version_of};
-ghost use Rattle.row_store.specs.Data.{IsTableVersion, AreChangedSince, subs_of};
+ghost use Rattle.row_store.specs.Data.{IsTableVersion, AreChangedSince, IsNextChanged, subs_of, id_cmp};
 ghost use Rattle.row_store.specs.Memory.{IsPlace, row_at};
 ghost use Rattle.row_store.specs.Standing.{vault_of, held, row_reads, reads_after, IsLookedAt, IsOpened, HasRoom};
 ghost use Rattle.row_store.specs.Standing.{Stays, Formats, Looks, Restarts, OpensWrite, Reserves, Puts, Gets};
@@ -21,11 +23,11 @@ use crate::change::Change;
 use crate::fault::{RowFault, told};
 use crate::memory::{Place, RowMemory};
 use crate::reader::{row_in, table_in, terms_if};
-use crate::stored::{StoredRow, Sub, SubChange, Subs, Terms};
+use crate::stored::{RowIds, StoredRow, Sub, SubChange, Subs, Terms};
 use crate::writer::{write_row, write_sub, write_table};
 use disk_trait::Disk;
 use row_value::Schema;
-use stab_base::{ClientNo, GateNo, RowId, RowVersion, Rows, Version};
+use stab_base::{ClientNo, GateNo, NUMBER_MAX, RowId, RowVersion, Rows, Version};
 use std::alloc::{AllocError, Global};
 use value_codec::SpellFault;
 use vault::Folded;
@@ -114,6 +116,8 @@ impl<D: Disk + Drop> RowDev<D> {
     pub fn restart(&mut self, pick: u64)
         ensures restarts { Restarts D.state D.images self.old self.new }
         ensures image { IsRestarted D.state (vault_of self.old) (vault_of self.new) }
+        ensures time { Elapses (D.state (disk_of (vault_of self.old))) (D.state (disk_of (vault_of self.new)))
+            (D.images (disk_of (vault_of self.old))) (D.images (disk_of (vault_of self.new))) }
         ensures reads { row_reads self.new ≡ row_reads self.old }
     {
         self.inner.restart(pick);
@@ -293,6 +297,49 @@ impl<D: Disk + Drop> RowDev<D> {
         }
         let rows = self.inner.memory.rows_above(self.alloc, position)?;
         Ok(rows)
+    }
+
+    /// The row with the least version above a position, if there is one. It reads nothing from the disk, and is
+    /// logarithmic besides what `reserve` left in the queue.
+    pub fn next_changed(&mut self, position: Version) -> Result<Option<RowVersion>, RowFault>
+        requires ready { IsUp (vault_of self.old) → IsLookedAt D.state self.old }
+        ensures next { IfOk result (IsNextChanged (held D.state self.old) position) }
+        ensures stays { Stays D.state self.old self.new }
+        ensures vault { vault_of self.new ≡ vault_of self.old }
+        ensures not_no_row { IsErrOf result RowFault.NoRow → ⊥ }
+        ensures not_disk { IsErrOf result RowFault.Disk → ⊥ }
+        ensures down { IsErrOf result RowFault.Down ↔ IsDown (vault_of self.old) }
+        ensures unchanged { IsErrOf result RowFault.Down → self.new ≡ self.old }
+        ensures reads { row_reads self.new ≡ row_reads self.old }
+    {
+        if self.inner.is_down() {
+            return Err(RowFault::Down);
+        }
+        if position >= NUMBER_MAX {
+            return Ok(None);
+        }
+        let next = self.inner.memory.first_from(position + 1)?;
+        Ok(next)
+    }
+
+    /// The ids of the rows, in rising order. It reads nothing from the disk.
+    pub fn ids(&mut self) -> Result<RowIds, RowFault>
+        requires ready { IsUp (vault_of self.old) → IsLookedAt D.state self.old }
+        ensures ids { IfOk result (λ ids. ids ≡ keys_of (held D.state self.old).rows) }
+        ensures rising { IfOk result (λ ids. IsStrictlySortedBy id_cmp ids) }
+        ensures stays { Stays D.state self.old self.new }
+        ensures vault { vault_of self.new ≡ vault_of self.old }
+        ensures not_no_row { IsErrOf result RowFault.NoRow → ⊥ }
+        ensures not_disk { IsErrOf result RowFault.Disk → ⊥ }
+        ensures down { IsErrOf result RowFault.Down ↔ IsDown (vault_of self.old) }
+        ensures unchanged { IsErrOf result RowFault.Down → self.new ≡ self.old }
+        ensures reads { row_reads self.new ≡ row_reads self.old }
+    {
+        if self.inner.is_down() {
+            return Err(RowFault::Down);
+        }
+        let ids = self.inner.memory.row_ids()?;
+        Ok(ids)
     }
 
     /// The subscriptions, by rising client.

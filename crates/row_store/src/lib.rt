@@ -19,4 +19,4 @@ pub use size::row_size;
 pub use stab_base::{
     ClientNo, GateNo, NUMBER_MAX, RowId, RowVersion, Rows, Sequence, Version, WriteNo,
 };
-pub use stored::{LastWrite, LastWrites, StoredRow, Sub, Subs};
+pub use stored::{LastWrite, LastWrites, RowIds, StoredRow, Sub, Subs};

@@ -4,7 +4,7 @@ ghost use Rattle.std.specs.Map.{keys_of};
 ghost use Rattle.row_store.specs.Data.{sub_of};
 
 use crate::change::{Change, change_in};
-use crate::stored::{Sub, SubChange, Subs, Terms};
+use crate::stored::{RowIds, Sub, SubChange, Subs, Terms};
 use spare_map::SpareMap;
 use stab_base::{ClientNo, RowId, RowVersion, Rows, Version};
 use std::alloc::{AllocError, Global};
@@ -129,7 +129,7 @@ impl RowMemory {
     ghost use Rattle.std.specs.Ordering.{nat_cmp};
     ghost use Rattle.spare_map.specs.Late.{entries_of, spare_of};
     ghost use Rattle.row_store.specs.Data.{id_cmp, version_cmp, sub_of};
-    ghost use Rattle.row_store.specs.Memory.{AreByVersion, AreAbove};
+    ghost use Rattle.row_store.specs.Memory.{AreByVersion, AreAbove, IsFirstFrom};
 
     /// The rows above a version, by rising version.
     pub(crate) fn rows_above(&mut self, alloc: Global, version: Version) -> Result<Rows, AllocError>
@@ -146,6 +146,40 @@ impl RowMemory {
         };
         let found = self.versions.from(least)?;
         Ok(Rows::from_vec(versions_above(alloc, &found, version)?))
+    }
+
+    /// The first of the rows that have this version or a greater one, by rising version.
+    pub(crate) fn first_from(&mut self, version: Version) -> Result<Option<RowVersion>, AllocError>
+        ensures first { IfOk result (IsFirstFrom (entries_of version_cmp self.old.versions) version) }
+        ensures same { entries_of version_cmp self.new.versions ≡ entries_of version_cmp self.old.versions }
+        ensures spare { spare_of self.old.versions ≤ spare_of self.new.versions }
+        ensures places { self.new.places ≡ self.old.places }
+        ensures table { self.new.table ≡ self.old.table }
+        ensures subs { self.new.subs ≡ self.old.subs }
+    {
+        let least = RowVersion {
+            version,
+            row: RowId::from_bytes([0; 16]),
+        };
+        match self.versions.first_from(least)? {
+            Some((row, _)) => Ok(Some(row)),
+            None => Ok(None),
+        }
+    }
+
+    /// The ids of the rows, in rising order.
+    pub(crate) fn row_ids(&mut self) -> Result<RowIds, AllocError>
+        ensures ids { IfOk result (λ ids. ids ≡ keys_of (entries_of id_cmp self.old.places)) }
+        ensures rising { IfOk result (λ ids. IsStrictlySortedBy id_cmp ids) }
+        ensures same { entries_of id_cmp self.new.places ≡ entries_of id_cmp self.old.places }
+        ensures spare { spare_of self.old.places ≤ spare_of self.new.places }
+        ensures versions { self.new.versions ≡ self.old.versions }
+        ensures table { self.new.table ≡ self.old.table }
+        ensures subs { self.new.subs ≡ self.old.subs }
+    {
+        // what was put while memory was refused
+        self.places.reserve(0)?;
+        Ok(RowIds::from_vec(self.places.keys()?))
     }
 
     /// The subscriptions, by rising client.

@@ -10,6 +10,9 @@ pub struct LastWrite {
     pub version: Version,
 }
 
+/// Ids of rows, in rising order.
+pub type RowIds = Sequence<RowId>;
+
 /// The last writes of a row, by rising client.
 pub type LastWrites = Sequence<LastWrite>;
 

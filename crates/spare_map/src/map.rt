@@ -267,6 +267,7 @@ impl<K: Ord + Copy, V: Copy> SpareMap<K, V> {
     pub fn first_from(&mut self, key: K) -> Result<Option<(K, V)>, AllocError>
         ensures first { IfOk result (λ first. first
             ≡ slice_get (filter (λ e. is_le (K.cmp key e.0)) (entries_of K.cmp self.old)) 0) }
+        ensures rising { OnOk result (IsStrictlySortedBy K.cmp (keys_of (entries_of K.cmp self.old))) }
         ensures same { entries_of K.cmp self.new ≡ entries_of K.cmp self.old }
         ensures spare { spare_of self.old ≤ spare_of self.new }
     {

@@ -2,6 +2,7 @@
 ghost use Rattle.std.specs.Prelude.{◌≡◌, ◌↔◌, ◌+◌, ◌*◌, ◌<◌, ◌≤◌, false, [], ℕ, List, length, None, Some, option_map};
 ghost use Rattle.std.specs.Prelude.{OnOk, OnErr, IsErrOf, IsTrue, IsSome};
 ghost use Rattle.std.specs.Bool.{MatchBool};
+ghost use Rattle.disk_trait.specs.Calls.{Elapses};
 ghost use Rattle.vault.specs.Standing.{disk_of, IsDown, IsUp, IsSynced, IsRestarted};
 ghost use Rattle.status_log.specs.Entry.{entry_of, size_of, HasSpelling};
 ghost use Rattle.status_log.specs.Standing.{vault_of, entry_open, IsLookedAt, IsOpened, HasRoom, Formats, Looks};
@@ -76,6 +77,8 @@ impl<D: Disk + Drop> StatusLog<D> {
     pub fn restart(&mut self, pick: u64)
         ensures restarts { Restarts D.state D.images self.old self.new }
         ensures image { IsRestarted D.state (vault_of self.old) (vault_of self.new) }
+        ensures time { Elapses (D.state (disk_of (vault_of self.old))) (D.state (disk_of (vault_of self.new)))
+            (D.images (disk_of (vault_of self.old))) (D.images (disk_of (vault_of self.new))) }
     {
         self.inner.restart(pick);
     }

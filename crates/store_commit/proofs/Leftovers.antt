@@ -52,6 +52,14 @@ filter_among {X} p q (x ∷ xs) is h = pick (filter_among p q xs is) (p x) refl 
     pick go true at a = ⊎_elim (λ same. inl same) (λ more. inr (go more)) a
     pick go false at a = ⊎_elim (λ same. let t : p x ≡ true = sym (ap p same) ∙ is in absurd cc) go a
 
+pub filter_different : {X : Type 0} (p : X → Bool) (xs : List X) → AreDifferent xs → AreDifferent (filter p xs)
+filter_different p [] h = tt
+filter_different {X} p (x ∷ xs) h = pick (p x) (filter_different p xs h.1)
+  where
+    pick : (b : Bool) → AreDifferent (filter p xs) → AreDifferent (cond b (x ∷ filter p xs) (filter p xs))
+    pick true go = (λ among. h.0 (among_filter p x xs among).1, go)
+    pick false go = go
+
 -- ---- sets of names
 
 pub among_insert : (q k : ChunkName) (ks : List ChunkName) → Among q (insert_key name_cmp ks k) → (q ≡ k) ⊎ Among q ks

@@ -13,3 +13,15 @@ pub mod Restarts
 pub mod Begins
 pub mod Plans
 pub mod Stored
+pub mod Seen
+pub mod Asking
+pub mod Theres
+pub mod Scans
+pub mod Wholes
+pub mod Showing
+pub mod Brought
+pub mod Keeping
+pub mod Fusing
+pub mod StillHidden
+pub mod Sinces
+pub mod Stopping

@@ -17,10 +17,10 @@ use Rattle.chunk_store.specs.Payload.{name_cmp}
 use Rattle.status_log.specs.Entry.{Entry}
 use Rattle.store_commit.specs.declared.task.Task.{Task}
 use Rattle.store_commit.specs.Devs.{Devs, Write, PutChunk, DropChunk}
-use Rattle.store_commit.specs.NamedChunks.{names_in}
+use Rattle.store_commit.specs.NamedChunks.{names_in, is_among}
 use Rattle.store_commit.specs.Agenda.{fresh_name, puts, drops}
 use Rattle.store_commit.specs.Standing.{write_of}
-use Rattle.store_commit.specs.Update.{is_among, unmet, HasNames, Meets, version_opened, opened_first, version_if}
+use Rattle.store_commit.specs.Update.{unmet, HasNames, Meets, version_opened, opened_first, version_if}
 use Rattle.store_commit.proofs.Lookups.{cases_name, apart_name, name_itself}
 
 -- ---- names

@@ -1,7 +1,9 @@
 -- What a start makes of the three devices.
 use Rattle.std.proofs.Common.{◌≡◌, inl, inr, ⊎_elim, ◌⊎◌, ℕ, suc, ◌+◌, ◌*◌, ◌<◌, ◌≤◌, Bool, true, false, List, [], ◌∷◌, ◌++◌, length, Option, Some, None, Result, Ok, Err, refl, sym, ◌∙◌, ap, subst}
 use Rattle.std.proofs.Common.{arith}
-use Rattle.std.specs.Prelude.{IsErrOf, IsSome, is_some, if◌then◌else◌}
+use Rattle.std.specs.Prelude.{IsErrOf, IsSome, is_some, not, filter, if◌then◌else◌}
+use Rattle.std.specs.BTreeMap.{is_at}
+use Rattle.std.specs.BTreeSet.{contains}
 use Rattle.std.specs.VecDeque.{deque_len, deque_capacity}
 use Rattle.disk_trait.specs.Image.{IsImage}
 use Rattle.disk_trait.specs.Calls.{DiskState}
@@ -44,6 +46,9 @@ use Rattle.store_commit.specs.Standing.{devs, writes_of, all_faults, AreUp, IsOn
 use Rattle.store_commit.specs.Standing.{chunk_opens, chunk_puts, chunk_bytes, row_opens, row_puts, row_bytes, log_opens, log_puts, log_bytes}
 use Rattle.store_commit.specs.Recover.{IsStarting, StaysAtStart, MakesRoom, Recovers, IsRecovery, AreRecoveryWrites}
 use Rattle.store_commit.specs.declared.recovery.Recovery.{Recovery}
+use Rattle.store_commit.specs.Standing.{spared_of}
+use Rattle.store_commit.proofs.Leftovers.{among_filter, filter_different}
+use Rattle.store_commit.proofs.Seen.{all_kept, none_in}
 use Rattle.store_commit.proofs.Lookups.{chunk_dropped_other}
 use Rattle.store_commit.proofs.Recoveries.{recovery_runs}
 use Rattle.store_commit.proofs.Works.{all_same, same_ready}
@@ -292,16 +297,17 @@ module _ {D : Type 0} (state : D → DiskState) (images : D → ℕ → List ℕ
     }
 
     -- ready for all that is to be done
-    pub recovery_ready : (names : List ChunkName) → chunks.HasRoom state old.chunks 1 (length names) (13 * length names) → logs.HasRoom state old.log 1 1 9 → AreLeftovers (devs state old) names
+    pub recovery_ready : (names : List ChunkName) → chunks.HasRoom state old.chunks 1 (length names) (13 * length names) → logs.HasRoom state old.log 1 1 9 → AreDifferent names
+        → ((name : ChunkName) → Among name names → IsSome (chunk_in (devs state old).chunks name))
         → IsReady state old (recovery_writes names (is_some (devs state old).pending))
-    recovery_ready names chunk_room log_room l =
+    recovery_ready names chunk_room log_room different there =
         let d = devs state old in
         let is_open = is_some d.pending in
         let n = needs names is_open in
         let rest = drops names ++ last is_open in
         let ws = recovery_writes names is_open in
         record {
-          may = (tt, (tt, (tt, may_drop names is_open d refl l.different l.there)));
+          may = (tt, (tt, (tt, may_drop names is_open d refl different there)));
           chunk_looked = s.looked.chunks;
           chunk_sound = s.sound.chunks;
           chunk_is_opened = tt;
@@ -407,19 +413,20 @@ module _ {D : Type 0} (state : D → DiskState) (images : D → ℕ → List ℕ
 
       -- it was taken on
       pub recovered : (end : TableDevs D) → end.chunks ≡ new.chunks → end.rows ≡ new.rows → end.log ≡ new.log → (recovery : Recovery) → IsRecovery (devs state old) recovery
-          → (names : List ChunkName) → AreLeftovers (devs state old) names → (is_open : Bool) → is_open ≡ is_some (devs state old).pending → writes_of end ≡ recovery_writes names is_open
-          → drops ≡ length names
+          → (names kept : List ChunkName) → AreLeftovers (devs state old) names → kept ≡ filter (λ (name : ChunkName). not (contains name_cmp (spared_of old) name)) names
+          → (is_open : Bool) → is_open ≡ is_some (devs state old).pending → writes_of end ≡ recovery_writes kept is_open
+          → drops ≡ length kept
           → MakesRoom state images drops mid new (Ok tt) → Recovers state images old end (Ok recovery)
-      recovered end ce re le recovery answer names l is_open open_is writes size m = record {
+      recovered end ce re le recovery answer names kept l kept_is is_open open_is writes size m = record {
         answer = answer;
-        writes = (names, l, all_writes);
+        writes = (names, l, all_writes ∙ ap (λ (ns : List ChunkName). recovery_writes ns (is_some (devs state old).pending)) kept_is);
         ready = same_ready state images new end ce re le (writes_of end) ready;
         up = let k = up_at_start new m.stays.starting in record { chunks = rw ce k.chunks; rows = rw re k.rows; log = rw le k.log };
         same = end_same;
         counted = end_counted;
-        runs = λ meaning named.
+        runs = λ meaning none named.
             subst (λ (d : Devs). Runs (IsRecovering meaning (devs state old).held) d (writes_of end)) (sym end_same)
-            (subst (Runs (IsRecovering meaning (devs state old).held) (devs state old)) (sym all_writes) (recovery_runs meaning (devs state old) named names l));
+            (subst (Runs (IsRecovering meaning (devs state old).held) (devs state old)) (sym (all_writes ∙ ap (λ (ns : List ChunkName). recovery_writes ns (is_some (devs state old).pending)) (kept_is ∙ all_kept (λ (name : ChunkName). not (contains name_cmp (spared_of old) name)) names (λ name. ap not (none_in (spared_of old) (is_at (name_cmp name)) none))))) (recovery_runs meaning (devs state old) named names l));
         any_moment = record { each = rw (ce, re, le) (since m).each; later = record { chunks = rw ce (since m).later.chunks; rows = rw re (since m).later.rows; log = rw le (since m).later.log } };
         idle = tt;
         memory = λ is. absurd cc;
@@ -447,11 +454,19 @@ module _ {D : Type 0} (state : D → DiskState) (images : D → ℕ → List ℕ
               let b = still_starting.counted in
               omega arith
 
-          all_writes : writes_of end ≡ recovery_writes names (is_some (devs state old).pending)
-          all_writes = writes ∙ ap (recovery_writes names) open_is
+          all_writes : writes_of end ≡ recovery_writes kept (is_some (devs state old).pending)
+          all_writes = writes ∙ ap (recovery_writes kept) open_is
+
+          different : AreDifferent kept
+          different = subst AreDifferent (sym kept_is) (filter_different (λ (name : ChunkName). not (contains name_cmp (spared_of old) name)) names l.different)
+
+          there : (name : ChunkName) → Among name kept → IsSome (chunk_in (devs state new).chunks name)
+          there name among =
+              let left = among_filter (λ (q : ChunkName). not (contains name_cmp (spared_of old) q)) name names (subst (λ (ns : List ChunkName). Among name ns) kept_is among) in
+              subst (λ (d : Devs). IsSome (chunk_in d.chunks name)) (sym new_same) (l.there name left.1)
 
           ready : IsReady state new (writes_of end)
           ready =
-              let r = recovery_ready new m.stays.starting names (subst (λ (n : ℕ). chunks.HasRoom state new.chunks 1 n (13 * n)) size m.chunk_room) m.log_room (subst (λ (d : Devs). AreLeftovers d names) (sym new_same) l) in
-              let ws : recovery_writes names (is_some (devs state new).pending) ≡ writes_of end = ap (λ (d : Devs). recovery_writes names (is_some d.pending)) new_same ∙ sym all_writes in
+              let r = recovery_ready new m.stays.starting kept (subst (λ (n : ℕ). chunks.HasRoom state new.chunks 1 n (13 * n)) size m.chunk_room) m.log_room different there in
+              let ws : recovery_writes kept (is_some (devs state new).pending) ≡ writes_of end = ap (λ (d : Devs). recovery_writes kept (is_some d.pending)) new_same ∙ sym all_writes in
               subst (IsReady state new) ws r

@@ -19,9 +19,9 @@ use Rattle.row_store.specs.declared.stored.StoredRow.{StoredRow}
 use Rattle.row_store.specs.Data.{TableData, row_of}
 use Rattle.store_commit.specs.declared.update.Update.{Update}
 use Rattle.store_commit.specs.Devs.{Devs}
-use Rattle.store_commit.specs.NamedChunks.{Among, AreDifferent, names_in, names_of, IsNamed, IsNewOf, NamedChunks}
+use Rattle.store_commit.specs.NamedChunks.{Among, AreDifferent, names_in, names_of, IsNamed, IsNewOf, NamedChunks, is_among}
 use Rattle.store_commit.specs.Agenda.{fresh_name, named_piece, named_object, named_content, Replaces}
-use Rattle.store_commit.specs.Update.{names_if, is_among, unmet, old_names, entry_for, stored_for, IsNextVersion, fresh_of, IsUpdate}
+use Rattle.store_commit.specs.Update.{names_if, unmet, old_names, entry_for, stored_for, IsNextVersion, fresh_of, IsUpdate}
 use Rattle.store_commit.proofs.Lookups.{cases_name, one_name, apart_name, name_itself}
 
 -- ---- pieces with names
@@ -204,7 +204,7 @@ is_there (Some found) bytes e = refl
 
 -- ---- it may take the row's place
 
-module _ (meaning : ChunkName → List ℕ) (d : Devs) (version : ℕ) (update : Update) (n : NamedChunks meaning d) (next : IsNextVersion d.held version) (u : IsUpdate d.held update) where
+module _ (meaning : ChunkName → List ℕ) (d : Devs) (version : ℕ) (update : Update) (n : NamedChunks meaning d) (next : IsNextVersion d.held version) (u : IsUpdate d update) where
   abbrev there : ChunkName → Bool
   there name = is_some (chunk_in d.chunks name)
 

@@ -193,21 +193,21 @@ bytes_few [] h = omega arith
 bytes_few (bytes ∷ fresh) h = omega (arith, sum_by-cons (λ (b : List ℕ). length b) bytes fresh, bytes_few fresh h.1, h.0)
 
 -- an update that was worked out over devices with the same chunks
-pub prepared : {D : Type 0} (state : D → DiskState) (mid new : TableDevs D) (version : ℕ) (update : Update) (entry : Entry) (fresh : List (List ℕ)) (stored : StoredRow)
-    → entry ≡ entry_for (devs state mid) version update → devs state new ≡ devs state mid
+pub prepared : {D : Type 0} (state : D → DiskState) (d : Devs) (new : TableDevs D) (version : ℕ) (update : Update) (entry : Entry) (fresh : List (List ℕ)) (stored : StoredRow)
+    → entry ≡ entry_for d version update → (devs state new).chunks ≡ d.chunks
     → IsPlan entry fresh stored → (devs state new).pending ≡ None → IsReady state new []
     → chunks.HasRoom state new.chunks 1 (length fresh + length entry.old) (13 * (length fresh + length entry.old) + sum_by length fresh) → rows.HasRoom state new.rows 1 1 (length (row_payload stored))
     → logs.HasRoom state new.log 1 2 (62 + 12 * length entry.old)
     → IsReady state new (update_writes entry fresh stored)
-prepared state mid new version update entry fresh stored is same plan closed rests chunk_room row_room log_room =
-    let there : ChunkName → Bool = λ name. is_some (chunk_in (devs state mid).chunks name) in
+prepared state d new version update entry fresh stored is same plan closed rests chunk_room row_room log_room =
+    let there : ChunkName → Bool = λ name. is_some (chunk_in d.chunks name) in
     let kept = names_of update.content in
-    let names = names_if (row_of (devs state mid).held update.row) in
+    let names = names_if (row_of d.held update.row) in
     ready_update state new entry fresh stored rests plan closed
     (subst (λ (e : Entry). AreDifferent e.old) (sym is) (unmet_different there kept names))
     (λ name among.
     let x = unmet_is there kept names name (subst (λ (e : Entry). Among name e.old) is among) in
-    subst (λ (d : Devs). IsSome (chunk_in d.chunks name)) (sym same) x.1)
+    subst (λ (cs : List (ChunkName × List ℕ)). IsSome (chunk_in cs name)) (sym same) x.1)
     chunk_room row_room log_room
 
 -- one put of the rows' device

@@ -31,10 +31,10 @@ use Rattle.status_log.specs.Entry.{HasSpelling}
 use Rattle.row_store.specs.Data.{row_of}
 use Rattle.store_commit.specs.declared.update.Update.{Update}
 use Rattle.store_commit.specs.Devs.{Devs}
-use Rattle.store_commit.specs.NamedChunks.{names_in, names_of}
+use Rattle.store_commit.specs.NamedChunks.{names_in, names_of, is_among}
 use Rattle.store_commit.specs.Agenda.{named_piece, named_object, named_content}
 use Rattle.store_commit.specs.TakesOn.{IsStanding, IsPlan}
-use Rattle.store_commit.specs.Update.{names_if, lasts_if, with_last, is_among, unmet, entry_for, stored_for, content_size, fresh_of, IsUpdate}
+use Rattle.store_commit.specs.Update.{names_if, lasts_if, with_last, unmet, entry_for, stored_for, content_size, fresh_of, IsUpdate}
 use Rattle.store_commit.proofs.Replacing.{pieces_named}
 use Rattle.store_commit.proofs.Plans.{names_in-append}
 
@@ -238,7 +238,7 @@ standing_lasts (Some stored) h = h.lasts
 -- ---- the update
 
 pub plan_is : (d : Devs) (version : ℕ) (update : Update) (found : Option StoredRow) → version ≤ NUMBER_MAX → length update.row ≡ 16 → update.number < 2 ^ 64 → update.base < 2 ^ 64
-    → IsUpdate d.held update → IsStanding d.held update.row found
+    → IsUpdate d update → IsStanding d.held update.row found
     → IsPlan (entry_for d version update) update.fresh (stored_for d version update)
 plan_is d version update found most row number base u s =
     let is = s.is in
@@ -270,5 +270,5 @@ plan_is d version update found most row number base u s =
       chunks = u.chunks;
     }
 
-pub few_fresh : (d : Devs) (update : Update) → IsUpdate d.held update → length update.fresh ≤ 645176
+pub few_fresh : (d : Devs) (update : Update) → IsUpdate d update → length update.fresh ≤ 645176
 few_fresh d update u = omega (arith, u.fresh, content_fresh update.content, u.short)

@@ -6,7 +6,7 @@ use Rattle.disk_trait.specs.Image.{IsImage}
 use Rattle.disk_trait.specs.Calls.{DiskState}
 use Rattle.vault.specs.declared.fault.VaultFault.{VaultFault}
 use Rattle.vault.specs.declared.fault.VaultFault.TheVariants as causes
-use Rattle.vault.specs.Standing.{payloads, faults, IsUp, IsDown}
+use Rattle.vault.specs.Standing.{payloads, faults, stops, IsUp, IsDown}
 use Rattle.vault.specs.Standing as vaults
 use Rattle.vault.proofs.Uppers.{runs_then}
 use Rattle.stab_base.specs.declared.chunk_name.ChunkName.{ChunkName}
@@ -39,6 +39,7 @@ use Rattle.store_commit.specs.Devs.{Devs}
 use Rattle.store_commit.specs.Standing.{devs, AreUp, IsReady}
 use Rattle.store_commit.specs.TakesOn.{IsNotDisk, Waits, IsStanding}
 use Rattle.store_commit.proofs.Works.{still_chunk, still_row, still_log}
+use Rattle.store_commit.proofs.Fusing.{keeps_then, keeps_same, chunk_same, row_same, log_same}
 
 abbrev OnlyThese : {T : Type 0} → Result T CommitFault → Type 0
 OnlyThese result = IfErr result (λ e. (e ≡ Disk) ⊎ (e ≡ Memory))
@@ -57,9 +58,10 @@ module _ {D : Type 0} (state : D → DiskState) (images : D → ℕ → List ℕ
     chunks = still_chunk state images only_now old.chunks rests.chunk_looked.vault rests.chunk_sound;
     rows = still_row state images only_now old.rows rests.row_looked.vault rests.row_sound;
     log = still_log state images only_now old.log rests.log_looked.vault rests.log_sound;
+    fuse = keeps_same state old old refl refl refl;
   }
 
-  module _ (dev : ChunkDev D) (leaves : chunks.Leaves state images old.chunks dev (λ here. here ≡ chunks.chunks state old.chunks)) where
+  module _ (dev : ChunkDev D) (leaves : chunks.Leaves state images old.chunks dev (λ here. here ≡ chunks.chunks state old.chunks)) (fuse : vaults.SameFuse state (chunks.vault_of old.chunks) (chunks.vault_of dev)) where
     chunk_stays : {T : Type 0} (r : Result T CommitFault) → chunks.Stays state old.chunks dev → faults state (chunks.vault_of dev) ≡ faults state (chunks.vault_of old.chunks) → IsNotDisk r
         → OnlyThese r
         → Waits state images old (record old { chunks = dev }) r
@@ -88,6 +90,7 @@ module _ {D : Type 0} (state : D → DiskState) (images : D → ℕ → List ℕ
       chunks = leaves;
       rows = still_row state images only_now old.rows rests.row_looked.vault rests.row_sound;
       log = still_log state images only_now old.log rests.log_looked.vault rests.log_sound;
+      fuse = chunk_same state old dev fuse;
     }
 
     chunk_fails : {T : Type 0} → IsDown (chunks.vault_of dev) → faults state (chunks.vault_of old.chunks) < faults state (chunks.vault_of dev) → Waits {T = T} state images old (record old { chunks = dev }) (Err Disk)
@@ -102,13 +105,14 @@ module _ {D : Type 0} (state : D → DiskState) (images : D → ℕ → List ℕ
       chunks = leaves;
       rows = still_row state images only_now old.rows rests.row_looked.vault rests.row_sound;
       log = still_log state images only_now old.log rests.log_looked.vault rests.log_sound;
+      fuse = chunk_same state old dev fuse;
     }
 
   module _ (dev : ChunkDev D) (puts bytes : ℕ) where
     pub chunk_reserved : (r : Result (Unit {0}) ChunkFault) → chunks.Reserves state images puts bytes old.chunks dev r → Waits state images old (record old { chunks = dev }) (caused chunk_cause r)
-    chunk_reserved (Ok x) k = chunk_stays dev (k.any_moment up.chunks rests.chunk_sound) (Ok x) k.stays k.refuses.cause (λ is. cc) tt
-    chunk_reserved (Err chunk_faults.Disk) k = chunk_fails dev (k.any_moment up.chunks rests.chunk_sound) (k.refuses.disk refl) (k.refuses.cause.0 refl)
-    chunk_reserved (Err chunk_faults.Memory) k = chunk_stays dev (k.any_moment up.chunks rests.chunk_sound) (Err Memory) (k.memory refl) (k.refuses.cause.1 (λ is. cc)) (λ is. cc) (inr refl)
+    chunk_reserved (Ok x) k = chunk_stays dev (k.any_moment up.chunks rests.chunk_sound) k.fuse (Ok x) k.stays k.refuses.cause (λ is. cc) tt
+    chunk_reserved (Err chunk_faults.Disk) k = chunk_fails dev (k.any_moment up.chunks rests.chunk_sound) k.fuse (k.refuses.disk refl) (k.refuses.cause.0 refl)
+    chunk_reserved (Err chunk_faults.Memory) k = chunk_stays dev (k.any_moment up.chunks rests.chunk_sound) k.fuse (Err Memory) (k.memory refl) (k.refuses.cause.1 (λ is. cc)) (λ is. cc) (inr refl)
     chunk_reserved (Err chunk_faults.Down) k = let down : IsDown (chunks.vault_of old.chunks) = k.refuses.down.0 refl in let is = up.chunks in absurd cc
     chunk_reserved (Err chunk_faults.Absent) k = absurd (not_its k.only.0 k.only.1)
       where
@@ -121,7 +125,7 @@ module _ {D : Type 0} (state : D → DiskState) (images : D → ℕ → List ℕ
     chunk_has_room (Ok x) k = k.room
     chunk_has_room (Err e) k = tt
 
-  module _ (dev : RowDev D) (leaves : rows.Leaves state images old.rows dev (λ here. here ≡ rows.held state old.rows)) where
+  module _ (dev : RowDev D) (leaves : rows.Leaves state images old.rows dev (λ here. here ≡ rows.held state old.rows)) (fuse : vaults.SameFuse state (rows.vault_of old.rows) (rows.vault_of dev)) where
     row_stays : {T : Type 0} (r : Result T CommitFault) → rows.Stays state old.rows dev → faults state (rows.vault_of dev) ≡ faults state (rows.vault_of old.rows) → IsNotDisk r → OnlyThese r
         → Waits state images old (record old { rows = dev }) r
     row_stays r stays counted not_disk only = record {
@@ -149,6 +153,7 @@ module _ {D : Type 0} (state : D → DiskState) (images : D → ℕ → List ℕ
       chunks = still_chunk state images only_now old.chunks rests.chunk_looked.vault rests.chunk_sound;
       rows = leaves;
       log = still_log state images only_now old.log rests.log_looked.vault rests.log_sound;
+      fuse = row_same state old dev fuse;
     }
 
     row_fails : {T : Type 0} → IsDown (rows.vault_of dev) → faults state (rows.vault_of old.rows) < faults state (rows.vault_of dev) → Waits {T = T} state images old (record old { rows = dev }) (Err Disk)
@@ -163,13 +168,14 @@ module _ {D : Type 0} (state : D → DiskState) (images : D → ℕ → List ℕ
       chunks = still_chunk state images only_now old.chunks rests.chunk_looked.vault rests.chunk_sound;
       rows = leaves;
       log = still_log state images only_now old.log rests.log_looked.vault rests.log_sound;
+      fuse = row_same state old dev fuse;
     }
 
   module _ (dev : RowDev D) (puts bytes : ℕ) where
     pub row_reserved : (r : Result (Unit {0}) RowFault) → rows.Reserves state images puts bytes old.rows dev r → Waits state images old (record old { rows = dev }) (caused row_cause r)
-    row_reserved (Ok x) k = row_stays dev (k.any_moment up.rows rests.row_sound) (Ok x) k.stays k.refuses.cause (λ is. cc) tt
-    row_reserved (Err row_faults.Disk) k = row_fails dev (k.any_moment up.rows rests.row_sound) (k.refuses.disk refl) (k.refuses.cause.0 refl)
-    row_reserved (Err row_faults.Memory) k = row_stays dev (k.any_moment up.rows rests.row_sound) (Err Memory) (k.memory refl) (k.refuses.cause.1 (λ is. cc)) (λ is. cc) (inr refl)
+    row_reserved (Ok x) k = row_stays dev (k.any_moment up.rows rests.row_sound) k.fuse (Ok x) k.stays k.refuses.cause (λ is. cc) tt
+    row_reserved (Err row_faults.Disk) k = row_fails dev (k.any_moment up.rows rests.row_sound) k.fuse (k.refuses.disk refl) (k.refuses.cause.0 refl)
+    row_reserved (Err row_faults.Memory) k = row_stays dev (k.any_moment up.rows rests.row_sound) k.fuse (Err Memory) (k.memory refl) (k.refuses.cause.1 (λ is. cc)) (λ is. cc) (inr refl)
     row_reserved (Err row_faults.Down) k = let down : IsDown (rows.vault_of old.rows) = k.refuses.down.0 refl in let is = up.rows in absurd cc
     row_reserved (Err row_faults.NoRow) k = absurd (not_its k.only.0 k.only.1)
       where
@@ -184,13 +190,26 @@ module _ {D : Type 0} (state : D → DiskState) (images : D → ℕ → List ℕ
 
   module _ (dev : RowDev D) where
     pub row_found : (r : Result StoredRow RowFault) → rows.Gets state images old.rows dev r → (IsErrOf r row_faults.NoRow → dev ≡ old.rows) → Waits state images old (record old { rows = dev }) (found_of r)
-    row_found (Ok x) k same = row_stays dev (k.any_moment up.rows rests.row_sound) (Ok (Some x)) k.stays k.refuses.cause (λ is. cc) tt
+    row_found (Ok x) k same = row_stays dev (k.any_moment up.rows rests.row_sound) k.fuse (Ok (Some x)) k.stays k.refuses.cause (λ is. cc) tt
     row_found (Err row_faults.NoRow) k same = let none : Option StoredRow = None in subst (λ (y : RowDev D). Waits state images old (record old { rows = y }) (Ok none)) (sym (same refl)) (none_waits {T = Option StoredRow} (Ok None) (λ is. cc) tt)
-    row_found (Err row_faults.Disk) k same = row_fails dev (k.any_moment up.rows rests.row_sound) (k.refuses.disk refl) (k.refuses.cause.0 refl)
-    row_found (Err row_faults.Memory) k same = row_stays dev (k.any_moment up.rows rests.row_sound) (Err Memory) (k.memory refl) (k.refuses.cause.1 (λ is. cc)) (λ is. cc) (inr refl)
+    row_found (Err row_faults.Disk) k same = row_fails dev (k.any_moment up.rows rests.row_sound) k.fuse (k.refuses.disk refl) (k.refuses.cause.0 refl)
+    row_found (Err row_faults.Memory) k same = row_stays dev (k.any_moment up.rows rests.row_sound) k.fuse (Err Memory) (k.memory refl) (k.refuses.cause.1 (λ is. cc)) (λ is. cc) (inr refl)
     row_found (Err row_faults.Down) k same = let down : IsDown (rows.vault_of old.rows) = k.refuses.down.0 refl in let is = up.rows in absurd cc
 
-  module _ (dev : StatusLog D) (leaves : logs.Leaves state images old.log dev (λ here. here ≡ logs.entry_open state old.log)) where
+  -- no disk was read
+  pub row_listed : {T : Type 0} (dev : RowDev D) (r : Result T CommitFault) → rows.Stays state old.rows dev → rows.vault_of dev ≡ rows.vault_of old.rows → IsNotDisk r → OnlyThese r → Waits state images old (record old { rows = dev }) r
+  row_listed dev r stays vault not_disk only =
+      row_stays dev
+      (subst (λ v. vaults.Leaves state images (rows.vault_of old.rows) v (λ l. data_of l ≡ rows.held state old.rows)) (sym vault) (still_row state images only_now old.rows rests.row_looked.vault rests.row_sound))
+      (record {
+        stops = ap (λ v. stops state v) vault;
+        is_armed = ap (λ v. (state (vaults.disk_of v)).is_armed) vault;
+        passes = ap (λ v. (state (vaults.disk_of v)).passes) vault;
+        pick = ap (λ v. (state (vaults.disk_of v)).pick) vault;
+      })
+      r stays (ap (λ v. faults state v) vault) not_disk only
+
+  module _ (dev : StatusLog D) (leaves : logs.Leaves state images old.log dev (λ here. here ≡ logs.entry_open state old.log)) (fuse : vaults.SameFuse state (logs.vault_of old.log) (logs.vault_of dev)) where
     log_stays : {T : Type 0} (r : Result T CommitFault) → logs.Stays state old.log dev → faults state (logs.vault_of dev) ≡ faults state (logs.vault_of old.log) → IsNotDisk r → OnlyThese r
         → Waits state images old (record old { log = dev }) r
     log_stays r stays counted not_disk only = record {
@@ -218,6 +237,7 @@ module _ {D : Type 0} (state : D → DiskState) (images : D → ℕ → List ℕ
       chunks = still_chunk state images only_now old.chunks rests.chunk_looked.vault rests.chunk_sound;
       rows = still_row state images only_now old.rows rests.row_looked.vault rests.row_sound;
       log = leaves;
+      fuse = log_same state old dev fuse;
     }
 
     log_fails : {T : Type 0} → IsDown (logs.vault_of dev) → faults state (logs.vault_of old.log) < faults state (logs.vault_of dev) → Waits {T = T} state images old (record old { log = dev }) (Err Disk)
@@ -232,13 +252,14 @@ module _ {D : Type 0} (state : D → DiskState) (images : D → ℕ → List ℕ
       chunks = still_chunk state images only_now old.chunks rests.chunk_looked.vault rests.chunk_sound;
       rows = still_row state images only_now old.rows rests.row_looked.vault rests.row_sound;
       log = leaves;
+      fuse = log_same state old dev fuse;
     }
 
   module _ (dev : StatusLog D) (puts bytes : ℕ) where
     pub log_reserved : (r : Result (Unit {0}) LogFault) → logs.Reserves state images puts bytes old.log dev r → Waits state images old (record old { log = dev }) (caused log_cause r)
-    log_reserved (Ok x) k = log_stays dev (k.any_moment up.log rests.log_sound) (Ok x) k.stays k.refuses.cause (λ is. cc) tt
-    log_reserved (Err log_faults.Disk) k = log_fails dev (k.any_moment up.log rests.log_sound) (k.refuses.disk refl) (k.refuses.cause.0 refl)
-    log_reserved (Err log_faults.Memory) k = log_stays dev (k.any_moment up.log rests.log_sound) (Err Memory) (k.memory refl) (k.refuses.cause.1 (λ is. cc)) (λ is. cc) (inr refl)
+    log_reserved (Ok x) k = log_stays dev (k.any_moment up.log rests.log_sound) k.fuse (Ok x) k.stays k.refuses.cause (λ is. cc) tt
+    log_reserved (Err log_faults.Disk) k = log_fails dev (k.any_moment up.log rests.log_sound) k.fuse (k.refuses.disk refl) (k.refuses.cause.0 refl)
+    log_reserved (Err log_faults.Memory) k = log_stays dev (k.any_moment up.log rests.log_sound) k.fuse (Err Memory) (k.memory refl) (k.refuses.cause.1 (λ is. cc)) (λ is. cc) (inr refl)
     log_reserved (Err log_faults.Down) k = let down : IsDown (logs.vault_of old.log) = k.refuses.down.0 refl in let is = up.log in absurd cc
     log_reserved (Err (log_faults.Pending version)) k = absurd (not_its k.only.0 k.only.1)
       where
@@ -271,6 +292,7 @@ module _ {D T S : Type 0} (state : D → DiskState) (images : D → ℕ → List
         a.rows b.rows (λ l is. is) (λ l is. is ∙ ap (λ (d : Devs). d.held) before);
     log = runs_then state images (logs.vault_of old.log) (logs.vault_of mid.log) (logs.vault_of new.log) (λ l. pending_of l ≡ logs.entry_open state old.log) (λ l. pending_of l ≡ logs.entry_open state mid.log) (λ l. pending_of l ≡ logs.entry_open state old.log)
         a.log b.log (λ l is. is) (λ l is. is ∙ ap (λ (d : Devs). d.pending) before);
+    fuse = keeps_then state old mid new a.fuse b.fuse;
   }
 
 pub found_is : (held : TableData) (row : List ℕ) (r : Result StoredRow RowFault) → IfOk r (λ stored. row_of held row ≡ Some stored) → IfOk r HasStoredSpelling
@@ -296,6 +318,7 @@ waits_other state images old new first was_not w r not_disk only = record {
   chunks = w.chunks;
   rows = w.rows;
   log = w.log;
+  fuse = w.fuse;
 }
 
 -- the same fault in another answer
@@ -311,6 +334,7 @@ waits_err {D} {T} {S} state images old new e w = record {
   chunks = w.chunks;
   rows = w.rows;
   log = w.log;
+  fuse = w.fuse;
 }
   where
     not_it : IsNotDisk {T = T} (Err e) → IsNotDisk {T = S} (Err e)

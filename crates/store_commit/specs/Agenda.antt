@@ -14,6 +14,7 @@ use Rattle.status_log.specs.Entry.{Entry}
 use Rattle.store_commit.specs.Devs.{Devs, Write, OpenChunks, OpenRows, OpenLog, OpenEntry, PutChunk, PutRow, DropChunk}
 use Rattle.store_commit.specs.Devs.{CloseEntry, changed_by}
 use Rattle.store_commit.specs.NamedChunks.{Among, AreDifferent, names_of, IsNewOf, IsLeft, NamedChunks}
+use Rattle.store_commit.specs.There.{WholeRows}
 
 -- ---- an update
 
@@ -105,6 +106,25 @@ pub record IsRecovering (meaning : ChunkName → List ℕ) (before : TableData) 
   pub rows : d.held ≡ before
   -- behind the last of them no entry is open
   pub closed : ws ≡ [] → d.pending ≡ None
+
+-- ---- the put of a subscription or of the table
+
+-- while it is still to come, and behind it: named chunks
+pub record IsKeeping (meaning : ChunkName → List ℕ) (ws : List Write) (d : Devs) : Type 0 where
+  pub named : NamedChunks meaning d
+
+-- and each row is whole
+pub record IsKeepingWhole (meaning : ChunkName → List ℕ) (ws : List Write) (d : Devs) : Type 0 where
+  pub named : NamedChunks meaning d
+  pub whole : WholeRows meaning d.held
+
+-- and the chunks, the rows and the open entry are those from before
+pub record IsStill (before : Devs) (ws : List Write) (d : Devs) : Type 0 where
+  pub chunks : d.chunks ≡ before.chunks
+  pub rows : d.held.rows ≡ before.held.rows
+  pub pending : d.pending ≡ before.pending
+
+-- ---- the writes of a recovery
 
 -- opens the three vaults, drops what is left of an open entry, and closes it
 abbrev pub recovery_writes : List ChunkName → Bool → List Write

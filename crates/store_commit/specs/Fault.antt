@@ -1,5 +1,5 @@
 -- What is answered where a device's disk failed.
-use Rattle.std.specs.Prelude.{Option, Some, None, Result, Ok, Err}
+use Rattle.std.specs.Prelude.{ℕ, List, Option, Some, None, Result, Ok, Err}
 use Rattle.store_commit.specs.declared.fault.CommitFault.{CommitFault}
 use Rattle.store_commit.specs.declared.fault.CommitFault.TheVariants.{Disk, Down, Memory}
 use Rattle.chunk_store.specs.declared.fault.ChunkFault.{ChunkFault}
@@ -45,3 +45,11 @@ found_of (Err rows.NoRow) = Ok None
 found_of (Err rows.Disk) = Err Disk
 found_of (Err rows.Down) = Err Down
 found_of (Err rows.Memory) = Err Memory
+
+-- the chunk of a look-up, if there is one
+abbrev pub chunk_found : Result (List ℕ) ChunkFault → Result (Option (List ℕ)) CommitFault
+chunk_found (Ok bytes) = Ok (Some bytes)
+chunk_found (Err chunks.Absent) = Ok None
+chunk_found (Err chunks.Disk) = Err Disk
+chunk_found (Err chunks.Down) = Err Down
+chunk_found (Err chunks.Memory) = Err Memory

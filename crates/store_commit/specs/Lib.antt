@@ -1,9 +1,15 @@
 pub mod Devs
 pub mod NamedChunks
 pub mod Agenda
+pub mod There
+pub mod Shows
 pub mod Standing
 pub mod Fault
 pub mod Recover
 pub mod Update
 pub mod TakesOn
+pub mod Scan
 pub mod Fused
+pub mod Small
+pub mod Unset
+pub mod Rising

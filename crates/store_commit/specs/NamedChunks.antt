@@ -1,11 +1,14 @@
 -- Named chunks: each name in a row is a chunk's, and no chunk is there that nothing names.
 use Rattle.std.specs.Prelude.{◌≡◌, ◌⊎◌, ℕ, ◌<◌, ◌≤◌, Bool, true, false, ◌==◌, List, [], ◌∷◌, Option, Some}
+use Rattle.std.specs.List.{list_any}
+use Rattle.std.specs.BTreeMap.{is_at}
 use Rattle.stab_base.specs.declared.chunk_name.ChunkName.{ChunkName}
 use Rattle.row_value.specs.declared.pieces.Piece.{Piece}
 use Rattle.row_value.specs.declared.pieces.Piece.TheVariants.{Keep, Fresh}
 use Rattle.row_value.specs.declared.pieces.PieceContent.{PieceContent}
 use Rattle.row_value.specs.declared.pieces.PieceContent.TheVariants.{Gone, Row}
 use Rattle.value_codec.specs.Spelling.{pieces_of}
+use Rattle.chunk_store.specs.Payload.{name_cmp}
 use Rattle.chunk_store.specs.Standing.{chunk_in}
 use Rattle.row_store.specs.declared.stored.StoredRow.{StoredRow}
 use Rattle.row_store.specs.Data.{TableData, row_of, version_of}
@@ -16,6 +19,9 @@ use Rattle.store_commit.specs.Devs.{Devs}
 abbrev pub Among : {X : Type 0} → X → List X → Type 0
 Among x [] = ⊥
 Among x (y ∷ ys) = (x ≡ y) ⊎ Among x ys
+
+abbrev pub is_among : ChunkName → List ChunkName → Bool
+is_among name names = list_any (is_at (name_cmp name)) names
 
 -- each once
 abbrev pub AreDifferent : {X : Type 0} → List X → Type 0

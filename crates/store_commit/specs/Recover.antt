@@ -1,9 +1,12 @@
 -- What a start makes of an update that was cut short.
 use Rattle.std.specs.Prelude.{◌≡◌, ◌⊎◌, ℕ, ◌+◌, ◌*◌, ◌<◌, ◌≤◌, List, [], Some, None, IsSome, is_some, Result}
 use Rattle.std.specs.Prelude.{OnOk, OnErr, IfOk, IfErr, IsErrOf}
+use Rattle.std.specs.Prelude.{filter, not}
+use Rattle.std.specs.BTreeSet.{BTreeSet, contains}
 use Rattle.std.specs.VecDeque.{deque_len, deque_capacity}
 use Rattle.disk_trait.specs.Calls.{DiskState}
 use Rattle.stab_base.specs.declared.chunk_name.ChunkName.{ChunkName}
+use Rattle.chunk_store.specs.Payload.{name_cmp}
 use Rattle.chunk_store.specs.Standing.{chunk_in}
 use Rattle.chunk_store.specs.Standing as chunks
 use Rattle.row_store.specs.Data.{version_of}
@@ -19,7 +22,7 @@ use Rattle.store_commit.specs.NamedChunks.{Among, NamedChunks}
 use Rattle.store_commit.specs.Agenda.{Runs, IsRecovering, recovery_writes, AreLeftovers}
 use Rattle.store_commit.specs.Standing.{devs, writes_of, all_faults, AreUp, IsOneDown, AreLookedAt, AreSound}
 use Rattle.store_commit.specs.Standing.{HaveOpenings}
-use Rattle.store_commit.specs.Standing.{IsReady, DevsLeave}
+use Rattle.store_commit.specs.Standing.{IsReady, DevsLeave, NothingSpared, spared_of}
 
 -- What was cut short: nothing; the entry of an update whose row was put; or the version of one whose row wasn't.
 abbrev pub IsRecovery : Devs → Recovery → Type 0
@@ -33,11 +36,11 @@ pub record AreStillThere (map : List (ChunkName × List ℕ)) (old names : List 
   pub only : (name : ChunkName) → Among name names → Among name old × IsSome (chunk_in map name)
   pub all : (name : ChunkName) → Among name old → IsSome (chunk_in map name) → Among name names
 
--- These are the writes that recover what the devices hold: of all that is left and still there each is dropped, and
--- what is open is closed.
-abbrev pub AreRecoveryWrites : Devs → List Write → Type 0
-AreRecoveryWrites d ws = (names : List ChunkName) × AreLeftovers d names
-    × (ws ≡ recovery_writes names (is_some d.pending))
+-- These are the writes that recover what the devices hold: of all that is left and still there each is dropped but what
+-- is spared, and what is open is closed.
+abbrev pub AreRecoveryWrites : BTreeSet ChunkName → Devs → List Write → Type 0
+AreRecoveryWrites spared d ws = (names : List ChunkName) × AreLeftovers d names
+    × (ws ≡ recovery_writes (filter (λ name. not (contains name_cmp spared name)) names) (is_some d.pending))
 
 -- as a look leaves them: sound, with room for an opening of each vault, and no write to come
 pub record IsStarting {D : Type 0} (state : D → DiskState) (table : TableDevs D) : Type 0 where
@@ -69,13 +72,14 @@ pub record MakesRoom {D : Type 0} (state : D → DiskState) (images : D → ℕ 
 pub record Recovers {D : Type 0} (state : D → DiskState) (images : D → ℕ → List ℕ → Type 0) (old new : TableDevs D)
     (result : Result Recovery CommitFault) : Type 0 where
   pub answer : IfOk result (IsRecovery (devs state old))
-  pub writes : OnOk result (AreRecoveryWrites (devs state old) (writes_of new))
+  pub writes : OnOk result (AreRecoveryWrites (spared_of old) (devs state old) (writes_of new))
   pub ready : OnOk result (IsReady state new (writes_of new))
   pub up : OnOk result (AreUp new)
   pub same : OnOk result (devs state new ≡ devs state old)
   pub counted : OnOk result (all_faults state new ≡ all_faults state old)
-  -- where the devices have named chunks, they do so behind each of these writes, and their rows stay
-  pub runs : OnOk result ((meaning : ChunkName → List ℕ) → NamedChunks meaning (devs state old)
+  -- where the devices have named chunks and nothing is spared, they do so behind each of these writes, and their rows
+  -- stay
+  pub runs : OnOk result ((meaning : ChunkName → List ℕ) → NothingSpared old → NamedChunks meaning (devs state old)
       → Runs (IsRecovering meaning (devs state old).held) (devs state new) (writes_of new))
   -- a crash at any moment of the call leaves what was there
   pub any_moment : DevsLeave state images old new (λ d. d ≡ devs state old)

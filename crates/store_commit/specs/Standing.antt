@@ -2,17 +2,19 @@
 use Rattle.std.specs.Prelude.{◌≡◌, ◌⊎◌, ℕ, ◌+◌, ◌<◌, ◌≤◌, List, [], ◌∷◌, length, map, drop, None, IsSome, Result, Ok}
 use Rattle.std.specs.Prelude.{Err}
 use Rattle.std.specs.Prelude.{OnOk, IfOk}
+use Rattle.std.specs.BTreeSet.{BTreeSet, keys, contains}
 use Rattle.disk_trait.specs.Calls.{DiskState}
 use Rattle.vault.specs.Limit.{payload_most}
 use Rattle.vault.specs.File.{StandsFor}
 use Rattle.vault.specs.Standing.{faults, disk_of, IsUp, IsDown, IsSound, IsSynced, IsBlank}
 use Rattle.stab_base.specs.declared.limits.TheConstants.{NUMBER_MAX}
+use Rattle.stab_base.specs.declared.chunk_name.ChunkName.{ChunkName}
 use Rattle.value_codec.specs.SchemaSpelling.{HasSchemaSpelling}
 use Rattle.chunk_store.specs.Payload.{chunks_of}
 use Rattle.chunk_store.specs.Standing.{chunk_in}
 use Rattle.chunk_store.specs.Standing as chunks
 use Rattle.row_store.specs.Spelling.{HasStoredSpelling, row_payload, IsState, table_payload, IsClient}
-use Rattle.row_store.specs.Data.{data_of, nothing_held}
+use Rattle.row_store.specs.Data.{data_of, nothing_held, id_cmp, row_of}
 use Rattle.row_store.specs.Standing as rows
 use Rattle.status_log.specs.Entry.{entry_of, size_of, HasSpelling}
 use Rattle.status_log.specs.Payload.{pending_of}
@@ -28,6 +30,7 @@ use Rattle.store_commit.specs.declared.fault.CommitFault.TheVariants as faults_o
 use Rattle.store_commit.specs.Devs.{Devs, Write, OpenChunks, OpenRows, OpenLog, OpenEntry, PutChunk, PutRow, DropChunk}
 use Rattle.store_commit.specs.Devs.{CloseEntry, PutTable, PutSub, changed_by, IsBeforeOrAfter}
 use Rattle.store_commit.specs.Agenda.{Runs}
+use Rattle.store_commit.specs.There.{shown}
 
 -- what the devices hold
 abbrev pub devs : {D : Type 0} → (D → DiskState) → TableDevs D → Devs
@@ -66,6 +69,30 @@ step_of (PutSub client terms) = steps.SubPut
 -- the writes that are still to come
 abbrev pub writes_of : {D : Type 0} → TableDevs D → List Write
 writes_of table = map write_of table.agenda.items
+
+-- ---- the rows that are there
+
+-- the ids that a scan has hidden, and the names that its recovery spares
+abbrev pub hidden_of : {D : Type 0} → TableDevs D → BTreeSet (List ℕ)
+hidden_of table = table.scanned.hidden
+
+abbrev pub spared_of : {D : Type 0} → TableDevs D → BTreeSet ChunkName
+spared_of table = table.scanned.spared
+
+abbrev pub NothingHidden : {D : Type 0} → TableDevs D → Type 0
+NothingHidden table = keys (hidden_of table) ≡ []
+
+abbrev pub NothingSpared : {D : Type 0} → TableDevs D → Type 0
+NothingSpared table = keys (spared_of table) ≡ []
+
+-- what the devices hold, without the hidden rows
+abbrev pub seen : {D : Type 0} → (D → DiskState) → TableDevs D → Devs
+seen state table =
+    record {
+      chunks = chunks.chunks state table.chunks;
+      held = shown (contains id_cmp (hidden_of table)) (rows.held state table.rows);
+      pending = logs.entry_open state table.log;
+    }
 
 -- none of the three devices is down
 pub record AreUp {D : Type 0} (table : TableDevs D) : Type 0 where

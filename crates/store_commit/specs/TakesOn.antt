@@ -1,9 +1,11 @@
 -- What the calls promise that take writes on, and do none.
 use Rattle.std.specs.Prelude.{◌≡◌, ◌⊎◌, ◌↔◌, ℕ, ◌<◌, ◌≤◌, List, [], length, Option, IfSome, Result, Ok, Err}
 use Rattle.std.specs.Prelude.{OnOk, OnErr, IfOk, IfErr, IsErrOf}
-use Rattle.std.specs.List.{AllByRecursion}
+use Rattle.std.specs.Prelude.{Bool, false}
+use Rattle.std.specs.List.{AllByRecursion, Contains}
 use Rattle.disk_trait.specs.Calls.{DiskState}
 use Rattle.vault.specs.Limit.{payload_most}
+use Rattle.stab_base.specs.declared.row_version.RowVersion.{RowVersion}
 use Rattle.chunk_store.specs.Standing as chunks
 use Rattle.row_store.specs.declared.stored.StoredRow.{StoredRow}
 use Rattle.row_store.specs.Data.{TableData, row_of}
@@ -17,9 +19,17 @@ use Rattle.store_commit.specs.declared.fault.CommitFault.TheVariants.{Busy, Spen
 use Rattle.store_commit.specs.Devs.{Devs, Write}
 use Rattle.store_commit.specs.Standing.{devs, writes_of, AreUp, IsOneDown, all_faults, IsReady, DevsLeave}
 use Rattle.store_commit.specs.Update.{at_work, chunk_most}
+use Rattle.store_commit.specs.Unset.{KeepsUnset}
 
 abbrev pub IsNotDisk : {T : Type 0} → Result T CommitFault → Type 0
 IsNotDisk result = IsErrOf result Disk → ⊥
+
+-- a crash at any moment leaves of each device what it held
+pub record AllLeave {D : Type 0} (state : D → DiskState) (images : D → ℕ → List ℕ → Type 0)
+    (old new : TableDevs D) : Type 0 where
+  pub chunks : chunks.Leaves state images old.chunks new.chunks (λ here. here ≡ chunks.chunks state old.chunks)
+  pub rows : rows.Leaves state images old.rows new.rows (λ here. here ≡ rows.held state old.rows)
+  pub log : logs.Leaves state images old.log new.log (λ here. here ≡ logs.entry_open state old.log)
 
 -- Nothing has changed but room that was added; or a disk has failed, and its device is down. A crash at any moment
 -- leaves what was held.
@@ -35,12 +45,19 @@ pub record Waits {D T : Type 0} (state : D → DiskState) (images : D → ℕ �
   pub chunks : chunks.Leaves state images old.chunks new.chunks (λ here. here ≡ chunks.chunks state old.chunks)
   pub rows : rows.Leaves state images old.rows new.rows (λ here. here ≡ rows.held state old.rows)
   pub log : logs.Leaves state images old.log new.log (λ here. here ≡ logs.entry_open state old.log)
+  pub fuse : KeepsUnset state old new
 
 -- the row that stands, if one does, as it was put
 pub record IsStanding (held : TableData) (row : List ℕ) (found : Option StoredRow) : Type 0 where
   pub is : row_of held row ≡ found
   pub spelled : IfSome found HasStoredSpelling
   pub short : IfSome found (λ stored. length (row_payload stored) ≤ payload_most)
+
+-- the greatest version of these rows but the hidden ones, 0 where there is none
+pub record IsNewestOf (is_hidden : List ℕ → Bool) (rows : List RowVersion) (newest : ℕ) : Type 0 where
+  pub greatest : (each : RowVersion) → Contains rows each → is_hidden each.row ≡ false → each.version ≤ newest
+  pub attained : (newest ≡ 0) ⊎ ((each : RowVersion) × Contains rows each × (is_hidden each.row ≡ false)
+      × (each.version ≡ newest))
 
 -- What is known of an update that is worked out.
 pub record IsPlan (entry : Entry) (fresh : List (List ℕ)) (stored : StoredRow) : Type 0 where
@@ -73,7 +90,11 @@ pub record TakesOn {D T : Type 0} (state : D → DiskState) (images : D → ℕ 
   pub down : IsErrOf result Down ↔ IsOneDown old
   pub busy : (version : ℕ) → IsErrOf result (Busy version) ↔ (AreUp old × (writes_of old ≡ [] → ⊥)
       × (version ≡ at_work (devs state old) (writes_of old)))
-  pub spent : IsErrOf result Spent ↔ (AreUp old × (writes_of old ≡ []) × is_spent)
-  pub unchanged : IfErr result (λ e. (e ≡ Disk → ⊥) → (e ≡ Memory → ⊥) → new ≡ old)
+  pub spent : IsErrOf result Spent → AreUp old × (writes_of old ≡ []) × is_spent
+  pub unchanged : IfErr result (λ e. (e ≡ Disk → ⊥) → (e ≡ Memory → ⊥) → (e ≡ Spent → ⊥) → new ≡ old)
   pub disk : IsErrOf result Disk → (all_faults state old < all_faults state new) × IsOneDown new
   pub counted : IsNotDisk result → all_faults state new ≡ all_faults state old
+  -- where memory was refused, they are at rest
+  pub rests : IsErrOf result Memory → IsReady state new []
+  pub leave : AreUp old → AllLeave state images old new
+  pub fuse : KeepsUnset state old new

@@ -1,12 +1,13 @@
 -- A write that is to be taken on: what is asked of it, and what it makes of what the devices hold.
 use Rattle.std.specs.Prelude.{◌≡◌, ℕ, ◌+◌, ◌*◌, ◌≤◌, ◌&&◌, Bool, true, false, not, nat_lt, if◌then◌else◌, List, [], ◌∷◌}
 use Rattle.std.specs.Prelude.{◌++◌}
-use Rattle.std.specs.Prelude.{length, filter, sum_by, is_some, Option, Some, None, unwrap_or}
-use Rattle.std.specs.List.{list_any, AllByRecursion}
-use Rattle.std.specs.BTreeMap.{is_at}
+use Rattle.std.specs.Prelude.{length, filter, sum_by, is_some, slice_get, Option, Some, None, unwrap_or}
+use Rattle.std.specs.List.{AllByRecursion}
 use Rattle.std.specs.BTreeSet.{BTreeSet, contains}
 use Rattle.stab_base.specs.declared.chunk_name.ChunkName.{ChunkName}
 use Rattle.row_value.specs.Fit.{spelled_len}
+use Rattle.row_value.specs.declared.pieces.Piece.{Piece}
+use Rattle.row_value.specs.declared.pieces.Piece.TheVariants.{Keep, Fresh}
 use Rattle.row_value.specs.declared.pieces.PieceContent.{PieceContent}
 use Rattle.row_value.specs.declared.pieces.PieceContent.TheVariants.{Gone, Row}
 use Rattle.value_codec.specs.Spelling.{HasContentSpelling, pieces_of, fresh_in}
@@ -19,7 +20,8 @@ use Rattle.row_store.specs.Spelling.{IsClient}
 use Rattle.status_log.specs.Entry.{Entry}
 use Rattle.store_commit.specs.declared.update.Update.{Update}
 use Rattle.store_commit.specs.Devs.{Devs, Write, OpenEntry}
-use Rattle.store_commit.specs.NamedChunks.{Among, AreDifferent, names_of}
+use Rattle.store_commit.specs.NamedChunks.{Among, AreDifferent, is_among, names_of}
+use Rattle.store_commit.specs.There.{lacks, misfits}
 use Rattle.store_commit.specs.Agenda.{named_content}
 
 -- ---- the row that stands
@@ -39,9 +41,6 @@ abbrev pub with_last : List LastWrite → LastWrite → List LastWrite
 with_last lasts last =
     filter (λ other. nat_lt other.client last.client) lasts
     ++ (last ∷ filter (λ other. nat_lt last.client other.client) lasts)
-
-abbrev pub is_among : ChunkName → List ChunkName → Bool
-is_among name names = list_any (is_at (name_cmp name)) names
 
 -- the set has these names
 pub record HasNames (names : List ChunkName) (set : BTreeSet ChunkName) : Type 0 where
@@ -92,6 +91,11 @@ IsNextVersion held version = (last : ℕ) × IsTableVersion held last × (versio
 
 -- ---- what is asked of it
 
+-- what a piece of an update stands for: a chunk that the device has, or a new one
+abbrev pub brought : (ChunkName → Option (List ℕ)) → List (List ℕ) → Piece → Option (List ℕ)
+brought chunk fresh (Keep name) = chunk name
+brought chunk fresh (Fresh ordinal) = slice_get fresh ordinal
+
 -- how many bytes spell a content each piece of which names a chunk
 abbrev pub content_size : PieceContent → ℕ
 content_size Gone = 1
@@ -110,7 +114,7 @@ abbrev pub fresh_of : PieceContent → List ℕ
 fresh_of Gone = []
 fresh_of (Row some objects) = fresh_in (pieces_of objects)
 
-pub record IsUpdate (held : TableData) (update : Update) : Type 0 where
+pub record IsUpdate (d : Devs) (update : Update) : Type 0 where
   pub client : IsClient update.client
   -- the content is one that a message can have: its new chunks count 0, 1, 2 and so on
   pub content : HasContentSpelling update.content
@@ -118,10 +122,14 @@ pub record IsUpdate (held : TableData) (update : Update) : Type 0 where
   -- the names in it are different, and each is one of the row that stands
   pub different : AreDifferent (names_of update.content)
   pub kept : (name : ChunkName) → Among name (names_of update.content)
-      → Among name (names_if (row_of held update.row))
+      → Among name (names_if (row_of d.held update.row))
   -- one new chunk for each
   pub fresh : length update.fresh ≡ length (fresh_of update.content)
   pub chunks : AllByRecursion (λ bytes. length bytes ≤ chunk_most) update.fresh
+  -- the content fits the table's schema; each object has as many pieces as one of its length has chunks, and each
+  -- chunk, kept or new, has the length of its place
+  pub fits : misfits d.held.table update.content ≡ false
+  pub lens : lacks (brought (chunk_in d.chunks) update.fresh) d.held.table update.content ≡ false
 
 -- ---- the version at work
 

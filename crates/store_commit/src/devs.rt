@@ -13,12 +13,15 @@ ghost use Rattle.status_log.specs.Entry.{entry_of};
 ghost use Rattle.status_log.specs.Standing as logs;
 ghost use Rattle.store_commit.specs.Devs.{Write, OpenChunks, OpenRows, OpenLog, OpenEntry, PutChunk, PutRow, DropChunk};
 ghost use Rattle.store_commit.specs.Devs.{CloseEntry, PutTable, PutSub, Devs};
-ghost use Rattle.store_commit.specs.Agenda.{Runs, IsMoment, IsRecovering};
+ghost use Rattle.store_commit.specs.Agenda.{Runs, IsMoment, IsRecovering, IsKeeping, IsKeepingWhole, IsStill};
 ghost use Rattle.store_commit.specs.Standing.{write_of, writes_of, AreUp, IsOneDown, IsReady, Works, WorksOn, devs};
 ghost use Rattle.store_commit.specs.Standing.{DevsLeave, AreLookedAt, AreSound, AreSynced, AreBlank, HaveOpenings};
-ghost use Rattle.store_commit.specs.Standing.{nothing, GoesOn};
+ghost use Rattle.store_commit.specs.Standing.{nothing, GoesOn, NothingHidden, NothingSpared, seen, spared_of};
+ghost use Rattle.store_commit.specs.Shows.{behind_first, ShowsAlike};
+ghost use Rattle.store_commit.specs.Unset.{KeepsUnset, HasCause};
 
 use crate::fault::{CommitFault, told};
+use crate::scanned::Scanned;
 use crate::task::Task;
 use chunk_store::{ChunkDev, ChunkName};
 use disk_trait::Disk;
@@ -39,6 +42,8 @@ pub struct TableDevs<D: Disk> {
     pub(crate) rows: RowDev<D>,
     pub(crate) log: StatusLog<D>,
     pub(crate) agenda: VecDeque<Task>,
+    // what a start takes as not there, and its recovery spares
+    pub(crate) scanned: Scanned,
     pub(crate) alloc: Global,
 }
 
@@ -50,12 +55,15 @@ impl<D: Disk + Drop> TableDevs<D> {
         ensures log { disk_of (logs.vault_of result.log) ≡ log_disk }
         ensures up { AreUp result }
         ensures idle { writes_of result ≡ [] }
+        ensures hidden { NothingHidden result }
+        ensures spared { NothingSpared result }
     {
         TableDevs {
             chunks: ChunkDev::new(alloc, chunk_disk),
             rows: RowDev::new(alloc, row_disk),
             log: StatusLog::new(alloc, log_disk),
             agenda: VecDeque::new(alloc),
+            scanned: Scanned::nothing(alloc),
             alloc,
         }
     }
@@ -92,8 +100,10 @@ impl<D: Disk + Drop> TableDevs<D> {
     fn open_chunks(&mut self) -> Result<(), CommitFault>
         requires up { AreUp self.old }
         requires ready { IsReady D.state self.old (OpenChunks ∷ writes_of self.old) }
+        ensures fuse { KeepsUnset D.state self.old self.new }
         ensures works { Works D.state D.images OpenChunks (writes_of self.old) self.old self.new result }
         ensures agenda { self.new.agenda ≡ self.old.agenda }
+        ensures scanned { self.new.scanned ≡ self.old.scanned }
     {
         told(self.chunks.open_write())
     }
@@ -101,8 +111,10 @@ impl<D: Disk + Drop> TableDevs<D> {
     fn open_rows(&mut self) -> Result<(), CommitFault>
         requires up { AreUp self.old }
         requires ready { IsReady D.state self.old (OpenRows ∷ writes_of self.old) }
+        ensures fuse { KeepsUnset D.state self.old self.new }
         ensures works { Works D.state D.images OpenRows (writes_of self.old) self.old self.new result }
         ensures agenda { self.new.agenda ≡ self.old.agenda }
+        ensures scanned { self.new.scanned ≡ self.old.scanned }
     {
         told(self.rows.open_write())
     }
@@ -110,8 +122,10 @@ impl<D: Disk + Drop> TableDevs<D> {
     fn open_log(&mut self) -> Result<(), CommitFault>
         requires up { AreUp self.old }
         requires ready { IsReady D.state self.old (OpenLog ∷ writes_of self.old) }
+        ensures fuse { KeepsUnset D.state self.old self.new }
         ensures works { Works D.state D.images OpenLog (writes_of self.old) self.old self.new result }
         ensures agenda { self.new.agenda ≡ self.old.agenda }
+        ensures scanned { self.new.scanned ≡ self.old.scanned }
     {
         told(self.log.open_write())
     }
@@ -119,9 +133,11 @@ impl<D: Disk + Drop> TableDevs<D> {
     fn open_entry(&mut self, entry: &LogEntry) -> Result<(), CommitFault>
         requires up { AreUp self.old }
         requires ready { IsReady D.state self.old (OpenEntry (entry_of entry.now) ∷ writes_of self.old) }
+        ensures fuse { KeepsUnset D.state self.old self.new }
         ensures works { Works D.state D.images (OpenEntry (entry_of entry.now))
             (writes_of self.old) self.old self.new result }
         ensures agenda { self.new.agenda ≡ self.old.agenda }
+        ensures scanned { self.new.scanned ≡ self.old.scanned }
     {
         told(self.log.open_entry(entry))
     }
@@ -129,8 +145,10 @@ impl<D: Disk + Drop> TableDevs<D> {
     fn put_chunk(&mut self, name: ChunkName, bytes: &[u8]) -> Result<(), CommitFault>
         requires up { AreUp self.old }
         requires ready { IsReady D.state self.old (PutChunk name bytes.now ∷ writes_of self.old) }
+        ensures fuse { KeepsUnset D.state self.old self.new }
         ensures works { Works D.state D.images (PutChunk name bytes.now) (writes_of self.old) self.old self.new result }
         ensures agenda { self.new.agenda ≡ self.old.agenda }
+        ensures scanned { self.new.scanned ≡ self.old.scanned }
     {
         told(self.chunks.put(name, bytes))
     }
@@ -138,8 +156,10 @@ impl<D: Disk + Drop> TableDevs<D> {
     fn put_row(&mut self, stored: StoredRow) -> Result<(), CommitFault>
         requires up { AreUp self.old }
         requires ready { IsReady D.state self.old (PutRow stored ∷ writes_of self.old) }
+        ensures fuse { KeepsUnset D.state self.old self.new }
         ensures works { Works D.state D.images (PutRow stored) (writes_of self.old) self.old self.new result }
         ensures agenda { self.new.agenda ≡ self.old.agenda }
+        ensures scanned { self.new.scanned ≡ self.old.scanned }
     {
         told(self.rows.put_row(stored))
     }
@@ -147,8 +167,10 @@ impl<D: Disk + Drop> TableDevs<D> {
     fn drop_chunk(&mut self, name: ChunkName) -> Result<(), CommitFault>
         requires up { AreUp self.old }
         requires ready { IsReady D.state self.old (DropChunk name ∷ writes_of self.old) }
+        ensures fuse { KeepsUnset D.state self.old self.new }
         ensures works { Works D.state D.images (DropChunk name) (writes_of self.old) self.old self.new result }
         ensures agenda { self.new.agenda ≡ self.old.agenda }
+        ensures scanned { self.new.scanned ≡ self.old.scanned }
     {
         told(self.chunks.drop_chunk(name))
     }
@@ -156,8 +178,10 @@ impl<D: Disk + Drop> TableDevs<D> {
     fn close_entry(&mut self) -> Result<(), CommitFault>
         requires up { AreUp self.old }
         requires ready { IsReady D.state self.old (CloseEntry ∷ writes_of self.old) }
+        ensures fuse { KeepsUnset D.state self.old self.new }
         ensures works { Works D.state D.images CloseEntry (writes_of self.old) self.old self.new result }
         ensures agenda { self.new.agenda ≡ self.old.agenda }
+        ensures scanned { self.new.scanned ≡ self.old.scanned }
     {
         told(self.log.close_entry())
     }
@@ -165,9 +189,11 @@ impl<D: Disk + Drop> TableDevs<D> {
     fn put_table(&mut self, schema: &Schema, state: u8) -> Result<(), CommitFault>
         requires up { AreUp self.old }
         requires ready { IsReady D.state self.old (PutTable schema.now state ∷ writes_of self.old) }
+        ensures fuse { KeepsUnset D.state self.old self.new }
         ensures works { Works D.state D.images (PutTable schema.now state)
             (writes_of self.old) self.old self.new result }
         ensures agenda { self.new.agenda ≡ self.old.agenda }
+        ensures scanned { self.new.scanned ≡ self.old.scanned }
     {
         told(self.rows.put_table(schema, state))
     }
@@ -184,11 +210,13 @@ impl<D: Disk + Drop> TableDevs<D> {
         requires ready { IsReady D.state self.old
             (PutSub client (terms_if on (record { gate = gate; period = period; tolerance = tolerance }))
             ∷ writes_of self.old) }
+        ensures fuse { KeepsUnset D.state self.old self.new }
         ensures works { Works D.state D.images
             (PutSub client (terms_if on (record { gate = gate; period = period; tolerance = tolerance })))
             (writes_of self.old)
             self.old self.new result }
         ensures agenda { self.new.agenda ≡ self.old.agenda }
+        ensures scanned { self.new.scanned ≡ self.old.scanned }
     {
         told(self.rows.put_sub(client, on, gate, period, tolerance))
     }
@@ -197,8 +225,10 @@ impl<D: Disk + Drop> TableDevs<D> {
     fn perform(&mut self, task: Task) -> Result<(), CommitFault>
         requires up { AreUp self.old }
         requires ready { IsReady D.state self.old (write_of task ∷ writes_of self.old) }
+        ensures fuse { KeepsUnset D.state self.old self.new }
         ensures works { Works D.state D.images (write_of task) (writes_of self.old) self.old self.new result }
         ensures agenda { self.new.agenda ≡ self.old.agenda }
+        ensures scanned { self.new.scanned ≡ self.old.scanned }
     {
         match task {
             Task::OpenChunks => self.open_chunks(),
@@ -223,6 +253,8 @@ impl<D: Disk + Drop> TableDevs<D> {
     /// Does the next write, if there is one. It takes no memory.
     pub fn work(&mut self) -> Result<Step, CommitFault>
         requires ready { AreUp self.old → IsReady D.state self.old (writes_of self.old) }
+        // A fuse that isn't set stops nothing.
+        ensures fuse { KeepsUnset D.state self.old self.new }
         ensures works { AreUp self.old → WorksOn D.state D.images self.old self.new result (writes_of self.old) }
         ensures down { IsErrOf result CommitFault.Down ↔ IsOneDown self.old }
         ensures unchanged { IsErrOf result CommitFault.Down → self.new ≡ self.old }
@@ -234,6 +266,22 @@ impl<D: Disk + Drop> TableDevs<D> {
         ensures recovering { (meaning : ChunkName → List ℕ) (before : TableData) → AreUp self.old
             → Runs (IsRecovering meaning before) (devs D.state self.old) (writes_of self.old)
             → GoesOn D.state D.images (IsRecovering meaning before) self.old self.new result }
+        // And so of the put of a subscription or of the table.
+        ensures keeping { (meaning : ChunkName → List ℕ) → AreUp self.old
+            → Runs (IsKeeping meaning) (devs D.state self.old) (writes_of self.old)
+            → GoesOn D.state D.images (IsKeeping meaning) self.old self.new result }
+        ensures keeping_whole { (meaning : ChunkName → List ℕ) → AreUp self.old
+            → Runs (IsKeepingWhole meaning) (devs D.state self.old) (writes_of self.old)
+            → GoesOn D.state D.images (IsKeepingWhole meaning) self.old self.new result }
+        ensures still { (before : Devs) → AreUp self.old
+            → Runs (IsStill before) (devs D.state self.old) (writes_of self.old)
+            → GoesOn D.state D.images (IsStill before) self.old self.new result }
+        // What is seen changes as what is held does: a row that is put is no more hidden.
+        ensures shows { AreUp self.old → OnOk result
+            (ShowsAlike (behind_first (writes_of self.old) (seen D.state self.old)) (seen D.state self.new)) }
+        // Where nothing is hidden, nothing is behind the write.
+        ensures hidden { NothingHidden self.old → NothingHidden self.new }
+        ensures spared { spared_of self.new ≡ spared_of self.old }
     {
         if self.is_down() {
             return Err(CommitFault::Down);
@@ -243,6 +291,7 @@ impl<D: Disk + Drop> TableDevs<D> {
         }
         let task = self.agenda.pop_front().unwrap();
         let step = task.step();
+        self.scanned.put(&task);
         match self.perform(task) {
             Ok(()) => Ok(step),
             Err(fault) => Err(fault),
@@ -258,14 +307,20 @@ impl<D: Disk + Drop> TableDevs<D> {
         ensures up { AreUp self.new }
         ensures synced { AreSynced D.state self.new }
         ensures idle { writes_of self.new ≡ [] }
+        ensures hidden { NothingHidden self.new }
+        ensures spared { NothingSpared self.new }
         // What was promised of each crash since an earlier moment holds of what is there now.
         ensures left { (start : TableDevs D) (a b : Devs) → DevsLeave D.state D.images start self.old (IsEither a b)
             → IsEither a b (devs D.state self.new) × AreSound D.state self.new }
+        // And each crash since then leaves one of them.
+        ensures since { (start : TableDevs D) (a b : Devs) → DevsLeave D.state D.images start self.old (IsEither a b)
+            → DevsLeave D.state D.images start self.new (IsEither a b) }
         // Where nothing was at work, all is as it was.
         ensures rests { AreUp self.old → AreSynced D.state self.old → AreSound D.state self.old
             → (devs D.state self.new ≡ devs D.state self.old) × AreSound D.state self.new }
     {
         self.agenda.clear();
+        self.scanned = Scanned::nothing(self.alloc);
         self.chunks.restart(pick);
         self.rows.restart(pick);
         self.log.restart(pick);
@@ -275,6 +330,8 @@ impl<D: Disk + Drop> TableDevs<D> {
     /// vaults are then unopened.
     pub fn look(&mut self) -> Result<(), CommitFault>
         requires synced { AreSynced D.state self.old }
+        ensures fuse { AreUp self.old → KeepsUnset D.state self.old self.new }
+        ensures cause { AreUp self.old → HasCause D.state self.old self.new result }
         ensures looked { OnOk result (AreLookedAt D.state self.new) }
         ensures same { OnOk result (devs D.state self.new ≡ devs D.state self.old) }
         ensures sound { OnOk result (AreSound D.state self.old → AreSound D.state self.new) }
@@ -283,23 +340,31 @@ impl<D: Disk + Drop> TableDevs<D> {
         ensures any_moment { AreUp self.old → AreSound D.state self.old
             → DevsLeave D.state D.images self.old self.new (λ d. d ≡ devs D.state self.old) }
         ensures agenda { self.new.agenda ≡ self.old.agenda }
+        ensures hidden { OnOk result (NothingHidden self.new) }
+        ensures spared { OnOk result (NothingSpared self.new) }
     {
         self.chunks.look()?;
         self.rows.look()?;
         self.log.look()?;
+        self.scanned = Scanned::nothing(self.alloc);
         Ok(())
     }
 
     /// Makes the three disks those of no table. The devices are then at rest.
     pub fn format(&mut self) -> Result<(), CommitFault>
+        ensures fuse { AreUp self.old → KeepsUnset D.state self.old self.new }
+        ensures cause { AreUp self.old → HasCause D.state self.old self.new result }
         ensures rests { OnOk result (IsReady D.state self.new []) }
         ensures empty { OnOk result (devs D.state self.new ≡ nothing) }
         // Of blank disks a crash at any moment leaves nothing.
         ensures blank { AreUp self.old → AreBlank D.state self.old
             → DevsLeave D.state D.images self.old self.new (λ d. d ≡ nothing) }
         ensures idle { writes_of self.new ≡ [] }
+        ensures hidden { NothingHidden self.new }
+        ensures spared { NothingSpared self.new }
     {
         self.agenda.clear();
+        self.scanned = Scanned::nothing(self.alloc);
         self.chunks.format()?;
         self.rows.format()?;
         self.log.format()?;

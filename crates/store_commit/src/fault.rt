@@ -1,11 +1,11 @@
 //! Why a table's devices didn't do what they were asked for.
 ghost use Rattle.std.specs.Prelude.{◌≡◌};
 ghost use Rattle.store_commit.specs.declared.fault.CommitFault.TheVariants.{Memory};
-ghost use Rattle.store_commit.specs.Fault.{disk_or, caused, chunk_cause, row_cause, log_cause, found_of};
+ghost use Rattle.store_commit.specs.Fault.{disk_or, caused, chunk_cause, row_cause, log_cause, found_of, chunk_found};
 
 use chunk_store::ChunkFault;
 use row_store::{RowFault, StoredRow};
-use stab_base::Version;
+use stab_base::{Bytes, Version};
 use status_log::LogFault;
 use std::alloc::AllocError;
 use thiserror::Error;
@@ -121,6 +121,17 @@ pub(crate) fn found_row(
     match answer {
         Ok(stored) => Ok(Some(stored)),
         Err(RowFault::NoRow) => Ok(None),
+        Err(fault) => Err(fault.into()),
+    }
+}
+
+/// The chunk of a look-up, if there is one.
+pub(crate) fn found_chunk(answer: Result<Bytes, ChunkFault>) -> Result<Option<Bytes>, CommitFault>
+    ensures { result ≡ chunk_found answer }
+{
+    match answer {
+        Ok(bytes) => Ok(Some(bytes)),
+        Err(ChunkFault::Absent) => Ok(None),
         Err(fault) => Err(fault.into()),
     }
 }

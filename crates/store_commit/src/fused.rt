@@ -40,6 +40,7 @@ impl<D: Disk + Drop> TableDevs<FuseDisk<D>> {
     pub fn stop_after(&mut self, calls: u32, pick: u64)
         ensures stops { StopsNext D.state D.images calls pick (writes_of self.old) self.old self.new }
         ensures agenda { self.new.agenda ≡ self.old.agenda }
+        ensures scanned { self.new.scanned ≡ self.old.scanned }
         ensures up { AreUp self.old → AreUp self.new }
         ensures same { devs (behind D.state) self.new ≡ devs (behind D.state) self.old }
         ensures ready { (ws : List Write) → IsReady (behind D.state) self.old ws

@@ -167,7 +167,8 @@ pub(crate) fn with_last(
     Ok(made)
 }
 
-fn set_of(alloc: Global, names: &[ChunkName]) -> Result<BTreeSet<ChunkName>, AllocError>
+/// The set of these names.
+pub(crate) fn set_of(alloc: Global, names: &[ChunkName]) -> Result<BTreeSet<ChunkName>, AllocError>
     ensures { IfOk result (HasNames names.now) }
 {
     let mut set = BTreeSet::new(alloc);

@@ -1,12 +1,14 @@
 //! How a table's devices take writes on. Nothing is written here: what the writes need is made ready.
 ghost use Rattle.std.specs.Prelude.{◌≡◌, ◌+◌, ◌*◌, ◌<◌, ◌≤◌, ◌⊎◌, ℕ, List, [], ◌∷◌, length, map, sum_by, IfOk, OnOk};
+ghost use Rattle.std.specs.Prelude.{IsErrOf, IsOk};
 ghost use Rattle.std.specs.List.{AllByRecursion};
+ghost use Rattle.std.specs.BTreeSet.{contains};
 ghost use Rattle.vault.specs.Limit.{payload_most};
 ghost use Rattle.vault.specs.Standing.{IsUp};
 ghost use Rattle.stab_base.specs.declared.chunk_name.ChunkName.{ChunkName};
 ghost use Rattle.stab_base.specs.declared.limits.TheConstants.{NUMBER_MAX};
 ghost use Rattle.chunk_store.specs.Standing as chunks;
-ghost use Rattle.row_store.specs.Data.{row_of, IsTableVersion};
+ghost use Rattle.row_store.specs.Data.{row_of, id_cmp, IsTableVersion};
 ghost use Rattle.row_store.specs.Reading.{terms_if};
 ghost use Rattle.row_store.specs.Spelling.{HasStoredSpelling, row_payload, table_payload, IsState, IsClient};
 ghost use Rattle.row_store.specs.Standing as rows;
@@ -15,10 +17,13 @@ ghost use Rattle.status_log.specs.Standing as logs;
 ghost use Rattle.value_codec.specs.SchemaSpelling.{HasSchemaSpelling};
 ghost use Rattle.store_commit.specs.Devs.{PutTable, PutSub};
 ghost use Rattle.store_commit.specs.NamedChunks.{NamedChunks};
-ghost use Rattle.store_commit.specs.Agenda.{update_writes, Replaces, meaning_with, IsMoment, Runs};
-ghost use Rattle.store_commit.specs.Standing.{write_of, writes_of, AreUp, IsReady, devs};
-ghost use Rattle.store_commit.specs.TakesOn.{Waits, IsStanding, IsFree, TakesOn, IsPlan};
+ghost use Rattle.store_commit.specs.Agenda.{update_writes, Replaces, meaning_with, IsMoment, IsKeeping, Runs};
+ghost use Rattle.store_commit.specs.Agenda.{IsKeepingWhole, IsStill};
+ghost use Rattle.store_commit.specs.There.{WholeRows, MayBeWhole, HasNoOther};
+ghost use Rattle.store_commit.specs.Standing.{write_of, writes_of, AreUp, IsReady, devs, seen, NothingHidden};
+ghost use Rattle.store_commit.specs.TakesOn.{Waits, IsStanding, IsFree, TakesOn, IsPlan, IsNewestOf};
 ghost use Rattle.store_commit.specs.Update.{entry_for, stored_for, IsNextVersion, IsUpdate, at_work, opened_first};
+ghost use Rattle.store_commit.specs.Unset.{KeepsUnset};
 
 use crate::TableDevs;
 use crate::fault::{CommitFault, found_row, of_chunks, of_log, of_rows};
@@ -31,10 +36,10 @@ use crate::update::Update;
 use disk_trait::Disk;
 use row_store::{LastWrite, LastWrites, StoredRow, row_size};
 use row_value::Schema;
-use stab_base::{ClientNo, GateNo, NUMBER_MAX, RowId, Version};
+use stab_base::{ClientNo, GateNo, NUMBER_MAX, RowId, RowVersion, Version};
 use status_log::LogEntry;
 use std::alloc::{AllocError, Global};
-use std::collections::VecDeque;
+use std::collections::{BTreeSet, VecDeque};
 use value_codec::put_schema;
 
 fn one_task(alloc: Global, task: Task) -> Result<VecDeque<Task>, AllocError>
@@ -63,6 +68,19 @@ fn table_size(alloc: Global, schema: &Schema, state: u8) -> Result<u64, AllocErr
     Ok(payload.len() as u64)
 }
 
+/// The greatest version of these rows but the hidden ones, else 0.
+pub(crate) fn newest_of(hidden: &BTreeSet<RowId>, rows: &[RowVersion]) -> Version
+    ensures { IsNewestOf (contains id_cmp hidden.now) rows.now result }
+{
+    let mut newest = 0;
+    for row in rows {
+        if !hidden.contains(&row.row) {
+            newest = row.version.max(newest);
+        }
+    }
+    newest
+}
+
 impl<D: Disk + Drop> TableDevs<D> {
     // The version of the entry that is opened next.
     fn next_opened(&self) -> Option<Version>
@@ -74,8 +92,8 @@ impl<D: Disk + Drop> TableDevs<D> {
         }
     }
 
-    // The version of the entry that is opened next or is open, else 0.
-    fn at_work(&self) -> Version
+    /// The version of the entry that is opened next or is open, else 0. It takes no memory.
+    pub fn at_work(&self) -> Version
         requires up { IsUp (logs.vault_of self.now.log) }
         requires looked { logs.IsLookedAt D.state self.now.log }
         ensures { result ≡ at_work (devs D.state self.now) (writes_of self.now) }
@@ -105,14 +123,37 @@ impl<D: Disk + Drop> TableDevs<D> {
         Ok(())
     }
 
-    // The row that stands, if one does. It is one read of the disk.
+    // The row that stands, if one does and isn't hidden. It is one read of the disk.
     fn standing(&mut self, row: &RowId) -> Result<Option<StoredRow>, CommitFault>
         requires up { AreUp self.old }
         requires rests { IsReady D.state self.old [] }
         ensures waits { Waits D.state D.images self.old self.new result }
-        ensures row { IfOk result (IsStanding (devs D.state self.old).held row.now) }
+        ensures row { IfOk result (IsStanding (seen D.state self.old).held row.now) }
+        ensures scanned { self.new.scanned ≡ self.old.scanned }
     {
+        if self.scanned.hidden.contains(row) {
+            return Ok(None);
+        }
         found_row(self.rows.get_row(row))
+    }
+
+    // The greatest version of the rows that are there.
+    fn newest(&mut self) -> Result<Version, CommitFault>
+        requires up { AreUp self.old }
+        requires rests { IsReady D.state self.old [] }
+        ensures waits { Waits D.state D.images self.old self.new result }
+        ensures greatest { IfOk result (IsTableVersion (seen D.state self.old).held) }
+        ensures most { IfOk result (λ version. version ≤ NUMBER_MAX) }
+        ensures scanned { self.new.scanned ≡ self.old.scanned }
+        ensures unchanged { NothingHidden self.old → self.new ≡ self.old }
+        ensures known { NothingHidden self.old → IsOk result }
+    {
+        let most = self.rows.table_version();
+        if self.scanned.hidden.is_empty() {
+            return Ok(most);
+        }
+        let rows = of_rows(self.rows.changed_since(0))?;
+        Ok(newest_of(&self.scanned.hidden, rows.as_slice()))
     }
 
     fn reserve_chunks(&mut self, puts: u64, bytes: u64) -> Result<(), CommitFault>
@@ -121,6 +162,7 @@ impl<D: Disk + Drop> TableDevs<D> {
         requires puts { puts ≤ 16777216 }
         requires bytes { bytes ≤ 8388608 * puts }
         ensures waits { Waits D.state D.images self.old self.new result }
+        ensures scanned { self.new.scanned ≡ self.old.scanned }
         ensures room { OnOk result (chunks.HasRoom D.state self.new.chunks 1 puts bytes) }
     {
         of_chunks(self.chunks.reserve(puts, bytes))
@@ -131,7 +173,9 @@ impl<D: Disk + Drop> TableDevs<D> {
         requires rests { IsReady D.state self.old [] }
         requires puts { puts ≤ 16777216 }
         requires bytes { bytes ≤ 8388608 * puts }
+        ensures fuse { KeepsUnset D.state self.old self.new }
         ensures waits { Waits D.state D.images self.old self.new result }
+        ensures scanned { self.new.scanned ≡ self.old.scanned }
         ensures room { OnOk result (rows.HasRoom D.state self.new.rows 1 puts bytes) }
         ensures chunks { self.new.chunks ≡ self.old.chunks }
     {
@@ -144,6 +188,7 @@ impl<D: Disk + Drop> TableDevs<D> {
         requires puts { puts ≤ 16777216 }
         requires bytes { bytes ≤ 8388608 * puts }
         ensures waits { Waits D.state D.images self.old self.new result }
+        ensures scanned { self.new.scanned ≡ self.old.scanned }
         ensures room { OnOk result (logs.HasRoom D.state self.new.log 1 puts bytes) }
         ensures chunks { self.new.chunks ≡ self.old.chunks }
         ensures rows { self.new.rows ≡ self.old.rows }
@@ -157,6 +202,7 @@ impl<D: Disk + Drop> TableDevs<D> {
         requires rests { IsReady D.state self.old [] }
         requires plan { IsPlan (entry_of plan.now.entry) plan.now.fresh.items plan.now.stored }
         ensures waits { Waits D.state D.images self.old self.new result }
+        ensures scanned { self.new.scanned ≡ self.old.scanned }
         ensures chunk_room { OnOk result (chunks.HasRoom D.state self.new.chunks 1
             (length plan.now.fresh.items + length plan.now.entry.old.items)
             (13 * (length plan.now.fresh.items + length plan.now.entry.old.items)
@@ -182,11 +228,11 @@ impl<D: Disk + Drop> TableDevs<D> {
     ) -> Result<Plan, AllocError>
         requires up { AreUp self.now }
         requires looked { chunks.IsLookedAt D.state self.now.chunks }
-        requires standing { row_of (devs D.state self.now).held update.row ≡ standing.now }
+        requires standing { row_of (seen D.state self.now).held update.row ≡ standing.now }
         requires few { length update.fresh < 4294967296 }
-        ensures entry { IfOk result (λ plan. entry_of plan.entry ≡ entry_for (devs D.state self.now) version update) }
+        ensures entry { IfOk result (λ plan. entry_of plan.entry ≡ entry_for (seen D.state self.now) version update) }
         ensures fresh { IfOk result (λ plan. plan.fresh.items ≡ update.fresh) }
-        ensures stored { IfOk result (λ plan. plan.stored ≡ stored_for (devs D.state self.now) version update) }
+        ensures stored { IfOk result (λ plan. plan.stored ≡ stored_for (seen D.state self.now) version update) }
         ensures row { length update.row ≡ 16 }
         ensures number { update.number < 18446744073709551616 }
         ensures base { update.base < 18446744073709551616 }
@@ -230,11 +276,12 @@ impl<D: Disk + Drop> TableDevs<D> {
         requires rests { IsReady D.state self.old [] }
         requires closed { (devs D.state self.old).pending ≡ None }
         requires version { version ≤ NUMBER_MAX }
-        requires update { IsUpdate (devs D.state self.old).held update }
+        requires update { IsUpdate (seen D.state self.old) update }
         ensures waits { Waits D.state D.images self.old self.new result }
+        ensures scanned { self.new.scanned ≡ self.old.scanned }
         ensures tasks { IfOk result (λ tasks. map write_of tasks.items
-            ≡ update_writes (entry_for (devs D.state self.old) version update) update.fresh
-            (stored_for (devs D.state self.old) version update)) }
+            ≡ update_writes (entry_for (seen D.state self.old) version update) update.fresh
+            (stored_for (seen D.state self.old) version update)) }
         ensures ready { IfOk result (λ tasks. IsReady D.state self.new (map write_of tasks.items)) }
     {
         let standing = self.standing(&update.row)?;
@@ -251,28 +298,39 @@ impl<D: Disk + Drop> TableDevs<D> {
 
     /// Takes on a client's write to a row, and gives it the version above the table's. Its writes are then to be done,
     /// and take no memory: the entry is opened, each new chunk is put, then the row, each chunk that the row no more
-    /// names is dropped, and the entry is closed. It reads the row that stands.
+    /// names is dropped, and the entry is closed. It reads the row that stands. A hidden row counts as one that isn't
+    /// there.
     pub fn begin(&mut self, update: Update) -> Result<Version, CommitFault>
         requires ready { AreUp self.old → IsReady D.state self.old (writes_of self.old) }
         requires closed { AreUp self.old → writes_of self.old ≡ [] → (devs D.state self.old).pending ≡ None }
-        requires update { AreUp self.old → writes_of self.old ≡ [] → IsUpdate (devs D.state self.old).held update }
-        ensures takes { TakesOn D.state D.images (IsTableVersion (devs D.state self.old).held NUMBER_MAX)
-            (λ version. update_writes (entry_for (devs D.state self.old) version update) update.fresh
-            (stored_for (devs D.state self.old) version update)) self.old self.new result }
-        ensures version { IfOk result (IsNextVersion (devs D.state self.old).held) }
-        // Where the devices have named chunks, the row may take the place of the one that stands, and they have them
-        // at every moment of the update.
-        ensures replaces { IfOk result (λ version. (meaning : ChunkName → List ℕ)
+        requires update { AreUp self.old → writes_of self.old ≡ [] → IsUpdate (seen D.state self.old) update }
+        ensures takes { TakesOn D.state D.images (IsTableVersion (seen D.state self.old).held NUMBER_MAX)
+            (λ version. update_writes (entry_for (seen D.state self.old) version update) update.fresh
+            (stored_for (seen D.state self.old) version update)) self.old self.new result }
+        ensures version { IfOk result (IsNextVersion (seen D.state self.old).held) }
+        // Where nothing is hidden, no memory is asked for before it is known whether the versions are used up.
+        ensures spent { NothingHidden self.old → AreUp self.old → writes_of self.old ≡ []
+            → IsTableVersion (seen D.state self.old).held NUMBER_MAX → IsErrOf result CommitFault.Spent }
+        ensures spent_unchanged { NothingHidden self.old → IsErrOf result CommitFault.Spent → self.new ≡ self.old }
+        ensures scanned { self.new.scanned ≡ self.old.scanned }
+        // Where the devices have named chunks and nothing is hidden, the row may take the place of the one that stands,
+        // and they have them at every moment of the update.
+        ensures replaces { IfOk result (λ version. (meaning : ChunkName → List ℕ) → NothingHidden self.old
             → NamedChunks meaning (devs D.state self.old)
             → Replaces (devs D.state self.old) (entry_for (devs D.state self.old) version update) update.fresh
             (stored_for (devs D.state self.old) version update)) }
-        ensures moments { IfOk result (λ version. (meaning : ChunkName → List ℕ)
+        ensures moments { IfOk result (λ version. (meaning : ChunkName → List ℕ) → NothingHidden self.old
             → NamedChunks meaning (devs D.state self.old)
             → Runs (IsMoment (meaning_with meaning version update.fresh) (devs D.state self.old).held
             (stored_for (devs D.state self.old) version update)) (devs D.state self.new) (writes_of self.new)) }
+        // And where each row is whole, the new one is.
+        ensures whole { IfOk result (λ version. (meaning : ChunkName → List ℕ) → NothingHidden self.old
+            → NamedChunks meaning (devs D.state self.old) → WholeRows meaning (devs D.state self.old).held
+            → MayBeWhole (meaning_with meaning version update.fresh) (devs D.state self.old).held
+            (stored_for (devs D.state self.old) version update)) }
     {
         self.free()?;
-        let last = self.rows.table_version();
+        let last = self.newest()?;
         if last == NUMBER_MAX {
             return Err(CommitFault::Spent);
         }
@@ -297,6 +355,19 @@ impl<D: Disk + Drop> TableDevs<D> {
         ensures takes { TakesOn D.state D.images ⊥ (λ _.
             PutSub client (terms_if on (record { gate = gate; period = period; tolerance = tolerance })) ∷ [])
             self.old self.new result }
+        ensures scanned { self.new.scanned ≡ self.old.scanned }
+        // Where the devices have named chunks, they have them at every moment of the put.
+        ensures moments { OnOk result ((meaning : ChunkName → List ℕ) → NamedChunks meaning (devs D.state self.old)
+            → Runs (IsKeeping meaning) (devs D.state self.new) (writes_of self.new)) }
+        // And each row is whole, where each is before.
+        ensures whole { OnOk result ((meaning : ChunkName → List ℕ) → NamedChunks meaning (devs D.state self.old)
+            → WholeRows meaning (devs D.state self.old).held
+            → Runs (IsKeepingWhole meaning) (devs D.state self.new) (writes_of self.new)) }
+        // The chunks, the rows and the open entry stay at every moment of the put, and so do those that are seen.
+        ensures still { OnOk result (Runs (IsStill (devs D.state self.old))
+            (devs D.state self.new) (writes_of self.new)) }
+        ensures seen { OnOk result (Runs (IsStill (seen D.state self.old))
+            (seen D.state self.new) (writes_of self.new)) }
     {
         self.free()?;
         let task = Task::PutSub {
@@ -319,7 +390,22 @@ impl<D: Disk + Drop> TableDevs<D> {
         requires spelled { HasSchemaSpelling schema.now }
         requires state { IsState state }
         requires short { length (table_payload schema.now state) ≤ payload_most }
+        ensures fuse { KeepsUnset D.state self.old self.new }
         ensures takes { TakesOn D.state D.images ⊥ (λ _. PutTable schema.now state ∷ []) self.old self.new result }
+        ensures scanned { self.new.scanned ≡ self.old.scanned }
+        // Where the devices have named chunks, they have them at every moment of the put.
+        ensures moments { OnOk result ((meaning : ChunkName → List ℕ) → NamedChunks meaning (devs D.state self.old)
+            → Runs (IsKeeping meaning) (devs D.state self.new) (writes_of self.new)) }
+        // And each row is whole, where each is before and the schema is the table's own or its first. (Rows may not fit
+        // another schema.)
+        ensures whole { OnOk result ((meaning : ChunkName → List ℕ) → NamedChunks meaning (devs D.state self.old)
+            → WholeRows meaning (devs D.state self.old).held → HasNoOther (devs D.state self.old).held schema.now
+            → Runs (IsKeepingWhole meaning) (devs D.state self.new) (writes_of self.new)) }
+        // The chunks, the rows and the open entry stay at every moment of the put, and so do those that are seen.
+        ensures still { OnOk result (Runs (IsStill (devs D.state self.old))
+            (devs D.state self.new) (writes_of self.new)) }
+        ensures seen { OnOk result (Runs (IsStill (seen D.state self.old))
+            (seen D.state self.new) (writes_of self.new)) }
     {
         self.free()?;
         let tasks = table_task(self.alloc, schema, state)?;

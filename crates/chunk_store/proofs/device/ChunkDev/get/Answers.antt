@@ -31,7 +31,7 @@ returns-clause-reads g c = reads_done g.D.Disk.state g.D.Disk.images IsIndex Has
 pub chunk_behind-requires : goal.chunk_behind-requires
 chunk_behind-requires g c =
     let ps = payloads g.D.Disk.state (vault_of c.args.self.now) in
-    let i = c.in-Some.index in
+    let i = c.in-Some.place.index in
     let place = c.in-Some.ensures.place c.if-is_down.ensures in
     let found : get_or ps i [] ≡ c.deref.result.now = get_or_from_slice_get ps i c.read.new.self.found.items [] c.in_ok-read.ensures.payload ∙ sym c.deref.ensures.value in
     subst (λ (l : List ℕ). 13 ≤ length l) found place.long
@@ -39,6 +39,6 @@ chunk_behind-requires g c =
 pub returns-clause-chunk : goal.returns-clause-chunk
 returns-clause-chunk g c =
     let ps = payloads g.D.Disk.state (vault_of c.args.self.now) in
-    let i = c.in-Some.index in
+    let i = c.in-Some.place.index in
     let found : get_or ps i [] ≡ c.deref.result.now = get_or_from_slice_get ps i c.read.new.self.found.items [] c.in_ok-read.ensures.payload ∙ sym c.deref.ensures.value in
     c.in-Some.ensures.some c.if-is_down.ensures ∙ ap (λ (l : List ℕ). Some l) (ap (λ (l : List ℕ). drop 13 l) found ∙ sym c.in_ok-bytes.ensures)

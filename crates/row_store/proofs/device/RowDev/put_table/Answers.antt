@@ -1,4 +1,4 @@
-use Rattle.std.proofs.Common.{◌≡◌, ◌+◌, ◌++◌, ◌∷◌, [], length, refl, sym, ◌∙◌, ap, arith}
+use Rattle.std.proofs.Common.{◌≡◌, length, refl, sym, ◌∙◌, ap, arith}
 use Rattle.vault.specs.Standing.{payloads}
 use Rattle.vault.proofs.Devices.{appends_as}
 use Rattle.row_store.specs.Fault.{fault_of}

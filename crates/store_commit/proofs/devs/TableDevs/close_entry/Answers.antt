@@ -1,7 +1,13 @@
 use Rattle.store_commit.specs.Standing.{writes_of}
 use Rattle.store_commit.proofs.Works.{close_entry_works}
+use Rattle.store_commit.proofs.Fusing.{log_burns}
 use Rattle.store_commit.proofs.devs.TableDevs.close_entry.Goals as goal
 
 pub returns-clause-works : goal.returns-clause-works
 returns-clause-works g c =
     rw c.told.ensures (close_entry_works g.D.Disk.state g.D.Disk.images g.met.D.Disk.only_now c.args.self.now c.close_entry.new.self (writes_of c.args.self.now) c.requires.up c.requires.ready c.close_entry.result c.close_entry.ensures)
+
+pub returns-clause-fuse : goal.returns-clause-fuse
+returns-clause-fuse g c =
+    let burns = c.close_entry.ensures.fuse c.requires.up.log in
+    log_burns g.D.Disk.state c.args.self.now c.close_entry.new.self 4 c.close_entry.result burns

@@ -1,7 +1,13 @@
 use Rattle.store_commit.specs.Standing.{writes_of}
 use Rattle.store_commit.proofs.Works.{drop_chunk_works}
+use Rattle.store_commit.proofs.Fusing.{chunk_burns}
 use Rattle.store_commit.proofs.devs.TableDevs.drop_chunk.Goals as goal
 
 pub returns-clause-works : goal.returns-clause-works
 returns-clause-works g c =
     rw c.told.ensures (drop_chunk_works g.D.Disk.state g.D.Disk.images g.met.D.Disk.only_now c.args.self.now c.drop_chunk.new.self (writes_of c.args.self.now) c.args.name c.requires.up c.requires.ready c.drop_chunk.result c.drop_chunk.ensures)
+
+pub returns-clause-fuse : goal.returns-clause-fuse
+returns-clause-fuse g c =
+    let burns = c.drop_chunk.ensures.fuse c.requires.up.chunks in
+    chunk_burns g.D.Disk.state c.args.self.now c.drop_chunk.new.self 4 c.drop_chunk.result burns

@@ -1,7 +1,13 @@
 use Rattle.store_commit.specs.Standing.{writes_of}
 use Rattle.store_commit.proofs.Works.{open_chunks_works}
+use Rattle.store_commit.proofs.Fusing.{chunk_burns}
 use Rattle.store_commit.proofs.devs.TableDevs.open_chunks.Goals as goal
 
 pub returns-clause-works : goal.returns-clause-works
 returns-clause-works g c =
     rw c.told.ensures (open_chunks_works g.D.Disk.state g.D.Disk.images g.met.D.Disk.only_now c.args.self.now c.open_write.new.self (writes_of c.args.self.now) c.requires.up c.requires.ready c.open_write.result c.open_write.ensures)
+
+pub returns-clause-fuse : goal.returns-clause-fuse
+returns-clause-fuse g c =
+    let burns = c.open_write.ensures.fuse c.requires.up.chunks in
+    chunk_burns g.D.Disk.state c.args.self.now c.open_write.new.self 4 c.open_write.result burns

@@ -1,8 +1,14 @@
 use Rattle.status_log.specs.Entry.{entry_of}
 use Rattle.store_commit.specs.Standing.{writes_of}
 use Rattle.store_commit.proofs.Works.{open_entry_works}
+use Rattle.store_commit.proofs.Fusing.{log_burns}
 use Rattle.store_commit.proofs.devs.TableDevs.open_entry.Goals as goal
 
 pub returns-clause-works : goal.returns-clause-works
 returns-clause-works g c =
     rw c.told.ensures (open_entry_works g.D.Disk.state g.D.Disk.images g.met.D.Disk.only_now c.args.self.now c.open_entry.new.self (writes_of c.args.self.now) (entry_of c.args.entry.now) c.requires.up c.requires.ready c.open_entry.result (c.open_entry.ensures.opens c.requires.ready.may.0.1))
+
+pub returns-clause-fuse : goal.returns-clause-fuse
+returns-clause-fuse g c =
+    let burns = (c.open_entry.ensures.opens c.requires.ready.may.0.1).fuse c.requires.up.log in
+    log_burns g.D.Disk.state c.args.self.now c.open_entry.new.self 4 c.open_entry.result burns

@@ -1,8 +1,14 @@
 use Rattle.row_store.specs.Reading.{terms_if}
 use Rattle.store_commit.specs.Standing.{writes_of}
 use Rattle.store_commit.proofs.Works.{put_sub_works}
+use Rattle.store_commit.proofs.Fusing.{row_burns}
 use Rattle.store_commit.proofs.devs.TableDevs.put_sub.Goals as goal
 
 pub returns-clause-works : goal.returns-clause-works
 returns-clause-works g c =
     rw c.told.ensures (put_sub_works g.D.Disk.state g.D.Disk.images g.met.D.Disk.only_now c.args.self.now c.put_sub.new.self (writes_of c.args.self.now) c.args.client (terms_if c.args.on (record { gate = c.args.gate; period = c.args.period; tolerance = c.args.tolerance })) c.requires.up c.requires.ready c.put_sub.result c.put_sub.ensures.puts)
+
+pub returns-clause-fuse : goal.returns-clause-fuse
+returns-clause-fuse g c =
+    let burns = c.put_sub.ensures.puts.fuse c.requires.up.rows in
+    row_burns g.D.Disk.state c.args.self.now c.put_sub.new.self 4 c.put_sub.result burns

@@ -1,7 +1,13 @@
 use Rattle.store_commit.specs.Standing.{writes_of}
 use Rattle.store_commit.proofs.Works.{put_table_works}
+use Rattle.store_commit.proofs.Fusing.{row_burns}
 use Rattle.store_commit.proofs.devs.TableDevs.put_table.Goals as goal
 
 pub returns-clause-works : goal.returns-clause-works
 returns-clause-works g c =
     rw c.told.ensures (put_table_works g.D.Disk.state g.D.Disk.images g.met.D.Disk.only_now c.args.self.now c.put_table.new.self (writes_of c.args.self.now) c.args.schema.now c.args.state c.requires.up c.requires.ready c.put_table.result c.put_table.ensures.puts)
+
+pub returns-clause-fuse : goal.returns-clause-fuse
+returns-clause-fuse g c =
+    let burns = c.put_table.ensures.puts.fuse c.requires.up.rows in
+    row_burns g.D.Disk.state c.args.self.now c.put_table.new.self 4 c.put_table.result burns

@@ -29,4 +29,11 @@ loop-name-preserved g c =
       chunks = i.chunks;
       rows = i.rows;
       log = i.log;
+      scanned = i.scanned;
     }
+
+pub returns-then-is_open-clause-scanned : goal.returns-then-is_open-clause-scanned
+returns-then-is_open-clause-scanned g c = c.loop-name.invariant.scanned
+
+pub returns-else-is_open-clause-scanned : goal.returns-else-is_open-clause-scanned
+returns-else-is_open-clause-scanned g c = c.loop-name.invariant.scanned

@@ -12,4 +12,5 @@ invariant-loop-name g l = record {
   chunks : l.self.chunks ≡ l.fn.self.chunks;
   rows : l.self.rows ≡ l.fn.self.rows;
   log : l.self.log ≡ l.fn.self.log;
+  scanned : l.self.scanned ≡ l.fn.self.scanned;
 }

@@ -1,0 +1,14 @@
+use Rattle.std.proofs.Common.{sym, arith}
+use Rattle.stab_base.specs.Codec.{IsBytes}
+use Rattle.plan_log.proofs.Again.{commit_takes}
+use Rattle.plan_log.proofs.device.committed_in.Goals as goal
+
+pub returns-in-Ok-clause-spelled : goal.returns-in-Ok-clause-spelled
+returns-in-Ok-clause-spelled c =
+    let fits : IsBytes c.args.payload.now = λ i. omega (arith, c.type_inv.payload i) in
+    (commit_takes c.args.payload.now c.in-Ok.commit fits c.in-Ok.ensures).0
+
+pub returns-in-Ok-clause-same : goal.returns-in-Ok-clause-same
+returns-in-Ok-clause-same c =
+    let fits : IsBytes c.args.payload.now = λ i. omega (arith, c.type_inv.payload i) in
+    sym (commit_takes c.args.payload.now c.in-Ok.commit fits c.in-Ok.ensures).1

@@ -1,0 +1,10 @@
+use Rattle.std.proofs.Common.{◌≡◌, drop}
+use Rattle.std.specs.List.{list_all}
+use Rattle.chunk_store.specs.Standing.{chunks, chunk_in}
+use Rattle.store_commit.specs.There.{kept, has_lens}
+use Rattle.store_commit.proofs.there.all_lens.Given as goal
+
+abbrev pub invariant-loop-object : goal.invariant-loop-object
+invariant-loop-object g l =
+    list_all (has_lens (kept (chunk_in (chunks g.D.Disk.state l.dev))) l.size) (drop l.object-index l.objects)
+    ≡ list_all (has_lens (kept (chunk_in (chunks g.D.Disk.state l.dev))) l.size) l.objects

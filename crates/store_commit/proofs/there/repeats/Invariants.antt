@@ -1,0 +1,5 @@
+use Rattle.store_commit.proofs.Theres.{IsMet}
+use Rattle.store_commit.proofs.there.repeats.Given as goal
+
+abbrev pub invariant-loop-name : goal.invariant-loop-name
+invariant-loop-name l = IsMet l.names l.met l.name-index

@@ -1,0 +1,7 @@
+use Rattle.client_journal.specs.Standing.{writes_of}
+use Rattle.client_journal.proofs.Works.{open_journal_works}
+use Rattle.client_journal.proofs.devs.Journal.open_journal.Goals as goal
+
+pub returns-clause-works : goal.returns-clause-works
+returns-clause-works g c =
+    rw c.told.ensures (open_journal_works g.D.Disk.state g.D.Disk.images g.met.D.Disk.only_now c.args.self.now c.open_write.new.self (writes_of c.args.self.now) c.requires.up c.requires.ready c.open_write.result c.open_write.ensures)

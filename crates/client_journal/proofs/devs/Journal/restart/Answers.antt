@@ -1,0 +1,10 @@
+use Rattle.client_journal.proofs.Restarts.{left_restarted, rests_restarted}
+use Rattle.client_journal.proofs.devs.Journal.restart.Goals as goal
+
+pub returns-clause-left : goal.returns-clause-left
+returns-clause-left g c start a b run =
+    left_restarted g.D.Disk.state g.D.Disk.images g.met.D.Disk.counts_now c.args.self.now _ c.restart.ensures.image c.restart-2.ensures.image c.restart-3.ensures.image start a b run
+
+pub returns-clause-rests : goal.returns-clause-rests
+returns-clause-rests g c up synced sound =
+    rests_restarted g.D.Disk.state g.D.Disk.images g.met.D.Disk.counts_now c.args.self.now _ c.restart.ensures.image c.restart-2.ensures.image c.restart-3.ensures.image g.met.D.Disk.only_now up synced sound

@@ -1,0 +1,82 @@
+use Rattle.std.proofs.Common.{◌≡◌, [], ◌∷◌, ◌++◌, List, map, length, arith, rules, Option, Ok, Err, refl, sym, ◌∙◌, ap, subst}
+use Rattle.std.specs.Prelude.{option_to_list}
+use Rattle.std.proofs.lemmas.Bool.Decides.{nat_tests}
+use Rattle.std.proofs.lemmas.Bool.{eqb-true}
+use Rattle.std.proofs.lemmas.Grind.{common_steps}
+use Rattle.std.proofs.lemmas.List.{nil_from_length}
+use Rattle.client_journal.specs.declared.task.Task.{Task}
+use Rattle.stab_base.specs.declared.step.Step.TheVariants.{Idle}
+use Rattle.client_journal.specs.Devs.{Write}
+use Rattle.client_journal.specs.Agenda.{Runs, IsMoment, IsRedoing}
+use Rattle.client_journal.specs.Standing.{write_of, writes_of, devs, IsReady, WorksOn}
+use Rattle.client_journal.proofs.Works.{works_named, works_failed, same_ready, same_works}
+use Rattle.client_journal.proofs.Moments.{goes_on}
+use Rattle.client_journal.proofs.devs.Journal.work.Goals as goal
+
+pub perform-requires-clause-ready : goal.perform-requires-clause-ready
+perform-requires-clause-ready g c =
+    let old = c.args.self.now in
+    let items : old.agenda.items ≡ c.unwrap-task.result ∷ c.pop_front.new.self.items = c.pop_front.ensures.items ∙ ap (λ (o : Option Task). option_to_list o ++ c.pop_front.new.self.items) c.unwrap-task.ensures in
+    same_ready g.D.Disk.state g.D.Disk.images old _ refl refl refl _ (subst (λ (l : List Task). IsReady g.D.Disk.state old (map write_of l)) items (c.requires.ready c.if-is_down.ensures))
+
+pub returns-in-Ok-clause-works : goal.returns-in-Ok-clause-works
+returns-in-Ok-clause-works g c up =
+    let old = c.args.self.now in
+    let s = g.D.Disk.state in
+    let i = g.D.Disk.images in
+    let w = write_of c.unwrap-task.result in
+    let ws = map write_of c.pop_front.new.self.items in
+    let items : old.agenda.items ≡ c.unwrap-task.result ∷ c.pop_front.new.self.items = c.pop_front.ensures.items ∙ ap (λ (o : Option Task). option_to_list o ++ c.pop_front.new.self.items) c.unwrap-task.ensures in
+    let works = same_works s i old _ refl refl refl w ws c.perform.new.self (Ok c.step-step.result) (works_named s i w ws _ c.perform.new.self c.step-step.result c.in-Ok.ensures.works) in
+    let rest : writes_of c.perform.new.self ≡ ws = ap (λ a. map write_of a.items) c.perform.ensures.agenda in
+    subst (λ (l : List Task). WorksOn s i old c.perform.new.self (Ok c.step-step.result) (map write_of l)) (sym items) (works, rest, c.step-step.ensures)
+
+pub returns-in-Err-clause-works : goal.returns-in-Err-clause-works
+returns-in-Err-clause-works g c up =
+    let old = c.args.self.now in
+    let s = g.D.Disk.state in
+    let i = g.D.Disk.images in
+    let w = write_of c.unwrap-task.result in
+    let ws = map write_of c.pop_front.new.self.items in
+    let items : old.agenda.items ≡ c.unwrap-task.result ∷ c.pop_front.new.self.items = c.pop_front.ensures.items ∙ ap (λ (o : Option Task). option_to_list o ++ c.pop_front.new.self.items) c.unwrap-task.ensures in
+    let works = same_works s i old _ refl refl refl w ws c.perform.new.self (Err c.in-Err.fault) (works_failed s i w ws _ c.perform.new.self c.in-Err.fault c.in-Err.ensures.works) in
+    let rest : writes_of c.perform.new.self ≡ ws = ap (λ a. map write_of a.items) c.perform.ensures.agenda in
+    subst (λ (l : List Task). WorksOn s i old c.perform.new.self (Err c.in-Err.fault) (map write_of l)) (sym items) (works, rest, tt)
+
+pub returns-in-Ok-clause-updating : goal.returns-in-Ok-clause-updating
+returns-in-Ok-clause-updating g c meaning before commit up runs =
+    let old = c.args.self.now in
+    goes_on g.D.Disk.state g.D.Disk.images g.met.D.Disk.only_now (IsMoment meaning before commit) old c.perform.new.self (Ok c.step-step.result) (writes_of old) refl (c.requires.ready up) (returns-in-Ok-clause-works g c up) runs
+
+pub returns-in-Ok-clause-redoing : goal.returns-in-Ok-clause-redoing
+returns-in-Ok-clause-redoing g c meaning before up runs =
+    let old = c.args.self.now in
+    goes_on g.D.Disk.state g.D.Disk.images g.met.D.Disk.only_now (IsRedoing meaning before) old c.perform.new.self (Ok c.step-step.result) (writes_of old) refl (c.requires.ready up) (returns-in-Ok-clause-works g c up) runs
+
+pub returns-in-Err-clause-updating : goal.returns-in-Err-clause-updating
+returns-in-Err-clause-updating g c meaning before commit up runs =
+    let old = c.args.self.now in
+    goes_on g.D.Disk.state g.D.Disk.images g.met.D.Disk.only_now (IsMoment meaning before commit) old c.perform.new.self (Err c.in-Err.fault) (writes_of old) refl (c.requires.ready up) (returns-in-Err-clause-works g c up) runs
+
+pub returns-in-Err-clause-redoing : goal.returns-in-Err-clause-redoing
+returns-in-Err-clause-redoing g c meaning before up runs =
+    let old = c.args.self.now in
+    goes_on g.D.Disk.state g.D.Disk.images g.met.D.Disk.only_now (IsRedoing meaning before) old c.perform.new.self (Err c.in-Err.fault) (writes_of old) refl (c.requires.ready up) (returns-in-Err-clause-works g c up) runs
+
+pub returns-then-is_empty-clause-updating : goal.returns-then-is_empty-clause-updating
+returns-then-is_empty-clause-updating g c meaning before commit up runs =
+    let old = c.args.self.now in
+    let s = g.D.Disk.state in
+    let test = c.if-is_empty.ensures in
+    let none : length old.agenda.items ≡ 0 = first_of (grind (arith, nat_tests), grind (arith, common_steps), search (rules, eqb-true)) in
+    let is : writes_of old ≡ [] = ap (map write_of) (nil_from_length old.agenda.items none) in
+    goes_on s g.D.Disk.images g.met.D.Disk.only_now (IsMoment meaning before commit) old old (Ok Idle) [] is (subst (λ (l : List Write). IsReady s old l) is (c.requires.ready up)) (refl, refl) (subst (λ (l : List Write). Runs (IsMoment meaning before commit) (devs s old) l) is runs)
+
+pub returns-then-is_empty-clause-redoing : goal.returns-then-is_empty-clause-redoing
+returns-then-is_empty-clause-redoing g c meaning before up runs =
+    let old = c.args.self.now in
+    let s = g.D.Disk.state in
+    let test = c.if-is_empty.ensures in
+    let none : length old.agenda.items ≡ 0 = first_of (grind (arith, nat_tests), grind (arith, common_steps), search (rules, eqb-true)) in
+    let is : writes_of old ≡ [] = ap (map write_of) (nil_from_length old.agenda.items none) in
+    goes_on s g.D.Disk.images g.met.D.Disk.only_now (IsRedoing meaning before) old old (Ok Idle) [] is (subst (λ (l : List Write). IsReady s old l) is (c.requires.ready up)) (refl, refl) (subst (λ (l : List Write). Runs (IsRedoing meaning before) (devs s old) l) is runs)

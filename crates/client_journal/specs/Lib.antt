@@ -1,0 +1,13 @@
+pub mod Names
+pub mod Devs
+pub mod Redone
+pub mod NamedSlots
+pub mod Agenda
+pub mod Standing
+pub mod Fault
+pub mod Fused
+pub mod Plan
+pub mod Made
+pub mod TakesOn
+pub mod Recover
+pub mod Asking

@@ -18,9 +18,10 @@ use Rattle.step_tables.specs.Members.{Among, put, put_at}
 use Rattle.step_tables.specs.Messages.{Send, Message, SyncRequest, SyncResponse, PullRequest, PullResponse}
 use Rattle.step_tables.specs.Sayings.{row_wrote, write_of, Saying, SaysNothing, SaysWrite, SaysEntry, SaysBack, SaysAck, SaysLoss, SaysConflict, SaysResolved, SaysRead, SaysPosition, saying, RowHeard}
 use Rattle.step_tables.specs.Sayings.{Heard, own, own_all}
-use Rattle.step_tables.specs.ClientMoves.{Slots, Plan, ClientDisk, ClientTask, Client, seen, applied, changed, told as told_by, slots_of, position_of, top}
+use Rattle.step_tables.specs.ClientMoves.{Slots, Plan, ClientDisk, ClientTask, Client, seen, applied, changed, told as told_by, retold, slots_of, position_of, top}
 use Rattle.step_tables.specs.Items.{latest, IsItemOf, IsItemAt, IsBase}
 use Rattle.step_tables.proofs.Lists.{among_left, among_cases, among_last, last_where-push, same_row_tells, find_left}
+use Rattle.world_tables.specs.Again.{may_repeat}
 use Rattle.client_laws.specs.Part.{Items, Sending, sendings, IsContent, Spans, IsAbove, IsOut, IsConflict, Fit, RowTied, TableTied, Tied, IsLapsed, Fits, IsPassed, IsOwn, AreOwn, IsSending, IsRequest}
 use Rattle.client_laws.specs.Part.{Requests, IsPlan, RestsOn, Rests, Runs, IsAt, ClientPart}
 
@@ -82,6 +83,7 @@ module _ (g : Scheme) (c : ℕ) (h : List Stored) (next : Stored) (is_next : nex
           later = above_grows row o.number (version_in slots.shadow) low k.later;
           clear = k.clear;
           unlost = k.unlost;
+          unacked = k.unacked;
           free = k.free;
           order = k.order;
         }
@@ -280,25 +282,25 @@ module _ (g : ℕ → Scheme) (c : ℕ) (h : Items) (table : ℕ) (next : Stored
     covers q position read low k = at_table (λ items. (row : List ℕ) → latest items row ≤ position → read row ≡ latest items row) q k
         (λ same. covered_grows (g q) c (h q) next (next_of q same) position read low k)
 
-    own_grows : (sent : List Sending) (t : Heard) (x : Saying) → Fits g c h sent t table next → IsOwn g c h sent t x → IsOwn g c grown sent t x
+    own_grows : (sent : List Sending) (t : Heard) (again : Bool) (x : Saying) → Fits g c h sent t table next → IsOwn g c h sent t again x → IsOwn g c grown sent t again x
     unfolding passed_grows
-    own_grows sent t SaysNothing fits k = tt
-    own_grows sent t (SaysWrite write) fits k = k
-    own_grows sent t (SaysEntry q entry) fits k = absurd k
-    own_grows sent t (SaysBack q version) fits k = absurd k
-    own_grows sent t (SaysAck client n q row version) fits k = (k.0, (k.1.0, item_of_stays q n row version k.1.0 k.1.1), k.2)
-    own_grows sent t (SaysLoss client n q row version) fits k = (k.0, k.1, passed_grows sent t n q row version fits (λ e. absurd (let s = k.1 in cc)) k.2)
-    own_grows sent t (SaysConflict client n q row version) fits k =
+    own_grows sent t again SaysNothing fits k = tt
+    own_grows sent t again (SaysWrite write) fits k = k
+    own_grows sent t again (SaysEntry q entry) fits k = absurd k
+    own_grows sent t again (SaysBack q version) fits k = absurd k
+    own_grows sent t again (SaysAck client n q row version) fits k = (k.0, (k.1.0, item_of_stays q n row version k.1.0 k.1.1), k.2)
+    own_grows sent t again (SaysLoss client n q row version) fits k = (k.0, k.1, passed_grows sent t n q row version fits (λ e. absurd (let s = k.1 in cc)) k.2, k.3)
+    own_grows sent t again (SaysConflict client n q row version) fits k =
         (k.0, k.1, (passed_grows sent t n q row version fits (λ e. absurd (let s = k.1 in cc)) k.2.0, k.2.1), k.3)
-    own_grows sent t (SaysResolved client n q row version) fits k = k
-    own_grows sent t (SaysRead client q row version) fits k = (k.0, (k.1.0, item_stays q row version k.1.0 k.1.1), k.2)
-    own_grows sent t (SaysPosition client q position) fits k =
+    own_grows sent t again (SaysResolved client n q row version) fits k = k
+    own_grows sent t again (SaysRead client q row version) fits k = (k.0, (k.1.0, item_stays q row version k.1.0 k.1.1, k.1.2))
+    own_grows sent t again (SaysPosition client q position) fits k =
         (k.0, k.1, covers q position (λ row. (t.at q row).read) k.3 k.2, longer_of q position k.3)
 
     all_grow : (sent : List Sending) (t : Heard) (fs : List Fact) → Fits g c h sent t table next → AreOwn g c h sent t fs → AreOwn g c grown sent t fs
     all_grow sent t [] fits k = tt
     all_grow sent t (f ∷ fs) fits k = (
-      own_grows sent t (saying f) fits k.0,
+      own_grows sent t (may_repeat f) (saying f) fits k.0,
       all_grow sent (own t (saying f)) fs (subst (λ (s : List Sending). Fits g c h s (own t (saying f)) table next) (append-nil sent) (fits_on sent [] t (f ∷ []) fits)) k.1,
     )
 
@@ -338,8 +340,8 @@ module _ (g : ℕ → Scheme) (c : ℕ) (h : Items) (table : ℕ) (next : Stored
     rests_grow sent d t (Some p) fits k =
         let behind = subst (λ (s : List Sending). Fits g c h s (own_all t (told_by p)) table next) (append-nil sent) (fits_on sent [] t (told_by p) fits) in
         record {
-          now = all_grow sent t (told_by p) fits k.now;
-          again = all_grow sent (own_all t (told_by p)) (told_by p) behind k.again;
+          now = all_grow sent t (retold p) fits k.now;
+          again = all_grow sent (own_all t (told_by p)) (retold p) behind k.again;
           same = k.same;
           tied = tied_grows sent (applied p d) (own_all t (told_by p)) k.tied;
         }

@@ -22,16 +22,18 @@ use Rattle.step_tables.specs.ClientMoves.{reads_over, Placed, placed, row_placed
 use Rattle.step_tables.specs.Items.{latest, IsItemOf, IsItemAt, IsYours, IsChange}
 use Rattle.step_tables.proofs.Lists.{same_row_tells}
 use Rattle.step_tables.proofs.Maps.{place_here, place_twice, put_twice}
-use Rattle.client_laws.specs.Part.{Items, Sending, OfTable, Ours, IsContent, IsAbove, write_for, main_for, Fit, RowTied, TableTied, Tied, IsLapsed, IsPassed, IsOwn, AreOwn, IsPlan}
+use Rattle.world_tables.specs.Again.{may_repeat, IsUp}
+use Rattle.client_laws.specs.Part.{Items, Sending, OfTable, Ours, IsContent, IsAbove, write_for, main_for, Fit, RowTied, TableTied, Tied, IsLapsed, IsPassed, IsOwn, AreOwn, IsNewPlan}
 use Rattle.client_laws.proofs.Grows.{some_is}
 use Rattle.client_laws.proofs.RowFits.{without_is, unsent_none, own_only, freed_fit, raise_fit, conflict_fit, heard_fit}
+use Rattle.client_laws.proofs.PlanRuns.{own-redone, new_plan}
 use Rattle.client_laws.proofs.Ties.{Elsewhere, read_latest, tied_row_at, tied_position}
 use Rattle.client_laws.proofs.Plans.{at_row_twice, place_apart, open_behind, closed_acked, row_tied, requests_here, exact_causal}
 
 -- what may be said again where it changes nothing
 abbrev Still : (ℕ → Scheme) → ℕ → Items → List Sending → Heard → List Fact → Type 0
 Still g c h sent u [] = Unit {0}
-Still g c h sent u (f ∷ fs) = (own u (saying f) ≡ u) × IsOwn g c h sent u (saying f) × Still g c h sent u fs
+Still g c h sent u (f ∷ fs) = (own u (saying f) ≡ u) × IsOwn g c h sent u (may_repeat f) (saying f) × Still g c h sent u fs
 
 still_own : (g : ℕ → Scheme) (c : ℕ) (h : Items) (sent : List Sending) (u : Heard) (fs : List Fact) → Still g c h sent u fs → AreOwn g c h sent u fs
 still_own g c h sent u [] k = tt
@@ -53,7 +55,7 @@ reads_is Eventual a b e k = absurd cc
 
 module _ (g : ℕ → Scheme) (c : ℕ) (h : Items) (sent : List Sending) (t : Heard) (ours : Ours g c h sent t) (d : ClientDisk) (k : Tied g c h sent d t)
     (table : ℕ) (o : TableDisk) (is : table_at d table ≡ Some o) (header : Header) (to : ℕ)
-    (change : IsChange c (h table) o.position to header) where
+    (change : IsChange c (h table) o.position to header) (rises : o.position < to) where
   abbrev row : List ℕ
   row = header.row
 
@@ -92,8 +94,8 @@ module _ (g : ℕ → Scheme) (c : ℕ) (h : Items) (sent : List Sending) (t : H
       let low = of.last i change.is.stands in
       subst (λ (z : List ℕ). w ≤ latest (h table) z) change.is.row_is (subst (λ (n : ℕ). n ≤ latest (h table) i.entry.row) change.is.version_is low)
 
-  told_position : t.position table ≤ to
-  told_position = let e = before.told in let up = change.above in omega (arith, e, up)
+  told_position : t.position table < to
+  told_position = let e = before.told in omega (arith, e, rises)
 
   -- ---- the position behind a row
 
@@ -118,19 +120,19 @@ module _ (g : ℕ → Scheme) (c : ℕ) (h : Items) (sent : List Sending) (t : H
   abbrev heard_of : RowHeard → Heard
   heard_of v = record t { at = put_at t.at table row v; position = put t.position table to }
 
-  position_now : (f : RowHeard → RowHeard) → (f x).read ≡ w → IsOwn g c h sent (at_row t table row f) (SaysPosition c table to)
+  position_now : (f : RowHeard → RowHeard) → (f x).read ≡ w → IsOwn g c h sent (at_row t table row f) false (SaysPosition c table to)
   position_now f read = (
     refl,
-    told_position,
+    inl told_position,
     covered (λ r. put_at t.at table row (f x) table r) (λ r apart. place_apart t.at table row (f x) table r (inr apart))
         (ap (λ (y : RowHeard). y.read) (place_here t.at table row (f x)) ∙ read),
     to_low,
   )
 
-  position_again : (v : RowHeard) → v.read ≡ w → IsOwn g c h sent (heard_of v) (SaysPosition c table to)
+  position_again : (v : RowHeard) → v.read ≡ w → IsOwn g c h sent (heard_of v) true (SaysPosition c table to)
   position_again v read = (
     refl,
-    grind (arith, nat_tests),
+    inr (refl, grind (arith, nat_tests)),
     covered (λ r. put_at t.at table row v table r) (λ r apart. place_apart t.at table row v table r (inr apart))
         (ap (λ (y : RowHeard). y.read) (place_here t.at table row v) ∙ read),
     to_low,
@@ -160,35 +162,34 @@ module _ (g : ℕ → Scheme) (c : ℕ) (h : Items) (sent : List Sending) (t : H
 
   -- a plan that takes the row and moves the position
   pub moved_plan_is : (s : Slots) (fs : List ClientFact) (v : RowHeard) → v.read ≡ w
-      → own_all t (map facts.Client fs) ≡ heard_of v → AreOwn g c h sent t (map facts.Client fs) → Still g c h sent (heard_of v) (map facts.Client fs)
-      → RowTied_ s v → IsPlan g c h sent d t (record (slots_plan d table row s fs) { position = Some to })
-  moved_plan_is s fs v read heard now still here = record {
-    now = now;
-    again = subst (λ (y : Heard). AreOwn g c h sent y (map facts.Client fs)) (sym heard) (still_own g c h sent (heard_of v) (map facts.Client fs) still);
-    same = subst (λ (y : Heard). own_all y (map facts.Client fs) ≡ y) (sym heard) (still_same g c h sent (heard_of v) (map facts.Client fs) still);
-    tied = subst (λ (y : Heard). Tied g c h sent (applied (record (slots_plan d table row s fs) { position = Some to }) d) y) (sym heard)
-        (tied_row_at g c h sent d t k table o is d.last row s (heard_of v)
-        (record { more = []; writes = sym (append-nil t.writes); at = place_apart t.at table row v; position = λ q apart. grind (arith, nat_tests, apart) }) k.last
-        (subst (λ (y : RowHeard). RowTied_ s y) (sym (place_here t.at table row v)) here) to fs (table_after v read));
-  }
+      → own_all t (map facts.Client fs) ≡ heard_of v → AreOwn g c h sent t (map facts.Client fs) → Still g c h sent (heard_of v) (map facts.Redone fs)
+      → RowTied_ s v → IsNewPlan g c h sent d t (record (slots_plan d table row s fs) { position = Some to })
+  moved_plan_is s fs v read heard now still here =
+      let p : Plan = record (slots_plan d table row s fs) { position = Some to } in
+      new_plan g c h sent d t p now
+      (subst (λ (y : Heard). AreOwn g c h sent y (map facts.Redone fs)) (sym heard) (still_own g c h sent (heard_of v) (map facts.Redone fs) still))
+      (subst (λ (y : Heard). own_all y (map facts.Client fs) ≡ y) (sym heard)
+      (sym (own-redone (heard_of v) fs) ∙ still_same g c h sent (heard_of v) (map facts.Redone fs) still))
+      (subst (λ (y : Heard). Tied g c h sent (applied p d) y) (sym heard)
+      (tied_row_at g c h sent d t k table o is d.last row s (heard_of v)
+      (record { more = []; writes = sym (append-nil t.writes); at = place_apart t.at table row v; position = λ q apart. grind (arith, nat_tests, apart) }) k.last
+      (subst (λ (y : RowHeard). RowTied_ s y) (sym (place_here t.at table row v)) here) to fs (table_after v read)))
 
   -- ---- the position alone, where the row isn't newer
 
-  pub position_is_plan : w ≤ top slots.conflict slots.shadow → IsPlan g c h sent d t (position_plan c d table to)
+  pub position_is_plan : w ≤ top slots.conflict slots.shadow → IsNewPlan g c h sent d t (position_plan c d table to)
   position_is_plan old =
       let u : Heard = record t { position = put t.position table to } in
       let heard : record t { position = put t.position table (max (t.position table) to) } ≡ u =
       ap (λ (n : ℕ). record t { position = put t.position table n }) (grind (arith, told_position)) in
-      let fs : List Fact = facts.Client (facts.Position c table to) ∷ [] in
-      let again : Still g c h sent u fs = (grind (arith, nat_tests), (refl, grind (arith, nat_tests), all_read, to_low), tt) in
-      record {
-        now = ((refl, told_position, all_read, to_low), tt);
-        again = subst (λ (y : Heard). AreOwn g c h sent y fs) (sym heard) (still_own g c h sent u fs again);
-        same = subst (λ (y : Heard). own_all y fs ≡ y) (sym heard) (still_same g c h sent u fs again);
-        tied = subst (λ (y : Heard). Tied g c h sent (applied (position_plan c d table to) d) y) (sym heard)
-            (tied_position g c h sent d t k table o is to (facts.Position c table to ∷ []) u refl (λ q r. refl) (λ q apart. grind (arith, nat_tests, apart))
-            (record { told = grind (arith, nat_tests); low = to_low; covered = all_read }));
-      }
+      let fs : List Fact = facts.Redone (facts.Position c table to) ∷ [] in
+      let again : Still g c h sent u fs = (grind (arith, nat_tests), (refl, inr (refl, grind (arith, nat_tests)), all_read, to_low), tt) in
+      new_plan g c h sent d t (position_plan c d table to) ((refl, inl told_position, all_read, to_low), tt)
+      (subst (λ (y : Heard). AreOwn g c h sent y fs) (sym heard) (still_own g c h sent u fs again))
+      (subst (λ (y : Heard). own_all y fs ≡ y) (sym heard) (still_same g c h sent u fs again))
+      (subst (λ (y : Heard). Tied g c h sent (applied (position_plan c d table to) d) y) (sym heard)
+      (tied_position g c h sent d t k table o is to (facts.Position c table to ∷ []) u refl (λ q r. refl) (λ q apart. grind (arith, nat_tests, apart))
+      (record { told = grind (arith, nat_tests); low = to_low; covered = all_read })))
     where
       all_read : (r : List ℕ) → latest (h table) r ≤ to → (t.at table r).read ≡ latest (h table) r
       all_read r le = by_row (same_row_tells r row)
@@ -313,7 +314,7 @@ module _ (g : ℕ → Scheme) (c : ℕ) (h : Items) (sent : List Sending) (t : H
   -- ---- the plans
 
   abbrev IsRowPlan : Placed → Type 0
-  IsRowPlan p = IsPlan g c h sent d t (row_plan c d table row to p)
+  IsRowPlan p = IsNewPlan g c h sent d t (row_plan c d table row to p)
 
   module _ (over : top slots.conflict slots.shadow < w) where
     shadow_low : version_in slots.shadow < w
@@ -331,7 +332,7 @@ module _ (g : ℕ → Scheme) (c : ℕ) (h : Items) (sent : List Sending) (t : H
     new_tied : (base : Slots) (y : RowHeard) → base.conflict ≡ None → base.main ≡ option_map main_for (open_in (g table) (open_of y)) → y.read ≤ w → y.shadow ≤ y.read
         → Fits_ (record base { shadow = Some (shadow_of header) }) y → RowTied_ (record base { shadow = Some (shadow_of header) }) (row_saw w y)
     new_tied base y none main read under fit = record {
-      fit = heard_fit (g table) c (h table) table row t.writes y sent (record base { shadow = Some (shadow_of header) }) (row_saw w y) refl refl fit;
+      fit = heard_fit (g table) c (h table) table row t.writes y sent (record base { shadow = Some (shadow_of header) }) (row_saw w y) refl refl (λ q at e. e) fit;
       main = main;
       read = grind (arith, none, read);
       level = λ free. grind (arith, read, under);
@@ -393,9 +394,9 @@ module _ (g : ℕ → Scheme) (c : ℕ) (h : Items) (sent : List Sending) (t : H
           let low = read_low in
           let read : v.read ≡ w = grind (arith, low) in
           moved_plan_is (record slots { shadow = Some (shadow_of header) }) (facts.New c table row w ∷ facts.Position c table to ∷ []) v read (heard_moved v)
-          ((refl, (i, change.is), omega (arith, low)), (position_now (row_saw w) read, tt)) (
+          ((refl, (i, change.is, inl (inl low))), (position_now (row_saw w) read, tt)) (
             row_still v (row_saw w) (grind arith),
-            (refl, (i, change.is), (let e = ap (λ (y : RowHeard). y.read) (place_here t.at table row v) in omega (arith, e, read))),
+            (refl, (i, change.is, inl (inr (refl, ap (λ (y : RowHeard). y.read) (place_here t.at table row v) ∙ read)))),
             (position_still v, position_again v read, tt),
           )
           (new_tied slots x none tied.main (omega (arith, low)) tied.under fit)
@@ -407,13 +408,13 @@ module _ (g : ℕ → Scheme) (c : ℕ) (h : Items) (sent : List Sending) (t : H
           let low = read_low in
           let read : v.read ≡ w = grind (arith, low) in
           moved_plan_is (record slots { conflict = Some (shadow_of header); out = None }) (facts.Conflict c m.number table row w ∷ facts.Position c table to ∷ []) v read (heard_moved v)
-          ((refl, causal, (passed slots x tied.fit shadow_low out_above main_above causal m at t refl, other), omega (arith, low)), (position_now (row_met m.number w) read, tt)) (
+          ((refl, causal, (passed slots x tied.fit shadow_low out_above main_above causal m at t refl, other), inl low), (position_now (row_met m.number w) read, tt)) (
             row_still v (row_met m.number w) (grind (arith, nat_tests)),
             (
               refl,
               causal,
               (passed slots x tied.fit shadow_low out_above main_above causal m at (heard_of v) refl, other),
-              (let e = ap (λ (y : RowHeard). y.read) (place_here t.at table row v) in omega (arith, e, read)),
+              inr (refl, ap (λ (y : RowHeard). y.read) (place_here t.at table row v) ∙ read),
             ),
             (position_still v, position_again v read, tt),
           )
@@ -448,8 +449,35 @@ module _ (g : ℕ → Scheme) (c : ℕ) (h : Items) (sent : List Sending) (t : H
       y_under : y.shadow ≤ y.read
       y_under = let under = tied.under in grind (arith, under)
 
+      unacked : x.acked p.number ≡ false
+      unacked = (tied.fit.out p waits).unacked
+
+      -- behind the acknowledgement the row is above what was read, or was read by it
+      abbrev acked_at : Heard
+      acked_at = at_row t table row (row_acked p.number version)
+
+      read_here : (acked_at.at table row).read ≡ version
+      read_here = ap (λ (s : RowHeard). s.read) (place_here t.at table row y) ∙ (let low = after in grind (arith, low))
+
+      same_item : version ≡ w → i.entry.client ≡ c
+      same_item e = subst (λ (z : Stored). z.entry.client ≡ c) (of.one item i stands.stands change.is.stands (stands.version_is ∙ (e ∙ sym change.is.version_is))) stands.client_is
+
+      below : i.entry.client ≢ c → (acked_at.at table row).read < w
+      below other = by_test (version == w) refl
+        where
+          by_test : (b : Bool) → (version == w) ≡ b → (acked_at.at table row).read < w
+          by_test true e = absurd (other (same_item (grind (arith, nat_tests, e))))
+          by_test false e = let r = read_here in grind (arith, nat_tests, e, r, up_to)
+
+      read_on : IsUp false (acked_at.at table row).read w ⊎ ((i.entry.client ≡ c) × ((acked_at.at table row).read ≡ w))
+      read_on = by_test (version == w) refl
+        where
+          by_test : (b : Bool) → (version == w) ≡ b → IsUp false (acked_at.at table row).read w ⊎ ((i.entry.client ≡ c) × ((acked_at.at table row).read ≡ w))
+          by_test true e = let same : version ≡ w = grind (arith, nat_tests, e) in inr (same_item same, read_here ∙ same)
+          by_test false e = inl (inl (let r = read_here in grind (arith, nat_tests, e, r, up_to)))
+
       base_fit : Fits_ base y
-      base_fit = heard_fit (g table) c (h table) table row t.writes x sent base y refl refl (freed_fit (g table) c (h table) table row t.writes x sent slots p tied.fit waits)
+      base_fit = heard_fit (g table) c (h table) table row t.writes x sent base y refl refl (λ q at. absurd cc) (freed_fit (g table) c (h table) table row t.writes x sent slots p tied.fit waits)
 
       base_main : base.main ≡ option_map main_for (open_in (g table) (open_of y))
       base_main = ap (without p.number) tied.main ∙ open_behind (g table) x.last x y p.number (closed_acked x p.number version)
@@ -469,21 +497,21 @@ module _ (g : ℕ → Scheme) (c : ℕ) (h : Items) (sent : List Sending) (t : H
           moved_plan_is (record base { shadow = Some (shadow_of header) })
           (facts.Acked c p.number table row version ∷ facts.New c table row w ∷ facts.Position c table to ∷ []) v read
           (ap (λ (s : ℕ → List ℕ → RowHeard). record t { at = s; position = put t.position table (max (t.position table) to) }) (two_facts (row_saw w)) ∙ heard_moved v) (
-            (refl, (item, stands), inr (omega (arith, low))),
+            (refl, (item, stands), inl (unacked, low)),
             (
-              (refl, (i, change.is), (let e = ap (λ (s : RowHeard). s.read) (place_here t.at table row y) in let r = y_read in omega (arith, e, r))),
+              (refl, (i, change.is, read_on)),
               (
-                subst (λ (s : Heard). IsOwn g c h sent s (SaysPosition c table to)) (sym (at_row_twice t table row (row_acked p.number version) (row_saw w)))
+                subst (λ (s : Heard). IsOwn g c h sent s false (SaysPosition c table to)) (sym (at_row_twice t table row (row_acked p.number version) (row_saw w)))
                     (position_now (λ (s : RowHeard). row_saw w (row_acked p.number version s)) read),
                 tt,
               ),
             ),
           ) (
             row_still v (row_acked p.number version) (grind (arith, nat_tests, up_to)),
-            (refl, (item, stands), inl (subst (λ (s : RowHeard). s.acked p.number ≡ true) (sym (place_here t.at table row v)) (grind (arith, nat_tests)))),
+            (refl, (item, stands), inr (refl, subst (λ (s : RowHeard). s.acked p.number ≡ true) (sym (place_here t.at table row v)) (grind (arith, nat_tests)))),
             (
               row_still v (row_saw w) (grind arith),
-              (refl, (i, change.is), (let e = ap (λ (s : RowHeard). s.read) (place_here t.at table row v) in omega (arith, e, read))),
+              (refl, (i, change.is, inl (inr (refl, ap (λ (s : RowHeard). s.read) (place_here t.at table row v) ∙ read)))),
               (position_still v, position_again v read, tt),
             ),
           )
@@ -502,30 +530,30 @@ module _ (g : ℕ → Scheme) (c : ℕ) (h : Items) (sent : List Sending) (t : H
           moved_plan_is (record base { conflict = Some (shadow_of header); out = None })
           (facts.Acked c p.number table row version ∷ facts.Conflict c m.number table row w ∷ facts.Position c table to ∷ []) v read
           (ap (λ (s : ℕ → List ℕ → RowHeard). record t { at = s; position = put t.position table (max (t.position table) to) }) (two_facts (row_met m.number w)) ∙ heard_moved v) (
-            (refl, (item, stands), inr (omega (arith, low))),
+            (refl, (item, stands), inl (unacked, low)),
             (
               (
                 refl,
                 causal,
                 (passed base y base_fit shadow_low none_waits none_main causal m at (at_row t table row (row_acked p.number version)) refl, other),
-                (let e = ap (λ (s : RowHeard). s.read) (place_here t.at table row y) in let r = y_read in omega (arith, e, r)),
+                inl (below other),
               ),
               (
-                subst (λ (s : Heard). IsOwn g c h sent s (SaysPosition c table to)) (sym (at_row_twice t table row (row_acked p.number version) (row_met m.number w)))
+                subst (λ (s : Heard). IsOwn g c h sent s false (SaysPosition c table to)) (sym (at_row_twice t table row (row_acked p.number version) (row_met m.number w)))
                     (position_now (λ (s : RowHeard). row_met m.number w (row_acked p.number version s)) read),
                 tt,
               ),
             ),
           ) (
             row_still v (row_acked p.number version) (grind (arith, nat_tests, up_to)),
-            (refl, (item, stands), inl (subst (λ (s : RowHeard). s.acked p.number ≡ true) (sym (place_here t.at table row v)) (grind (arith, nat_tests)))),
+            (refl, (item, stands), inr (refl, subst (λ (s : RowHeard). s.acked p.number ≡ true) (sym (place_here t.at table row v)) (grind (arith, nat_tests)))),
             (
               row_still v (row_met m.number w) (grind (arith, nat_tests)),
               (
                 refl,
                 causal,
                 (passed base y base_fit shadow_low none_waits none_main causal m at (heard_of v) refl, other),
-                (let e = ap (λ (s : RowHeard). s.read) (place_here t.at table row v) in omega (arith, e, read)),
+                inr (refl, ap (λ (s : RowHeard). s.read) (place_here t.at table row v) ∙ read),
               ),
               (position_still v, position_again v read, tt),
             ),

@@ -26,11 +26,11 @@ use Rattle.step_tables.specs.ClientMoves.{write_by, write_free, write_idle, writ
 use Rattle.step_tables.specs.ClientMoves.{sync_first, sync_in, sync_step, next_in, next_step, choose, over_fitting, over_plan, theirs_plan, resolve_over, resolve_in, resolve_step, ack_plan, lost_plan}
 use Rattle.step_tables.specs.ClientMoves.{outcome_taken, response_taken, response_in, row_placed, next_pull, row_plan, position_plan, top, row_taken, pulled_taken, pulled_in, take_step, client_step}
 use Rattle.step_tables.specs.Items.{IsItemOf, IsChange}
-use Rattle.client_laws.specs.Part.{Items, Sending, sendings, Ours, RowTied, Tied, IsOpened, AreOwn, Requests, IsPlan, RestsOn, Rests, Runs, IsAt, ClientPart, IsRefused, IsOutcome, IsHeader, IsMessage}
-use Rattle.client_laws.specs.Part.{IsFair, ShowsRow, IsShown, IsAnswer, ClientLaw}
+use Rattle.client_laws.specs.Part.{Items, Sending, sendings, Ours, RowTied, Tied, IsOpened, AreOwn, Requests, IsPlan, IsNewPlan, RestsOn, Rests, Runs, IsAt, ClientPart, IsRefused, IsOutcome}
+use Rattle.client_laws.specs.Part.{IsHeader, IsMessage, IsFair, ShowsRow, IsShown, IsAnswer, ClientLaw}
 use Rattle.client_laws.proofs.Grows.{some_is}
 use Rattle.client_laws.proofs.Disks.{opened_by, applied_at, applied_last, put_row_slots}
-use Rattle.client_laws.proofs.PlanRuns.{own-retold, are_own-retold, rest_runs, plan_runs, told_plan}
+use Rattle.client_laws.proofs.PlanRuns.{own-retold, rest_runs, plan_runs, told_plan}
 use Rattle.client_laws.proofs.Plans.{write_is_plan, strong_is_plan, send_is_plan, ack_is_plan, lost_is_plan, over_is_plan, theirs_is_plan}
 use Rattle.client_laws.proofs.Headers.{position_is_plan, row_plan_is}
 use Rattle.client_laws.proofs.Sends.{request_is, sent_tied, IsSent, all_resent, rows_found, IsFirst, first_is, sending_for}
@@ -54,17 +54,17 @@ module _ (g : ℕ → Scheme) (c : ℕ) (h : Items) (sent : List Sending) (t : H
 
   -- a plan is begun by an idle client
   begun_law : (move : ClientMove) (d : ClientDisk) (answer : Answer) (p : Plan) (sends : List Send) → IsAnswer g c h sent t move answer → Runs g c h sent d t []
-      → IsPlan g c h sent d t p → Requests g c h (own_all t (told p)) sends → Tied g c h (sent ++ sendings sends) (applied p d) (own_all t (told p))
+      → IsNewPlan g c h sent d t p → Requests g c h (own_all t (told p)) sends → Tied g c h (sent ++ sendings sends) (applied p d) (own_all t (told p))
       → ClientLaw g c h sent t move (begun d answer p sends)
   begun_law move d answer p sends a idle plan requests after =
       quiet_law move d _ answer a (plan_runs g c h sent d t p sends (tied_of d [] idle) (rests_of d idle) plan requests after)
 
   -- a plan that sends no request
   silent_law : (move : ClientMove) (d : ClientDisk) (answer : Answer) (p : Plan) (sends : List Send) → IsAnswer g c h sent t move answer → Runs g c h sent d t []
-      → IsPlan g c h sent d t p → Requests g c h (own_all t (told p)) sends → sendings sends ≡ [] → ClientLaw g c h sent t move (begun d answer p sends)
+      → IsNewPlan g c h sent d t p → Requests g c h (own_all t (told p)) sends → sendings sends ≡ [] → ClientLaw g c h sent t move (begun d answer p sends)
   silent_law move d answer p sends a idle plan requests none =
       begun_law move d answer p sends a idle plan requests
-      (subst (λ (s : List Sending). Tied g c h s (applied p d) (own_all t (told p))) (sym (ap (λ (l : List Sending). sent ++ l) none ∙ append-nil sent)) plan.tied)
+      (subst (λ (s : List Sending). Tied g c h s (applied p d) (own_all t (told p))) (sym (ap (λ (l : List Sending). sent ++ l) none ∙ append-nil sent)) plan.plan.tied)
 
   -- ---- work, crashes and starts
 
@@ -109,7 +109,7 @@ module _ (g : ℕ → Scheme) (c : ℕ) (h : Items) (sent : List Sending) (t : H
           (subst (λ (s : List Sending). Tied g c h s (applied p d) u) (sym (append-nil sent)) plan.tied) in
           record {
             answer = tt;
-            facts = are_own-retold g c h sent t p plan.now;
+            facts = plan.now;
             sends = tt;
             part = subst (λ (y : Heard). Runs g c h (sent ++ []) d y (rest_of p (facts.ClientRecovered c ∷ []) [])) (sym (own-retold t p))
                 (subst (λ (s : List Sending). Runs g c h s d u (rest_of p (facts.ClientRecovered c ∷ []) [])) (sym (append-nil sent)) runs);
@@ -159,10 +159,10 @@ module _ (g : ℕ → Scheme) (c : ℕ) (h : Items) (sent : List Sending) (t : H
         let u : Heard = own_all t (told p) in
         let plan = strong_is_plan g c h sent t ours d tied table row o is strong content in
         let waits : (slots_of (applied p d) table row).out ≡ Some out = ap (λ (s : Slots). s.out) (slots_after table o is (d.last + 1) row (record (slots_at o row) { out = Some out }) p.facts) in
-        let number : d.last + 1 ≡ length u.writes = sym (applied_last p d) ∙ plan.tied.last in
+        let number : d.last + 1 ≡ length u.writes = sym (applied_last p d) ∙ plan.plan.tied.last in
         begun_law (Write table row content) d _ p (request_for c table row out ∷ []) tt idle plan
-        (request_is g c h sent (applied p d) u plan.tied table row out waits, tt)
-        (sent_tied g c h sent (applied p d) u plan.tied table row out waits (omega (arith, number)))
+        (request_is g c h sent (applied p d) u plan.plan.tied table row out waits, tt)
+        (sent_tied g c h sent (applied p d) u plan.plan.tied table row out waits (omega (arith, number)))
 
     weak_law : (table : ℕ) (row : List ℕ) (o : TableDisk) (content : Content) → table_at d table ≡ Some o → g table ≢ Strong → (slots_at o row).conflict ≡ None
         → ClientLaw g c h sent t (Write table row content) (begun d (facts.Number (d.last + 1)) (write_plan c d table row (slots_at o row) content) [])
@@ -203,13 +203,13 @@ module _ (g : ℕ → Scheme) (c : ℕ) (h : Items) (sent : List Sending) (t : H
             let slots_same : s ≡ record x.slots { out = Some x.out } =
             ap (λ (z : Slots). record z { out = Some (out_of k.main (version_in z.shadow)) }) same
             ∙ ap (λ (q : InFlight). record x.slots { out = Some q }) (sym k.sends) in
-            let plan : IsPlan g c h more d t (send_plan d table x) =
-            subst (λ (z : Slots). IsPlan g c h more d t (slots_plan d table x.row z [])) slots_same
+            let plan : IsNewPlan g c h more d t (send_plan d table x) =
+            subst (λ (z : Slots). IsNewPlan g c h more d t (slots_plan d table x.row z [])) slots_same
             (send_is_plan g c h more t again.0.ours d again.0.tied table x.row o is k.main (ap (λ (z : Slots). z.main) same ∙ k.main_is) (ap (λ (z : Slots). z.out) same ∙ k.out_is)
             (ap (λ (z : Slots). z.conflict) same ∙ k.free)) in
             let waits : (slots_of (applied (send_plan d table x) d) table x.row).out ≡ Some x.out =
             ap (λ (z : Slots). z.out) (slots_after table o is d.last x.row (record x.slots { out = Some x.out }) []) in
-            let written = ((plan.tied.rows table x.row).fit.out x.out waits).written in
+            let written = ((plan.plan.tied.rows table x.row).fit.out x.out waits).written in
             let numbered : x.out.number ≤ length t.writes = (ours.numbered x.out.number _ written).3 in
             record {
               answer = tt;
@@ -218,8 +218,8 @@ module _ (g : ℕ → Scheme) (c : ℕ) (h : Items) (sent : List Sending) (t : H
               part = plan_runs g c h more d t (send_plan d table x) (request_for c table x.row x.out ∷ [])
                   (subst (λ (e : ClientDisk). Tied g c h more e t) (sym seen_is) again.0.tied)
                   (subst (λ (q : Option Plan). RestsOn g c h more d t q) (sym idle.1) again.0.tied) plan
-                  (request_is g c h more (applied (send_plan d table x) d) t plan.tied table x.row x.out waits, tt)
-                  (sent_tied g c h more (applied (send_plan d table x) d) t plan.tied table x.row x.out waits numbered);
+                  (request_is g c h more (applied (send_plan d table x) d) t plan.plan.tied table x.row x.out waits, tt)
+                  (sent_tied g c h more (applied (send_plan d table x) d) t plan.plan.tied table x.row x.out waits numbered);
             }
 
     -- ---- resolving
@@ -300,9 +300,9 @@ module _ (g : ℕ → Scheme) (c : ℕ) (h : Items) (sent : List Sending) (t : H
         by_test true = (pull_request u table pulled.to, refl)
         by_test false = (tt, refl)
 
-    row_law : (pulled : Pulled) (o : TableDisk) → table_at d pulled.table ≡ Some o → (header : Header) → IsChange c (h pulled.table) o.position pulled.to header
+    row_law : (pulled : Pulled) (o : TableDisk) → table_at d pulled.table ≡ Some o → (header : Header) → IsChange c (h pulled.table) o.position pulled.to header → o.position < pulled.to
         → ClientLaw g c h sent t (Take (PullResponse pulled)) (row_taken c d pulled o header (slots_at o header.row))
-    row_law pulled o is header change = by_test (nat_le header.version (top (slots_at o header.row).conflict (slots_at o header.row).shadow)) refl
+    row_law pulled o is header change rises = by_test (nat_le header.version (top (slots_at o header.row).conflict (slots_at o header.row).shadow)) refl
       where
         old_law : header.version ≤ top (slots_at o header.row).conflict (slots_at o header.row).shadow
             → ClientLaw g c h sent t (Take (PullResponse pulled)) (begun d facts.Done (position_plan c d pulled.table pulled.to) (next_pull c pulled.table pulled))
@@ -310,7 +310,7 @@ module _ (g : ℕ → Scheme) (c : ℕ) (h : Items) (sent : List Sending) (t : H
             let p : Plan = position_plan c d pulled.table pulled.to in
             let requests = next_requests (own_all t (told p)) pulled.table pulled in
             silent_law (Take (PullResponse pulled)) d facts.Done p (next_pull c pulled.table pulled) tt idle
-            (position_is_plan g c h sent t ours d tied pulled.table o is header pulled.to change old) requests.0 requests.1
+            (position_is_plan g c h sent t ours d tied pulled.table o is header pulled.to change rises old) requests.0 requests.1
 
         new_law : (s : Scheme) → s ≡ g pulled.table → top (slots_at o header.row).conflict (slots_at o header.row).shadow < header.version
             → ClientLaw g c h sent t (Take (PullResponse pulled))
@@ -319,8 +319,8 @@ module _ (g : ℕ → Scheme) (c : ℕ) (h : Items) (sent : List Sending) (t : H
             let p : Plan = row_plan c d pulled.table header.row pulled.to (row_placed s c pulled.table header (slots_at o header.row) (slots_at o header.row).out) in
             let requests = next_requests (own_all t (told p)) pulled.table pulled in
             silent_law (Take (PullResponse pulled)) d facts.Done p (next_pull c pulled.table pulled) tt idle
-            (subst (λ (x : Scheme). IsPlan g c h sent d t (row_plan c d pulled.table header.row pulled.to (row_placed x c pulled.table header (slots_at o header.row) (slots_at o header.row).out)))
-            (sym scheme) (row_plan_is g c h sent t ours d tied pulled.table o is header pulled.to change over)) requests.0 requests.1
+            (subst (λ (x : Scheme). IsNewPlan g c h sent d t (row_plan c d pulled.table header.row pulled.to (row_placed x c pulled.table header (slots_at o header.row) (slots_at o header.row).out)))
+            (sym scheme) (row_plan_is g c h sent t ours d tied pulled.table o is header pulled.to change rises over)) requests.0 requests.1
 
         by_test : (b : Bool) → nat_le header.version (top (slots_at o header.row).conflict (slots_at o header.row).shadow) ≡ b
             → ClientLaw g c h sent t (Take (PullResponse pulled))
@@ -339,7 +339,7 @@ module _ (g : ℕ → Scheme) (c : ℕ) (h : Items) (sent : List Sending) (t : H
             → ClientLaw g c h sent t (Take (PullResponse pulled)) (if b then row_taken c d pulled o header (slots_at o header.row) else ignored d)
         by_test true e =
             let same : pulled.from ≡ o.position = grind (arith, nat_tests, e) in
-            row_law pulled o is header (subst (λ (n : ℕ). IsChange c (h pulled.table) n pulled.to header) same f)
+            row_law pulled o is header (subst (λ (n : ℕ). IsChange c (h pulled.table) n pulled.to header) same f.0) (subst (λ (n : ℕ). n < pulled.to) same f.1)
         by_test false e = quiet_law (Take (PullResponse pulled)) d (Some []) facts.Done tt idle
 
   -- ---- all moves

@@ -1,39 +1,60 @@
 -- The writes of any plan go well: what it tells may be told now and again, and a crash may come before each of them or
 -- behind it.
-use Rattle.std.proofs.Common.{◌≡◌, ◌≢◌, ◌⊎◌, ℕ, List, [], ◌∷◌, ◌++◌, Option, Some, None, refl, sym, ap, subst, ◌∙◌, append-nil, inl, inr}
+use Rattle.std.proofs.Common.{◌≡◌, ◌≢◌, ◌⊎◌, ⊎_elim, ℕ, Bool, true, false, List, [], ◌∷◌, ◌++◌, Option, Some, None, refl, sym, ap, subst, ◌∙◌, append-nil, inl, inr}
 use Rattle.std.specs.Prelude.{map}
 use Rattle.row_value.specs.declared.schema.Scheme.{Scheme}
 use Rattle.step_tables.specs.Facts.{ClientFact, Fact}
 use Rattle.step_tables.specs.Facts as facts
 use Rattle.step_tables.specs.Messages.{Send}
+use Rattle.step_tables.specs.Sayings.{Saying, SaysNothing, SaysWrite, SaysEntry, SaysBack, SaysAck, SaysLoss, SaysConflict, SaysResolved, SaysRead, SaysPosition}
 use Rattle.step_tables.specs.Sayings.{client_says, saying, Heard, own, own_all}
 use Rattle.step_tables.specs.ClientMoves.{RowPut, Plan, ClientDisk, ClientTask, Commit, PutRow, PutTable, Finish, row_put, table_put, applied, planned_in, seen, changed, told, retold, row_task}
 use Rattle.step_tables.specs.ClientMoves.{table_task, rest_of}
-use Rattle.client_laws.specs.Part.{Items, Sending, sendings, Tied, AreOwn, Requests, IsPlan, RestsOn, Rests, Runs}
+use Rattle.client_laws.specs.Part.{Items, Sending, sendings, Tied, IsOwn, AreOwn, Requests, IsPlan, IsNewPlan, RestsOn, Rests, Runs}
 use Rattle.client_laws.proofs.Disks.{Alike, tied_alike, alike_row, alike_table, alike_plan, alike_itself, row_put_plan, table_put_plan}
 
--- ---- facts told again
+-- ---- facts told by a start
 
-own-redone : (t : Heard) (fs : List ClientFact) → own_all t (map facts.Redone fs) ≡ own_all t (map facts.Client fs)
+pub own-redone : (t : Heard) (fs : List ClientFact) → own_all t (map facts.Redone fs) ≡ own_all t (map facts.Client fs)
 own-redone t [] = refl
 own-redone t (f ∷ fs) = own-redone (own t (client_says f)) fs
 
 pub own-retold : (t : Heard) (p : Plan) → own_all t (retold p) ≡ own_all t (told p)
 own-retold t p = own-redone t p.facts
 
-module _ (g : ℕ → Scheme) (c : ℕ) (h : Items) where
-  are_own-redone : (sent : List Sending) (t : Heard) (fs : List ClientFact) → AreOwn g c h sent t (map facts.Client fs) → AreOwn g c h sent t (map facts.Redone fs)
-  are_own-redone sent t [] k = tt
-  are_own-redone sent t (f ∷ fs) k = (k.0, are_own-redone sent (own t (client_says f)) fs k.1)
+-- what is told first is no repetition
+first_of : {A B : Type 0} → A ⊎ ((false ≡ true) × B) → A
+first_of (inl a) = a
+first_of (inr b) = absurd (let e = b.0 in cc)
 
-  pub are_own-retold : (sent : List Sending) (t : Heard) (p : Plan) → AreOwn g c h sent t (told p) → AreOwn g c h sent t (retold p)
-  are_own-retold sent t p k = are_own-redone sent t p.facts k
+module _ (g : ℕ → Scheme) (c : ℕ) (h : Items) where
+  -- what may be told for the first time may be told by a start
+  by_start : (sent : List Sending) (t : Heard) (x : Saying) → IsOwn g c h sent t false x → IsOwn g c h sent t true x
+  by_start sent t SaysNothing k = tt
+  by_start sent t (SaysWrite write) k = (k.0, inl (first_of k.1))
+  by_start sent t (SaysEntry table entry) k = k
+  by_start sent t (SaysBack table version) k = k
+  by_start sent t (SaysAck client n table row version) k = (k.0, k.1, inl (first_of k.2))
+  by_start sent t (SaysLoss client n table row version) k = (k.0, k.1, k.2, inl (first_of k.3))
+  by_start sent t (SaysConflict client n table row version) k = (k.0, k.1, k.2, inl (first_of k.3))
+  by_start sent t (SaysResolved client n table row version) k = (k.0, k.1, inl (first_of k.2), k.3)
+  by_start sent t (SaysRead client table row version) k = (k.0, (k.1.0, k.1.1, ⊎_elim (λ up. inl (inl (first_of up))) (λ own. inr own) k.1.2))
+  by_start sent t (SaysPosition client table position) k = (k.0, inl (first_of k.1), k.2, k.3)
+
+  all_by_start : (sent : List Sending) (t : Heard) (fs : List ClientFact) → AreOwn g c h sent t (map facts.Client fs) → AreOwn g c h sent t (map facts.Redone fs)
+  all_by_start sent t [] k = tt
+  all_by_start sent t (f ∷ fs) k = (by_start sent t (client_says f) k.0, all_by_start sent (own t (client_says f)) fs k.1)
+
+  pub new_plan : (sent : List Sending) (d : ClientDisk) (t : Heard) (p : Plan) → AreOwn g c h sent t (told p) → AreOwn g c h sent (own_all t (told p)) (retold p)
+      → own_all (own_all t (told p)) (told p) ≡ own_all t (told p) → Tied g c h sent (applied p d) (own_all t (told p)) → IsNewPlan g c h sent d t p
+  new_plan sent d t p first again same tied =
+      record { first = first; plan = record { now = all_by_start sent t p.facts first; again = again; same = same; tied = tied } }
 
   -- behind its facts a plan is one still
   pub told_plan : (sent : List Sending) (d : ClientDisk) (t : Heard) (p : Plan) → IsPlan g c h sent d t p → IsPlan g c h sent d (own_all t (told p)) p
   told_plan sent d t p k = record {
     now = k.again;
-    again = subst (λ (u : Heard). AreOwn g c h sent u (told p)) (sym k.same) k.again;
+    again = subst (λ (u : Heard). AreOwn g c h sent u (retold p)) (sym k.same) k.again;
     same = ap (λ (u : Heard). own_all u (told p)) k.same;
     tied = subst (λ (u : Heard). Tied g c h sent (applied p d) u) (sym k.same) k.tied;
   }
@@ -130,17 +151,17 @@ module _ (g : ℕ → Scheme) (c : ℕ) (h : Items) where
   -- ---- a whole plan, from an idle client on
 
   pub plan_runs : (sent : List Sending) (d : ClientDisk) (t : Heard) (p : Plan) (sends : List Send) → Tied g c h sent (seen d) t → Rests g c h sent d t
-      → IsPlan g c h sent d t p → Requests g c h (own_all t (told p)) sends → Tied g c h (sent ++ sendings sends) (applied p d) (own_all t (told p))
+      → IsNewPlan g c h sent d t p → Requests g c h (own_all t (told p)) sends → Tied g c h (sent ++ sendings sends) (applied p d) (own_all t (told p))
       → Runs g c h sent d t (record { change = Commit p; facts = told p; sends = [] } ∷ rest_of p [] sends)
   plan_runs sent d t p sends shown rests k requests after =
       let e : ClientDisk = record d { plan = Some p } in
-      let begun : IsPlan g c h sent e t p = plan_alike sent d e t p (alike_plan p d (Some p)) k in (
+      let begun : IsPlan g c h sent e t p = plan_alike sent d e t p (alike_plan p d (Some p)) k.plan in (
         shown,
         rests,
         begun,
-        k.now,
+        k.first,
         tt,
         subst (λ (s : List Sending). Runs g c h s e (own_all t (told p)) (rest_of p [] sends)) (sym (append-nil sent))
-            (rest_runs sent e (own_all t (told p)) p [] sends (told_plan sent e t p begun) refl k.same tt refl requests
+            (rest_runs sent e (own_all t (told p)) p [] sends (told_plan sent e t p begun) refl k.plan.same tt refl requests
             (tied_alike g c h (sent ++ sendings sends) (applied p d) (applied p e) (own_all t (told p)) (alike_plan p d (Some p)) after)),
       )

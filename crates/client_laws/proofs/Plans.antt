@@ -22,9 +22,10 @@ use Rattle.step_tables.specs.ClientMoves.{send_plan, ack_plan, lost_plan, over_p
 use Rattle.step_tables.specs.Items.{latest, IsItemOf, IsItemAt, IsBase}
 use Rattle.step_tables.proofs.Maps.{place_here, place_cases, place_twice, put_twice}
 use Rattle.client_laws.specs.Part.{Items, Sending, sendings, IsFresh, OfTable, Ours, IsContent, Spans, IsAbove, write_for, main_for, IsOut, Fit, RowTied, Tied, IsLapsed, IsPassed, IsOwn, AreOwn}
-use Rattle.client_laws.specs.Part.{IsSending, Requests, IsPlan, IsRefused}
+use Rattle.client_laws.specs.Part.{IsSending, Requests, IsNewPlan, IsRefused}
 use Rattle.client_laws.proofs.Grows.{some_is, added}
 use Rattle.client_laws.proofs.RowFits.{write_of-push, without_is, own_only, freed_fit, raise_fit, write_fit, strong_fit, send_fit, lost_fit, settled_fit, heard_fit, sent_fit, sent_apart_fit}
+use Rattle.client_laws.proofs.PlanRuns.{new_plan}
 use Rattle.client_laws.proofs.Ties.{Elsewhere, tied_row}
 
 -- ---- what is heard of a row
@@ -98,6 +99,19 @@ closed_resolved x n v m = by_tests (x.acked m) (x.lost m) (m == n) refl
 fresh_open : (x : RowHeard) (n : ℕ) → IsFresh x n → is_closed x n ≡ false
 fresh_open x n k = grind (arith, k.acked, k.lost, k.resolved)
 
+-- what is open isn't acknowledged
+open_unacked : (x : RowHeard) (o : Option Write) (w : Write) → if_open x o ≡ Some w → x.acked w.number ≡ false
+open_unacked x None w e = absurd cc
+open_unacked x (Some v) w e = by_flag (x.acked v.number) refl e
+  where
+    by_flag : (a : Bool) → x.acked v.number ≡ a → (if (a || x.lost v.number) || x.resolved v.number then None else Some v) ≡ Some w → x.acked w.number ≡ false
+    by_flag true is open_w = absurd cc
+    by_flag false is open_w = by_rest (x.lost v.number || x.resolved v.number) open_w
+      where
+        by_rest : (b : Bool) → (if b then None else Some v) ≡ Some w → x.acked w.number ≡ false
+        by_rest true here = absurd cc
+        by_rest false here = subst (λ (z : Write). x.acked z.number ≡ false) (some_is v w here) is
+
 -- ---- numbers
 
 -- the next number is nobody's yet
@@ -141,44 +155,41 @@ module _ (g : ℕ → Scheme) (c : ℕ) (h : Items) (sent : List Sending) (t : H
 
   pub row_is_plan : (s : Slots) (fs : List ClientFact) (f : RowHeard → RowHeard)
       → ((y : Heard) → own_all y (map facts.Client fs) ≡ at_row y table row f) → f (f x) ≡ f x
-      → AreOwn g c h sent t (map facts.Client fs) → AreOwn g c h sent (at_row t table row f) (map facts.Client fs)
-      → x.read ≤ (f x).read → RowTied_ s t.writes (f x) → IsPlan g c h sent d t (slots_plan d table row s fs)
+      → AreOwn g c h sent t (map facts.Client fs) → AreOwn g c h sent (at_row t table row f) (map facts.Redone fs)
+      → x.read ≤ (f x).read → RowTied_ s t.writes (f x) → IsNewPlan g c h sent d t (slots_plan d table row s fs)
   row_is_plan s fs f heard once now again rises here =
       let u : Heard = at_row t table row f in
       let twice : own_all u (map facts.Client fs) ≡ u = heard u ∙ at_row_twice t table row f f ∙ ap (λ (y : RowHeard). record t { at = put_at t.at table row y }) once in
-      record {
-        now = now;
-        again = subst (λ (y : Heard). AreOwn g c h sent y (map facts.Client fs)) (sym (heard t)) again;
-        same = subst (λ (y : Heard). own_all y (map facts.Client fs) ≡ y) (sym (heard t)) twice;
-        tied = subst (λ (y : Heard). Tied g c h sent (applied (slots_plan d table row s fs) d) y) (sym (heard t))
-            (tied_row g c h sent d t k table o is d.last row s u (elsewhere_at t table row (f x)) k.last
-            (subst (λ (y : RowHeard). RowTied_ s t.writes y) (sym (place_here t.at table row (f x))) here) fs of.last
-            (subst (λ (y : RowHeard). x.read ≤ y.read) (sym (place_here t.at table row (f x))) rises) refl);
-      }
+      new_plan g c h sent d t (slots_plan d table row s fs) now
+      (subst (λ (y : Heard). AreOwn g c h sent y (map facts.Redone fs)) (sym (heard t)) again)
+      (subst (λ (y : Heard). own_all y (map facts.Client fs) ≡ y) (sym (heard t)) twice)
+      (subst (λ (y : Heard). Tied g c h sent (applied (slots_plan d table row s fs) d) y) (sym (heard t))
+      (tied_row g c h sent d t k table o is d.last row s u (elsewhere_at t table row (f x)) k.last
+      (subst (λ (y : RowHeard). RowTied_ s t.writes y) (sym (place_here t.at table row (f x))) here) fs of.last
+      (subst (λ (y : RowHeard). x.read ≤ y.read) (sym (place_here t.at table row (f x))) rises) refl))
 
   -- ---- writes
 
   -- a plan that tells a new write and nothing else
   write_plan_is : (s : Slots) (m : Main) → m.number ≡ d.last + 1 → m.read ≡ x.shadow
       → RowTied_ s (t.writes ++ write_for c table row m ∷ []) (row_wrote (write_for c table row m) x)
-      → IsPlan g c h sent d t (record (slots_plan d table row s (facts.Wrote (write_for c table row m) ∷ [])) { last = m.number })
+      → IsNewPlan g c h sent d t (record (slots_plan d table row s (facts.Wrote (write_for c table row m) ∷ [])) { last = m.number })
   write_plan_is s m number level here =
       let w : Write = write_for c table row m in
       let fs : List ClientFact = facts.Wrote w ∷ [] in
       let next : w.number ≡ length t.writes + 1 = number ∙ ap (λ (n : ℕ). n + 1) k.last in
       let u : Heard = added t w in
       let heard : own_all t (map facts.Client fs) ≡ u = wrote_new t w next in
-      record {
-        now = ((refl, inl (next, level)), tt);
-        again = subst (λ (y : Heard). AreOwn g c h sent y (map facts.Client fs)) (sym heard)
-            ((refl, inr (write_of-push w.number t.writes w (subst (λ (n : ℕ). write_of n t.writes ≡ None) (sym number) n_free) refl)), tt);
-        same = subst (λ (y : Heard). own_all y (map facts.Client fs) ≡ y) (sym heard) (wrote_again t w next);
-        tied = subst (λ (y : Heard). Tied g c h sent (applied (record (slots_plan d table row s fs) { last = m.number }) d) y) (sym heard)
-            (tied_row g c h sent d t k table o is m.number row s u (elsewhere_write t table row w (row_wrote w x))
-            (next ∙ sym (length_push_is t.writes w))
-            (subst (λ (y : RowHeard). RowTied_ s (t.writes ++ w ∷ []) y) (sym (place_here t.at table row (row_wrote w x))) here) fs of.last
-            (subst (λ (y : RowHeard). x.read ≤ y.read) (sym (place_here t.at table row (row_wrote w x))) (omega arith)) refl);
-      }
+      let p : Plan = record (slots_plan d table row s fs) { last = m.number } in
+      new_plan g c h sent d t p ((refl, inl (next, level)), tt)
+      (subst (λ (y : Heard). AreOwn g c h sent y (map facts.Redone fs)) (sym heard)
+      ((refl, inr (refl, write_of-push w.number t.writes w (subst (λ (n : ℕ). write_of n t.writes ≡ None) (sym number) n_free) refl)), tt))
+      (subst (λ (y : Heard). own_all y (map facts.Client fs) ≡ y) (sym heard) (wrote_again t w next))
+      (subst (λ (y : Heard). Tied g c h sent (applied p d) y) (sym heard)
+      (tied_row g c h sent d t k table o is m.number row s u (elsewhere_write t table row w (row_wrote w x))
+      (next ∙ sym (length_push_is t.writes w))
+      (subst (λ (y : RowHeard). RowTied_ s (t.writes ++ w ∷ []) y) (sym (place_here t.at table row (row_wrote w x))) here) fs of.last
+      (subst (λ (y : RowHeard). x.read ≤ y.read) (sym (place_here t.at table row (row_wrote w x))) (omega arith)) refl))
     where
       length_push_is : (ws : List Write) (w : Write) → length (ws ++ w ∷ []) ≡ length ws + 1
       length_push_is ws w = grind (arith, length_push)
@@ -186,7 +197,7 @@ module _ (g : ℕ → Scheme) (c : ℕ) (h : Items) (sent : List Sending) (t : H
   written_low : (n : ℕ) (w : Write) → write_of n t.writes ≡ Some w → n ≤ length t.writes
   written_low n w at = (ours.numbered n w at).3
 
-  pub write_is_plan : g table ≢ Strong → slots.conflict ≡ None → (content : Content) → IsPlan g c h sent d t (write_plan c d table row slots content)
+  pub write_is_plan : g table ≢ Strong → slots.conflict ≡ None → (content : Content) → IsNewPlan g c h sent d t (write_plan c d table row slots content)
   write_is_plan weak none content =
       let r = row_tied in
       let m : Main = main_of (d.last + 1) (version_in slots.shadow) content in
@@ -207,7 +218,7 @@ module _ (g : ℕ → Scheme) (c : ℕ) (h : Items) (sent : List Sending) (t : H
       by_slot None at = refl
       by_slot (Some z) at = absurd (let q = (row_tied.fit.conflict z at).in_main in cc)
 
-  pub strong_is_plan : g table ≡ Strong → (content : Content) → IsPlan g c h sent d t (strong_plan c d table row slots content)
+  pub strong_is_plan : g table ≡ Strong → (content : Content) → IsNewPlan g c h sent d t (strong_plan c d table row slots content)
   strong_is_plan strong content =
       let r = row_tied in
       let m : Main = main_of (d.last + 1) (version_in slots.shadow) content in
@@ -223,28 +234,38 @@ module _ (g : ℕ → Scheme) (c : ℕ) (h : Items) (sent : List Sending) (t : H
         based = r.based;
       })
 
+  -- a full Main is the write that the lines tell as open
+  main_open : (m : Main) → slots.main ≡ Some m → (w : Write) × (open_of x ≡ Some w) × (w.number ≡ m.number)
+  main_open m at = by_scheme (g table) (open_of x) refl (sym at ∙ row_tied.main)
+    where
+      by_scheme : (s : Scheme) (q : Option Write) → open_of x ≡ q → Some m ≡ option_map main_for (open_in s q) → (w : Write) × (open_of x ≡ Some w) × (w.number ≡ m.number)
+      by_scheme Strong q here e = absurd cc
+      by_scheme Causal None here e = absurd cc
+      by_scheme Eventual None here e = absurd cc
+      by_scheme Causal (Some w) here e = (w, here, ap (λ (z : Main). z.number) (sym (some_is m (main_for w) e)))
+      by_scheme Eventual (Some w) here e = (w, here, ap (λ (z : Main). z.number) (sym (some_is m (main_for w) e)))
+
+  main_unacked : (m : Main) → slots.main ≡ Some m → x.acked m.number ≡ false
+  main_unacked m at = let w = main_open m at in subst (λ (n : ℕ). x.acked n ≡ false) w.2 (open_unacked x x.last w.0 w.1)
+
   -- ---- what is sent
 
   pub send_is_plan : (m : Main) → slots.main ≡ Some m → slots.out ≡ None → slots.conflict ≡ None
-      → IsPlan g c h sent d t (slots_plan d table row (record slots { out = Some (out_of m (version_in slots.shadow)) }) [])
+      → IsNewPlan g c h sent d t (slots_plan d table row (record slots { out = Some (out_of m (version_in slots.shadow)) }) [])
   send_is_plan m at none idle =
       let r = row_tied in
       let s : Slots = record slots { out = Some (out_of m (version_in slots.shadow)) } in
       let here : RowTied_ s t.writes x = record {
-        fit = send_fit (g table) c (h table) table row (r.fit.weak m at) slots m t.writes x sent of r.fit at none idle;
+        fit = send_fit (g table) c (h table) table row (r.fit.weak m at) slots m t.writes x sent of r.fit at none idle (main_unacked m at);
         main = r.main;
         read = r.read;
         level = r.level;
         under = r.under;
         based = r.based;
       } in
-      record {
-        now = tt;
-        again = tt;
-        same = refl;
-        tied = tied_row g c h sent d t k table o is d.last row s t
-            (record { more = []; writes = sym (append-nil t.writes); at = λ q y apart. refl; position = λ q apart. refl }) k.last here [] of.last (omega arith) refl;
-      }
+      new_plan g c h sent d t (slots_plan d table row s []) tt tt refl
+      (tied_row g c h sent d t k table o is d.last row s t
+      (record { more = []; writes = sym (append-nil t.writes); at = λ q y apart. refl; position = λ q apart. refl }) k.last here [] of.last (omega arith) refl)
 
   -- ---- what is heard behind one fact of the row
 
@@ -273,7 +294,7 @@ module _ (g : ℕ → Scheme) (c : ℕ) (h : Items) (sent : List Sending) (t : H
   exact_causal e = λ no. absurd cc
 
   pub ack_is_plan : (out : InFlight) → slots.out ≡ Some out → (version : ℕ) (i : Stored) → IsItemOf (h table) c out.number row version i
-      → IsPlan g c h sent d t (ack_plan c d table row slots out version)
+      → IsNewPlan g c h sent d t (ack_plan c d table row slots out version)
   ack_is_plan out at version i item =
       let r = row_tied in
       let u = r.fit.out out at in
@@ -294,11 +315,11 @@ module _ (g : ℕ → Scheme) (c : ℕ) (h : Items) (sent : List Sending) (t : H
       let under = r.under in
       let low : version ≤ length (h table) = omega (arith, up, v) in
       row_is_plan (record (freed slots out.number) { shadow = Some y }) (facts.Acked c out.number table row version ∷ []) f (λ s. refl) (acked_once out.number version)
-      ((refl, (i, item), inr (omega (arith, read))), tt)
-      ((refl, (i, item), inl (subst (λ (z : RowHeard). z.acked out.number ≡ true) (sym (heard_here f)) (grind (arith, nat_tests)))), tt)
+      ((refl, (i, item), inl (u.unacked, read)), tt)
+      ((refl, (i, item), inr (refl, subst (λ (z : RowHeard). z.acked out.number ≡ true) (sym (heard_here f)) (grind (arith, nat_tests)))), tt)
       (grind arith)
       (record {
-        fit = heard_fit (g table) c (h table) table row t.writes x sent (record (freed slots out.number) { shadow = Some y }) (f x) refl refl raised;
+        fit = heard_fit (g table) c (h table) table row t.writes x sent (record (freed slots out.number) { shadow = Some y }) (f x) refl refl (λ z now. absurd cc) raised;
         main = ap (without out.number) r.main ∙ open_behind (g table) x.last x (f x) out.number (closed_acked x out.number version);
         read = grind (arith, none, read);
         level = λ free. grind (arith, under, read);
@@ -320,15 +341,15 @@ module _ (g : ℕ → Scheme) (c : ℕ) (h : Items) (sent : List Sending) (t : H
   out_write out = write_for c table row (record { number = out.number; read = out.read; content = out.content })
 
   pub lost_is_plan : g table ≡ Strong → (out : InFlight) → slots.out ≡ Some out → (version : ℕ) → IsRefused c h sent out.number table row version
-      → IsPlan g c h sent d t (lost_plan c d table row slots out version)
+      → IsNewPlan g c h sent d t (lost_plan c d table row slots out version)
   lost_is_plan strong out at version refused =
       let r = row_tied in
       let u = r.fit.out out at in
       let f : RowHeard → RowHeard = row_lost out.number in
       let no_main = open_strong (g table) slots.main (open_of x) strong r.main in
       row_is_plan (record slots { out = None }) (facts.Refused c out.number table row version ∷ []) f (λ s. refl) (grind (arith, nat_tests))
-      ((refl, strong, passed t refl), tt)
-      ((refl, strong, passed (behind f) refl), tt)
+      ((refl, strong, passed t refl, inl u.unlost), tt)
+      ((refl, strong, passed (behind f) refl, inr (refl, subst (λ (z : RowHeard). z.lost out.number ≡ true) (sym (heard_here f)) (grind (arith, nat_tests)))), tt)
       (omega arith)
       (record {
         fit = lost_fit (g table) c (h table) table row t.writes x sent slots out r.fit at no_main;
@@ -375,17 +396,6 @@ module _ (g : ℕ → Scheme) (c : ℕ) (h : Items) (sent : List Sending) (t : H
 
   -- ---- resolving
 
-  -- a full Main is the write that the lines tell as open
-  main_open : (m : Main) → slots.main ≡ Some m → (w : Write) × (open_of x ≡ Some w) × (w.number ≡ m.number)
-  main_open m at = by_scheme (g table) (open_of x) refl (sym at ∙ row_tied.main)
-    where
-      by_scheme : (s : Scheme) (q : Option Write) → open_of x ≡ q → Some m ≡ option_map main_for (open_in s q) → (w : Write) × (open_of x ≡ Some w) × (w.number ≡ m.number)
-      by_scheme Strong q here e = absurd cc
-      by_scheme Causal None here e = absurd cc
-      by_scheme Eventual None here e = absurd cc
-      by_scheme Causal (Some w) here e = (w, here, ap (λ (z : Main). z.number) (sym (some_is m (main_for w) e)))
-      by_scheme Eventual (Some w) here e = (w, here, ap (λ (z : Main). z.number) (sym (some_is m (main_for w) e)))
-
   named : (m : Main) (y : Shadow) → slots.main ≡ Some m → slots.conflict ≡ Some y → x.conflict m.number ≡ Some y.version
   named m y at is_full =
       let q = row_tied.fit.conflict y is_full in
@@ -398,7 +408,7 @@ module _ (g : ℕ → Scheme) (c : ℕ) (h : Items) (sent : List Sending) (t : H
   resolved_once : (n v : ℕ) → row_resolved n v (row_resolved n v x) ≡ row_resolved n v x
   resolved_once n v = grind (arith, nat_tests)
 
-  pub theirs_is_plan : (m : Main) (y : Shadow) → slots.main ≡ Some m → slots.conflict ≡ Some y → IsPlan g c h sent d t (theirs_plan c d table row slots m y)
+  pub theirs_is_plan : (m : Main) (y : Shadow) → slots.main ≡ Some m → slots.conflict ≡ Some y → IsNewPlan g c h sent d t (theirs_plan c d table row slots m y)
   theirs_is_plan m y at is_full =
       let r = row_tied in
       let f : RowHeard → RowHeard = row_resolved m.number y.version in
@@ -410,7 +420,7 @@ module _ (g : ℕ → Scheme) (c : ℕ) (h : Items) (sent : List Sending) (t : H
         (
           refl,
           subst (λ (z : RowHeard). z.conflict m.number ≡ Some y.version) (sym (heard_here f)) (named m y at is_full),
-          inr (subst (λ (z : RowHeard). z.resolved m.number ≡ true) (sym (heard_here f)) (grind (arith, nat_tests))),
+          inr (refl, subst (λ (z : RowHeard). z.resolved m.number ≡ true) (sym (heard_here f)) (grind (arith, nat_tests))),
           subst (λ (z : RowHeard). z.read ≤ y.version) (sym (heard_here f)) (grind (arith, read)),
         ),
         tt,
@@ -486,7 +496,7 @@ module _ (g : ℕ → Scheme) (c : ℕ) (h : Items) (sent : List Sending) (t : H
           conflict = n_fresh.conflict;
         }
 
-    pub over_is_plan : IsPlan g c h sent d t (over_plan c d table row slots m y content)
+    pub over_is_plan : IsNewPlan g c h sent d t (over_plan c d table row slots m y content)
     unfolding over_facts
     over_is_plan =
         let r = row_tied in
@@ -505,24 +515,22 @@ module _ (g : ℕ → Scheme) (c : ℕ) (h : Items) (sent : List Sending) (t : H
           under = grind (arith, under);
           based = grind (arith, read, based);
         } in
-        record {
-          now = (
-            (refl, named m y at is_full, inl (main_open m at), omega (arith, read)),
-            ((refl, inl (next_number, subst (λ (z : RowHeard). y.version ≡ z.shadow) (sym (heard_here settled)) (grind (arith, under, read)))), tt),
-          );
-          again = subst (λ (z : Heard). AreOwn g c h sent z (map facts.Client over_facts)) (sym first_heard) (
-            (
-              refl,
-              subst (λ (z : RowHeard). z.conflict m.number ≡ Some y.version) (sym over_here) (named m y at is_full),
-              inr (subst (λ (z : RowHeard). z.resolved m.number ≡ true) (sym over_here) (grind (arith, nat_tests))),
-              subst (λ (z : RowHeard). z.read ≤ y.version) (sym over_here) (grind (arith, read)),
-            ),
-            ((refl, inr (write_of-push (d.last + 1) t.writes over_write n_free refl)), tt),
-          );
-          same = subst (λ (z : Heard). own_all z (map facts.Client over_facts) ≡ z) (sym first_heard) again_heard;
-          tied = subst (λ (z : Heard). Tied g c h sent (applied (over_plan c d table row slots m y content) d) z) (sym first_heard)
-              (tied_row g c h sent d t k table o is (d.last + 1) row (record slots { main = Some over; shadow = Some y; conflict = None }) over_heard
-              (elsewhere_write t table row over_write (row_wrote over_write (settled x))) (grind (arith, next_number, length_push))
-              (subst (λ (z : RowHeard). RowTied_ (record slots { main = Some over; shadow = Some y; conflict = None }) (t.writes ++ over_write ∷ []) z) (sym over_here) whole)
-              over_facts of.last (subst (λ (z : RowHeard). x.read ≤ z.read) (sym over_here) (grind arith)) refl);
-        }
+        new_plan g c h sent d t (over_plan c d table row slots m y content) (
+          (refl, named m y at is_full, inl (main_open m at), omega (arith, read)),
+          ((refl, inl (next_number, subst (λ (z : RowHeard). y.version ≡ z.shadow) (sym (heard_here settled)) (grind (arith, under, read)))), tt),
+        )
+        (subst (λ (z : Heard). AreOwn g c h sent z (map facts.Redone over_facts)) (sym first_heard) (
+          (
+            refl,
+            subst (λ (z : RowHeard). z.conflict m.number ≡ Some y.version) (sym over_here) (named m y at is_full),
+            inr (refl, subst (λ (z : RowHeard). z.resolved m.number ≡ true) (sym over_here) (grind (arith, nat_tests))),
+            subst (λ (z : RowHeard). z.read ≤ y.version) (sym over_here) (grind (arith, read)),
+          ),
+          ((refl, inr (refl, write_of-push (d.last + 1) t.writes over_write n_free refl)), tt),
+        ))
+        (subst (λ (z : Heard). own_all z (map facts.Client over_facts) ≡ z) (sym first_heard) again_heard)
+        (subst (λ (z : Heard). Tied g c h sent (applied (over_plan c d table row slots m y content) d) z) (sym first_heard)
+        (tied_row g c h sent d t k table o is (d.last + 1) row (record slots { main = Some over; shadow = Some y; conflict = None }) over_heard
+        (elsewhere_write t table row over_write (row_wrote over_write (settled x))) (grind (arith, next_number, length_push))
+        (subst (λ (z : RowHeard). RowTied_ (record slots { main = Some over; shadow = Some y; conflict = None }) (t.writes ++ over_write ∷ []) z) (sym over_here) whole)
+        over_facts of.last (subst (λ (z : RowHeard). x.read ≤ z.read) (sym over_here) (grind arith)) refl))

@@ -111,6 +111,7 @@ module _ (g : Scheme) (c : ℕ) (h : List Stored) (table : ℕ) (row : List ℕ)
         later = later o at;
         clear = u.clear;
         unlost = u.unlost;
+        unacked = u.unacked;
         free = u.free;
         order = u.order;
       };
@@ -196,8 +197,9 @@ module _ (g : Scheme) (c : ℕ) (h : List Stored) (table : ℕ) (row : List ℕ)
         }
 
     -- what is told of other numbers, of accepted ones, and of what is read, changes nothing
-    pub heard_fit : (slots : Slots) (y : RowHeard) → y.conflict ≡ x.conflict → y.lost ≡ x.lost → Fits_ slots writes x sent → Fits_ slots writes y sent
-    heard_fit slots y same lost k = record {
+    pub heard_fit : (slots : Slots) (y : RowHeard) → y.conflict ≡ x.conflict → y.lost ≡ x.lost → ((o : InFlight) → slots.out ≡ Some o → x.acked o.number ≡ false → y.acked o.number ≡ false)
+        → Fits_ slots writes x sent → Fits_ slots writes y sent
+    heard_fit slots y same lost unacked k = record {
       mine = k.mine;
       clear = λ m at. (ap (λ (f : ℕ → Bool). f m.number) lost ∙ (k.clear m at).0, λ none. ap (λ (f : ℕ → Option ℕ). f m.number) same ∙ (k.clear m at).1 none);
       weak = k.weak;
@@ -211,6 +213,7 @@ module _ (g : Scheme) (c : ℕ) (h : List Stored) (table : ℕ) (row : List ℕ)
         later = u.later;
         clear = ap (λ (f : ℕ → Option ℕ). f o.number) same ∙ u.clear;
         unlost = ap (λ (f : ℕ → Bool). f o.number) lost ∙ u.unlost;
+        unacked = unacked o at u.unacked;
         free = u.free;
         order = u.order;
       };
@@ -248,6 +251,7 @@ module _ (g : Scheme) (c : ℕ) (h : List Stored) (table : ℕ) (row : List ℕ)
       later = u.later;
       clear = u.clear;
       unlost = u.unlost;
+      unacked = u.unacked;
       free = u.free;
       order = u.order;
     };
@@ -333,6 +337,7 @@ module _ (g : Scheme) (c : ℕ) (h : List Stored) (table : ℕ) (row : List ℕ)
             later = u.later;
             clear = u.clear;
             unlost = u.unlost;
+            unacked = u.unacked;
             free = u.free;
             order = λ y now. (let le = numbered o.number _ (k.out o at).written in subst (λ (z : Main). o.number ≤ z.number) (some_is m y now) (omega (arith, le, number)));
           };
@@ -362,6 +367,7 @@ module _ (g : Scheme) (c : ℕ) (h : List Stored) (table : ℕ) (row : List ℕ)
               omega (arith, up, same, number));
           clear = fresh.conflict;
           unlost = fresh.lost;
+          unacked = fresh.acked;
           free = none;
           order = λ y now. absurd cc;
         } in
@@ -383,9 +389,9 @@ module _ (g : Scheme) (c : ℕ) (h : List Stored) (table : ℕ) (row : List ℕ)
 
   -- Main waits, over Shadow
   pub send_fit : g ≢ Strong → (slots : Slots) (m : Main) (writes : List Write) (x : RowHeard) (sent : List Sending) → OfTable g c h table writes sent
-      → Fits_ slots writes x sent → slots.main ≡ Some m → slots.out ≡ None → slots.conflict ≡ None
+      → Fits_ slots writes x sent → slots.main ≡ Some m → slots.out ≡ None → slots.conflict ≡ None → x.acked m.number ≡ false
       → Fits_ (record slots { out = Some (out_of m (version_in slots.shadow)) }) writes x sent
-  send_fit weak slots m writes x sent of k is none idle =
+  send_fit weak slots m writes x sent of k is none idle unacked =
       let o : InFlight = out_of m (version_in slots.shadow) in
       let spans : g ≡ Causal → Spans Causal c m.number h row m.read (version_in slots.shadow) = λ causal i a here less up.
       let client : i.entry.client ≡ c = k.own causal m is idle i a here less up in
@@ -398,6 +404,7 @@ module _ (g : Scheme) (c : ℕ) (h : List Stored) (table : ℕ) (row : List ℕ)
         later = λ i a client here same. absurd (unsent_none writes x sent of slots m k none idle is i a client here same);
         clear = (k.clear m is).1 idle;
         unlost = (k.clear m is).0;
+        unacked = unacked;
         free = idle;
         order = λ y now. (let e = ap (λ (z : Main). z.number) (some_is m y (sym is ∙ now)) in omega (arith, e));
       } in

@@ -23,9 +23,10 @@ use Rattle.step_tables.specs.Sayings.{Saying, SaysNothing, SaysWrite, SaysEntry,
 use Rattle.step_tables.specs.Sayings.{SaysConflict, SaysResolved, SaysRead, SaysPosition, saying, RowHeard, Heard, own}
 use Rattle.step_tables.specs.Sayings.{own_all, write_of, open_of, open_in}
 use Rattle.step_tables.specs.ClientMoves.{Slots, TableDisk, Plan, ClientDisk, ClientTask, Client, ClientStep}
-use Rattle.step_tables.specs.ClientMoves.{ClientMove, Take, Show, seen, applied, changed, told, slots_at, slots_of}
-use Rattle.step_tables.specs.ClientMoves.{table_at, position_of, top, shown_in}
+use Rattle.step_tables.specs.ClientMoves.{ClientMove, Take, Show, seen, applied, changed, told, retold, slots_at}
+use Rattle.step_tables.specs.ClientMoves.{slots_of, table_at, position_of, top, shown_in}
 use Rattle.step_tables.specs.Items.{latest, IsItemOf, IsItemAt, IsBase, IsChange}
+use Rattle.world_tables.specs.Again.{may_repeat, IsUp}
 
 -- the items of each table
 abbrev pub Items : Type 0
@@ -122,6 +123,7 @@ pub record IsOut (g : Scheme) (c : ℕ) (h : List Stored) (table : ℕ) (row : L
   pub later : IsAbove c h row o.number (version_in slots.shadow)
   pub clear : x.conflict o.number ≡ None
   pub unlost : x.lost o.number ≡ false
+  pub unacked : x.acked o.number ≡ false
   pub free : slots.conflict ≡ None
   pub order : (m : Main) → slots.main ≡ Some m → o.number ≤ m.number
 
@@ -231,37 +233,44 @@ pub record IsPassed (c : ℕ) (h : Items) (sent : List Sending) (t : Heard) (n t
   pub stands : IsItemAt (h table) row version item
   pub lapsed : IsLapsed c h sent n
 
--- what c may say now
-abbrev pub IsOwn : (ℕ → Scheme) → ℕ → Items → List Sending → Heard → Saying → Type 0
-IsOwn g c h sent t SaysNothing = Unit {0}
-IsOwn g c h sent t (SaysWrite write) =
+-- what c may say now, or tell again
+abbrev pub IsOwn : (ℕ → Scheme) → ℕ → Items → List Sending → Heard → Bool → Saying → Type 0
+IsOwn g c h sent t again SaysNothing = Unit {0}
+IsOwn g c h sent t again (SaysWrite write) =
     (write.client ≡ c)
     × (((write.number ≡ length t.writes + 1) × (write.read ≡ (t.at write.table write.row).shadow))
-    ⊎ (write_of write.number t.writes ≡ Some write))
-IsOwn g c h sent t (SaysEntry table entry) = ⊥
-IsOwn g c h sent t (SaysBack table version) = ⊥
-IsOwn g c h sent t (SaysAck client n table row version) =
+    ⊎ ((again ≡ true) × (write_of write.number t.writes ≡ Some write)))
+IsOwn g c h sent t again (SaysEntry table entry) = ⊥
+IsOwn g c h sent t again (SaysBack table version) = ⊥
+IsOwn g c h sent t again (SaysAck client n table row version) =
     (client ≡ c) × ((i : Stored) × IsItemOf (h table) c n row version i)
-    × (((t.at table row).acked n ≡ true) ⊎ ((t.at table row).read ≤ version))
-IsOwn g c h sent t (SaysLoss client n table row version) =
+    × ((((t.at table row).acked n ≡ false) × ((t.at table row).read < version))
+    ⊎ ((again ≡ true) × ((t.at table row).acked n ≡ true)))
+IsOwn g c h sent t again (SaysLoss client n table row version) =
     (client ≡ c) × (g table ≡ Strong) × IsPassed c h sent t n table row version
-IsOwn g c h sent t (SaysConflict client n table row version) =
+    × (((t.at table row).lost n ≡ false) ⊎ ((again ≡ true) × ((t.at table row).lost n ≡ true)))
+IsOwn g c h sent t again (SaysConflict client n table row version) =
     (client ≡ c) × (g table ≡ Causal)
-    × ((p : IsPassed c h sent t n table row version) × (p.item.entry.client ≢ c)) × ((t.at table row).read ≤ version)
-IsOwn g c h sent t (SaysResolved client n table row version) =
+    × ((p : IsPassed c h sent t n table row version) × (p.item.entry.client ≢ c))
+    × IsUp again (t.at table row).read version
+IsOwn g c h sent t again (SaysResolved client n table row version) =
     (client ≡ c) × ((t.at table row).conflict n ≡ Some version)
-    × (((w : Write) × (open_of (t.at table row) ≡ Some w) × (w.number ≡ n)) ⊎ ((t.at table row).resolved n ≡ true))
+    × (((w : Write) × (open_of (t.at table row) ≡ Some w) × (w.number ≡ n))
+    ⊎ ((again ≡ true) × ((t.at table row).resolved n ≡ true)))
     × ((t.at table row).read ≤ version)
-IsOwn g c h sent t (SaysRead client table row version) =
-    (client ≡ c) × ((i : Stored) × IsItemAt (h table) row version i) × ((t.at table row).read ≤ version)
-IsOwn g c h sent t (SaysPosition client table position) =
-    (client ≡ c) × (t.position table ≤ position)
+IsOwn g c h sent t again (SaysRead client table row version) =
+    (client ≡ c)
+    × ((i : Stored) × IsItemAt (h table) row version i
+    × (IsUp again (t.at table row).read version ⊎ ((i.entry.client ≡ c) × ((t.at table row).read ≡ version))))
+IsOwn g c h sent t again (SaysPosition client table position) =
+    (client ≡ c) × IsUp again (t.position table) position
     × ((row : List ℕ) → latest (h table) row ≤ position → (t.at table row).read ≡ latest (h table) row)
     × (position ≤ length (h table))
 
 abbrev pub AreOwn : (ℕ → Scheme) → ℕ → Items → List Sending → Heard → List Fact → Type 0
 AreOwn g c h sent t [] = Unit {0}
-AreOwn g c h sent t (fact ∷ more) = IsOwn g c h sent t (saying fact) × AreOwn g c h sent (own t (saying fact)) more
+AreOwn g c h sent t (fact ∷ more) =
+    IsOwn g c h sent t (may_repeat fact) (saying fact) × AreOwn g c h sent (own t (saying fact)) more
 
 -- what is said of a request
 pub record IsSending (g : ℕ → Scheme) (c : ℕ) (h : Items) (t : Heard) (r : Request) : Type 0 where
@@ -289,14 +298,20 @@ Requests g c h t (send ∷ more) = IsRequest g c h t send send.message × Reques
 
 -- ---- the part
 
--- a plan whose facts may be told now, and told again then, and behind which the slots show what is said. Whether they
--- were told already isn't asked
+-- a committed plan: a start may tell its facts now, and once more then, and behind them the slots show what is said.
+-- Whether they were told already isn't asked
 pub record IsPlan (g : ℕ → Scheme) (c : ℕ) (h : Items) (sent : List Sending) (d : ClientDisk) (t : Heard)
     (p : Plan) : Type 0 where
-  pub now : AreOwn g c h sent t (told p)
-  pub again : AreOwn g c h sent (own_all t (told p)) (told p)
+  pub now : AreOwn g c h sent t (retold p)
+  pub again : AreOwn g c h sent (own_all t (told p)) (retold p)
   pub same : own_all (own_all t (told p)) (told p) ≡ own_all t (told p)
   pub tied : Tied g c h sent (applied p d) (own_all t (told p))
+
+-- a plan whose facts weren't told yet
+pub record IsNewPlan (g : ℕ → Scheme) (c : ℕ) (h : Items) (sent : List Sending) (d : ClientDisk) (t : Heard)
+    (p : Plan) : Type 0 where
+  pub first : AreOwn g c h sent t (told p)
+  pub plan : IsPlan g c h sent d t p
 
 abbrev pub RestsOn : (ℕ → Scheme) → ℕ → Items → List Sending → ClientDisk → Heard → Option Plan → Type 0
 RestsOn g c h sent d t None = Tied g c h sent d t
@@ -342,7 +357,8 @@ IsOutcome g c h sent r (messages.Conflict last) = Unit {0}
 
 abbrev pub IsHeader : ℕ → Items → Pulled → Option Header → Type 0
 IsHeader c h pulled None = Unit {0}
-IsHeader c h pulled (Some header) = IsChange c (h pulled.table) pulled.from pulled.to header
+IsHeader c h pulled (Some header) =
+    IsChange c (h pulled.table) pulled.from pulled.to header × (pulled.from < pulled.to)
 
 abbrev pub IsMessage : (ℕ → Scheme) → ℕ → Items → List Sending → Message → Type 0
 IsMessage g c h sent (SyncRequest request) = Unit {0}

@@ -38,7 +38,7 @@ use Rattle.step_tables.specs.Client as old
 use Rattle.step_tables.specs.Client.{row_cmp, ClientTable, slots_at, version_in}
 use Rattle.step_tables.specs.Facts as facts
 use Rattle.step_tables.proofs.Lists.{among_here, among_next, among_map}
-use Rattle.run_laws.specs.World as memory
+use Rattle.memory_runs.specs.World as memory
 use Rattle.client_laws.proofs.Sends.{rising_found}
 use Rattle.step_tables.specs.Members.{Among}
 use Rattle.step_tables.specs.Messages.{Send}
@@ -46,7 +46,7 @@ use Rattle.step_tables.specs.Messages as messages
 use Rattle.step_tables.specs.ClientMoves as client
 use Rattle.step_tables.specs.ClientMoves.{TableDisk}
 use Rattle.client_laws.specs.Part.{Rising}
-use Rattle.world_tables.specs.World.{Packet, packets_from}
+use Rattle.world_tables.specs.World.{Packet, packets_from, is_fault}
 use Rattle.memory_laws.specs.Lift.{message_of, header_of, packet_of, slots_of, row_of, opened_of, table_of, disk_of, client_of, answer_of, fact_of, shown_of}
 use Rattle.memory_laws.specs.Lift as lift
 use Rattle.memory_laws.proofs.Maps.{look_map}
@@ -91,10 +91,10 @@ module _ (node : old.Client) where
   -- ---- write
 
   fault_once : (fault : FitFault) → AtOnce node.number (old.refused node (old.refusal_of fault)) (client.quiet (disk_of node) (Some []) (facts.Refuses (facts.Unfit fault)))
-  fault_once (faults.BadCell column) = quiet_once node.number node (answers.Refused (refusals.BadCell column))
-  fault_once (faults.BadObject column len) = quiet_once node.number node (answers.Refused (refusals.BadObject column len))
-  fault_once (faults.RowTooLarge len) = quiet_once node.number node (answers.Refused (refusals.RowTooLarge len))
-  fault_once (faults.TooManyChunks count) = quiet_once node.number node (answers.Refused (refusals.TooManyChunks count))
+  fault_once (faults.BadCell column) = quiet_once node.number node (answers.Refused (refusals.BadCell column)) refl
+  fault_once (faults.BadObject column len) = quiet_once node.number node (answers.Refused (refusals.BadObject column len)) refl
+  fault_once (faults.RowTooLarge len) = quiet_once node.number node (answers.Refused (refusals.RowTooLarge len)) refl
+  fault_once (faults.TooManyChunks count) = quiet_once node.number node (answers.Refused (refusals.TooManyChunks count)) refl
 
   fitting_once : (table : ℕ) (row : List ℕ) (x : Content) (opened : ClientTable) → old.table_at node table ≡ Some opened → (fit : Result (Unit {0}) FitFault)
       → AtOnce node.number (old.write_fitting node table opened row x fit) (client.write_fitting Eventual node.number (disk_of node) [] table row (opened_of opened) x fit)
@@ -104,7 +104,7 @@ module _ (node : old.Client) where
       let main : Main = record { number = node.last + 1; read = version_in s.shadow; content = x } in
       subst (λ (sl : client.Slots). AtOnce node.number (old.write_fitting node table opened row x (Ok fits))
       (client.write_free Eventual node.number (disk_of node) table row (opened_of opened) sl x sl.conflict)) (sym (slots_there node.number node table opened at row))
-      (row_once node.number node table opened at (answers.Number (node.last + 1)) (node.last + 1) row (record s { main = Some main })
+      (row_once node.number node table opened at (answers.Number (node.last + 1)) refl (node.last + 1) row (record s { main = Some main })
       (client.wrote node.number table row main ∷ []) (told.Wrote (record {
         client = node.number;
         number = node.last + 1;
@@ -121,7 +121,7 @@ module _ (node : old.Client) where
     where
       go : (o : Option ClientTable) → old.table_at node table ≡ o
           → AtOnce node.number (old.write_to node table row x o) (client.write_to node.number (disk_of node) [] table row x (option_map opened_of o))
-      go None at = quiet_once node.number node (answers.Refused refusals.NoTable)
+      go None at = quiet_once node.number node (answers.Refused refusals.NoTable) refl
       go (Some opened) at =
           subst (λ (g : Scheme). AtOnce node.number (old.write_to node table row x (Some opened)) (client.write_fitting g node.number (disk_of node) [] table row (opened_of opened) x (fit_of opened.schema x)))
           (sym (eventual opened at)) (fitting_once table row x opened at (fit_of opened.schema x))
@@ -133,18 +133,23 @@ module _ (node : old.Client) where
   shown_same None (Some s) = refl
   shown_same None None = refl
 
+  shown_fine : (m : Option Main) (s : Option Shadow) → is_fault (client.show_answer (client.shown_in m None s)) ≡ false
+  shown_fine (Some m) s = refl
+  shown_fine None (Some s) = refl
+  shown_fine None None = refl
+
   pub show_once : (table : ℕ) (row : List ℕ) → AtOnce node.number (old.show_step node table row) (client.client_step node.number (client_of node) (client.Show table row))
   show_once table row =
       subst (λ (o : Option TableDisk). AtOnce node.number (old.show_step node table row) (client.quiet (disk_of node) (Some []) (client.show_in row o))) (sym (found table)) (go (old.table_at node table) refl)
     where
       go : (o : Option ClientTable) → old.table_at node table ≡ o → AtOnce node.number (old.show_in node row o) (client.quiet (disk_of node) (Some []) (client.show_in row (option_map opened_of o)))
-      go None at = quiet_once node.number node (answers.Refused refusals.NoTable)
+      go None at = quiet_once node.number node (answers.Refused refusals.NoTable) refl
       go (Some opened) at =
           let s : Slots = slots_at opened row in
           let a : Answer = old.show_answer (old.shown_in s.main s.shadow) in
           subst (λ (sl : client.Slots). AtOnce node.number (old.answered node a) (client.quiet (disk_of node) (Some []) (client.show_answer (client.shown_in sl.main sl.conflict sl.shadow))))
           (sym (slots_there node.number node table opened at row))
-          (subst (λ (b : facts.Answer). AtOnce node.number (old.answered node a) (client.quiet (disk_of node) (Some []) b)) (sym (shown_same s.main s.shadow)) (quiet_once node.number node a))
+          (subst (λ (b : facts.Answer). AtOnce node.number (old.answered node a) (client.quiet (disk_of node) (Some []) b)) (sym (shown_same s.main s.shadow)) (quiet_once node.number node a (sym (ap is_fault (shown_same s.main s.shadow)) ∙ shown_fine s.main s.shadow)))
 
   pub sum_once : (table : ℕ) (row : List ℕ) → AtOnce node.number (old.sum_step node table row) (client.client_step node.number (client_of node) (client.Sum table row))
   sum_once table row = digested_once node.number (old.show_step node table row) (client.client_step node.number (client_of node) (client.Show table row)) (show_once table row)
@@ -156,8 +161,8 @@ module _ (node : old.Client) where
       subst (λ (o : Option TableDisk). AtOnce node.number (old.pull_step node table) (client.next_in node.number (disk_of node) [] table o)) (sym (found table)) (go (old.table_at node table))
     where
       go : (o : Option ClientTable) → AtOnce node.number (old.pull_in node table o) (client.next_in node.number (disk_of node) [] table (option_map opened_of o))
-      go None = quiet_once node.number node (answers.Refused refusals.NoTable)
-      go (Some opened) = send_once node.number node answers.Done (old.pull_from node.number table opened.position ∷ []) (client.pull_from node.number table opened.position ∷ []) refl
+      go None = quiet_once node.number node (answers.Refused refusals.NoTable) refl
+      go (Some opened) = send_once node.number node answers.Done refl (old.pull_from node.number table opened.position ∷ []) (client.pull_from node.number table opened.position ∷ []) refl
 
   -- ---- a response
 
@@ -174,7 +179,7 @@ module _ (node : old.Client) where
         position = None;
         facts = facts.Acked node.number out.number table row v ∷ [];
       }) [])) (without_same out.number)
-      (row_once node.number node table opened at answers.Done node.last row (record { main = old.without out.number s.main; shadow = Some (record { version = v; content = out.content }); out = None })
+      (row_once node.number node table opened at answers.Done refl node.last row (record { main = old.without out.number s.main; shadow = Some (record { version = v; content = out.content }); out = None })
       (facts.Acked node.number out.number table row v ∷ []) (old.acked node.number table row out.number v ∷ []) [] [] refl refl)
     where
       without_same : (n : ℕ) → old.without n ≡ client.without n
@@ -189,18 +194,18 @@ module _ (node : old.Client) where
       (client.outcome_taken node.number (disk_of node) table row (opened_of opened) (slots_of (slots_at opened row)) out (lift.outcome_of o))
   outcome_once table row opened at out (outcomes.Accepted v) = accepted_once table row opened at out v
   outcome_once table row opened at out (outcomes.Again v) = accepted_once table row opened at out v
-  outcome_once table row opened at out (outcomes.Late v) = quiet_once node.number node answers.Done
+  outcome_once table row opened at out (outcomes.Late v) = quiet_once node.number node answers.Done refl
 
   response_once : (r : SyncResponse) (opened : ClientTable) → old.table_at node r.table ≡ Some opened → (out : Option InFlight)
       → AtOnce node.number (old.take_response node opened r out)
       (client.response_taken node.number (disk_of node) (record { client = r.client; table = r.table; row = r.row; number = r.number; outcome = lift.outcome_of r.outcome }) (opened_of opened) out)
-  response_once r opened at None = quiet_once node.number node answers.Done
+  response_once r opened at None = quiet_once node.number node answers.Done refl
   response_once r opened at (Some out) = go (out.number == r.number)
     where
       go : (b : Bool) → AtOnce node.number (if b then old.take_outcome node r.table opened r.row (slots_at opened r.row) out r.outcome else old.ignored node)
           (if b then client.outcome_taken node.number (disk_of node) r.table r.row (opened_of opened) (client.slots_at (opened_of opened) r.row) out (lift.outcome_of r.outcome)
           else client.ignored (disk_of node))
-      go false = quiet_once node.number node answers.Done
+      go false = quiet_once node.number node answers.Done refl
       go true = subst (λ (s : client.Slots). AtOnce node.number (old.take_outcome node r.table opened r.row (slots_at opened r.row) out r.outcome)
           (client.outcome_taken node.number (disk_of node) r.table r.row (opened_of opened) s out (lift.outcome_of r.outcome))) (sym (slots_there node.number node r.table opened at r.row))
           (outcome_once r.table r.row opened at out r.outcome)
@@ -214,7 +219,7 @@ module _ (node : old.Client) where
     where
       go : (o : Option ClientTable) → old.table_at node r.table ≡ o → AtOnce node.number (old.response_in node r o)
           (client.response_in node.number (disk_of node) (record { client = r.client; table = r.table; row = r.row; number = r.number; outcome = lift.outcome_of r.outcome }) (option_map opened_of o))
-      go None at = quiet_once node.number node answers.Done
+      go None at = quiet_once node.number node answers.Done refl
       go (Some opened) at = subst (λ (s : client.Slots). AtOnce node.number (old.take_response node opened r (slots_at opened r.row).out)
           (client.response_taken node.number (disk_of node) (record { client = r.client; table = r.table; row = r.row; number = r.number; outcome = lift.outcome_of r.outcome }) (opened_of opened) s.out))
           (sym (slots_there node.number node r.table opened at r.row)) (response_once r opened at (slots_at opened r.row).out)
@@ -303,7 +308,7 @@ module _ (node : old.Client) where
           (if b then client.begun (disk_of node) facts.Done (client.position_plan node.number (disk_of node) q.table q.to) (client.next_pull node.number q.table (lift.pulled_of q))
           else client.begun (disk_of node) facts.Done (client.row_plan node.number (disk_of node) q.table hd.row q.to (client.row_placed Eventual node.number q.table (header_of hd) (slots_of (slots_at opened hd.row)) (slots_at opened hd.row).out))
           (client.next_pull node.number q.table (lift.pulled_of q)))
-      go true le = position_once node.number node q.table opened at answers.Done hd.row q.to (facts.Position node.number q.table q.to ∷ []) (told.Position node.number q.table q.to ∷ [])
+      go true le = position_once node.number node q.table opened at answers.Done refl hd.row q.to (facts.Position node.number q.table q.to ∷ []) (told.Position node.number q.table q.to ∷ [])
           (old.next_pull node.number q.table q) (client.next_pull node.number q.table (lift.pulled_of q)) (stays_there opened hd.row hd.version rising le positive) refl (pull_same q.table q)
       go false le =
           let x : old.Taken = old.newer node.number q.table hd (slots_at opened hd.row) (slots_at opened hd.row).out in
@@ -316,7 +321,7 @@ module _ (node : old.Client) where
             position = Some q.to;
             facts = y.facts ++ facts.Position node.number q.table q.to ∷ [];
           }) (client.next_pull node.number q.table (lift.pulled_of q)))) (sym same.slots)
-          (both_once node.number node q.table opened at answers.Done node.last hd.row x.slots q.to (y.facts ++ facts.Position node.number q.table q.to ∷ []) (x.facts ++ told.Position node.number q.table q.to ∷ [])
+          (both_once node.number node q.table opened at answers.Done refl node.last hd.row x.slots q.to (y.facts ++ facts.Position node.number q.table q.to ∷ []) (x.facts ++ told.Position node.number q.table q.to ∷ [])
           (old.next_pull node.number q.table q) (client.next_pull node.number q.table (lift.pulled_of q)) same.facts_are (pull_same q.table q))
 
   -- what is known of the node where a row comes
@@ -326,12 +331,12 @@ module _ (node : old.Client) where
 
   header_once : (q : PullResponse) (opened : ClientTable) → old.table_at node q.table ≡ Some opened → IsReady q.table → (o : Option RowHeader) → ((hd : RowHeader) → o ≡ Some hd → 1 ≤ hd.version)
       → AtOnce node.number (old.take_pulled node opened q o) (client.pulled_taken node.number (disk_of node) (lift.pulled_of q) (opened_of opened) (option_map header_of o))
-  header_once q opened at ready None f = quiet_once node.number node answers.Done
+  header_once q opened at ready None f = quiet_once node.number node answers.Done refl
   header_once q opened at ready (Some hd) f = go (q.from == opened.position)
     where
       go : (b : Bool) → AtOnce node.number (if b then old.take_row node q.table opened q hd (old.take_header node.number q.table hd (slots_at opened hd.row)) else old.ignored node)
           (if b then client.row_taken node.number (disk_of node) (lift.pulled_of q) (opened_of opened) (header_of hd) (client.slots_at (opened_of opened) hd.row) else client.ignored (disk_of node))
-      go false = quiet_once node.number node answers.Done
+      go false = quiet_once node.number node answers.Done refl
       go true =
           subst (λ (sl : client.Slots). AtOnce node.number (old.take_row node q.table opened q hd (old.take_header node.number q.table hd (slots_at opened hd.row)))
           (client.row_taken node.number (disk_of node) (lift.pulled_of q) (opened_of opened) (header_of hd) sl)) (sym (slots_there node.number node q.table opened at hd.row))
@@ -350,7 +355,7 @@ module _ (node : old.Client) where
     where
       go : (o : Option ClientTable) → old.table_at node q.table ≡ o
           → AtOnce node.number (old.pulled_in node q o) (client.pulled_in node.number (disk_of node) (lift.pulled_of q) (option_map opened_of o))
-      go None at = quiet_once node.number node answers.Done
+      go None at = quiet_once node.number node answers.Done refl
       go (Some opened) at = header_once q opened at ready q.header f
 
   -- ---- sync
@@ -422,7 +427,7 @@ module _ (node : old.Client) where
       (client.sync_first node.number (disk_of node) table (client.resent node.number table (map row_of opened.rows)) y)
   first_once table opened at rising None None f =
       rw (resent_length table opened.rows)
-      (send_once node.number node (answers.Number (length (old.resent node.number table opened.rows))) (old.resent node.number table opened.rows) (client.resent node.number table (map row_of opened.rows)) (resent_same table opened.rows))
+      (send_once node.number node (answers.Number (length (old.resent node.number table opened.rows))) refl (old.resent node.number table opened.rows) (client.resent node.number table (map row_of opened.rows)) (resent_same table opened.rows))
   first_once table opened at rising None (Some y) f = absurd f
   first_once table opened at rising (Some x) None f = absurd f
   first_once table opened at rising (Some x) (Some y) f =
@@ -432,7 +437,7 @@ module _ (node : old.Client) where
       (client.sync_first node.number (disk_of node) table (client.resent node.number table (map row_of opened.rows)) (Some (record { row = x.0; slots = sl; out = x.1 }))))
       (slots_found opened x.0 f.slots rising f.there)
       (rw (resent_length table opened.rows)
-      (sync_once node.number node table opened at (answers.Number (length (old.resent node.number table opened.rows) + 1)) x.0 (record (slots_at opened x.0) { out = Some x.1 })
+      (sync_once node.number node table opened at (answers.Number (length (old.resent node.number table opened.rows) + 1)) refl x.0 (record (slots_at opened x.0) { out = Some x.1 })
       (old.resent node.number table opened.rows ++ old.request_for node.number table x.0 x.1 ∷ []) (client.resent node.number table (map row_of opened.rows)) (client.request_for node.number table x.0 x.1 ∷ [])
       (joined (old.resent node.number table opened.rows) (old.request_for node.number table x.0 x.1) (resent_same table opened.rows)))))
     where
@@ -450,5 +455,5 @@ module _ (node : old.Client) where
       subst (λ (o : Option TableDisk). AtOnce node.number (old.sync_step node table) (client.sync_in node.number (disk_of node) [] table o)) (sym (found table)) (go (old.table_at node table) refl)
     where
       go : (o : Option ClientTable) → old.table_at node table ≡ o → AtOnce node.number (old.sync_in node table o) (client.sync_in node.number (disk_of node) [] table (option_map opened_of o))
-      go None at = quiet_once node.number node (answers.Refused refusals.NoTable)
+      go None at = quiet_once node.number node (answers.Refused refusals.NoTable) refl
       go (Some opened) at = first_once table opened at (ready.rising opened at) (old.first_to_send opened.rows) (client.first_to_send (map row_of opened.rows)) (firsts opened.rows)

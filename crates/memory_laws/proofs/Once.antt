@@ -29,8 +29,8 @@ use Rattle.step_tables.specs.Sums as sums
 use Rattle.step_tables.specs.Messages.{Send, name_of}
 use Rattle.step_tables.specs.ClientMoves as client
 use Rattle.step_tables.specs.ClientMoves.{ClientDisk, ClientTask, ClientStep, Plan, RowPut, TableDisk}
-use Rattle.run_laws.specs.World as memory
-use Rattle.world_tables.specs.World.{Packet, Outbox, packets_from, lines_from, sent_lines}
+use Rattle.memory_runs.specs.World as memory
+use Rattle.world_tables.specs.World.{Packet, Outbox, packets_from, lines_from, sent_lines, is_fault}
 use Rattle.memory_laws.specs.Lift.{message_of, packet_of, slots_of, row_of, opened_of, table_of, disk_of, answer_of, fact_of, line_of}
 use Rattle.memory_laws.proofs.Maps.{look_map, put_map, put_put, look_put}
 use Rattle.memory_laws.proofs.Settles.{run_client, client_packets, client_outs, lines_tell}
@@ -71,6 +71,7 @@ pub record AtOnce (c : ℕ) (was : old.ClientStep) (step : ClientStep) : Type 0 
   pub agenda : step.client.agenda ≡ Some tasks
   pub disk : run_client step.client.disk tasks ≡ disk_of was.client
   pub answer : step.answer ≡ answer_of was.answer
+  pub fine : is_fault step.answer ≡ false
   pub packets : (ps : List Packet) → client_packets c (ps ++ packets_from (nodes.Client c) step.sends) tasks ≡ ps ++ map packet_of (sent_by c was.messages)
   pub lines : (n : ℕ) → lines_from n (record { facts = step.facts; packets = packets_from (nodes.Client c) step.sends } ∷ client_outs c tasks)
       ≡ map line_of (memory.told (was.facts ++ memory.sent_from n (sent_by c was.messages)))
@@ -93,7 +94,28 @@ digests_same answers.Done = refl
 digests_same (answers.Number number) = refl
 digests_same (answers.Sums sum) = refl
 digests_same (answers.Stored version content) = refl
+digests_same (answers.Did step) = refl
+digests_same (answers.Names names) = refl
 digests_same (answers.Refused refusal) = refl
+
+fine_by_digests : (a : Answer) → is_fault (answer_of a) ≡ false → is_fault (answer_of (by_digests a)) ≡ false
+fine_by_digests (answers.Shown (shown.Clean version content)) h = clean (row_sum content)
+  where
+    clean : (o : Option RowSum) → is_fault (answer_of (or_whole (shown.Clean version content) (option_map (old_sums.Clean version) o))) ≡ false
+    clean None = refl
+    clean (Some row) = refl
+fine_by_digests (answers.Shown (shown.Mine number content)) h = mine (row_sum content)
+  where
+    mine : (o : Option RowSum) → is_fault (answer_of (or_whole (shown.Mine number content) (option_map (old_sums.Mine number) o))) ≡ false
+    mine None = refl
+    mine (Some row) = refl
+fine_by_digests answers.Done h = h
+fine_by_digests (answers.Number number) h = h
+fine_by_digests (answers.Sums sum) h = h
+fine_by_digests (answers.Stored version content) h = h
+fine_by_digests (answers.Did step) h = h
+fine_by_digests (answers.Names names) h = h
+fine_by_digests (answers.Refused refusal) h = h
 
 pub digested_once : (c : ℕ) (was : old.ClientStep) (step : ClientStep) → AtOnce c was step → AtOnce c (old.digested was) (client.digested step)
 digested_once c was step k = record {
@@ -101,22 +123,24 @@ digested_once c was step k = record {
   agenda = k.agenda;
   disk = k.disk;
   answer = ap sums.by_digests k.answer ∙ digests_same was.answer;
+  fine = ap is_fault (ap sums.by_digests k.answer ∙ digests_same was.answer) ∙ fine_by_digests was.answer (sym (ap is_fault k.answer) ∙ k.fine);
   packets = k.packets;
   lines = k.lines;
 }
 
 -- nothing begins
-pub quiet_once : (c : ℕ) (node : old.Client) (a : Answer) → AtOnce c (old.answered node a) (client.quiet (disk_of node) (Some []) (answer_of a))
-quiet_once c node a = record { tasks = []; agenda = refl; disk = refl; answer = refl; packets = λ ps. refl; lines = λ n. refl }
+pub quiet_once : (c : ℕ) (node : old.Client) (a : Answer) → is_fault (answer_of a) ≡ false → AtOnce c (old.answered node a) (client.quiet (disk_of node) (Some []) (answer_of a))
+quiet_once c node a fine = record { tasks = []; agenda = refl; disk = refl; answer = refl; fine = fine; packets = λ ps. refl; lines = λ n. refl }
 
 -- messages are sent at once
-pub send_once : (c : ℕ) (node : old.Client) (a : Answer) (messages : List Message) (sends : List Send) → packets_from (nodes.Client c) sends ≡ map packet_of (sent_by c messages)
+pub send_once : (c : ℕ) (node : old.Client) (a : Answer) (fine : is_fault (answer_of a) ≡ false) (messages : List Message) (sends : List Send) → packets_from (nodes.Client c) sends ≡ map packet_of (sent_by c messages)
     → AtOnce c (record { client = node; answer = a; messages = messages; facts = [] }) (record (client.quiet (disk_of node) (Some []) (answer_of a)) { sends = sends })
-send_once c node a messages sends same = record {
+send_once c node a fine messages sends same = record {
   tasks = [];
   agenda = refl;
   disk = refl;
   answer = refl;
+  fine = fine;
   packets = λ ps. ap (λ (xs : List Packet). ps ++ xs) same;
   lines = λ n. append-nil (sent_lines n (packets_from (nodes.Client c) sends)) ∙ (ap (sent_lines n) same ∙ sym (sent_told n (sent_by c messages)));
 }
@@ -190,11 +214,11 @@ module _ (c : ℕ) (node : old.Client) (table : ℕ) (opened : ClientTable) (at 
       ∙ ap (λ (ls : List Line). map FactLine some ++ ls) (lines_tell n [] (telling [] ∷ sending sends ∷ []) ∙ (lines_tell n [] (sending sends ∷ []) ∙ end_lines n sends)))
 
   -- a plan of one row
-  pub row_once : (a : Answer) (last : ℕ) (row : List ℕ) (slots : Slots) (told : List facts.ClientFact) (some : List Fact) (messages : List Message) (sends : List Send)
+  pub row_once : (a : Answer) (fine : is_fault (answer_of a) ≡ false) (last : ℕ) (row : List ℕ) (slots : Slots) (told : List facts.ClientFact) (some : List Fact) (messages : List Message) (sends : List Send)
       → map facts.Client told ≡ map fact_of some → packets_from (nodes.Client c) sends ≡ map packet_of (sent_by c messages)
       → AtOnce c (record { client = with_table (record node { last = last }) table (with_slots opened row slots); answer = a; messages = messages; facts = some })
       (client.begun (disk_of node) (answer_of a) (record { last = last; table = table; row = Some (put_for row slots); position = None; facts = told }) sends)
-  row_once a last row slots told some messages sends same_facts same = record {
+  row_once a fine last row slots told some messages sends same_facts same = record {
     tasks = _;
     agenda = refl;
     disk = ap (λ (o : Option TableDisk). record (client.with_table (record {
@@ -203,6 +227,7 @@ module _ (c : ℕ) (node : old.Client) (table : ℕ) (opened : ClientTable) (at 
       plan = Some (record { last = last; table = table; row = Some (put_for row slots); position = None; facts = told });
     }) table o (client.put_row (put_for row slots))) { plan = None }) opened_at ∙ row_disk last row slots;
     answer = refl;
+    fine = fine;
     packets = λ ps. ap (λ (xs : List Packet). xs ++ packets_from (nodes.Client c) sends) (simp append-nil) ∙ ap (λ (xs : List Packet). ps ++ xs) same;
     lines = λ n. row_lines n (map facts.Client told) (packets_from (nodes.Client c) sends)
         ∙ (ap (λ (fs : List facts.Fact). map FactLine fs ++ sent_lines n (packets_from (nodes.Client c) sends)) same_facts
@@ -210,11 +235,11 @@ module _ (c : ℕ) (node : old.Client) (table : ℕ) (opened : ClientTable) (at 
   }
 
   -- a plan of one row and of the table's position
-  pub both_once : (a : Answer) (last : ℕ) (row : List ℕ) (slots : Slots) (to : ℕ) (told : List facts.ClientFact) (some : List Fact) (messages : List Message) (sends : List Send)
+  pub both_once : (a : Answer) (fine : is_fault (answer_of a) ≡ false) (last : ℕ) (row : List ℕ) (slots : Slots) (to : ℕ) (told : List facts.ClientFact) (some : List Fact) (messages : List Message) (sends : List Send)
       → map facts.Client told ≡ map fact_of some → packets_from (nodes.Client c) sends ≡ map packet_of (sent_by c messages)
       → AtOnce c (record { client = with_table (record node { last = last }) table (record (with_slots opened row slots) { position = to }); answer = a; messages = messages; facts = some })
       (client.begun (disk_of node) (answer_of a) (record { last = last; table = table; row = Some (put_for row slots); position = Some to; facts = told }) sends)
-  both_once a last row slots to told some messages sends same_facts same = record {
+  both_once a fine last row slots to told some messages sends same_facts same = record {
     tasks = _;
     agenda = refl;
     disk = ap (λ (o : Option TableDisk). record (client.with_table (client.with_table (record {
@@ -230,6 +255,7 @@ module _ (c : ℕ) (node : old.Client) (table : ℕ) (opened : ClientTable) (at 
         ∙ (ap (λ (ts : List (ℕ × TableDisk)). record { last = last; tables = ts; plan = None }) (put_put nat_cmp nat_cmp_total (map table_of node.tables) table row_opened (client.put_position to row_opened))
         ∙ both_disk last row slots to));
     answer = refl;
+    fine = fine;
     packets = λ ps. ap (λ (xs : List Packet). xs ++ packets_from (nodes.Client c) sends) (simp append-nil) ∙ ap (λ (xs : List Packet). ps ++ xs) same;
     lines = λ n. both_lines n (map facts.Client told) (packets_from (nodes.Client c) sends)
         ∙ (ap (λ (fs : List facts.Fact). map FactLine fs ++ sent_lines n (packets_from (nodes.Client c) sends)) same_facts
@@ -246,12 +272,12 @@ module _ (c : ℕ) (node : old.Client) (table : ℕ) (opened : ClientTable) (at 
       behind = record { last = last; tables = insert_entry nat_cmp (map table_of node.tables) table row_opened; plan = Some plan }
 
   -- a plan of the table's position alone, where the row's slots stay as they are
-  pub position_once : (a : Answer) (row : List ℕ) (to : ℕ) (told : List facts.ClientFact) (some : List Fact) (messages : List Message) (sends : List Send)
+  pub position_once : (a : Answer) (fine : is_fault (answer_of a) ≡ false) (row : List ℕ) (to : ℕ) (told : List facts.ClientFact) (some : List Fact) (messages : List Message) (sends : List Send)
       → insert_entry row_cmp (map row_of opened.rows) row (slots_of (slots_at opened row)) ≡ map row_of opened.rows
       → map facts.Client told ≡ map fact_of some → packets_from (nodes.Client c) sends ≡ map packet_of (sent_by c messages)
       → AtOnce c (record { client = with_table node table (record (with_slots opened row (slots_at opened row)) { position = to }); answer = a; messages = messages; facts = some })
       (client.begun (disk_of node) (answer_of a) (record { last = node.last; table = table; row = None; position = Some to; facts = told }) sends)
-  position_once a row to told some messages sends stays same_facts same = record {
+  position_once a fine row to told some messages sends stays same_facts same = record {
     tasks = _;
     agenda = refl;
     disk = ap (λ (o : Option TableDisk). record (client.with_table (record {
@@ -266,6 +292,7 @@ module _ (c : ℕ) (node : old.Client) (table : ℕ) (opened : ClientTable) (at 
         }) (sym stays ∙ rows_same row (slots_at opened row))
         ∙ ap (λ (ts : List (ℕ × TableDisk)). record { last = node.last; tables = ts; plan = None }) (tables_same (record (with_slots opened row (slots_at opened row)) { position = to })));
     answer = refl;
+    fine = fine;
     packets = λ ps. ap (λ (xs : List Packet). xs ++ packets_from (nodes.Client c) sends) (simp append-nil) ∙ ap (λ (xs : List Packet). ps ++ xs) same;
     lines = λ n. row_lines n (map facts.Client told) (packets_from (nodes.Client c) sends)
         ∙ (ap (λ (fs : List facts.Fact). map FactLine fs ++ sent_lines n (packets_from (nodes.Client c) sends)) same_facts
@@ -273,11 +300,11 @@ module _ (c : ℕ) (node : old.Client) (table : ℕ) (opened : ClientTable) (at 
   }
 
   -- messages are sent at once, and a plan of one row sends more
-  pub sync_once : (a : Answer) (row : List ℕ) (slots : Slots) (messages : List Message) (again sends : List Send)
+  pub sync_once : (a : Answer) (fine : is_fault (answer_of a) ≡ false) (row : List ℕ) (slots : Slots) (messages : List Message) (again sends : List Send)
       → packets_from (nodes.Client c) again ++ packets_from (nodes.Client c) sends ≡ map packet_of (sent_by c messages)
       → AtOnce c (record { client = with_table node table (with_slots opened row slots); answer = a; messages = messages; facts = [] })
       (record (client.begun (disk_of node) (answer_of a) (record { last = node.last; table = table; row = Some (put_for row slots); position = None; facts = [] }) sends) { sends = again })
-  sync_once a row slots messages again sends same =
+  sync_once a fine row slots messages again sends same =
       record {
         tasks = _;
         agenda = refl;
@@ -287,6 +314,7 @@ module _ (c : ℕ) (node : old.Client) (table : ℕ) (opened : ClientTable) (at 
           plan = Some (record { last = node.last; table = table; row = Some (put_for row slots); position = None; facts = [] });
         }) table o (client.put_row (put_for row slots))) { plan = None }) opened_at ∙ row_disk node.last row slots;
         answer = refl;
+        fine = fine;
         packets = λ ps. simp (append-nil, append_assoc) (ap (λ (xs : List Packet). ps ++ xs) same);
         lines = λ n. ap (λ (ls : List Line). sent_lines n (packets_from (nodes.Client c) again) ++ ls) (last_lines (n + length (packets_from (nodes.Client c) again)))
             ∙ (sym (sent_join n (packets_from (nodes.Client c) again) (packets_from (nodes.Client c) sends))

@@ -1,45 +1,34 @@
--- Transcripts in memory are those of the moves, and so are sound.
-use Rattle.std.proofs.Common.{◌≡◌, ◌≢◌, ◌⊎◌, inl, inr, ℕ, ◌+◌, ◌<◌, ◌≤◌, Bool, true, false, List, [], ◌∷◌, ◌++◌, length, Option, Some, None, Result, Ok, Err, refl, sym, ap, ◌∙◌, subst, arith, ⊎_elim}
-use Rattle.std.specs.Prelude.{map, option_map, slice_get, ◌==◌, nat_le, if◌then◌else◌}
+-- Transcripts in memory are those of the moves, and so are sound; and so is each event.
+use Rattle.std.proofs.Common.{◌≡◌, ℕ, List, [], ◌∷◌, Option, Some, None, refl, sym, ap, ◌∙◌, subst, arith, ⊎_elim}
+use Rattle.std.specs.Prelude.{map, slice_get}
 use Rattle.std.specs.List.{AllByRecursion}
-use Rattle.std.proofs.lemmas.Bool.Decides.{nat_tests}
 use Rattle.stab_base.specs.declared.node.Node.{Node}
 use Rattle.stab_base.specs.declared.node.Node.TheVariants as nodes
 use Rattle.row_value.specs.declared.content.Content.{Content}
 use Rattle.row_value.specs.declared.schema.Schema.{Schema}
 use Rattle.row_value.specs.declared.schema.Scheme.{Scheme}
 use Rattle.row_value.specs.declared.schema.Scheme.TheVariants.{Eventual}
-use Rattle.row_value.specs.declared.fit.FitFault.{FitFault}
-use Rattle.row_value.specs.Fit.{fit_of}
 use Rattle.table_model.specs.declared.event.Event.{Event}
 use Rattle.table_model.specs.declared.event.Event.TheVariants as events
-use Rattle.table_model.specs.declared.line.TextLine.{TextLine}
 use Rattle.step_tables.specs.declared.message.Message.{Message}
-use Rattle.step_tables.specs.declared.message.Message.TheVariants as kinds
-use Rattle.step_tables.specs.declared.message.Outcome.{Outcome}
-use Rattle.step_tables.specs.declared.message.Outcome.TheVariants as outcomes
-use Rattle.step_tables.specs.declared.message.PullResponse.{PullResponse}
-use Rattle.step_tables.specs.declared.message.RowHeader.{RowHeader}
-use Rattle.step_tables.specs.declared.message.SyncResponse.{SyncResponse}
-use Rattle.step_tables.specs.declared.slots.InFlight.{InFlight}
 use Rattle.step_tables.specs.Store.{Stored, current_of}
 use Rattle.step_tables.specs.Client as old
-use Rattle.step_tables.specs.Client.{ClientTable}
 use Rattle.step_tables.specs.Facts.{Line}
 use Rattle.step_tables.specs.Sayings.{Said, nothing_said, hear_lines}
-use Rattle.run_laws.specs.World as memory
-use Rattle.run_laws.specs.Turns as memory_turns
-use Rattle.world_tables.specs.World.{World, step, lines_of, start, hosted_at}
-use Rattle.world_tables.specs.Turns.{Turn, Happening, turns_from}
+use Rattle.memory_runs.specs.World as memory
+use Rattle.memory_runs.specs.Turns as memory_turns
+use Rattle.world_tables.specs.World.{World, Does, step, lines_of, start}
+use Rattle.world_tables.specs.Turns.{Turn, turns_from, world_from}
 use Rattle.world_tables.specs.Sound.{IsSound}
 use Rattle.client_laws.proofs.Law.{client_law}
 use Rattle.client_laws.proofs.Grows.{client_grows, lapsed_grows}
 use Rattle.world_laws.proofs.Kept.{Kept}
 use Rattle.world_laws.proofs.Runs.{start_kept, step_sound, IsFirst, StepSound, all_runs}
+use Rattle.world_laws.proofs.Ups.{IsUp}
 use Rattle.world_laws.proofs.Fresh.{fresh_part}
 use Rattle.world_laws.proofs.Looks.{look_cases}
 use Rattle.memory_laws.specs.Lift.{world_of, line_of, turn_of, at_once, IsEventual}
-use Rattle.memory_laws.proofs.Worlds.{Same}
+use Rattle.memory_laws.proofs.Worlds.{Same, tables_idle}
 use Rattle.memory_laws.proofs.Steps.{Numbered, step_same}
 
 -- ---- each client keeps its number
@@ -153,7 +142,7 @@ all_eventual table = Eventual
 abbrev Keeps : memory.World → Said → Type 0
 Keeps w s = Kept all_eventual (world_of w) s
 
-first_is : (w : memory.World) (s : Said) (k : Keeps w s) (event : Event) → IsEventual event → IsFirst client_law client_grows lapsed_grows fresh_part all_eventual (world_of w) s k event
+first_is : (w : memory.World) (s : Said) (k : Keeps w s) (event : Event) → IsEventual event → IsFirst client_law client_grows lapsed_grows fresh_part all_eventual (world_of w) s k (Does event)
 first_is w s k (events.Table table schema) e = λ none. e
 first_is w s k (events.Store number) e = tt
 first_is w s k (events.Client c gate tables) e = tt
@@ -169,23 +158,65 @@ first_is w s k (events.History table) e = tt
 schemes_are : (table : ℕ) → all_eventual table ≡ Eventual
 schemes_are table = refl
 
-pub turns_are : (script : List Event) (w : memory.World) (s : Said) → Keeps w s → Numbered w → AllByRecursion IsEventual script
+-- what some lines have said keeps the world of the moves, and each client has its number
+record Stands (w : memory.World) : Type 0 where
+  pub said : Said
+  pub kept : Keeps w said
+  pub numbered : Numbered w
+
+start_stands : Stands memory.start
+start_stands = record { said = nothing_said; kept = start_kept client_law client_grows lapsed_grows fresh_part all_eventual; numbered = λ c node at. absurd cc }
+
+event_is : (w : memory.World) → Stands w → (event : Event) → Same w (step (world_of w) (Does event) []) (memory.step w event)
+event_is w k event = step_same all_eventual schemes_are w k.said k.kept k.numbered event
+
+-- no table of a world in memory is down
+all_up : (w : memory.World) → IsUp (world_of w)
+all_up w up q x at = ([], tables_idle w q x at)
+
+stands_on : (w : memory.World) → Stands w → (event : Event) → IsEventual event → Stands (memory.step w event).world
+stands_on w k event e =
+    let sound : StepSound client_law client_grows lapsed_grows fresh_part all_eventual k.said (world_of w) (Does event) (step (world_of w) (Does event) []) =
+    step_sound client_law client_grows lapsed_grows fresh_part all_eventual (world_of w) k.said k.kept (all_up w) (Does event) [] (first_is w k.said k.kept event e) in
+    let later : Said = hear_lines k.said (lines_of (world_of w) (step (world_of w) (Does event) [])) in
+    record {
+      said = later;
+      kept = subst (λ (x : World). Kept all_eventual x later) (event_is w k event).world sound.kept;
+      numbered = numbered_on w event k.numbered;
+    }
+
+all_stands : (script : List Event) (w : memory.World) → Stands w → AllByRecursion IsEventual script → Stands (memory_turns.world_from w script)
+all_stands [] w k e = k
+all_stands (event ∷ script) w k e = all_stands script (memory.step w event).world (stands_on w k event e.0) e.1
+
+turns_are : (script : List Event) (w : memory.World) → Stands w → AllByRecursion IsEventual script
     → turns_from (world_of w) (map at_once script) ≡ map turn_of (memory_turns.turns_from w script)
-turns_are [] w s k n e = refl
-turns_are (event ∷ script) w s k n e =
-    let same : Same w (step (world_of w) event []) (memory.step w event) = step_same all_eventual schemes_are w s k n event in
-    let sound : StepSound client_law client_grows lapsed_grows fresh_part all_eventual s (world_of w) event (step (world_of w) event []) =
-    step_sound client_law client_grows lapsed_grows fresh_part all_eventual (world_of w) s k event [] (first_is w s k event e.0) in
-    let later : Said = hear_lines s (lines_of (world_of w) (step (world_of w) event [])) in
-    let kept : Keeps (memory.step w event).world later = subst (λ (x : World). Kept all_eventual x later) same.world sound.kept in
-    let rest = turns_are script (memory.step w event).world later kept (numbered_on w event n) e.1 in
-    ap (λ (ls : List Line). record { event = event; lines = ls } ∷ turns_from (step (world_of w) event []).world (map at_once script)) same.lines
-    ∙ (ap (λ (x : World). record { event = event; lines = map line_of (memory.step w event).lines } ∷ turns_from x (map at_once script)) same.world
-    ∙ ap (λ (ts : List Turn). record { event = event; lines = map line_of (memory.step w event).lines } ∷ ts) rest)
+turns_are [] w k e = refl
+turns_are (event ∷ script) w k e =
+    let same : Same w (step (world_of w) (Does event) []) (memory.step w event) = event_is w k event in
+    let rest = turns_are script (memory.step w event).world (stands_on w k event e.0) e.1 in
+    ap (λ (ls : List Line). record { deed = Does event; lines = ls } ∷ turns_from (step (world_of w) (Does event) []).world (map at_once script)) same.lines
+    ∙ (ap (λ (x : World). record { deed = Does event; lines = map line_of (memory.step w event).lines } ∷ turns_from x (map at_once script)) same.world
+    ∙ ap (λ (ts : List Turn). record { deed = Does event; lines = map line_of (memory.step w event).lines } ∷ ts) rest)
+
+worlds_are : (script : List Event) (w : memory.World) → Stands w → AllByRecursion IsEventual script
+    → world_from (world_of w) (map at_once script) ≡ world_of (memory_turns.world_from w script)
+worlds_are [] w k e = refl
+worlds_are (event ∷ script) w k e =
+    ap (λ (x : World). world_from x (map at_once script)) (event_is w k event).world ∙ worlds_are script (memory.step w event).world (stands_on w k event e.0) e.1
+
+-- ---- from the start
 
 pub runs_are : (script : List Event) → AllByRecursion IsEventual script → turns_from start (map at_once script) ≡ map turn_of (memory_turns.turns script)
-runs_are script e =
-    turns_are script memory.start nothing_said (start_kept client_law client_grows lapsed_grows fresh_part all_eventual) (λ c node at. absurd cc) e
+runs_are script e = turns_are script memory.start start_stands e
+
+pub world_is : (script : List Event) → AllByRecursion IsEventual script → world_from start (map at_once script) ≡ world_of (memory_turns.world_after script)
+world_is script e = worlds_are script memory.start start_stands e
 
 pub sound : (script : List Event) → AllByRecursion IsEventual script → IsSound (map turn_of (memory_turns.turns script))
 sound script e = subst IsSound (runs_are script e) (all_runs client_law client_grows lapsed_grows fresh_part (map at_once script))
+
+-- one event more, in the world that a script leads to
+pub event_same : (script : List Event) → AllByRecursion IsEventual script → (event : Event)
+    → Same (memory_turns.world_after script) (step (world_of (memory_turns.world_after script)) (Does event) []) (memory.step (memory_turns.world_after script) event)
+event_same script e event = event_is (memory_turns.world_after script) (all_stands script memory.start start_stands e) event

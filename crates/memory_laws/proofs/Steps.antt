@@ -41,10 +41,10 @@ use Rattle.client_laws.specs.Part as part
 use Rattle.memory_laws.specs.Lift as lift
 use Rattle.client_laws.proofs.Law.{client_law}
 use Rattle.client_laws.proofs.Grows.{client_grows, lapsed_grows}
-use Rattle.run_laws.specs.World as memory
-use Rattle.run_laws.specs.Turns as memory_turns
-use Rattle.world_tables.specs.World.{World, Packet, Hosted, WorldStep, hosted_at, client_at, schema_at, scheme_in, answered, silent, call, call_there, to_hosted, to_there, carried, delivered}
-use Rattle.world_tables.specs.World.{row_shown, store_shows, entry_lines, history_lines, declared, opened, with_opened, open_all, new_client, joined, step, lines_of, start}
+use Rattle.memory_runs.specs.World as memory
+use Rattle.memory_runs.specs.Turns as memory_turns
+use Rattle.world_tables.specs.World.{World, Packet, Hosted, WorldStep, hosted_at, client_at, schema_at, scheme_in, chunk_in, answered, silent, call, call_there, to_hosted, to_there, carried, delivered}
+use Rattle.world_tables.specs.World.{row_shown, store_shows, entry_lines, history_lines, declared, opened, with_opened, open_all, new_client, joined, Does, step, lines_of, start}
 use Rattle.world_tables.specs.Turns.{Turn, Happening, turns_from}
 use Rattle.world_tables.specs.Sound.{IsSound, scheme_for}
 use Rattle.world_laws.proofs.Kept.{Kept, IsFairPacket, IsFairMessage}
@@ -100,8 +100,8 @@ module _ (g : ℕ → Scheme) (eventual : (table : ℕ) → g table ≡ Eventual
       go None e f = absurd cc
       go (Some x) e f =
           let same : x ≡ hd = cc in
-          let up = above 0 (k.items q.table) f.item (k.tables q.table).counted f.is.stands in
-          let v : f.item.entry.version ≡ x.version = f.is.version_is in
+          let up = above 0 (k.items q.table) f.0.item (k.tables q.table).counted f.0.is.stands in
+          let v : f.0.item.entry.version ≡ x.version = f.0.is.version_is in
           let v_2 = ap (λ (y : RowHeader). y.version) same in
           omega arith
 
@@ -109,12 +109,12 @@ module _ (g : ℕ → Scheme) (eventual : (table : ℕ) → g table ≡ Eventual
       → AtOnce node.number (old.deliver_step node m) (client_step node.number (client_of node) (client.Take (message_of m)))
   taken_once c node at from to (kinds.SyncResponse r) fair = response_is_once node r
   taken_once c node at from to (kinds.PullResponse q) fair = pulled_is_once node q (ready c node at q.table) (version_is q from to fair)
-  taken_once c node at from to (kinds.SyncRequest q) fair = quiet_once node.number node answers.Done
-  taken_once c node at from to (kinds.PullRequest q) fair = quiet_once node.number node answers.Done
+  taken_once c node at from to (kinds.SyncRequest q) fair = quiet_once node.number node answers.Done refl
+  taken_once c node at from to (kinds.PullRequest q) fair = quiet_once node.number node answers.Done refl
 
   hosted_event : (table : ℕ) (from : Node) (m : Message) (o : Option (List Stored)) → memory.stored_at w table ≡ o
       → ((stored : List Stored) → stores.AtOnce from (entries_of stored) (old_store.store_step table stored m)
-      (store.store_step 1 Eventual table (lift.store_of stored) (store.Take from (message_of m))))
+      (store.store_step 1 Eventual (chunk_in (schema_at (world_of w) table)) table (lift.store_of stored) (store.Take from (message_of m))))
       → (was : memory.WorldStep)
       → was ≡ elim o as (λ (x : Option (List Stored)). memory.WorldStep) [ None ↦ memory.answered w answers.Done | Some stored ↦ memory.after_store w table from (old_store.store_step table stored m) ]
       → Same w (to_hosted (world_of w) table (store.Take from (message_of m)) [] (option_map hosted_of o)) was
@@ -132,7 +132,7 @@ module _ (g : ℕ → Scheme) (eventual : (table : ℕ) → g table ≡ Eventual
   at_table table from m =
       subst (λ (o : Option Hosted). Same w (to_hosted (world_of w) table (store.Take from (message_of m)) [] o)
       (elim (memory.stored_at w table) as (λ (x : Option (List Stored)). memory.WorldStep) [ None ↦ memory.answered w answers.Done | Some stored ↦ memory.after_store w table from (old_store.store_step table stored m) ]))
-      (sym (hosted_same w table)) (hosted_event table from m (memory.stored_at w table) refl (λ stored. stores.take_once from table stored m) _ refl)
+      (sym (hosted_same w table)) (hosted_event table from m (memory.stored_at w table) refl (λ stored. stores.take_once from (chunk_in (schema_at (world_of w) table)) table stored m) _ refl)
 
   store_same : (from to : Node) (number : ℕ) (m : Message)
       → Same w (carried (world_of w) (packet_of (record { from = from; to = to; message = m })) [] (nodes.Store number)) (memory.carried w (record { from = from; to = to; message = m }) (nodes.Store number))
@@ -194,14 +194,14 @@ module _ (g : ℕ → Scheme) (eventual : (table : ℕ) → g table ≡ Eventual
 
   -- ---- what the Store has
 
-  shows_same : (table : ℕ) (row : List ℕ) → Same w (store_shows (world_of w) row (hosted_at (world_of w) table)) (memory.store_shows w row (memory.stored_at w table))
-  shows_same table row = subst (λ (o : Option Hosted). Same w (store_shows (world_of w) row o) (memory.store_shows w row (memory.stored_at w table))) (sym (hosted_same w table)) (go (memory.stored_at w table))
+  shows_same : (table : ℕ) (row : List ℕ) → Same w (store_shows (world_of w) row [] (hosted_at (world_of w) table)) (memory.store_shows w row (memory.stored_at w table))
+  shows_same table row = subst (λ (o : Option Hosted). Same w (store_shows (world_of w) row [] o) (memory.store_shows w row (memory.stored_at w table))) (sym (hosted_same w table)) (go (memory.stored_at w table))
     where
       found : (o : Option Stored) → Same w (answered (world_of w) (row_shown o)) (memory.store_row w o)
       found None = answered_same w (answers.Refused refusals.NoRow)
       found (Some i) = answered_same w (answers.Stored i.entry.version i.content)
 
-      go : (o : Option (List Stored)) → Same w (store_shows (world_of w) row (option_map hosted_of o)) (memory.store_shows w row o)
+      go : (o : Option (List Stored)) → Same w (store_shows (world_of w) row [] (option_map hosted_of o)) (memory.store_shows w row o)
       go None = answered_same w (answers.Refused refusals.NoTable)
       go (Some stored) = found (current_of stored row)
 
@@ -227,13 +227,13 @@ module _ (g : ℕ → Scheme) (eventual : (table : ℕ) → g table ≡ Eventual
   -- ---- declarations
 
   declared_same : (table : ℕ) (schema : Schema)
-      → Same w (silent (declared (world_of w) table schema (hosted_at (world_of w) table))) (memory.silent (memory.declared w table schema (memory.stored_at w table)))
-  declared_same table schema = subst (λ (o : Option Hosted). Same w (silent (declared (world_of w) table schema o)) (memory.silent (memory.declared w table schema (memory.stored_at w table)))) (sym (hosted_same w table)) (go (memory.stored_at w table))
+      → Same w (silent (declared (world_of w) table schema messages.Done (hosted_at (world_of w) table))) (memory.silent (memory.declared w table schema (memory.stored_at w table)))
+  declared_same table schema = subst (λ (o : Option Hosted). Same w (silent (declared (world_of w) table schema messages.Done o)) (memory.silent (memory.declared w table schema (memory.stored_at w table)))) (sym (hosted_same w table)) (go (memory.stored_at w table))
     where
-      go : (o : Option (List Stored)) → Same w (silent (declared (world_of w) table schema (option_map hosted_of o))) (memory.silent (memory.declared w table schema o))
+      go : (o : Option (List Stored)) → Same w (silent (declared (world_of w) table schema messages.Done (option_map hosted_of o))) (memory.silent (memory.declared w table schema o))
       go (Some stored) = record { world = refl; lines = refl }
       go None = record {
-        world = ap (λ (ts : List (ℕ × Hosted)). record { schemas = insert_entry nat_cmp w.schemas table schema; tables = ts; clients = map named_client w.clients; packets = map packet_of w.packets })
+        world = ap (λ (ts : List (ℕ × Hosted)). record { schemas = insert_entry nat_cmp w.schemas table schema; tables = ts; clients = map named_client w.clients; packets = map packet_of w.packets; holds = []; downs = [] })
             (put_map nat_cmp hosted_of w.tables table []);
         lines = refl;
       }
@@ -268,15 +268,15 @@ module _ (g : ℕ → Scheme) (eventual : (table : ℕ) → g table ≡ Eventual
       go : (o : Option old.Client) → Same w (silent (joined (world_of w) c tables (option_map client_of o))) (memory.silent (memory.joined w c tables o))
       go (Some node) = record { world = refl; lines = refl }
       go None = record {
-        world = ap (λ (x : Client). record { schemas = w.schemas; tables = map named_store w.tables; clients = insert_entry nat_cmp (map named_client w.clients) c x; packets = map packet_of w.packets }) new_same
-            ∙ ap (λ (cs : List (ℕ × Client)). record { schemas = w.schemas; tables = map named_store w.tables; clients = cs; packets = map packet_of w.packets })
+        world = ap (λ (x : Client). record { schemas = w.schemas; tables = map named_store w.tables; clients = insert_entry nat_cmp (map named_client w.clients) c x; packets = map packet_of w.packets; holds = []; downs = [] }) new_same
+            ∙ ap (λ (cs : List (ℕ × Client)). record { schemas = w.schemas; tables = map named_store w.tables; clients = cs; packets = map packet_of w.packets; holds = []; downs = [] })
             (put_map nat_cmp client_of w.clients c (memory.open_all w fresh tables));
         lines = refl;
       }
 
   -- ---- every event
 
-  pub step_same : (event : Event) → Same w (step (world_of w) event []) (memory.step w event)
+  pub step_same : (event : Event) → Same w (step (world_of w) (Does event) []) (memory.step w event)
   step_same (events.Store number) = record { world = refl; lines = refl }
   step_same (events.Table table schema) = declared_same table schema
   step_same (events.Client c gate tables) = joined_same c tables

@@ -1,5 +1,5 @@
 -- A world of nodes that are at rest between events, as a world of the moves, and its lines as lines of it.
-use Rattle.std.specs.Prelude.{◌≡◌, ℕ, ◌++◌, List, [], ◌∷◌, map, Option, Some, None, option_map}
+use Rattle.std.specs.Prelude.{◌≡◌, ℕ, true, List, [], ◌∷◌, map, Option, Some, None, option_map}
 use Rattle.stab_base.specs.declared.node.Node.{Node}
 use Rattle.row_value.specs.declared.fit.FitFault.TheVariants as faults
 use Rattle.row_value.specs.declared.schema.Scheme.TheVariants.{Eventual}
@@ -30,8 +30,8 @@ use Rattle.step_tables.specs.Facts as facts
 use Rattle.step_tables.specs.Messages as messages
 use Rattle.step_tables.specs.StoreMoves as store
 use Rattle.step_tables.specs.ClientMoves as client
-use Rattle.run_laws.specs.World as memory
-use Rattle.run_laws.specs.Turns as memory_turns
+use Rattle.memory_runs.specs.World as memory
+use Rattle.memory_runs.specs.Turns as memory_turns
 use Rattle.world_tables.specs.World as world
 use Rattle.world_tables.specs.Turns.{Turn, Happening}
 
@@ -104,10 +104,10 @@ abbrev pub client_of : old.Client → client.Client
 client_of c = record { disk = disk_of c; agenda = Some [] }
 
 abbrev pub store_of : List Stored → store.TableStore
-store_of stored = record { disk = record { items = stored; pending = None }; agenda = Some [] }
+store_of stored = record { disk = record { items = stored; pending = None; left = [] }; agenda = Some [] }
 
 abbrev pub hosted_of : List Stored → world.Hosted
-hosted_of stored = record { store = store_of stored; history = entries_of stored }
+hosted_of stored = record { store = store_of stored; history = entries_of stored; made = true }
 
 abbrev pub named_store : ℕ × List Stored → ℕ × world.Hosted
 named_store e = (e.0, hosted_of e.1)
@@ -121,11 +121,16 @@ world_of w = record {
   tables = map named_store w.tables;
   clients = map named_client w.clients;
   packets = map packet_of w.packets;
+  holds = [];
+  downs = [];
 }
 
 -- ---- lines
 
 abbrev pub refusal_of : Refusal → facts.Refusal
+refusal_of refusals.NoDevice = facts.NoDevice
+refusal_of (refusals.Busy with) = facts.Busy
+refusal_of (refusals.Down node) = facts.NodeDown node
 refusal_of (refusals.BadCell column) = facts.Unfit (faults.BadCell column)
 refusal_of (refusals.BadObject column len) = facts.Unfit (faults.BadObject column len)
 refusal_of (refusals.RowTooLarge len) = facts.Unfit (faults.RowTooLarge len)
@@ -148,6 +153,8 @@ answer_of (answers.Number number) = facts.Number number
 answer_of (answers.Shown what) = facts.Shows (shown_of what)
 answer_of (answers.Sums sum) = facts.Sums (sum_of sum)
 answer_of (answers.Stored version content) = facts.Stores version content
+answer_of (answers.Did step) = facts.Did step
+answer_of (answers.Names names) = facts.Names names
 answer_of (answers.Refused refusal) = facts.Refuses (refusal_of refusal)
 
 abbrev pub fact_of : Fact → facts.Fact
@@ -157,6 +164,9 @@ fact_of (told.Acked c number table row version) = facts.Client (facts.Acked c nu
 fact_of (told.New c table row version) = facts.Client (facts.New c table row version)
 fact_of (told.Position c table position) = facts.Client (facts.Position c table position)
 fact_of (told.Accepted table entry) = facts.Accepted table entry
+fact_of (told.Forward table entry) = facts.Forward table entry
+fact_of (told.Back table version) = facts.Back table version
+fact_of (told.Recovered store table) = facts.StoreRecovered store table
 
 abbrev pub line_of : TextLine → facts.Line
 line_of (lines.Answer answer) = facts.AnswerLine (answer_of answer)
@@ -164,11 +174,11 @@ line_of (lines.Entry table entry) = facts.EntryLine table entry
 line_of (lines.Fact fact) = facts.FactLine (fact_of fact)
 
 abbrev pub turn_of : memory_turns.Turn → Turn
-turn_of t = record { event = t.event; lines = map line_of t.lines }
+turn_of t = record { deed = world.Does t.event; lines = map line_of t.lines }
 
 -- an event whose device writes are all done
 abbrev pub at_once : Event → Happening
-at_once event = record { event = event; lucks = [] }
+at_once event = record { deed = world.Does event; lucks = [] }
 
 -- every table of a script is eventual
 abbrev pub IsEventual : Event → Type 0

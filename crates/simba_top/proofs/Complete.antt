@@ -1,20 +1,17 @@
 -- A line that a run has carried out isn't bad and passes no limit.
-use Rattle.std.proofs.Common.{◌≡◌, ◌⊎◌, ℕ, ◌+◌, ◌<◌, ◌≤◌, Bool, true, false, eqb, cond, List, [], ◌∷◌, ◌++◌, length, Option, Some, None, refl, sym, ap, subst, ◌∙◌, inl, inr, append_assoc}
-use Rattle.std.proofs.Common.{length-append, arith}
-use Rattle.std.specs.Prelude.{nat_lt, slice_get}
+use Rattle.std.proofs.Common.{◌≡◌, ◌⊎◌, ℕ, ◌+◌, ◌<◌, ◌≤◌, List, [], ◌∷◌, ◌++◌, length, Option, Some, None, refl, sym, ap, subst, ◌∙◌, inl, inr, append_assoc}
+use Rattle.std.proofs.Common.{arith}
+use Rattle.std.specs.Prelude.{slice_get}
 use Rattle.table_model.specs.declared.event.Event.{Event}
 use Rattle.table_model.specs.declared.event.Event.TheVariants as events
 use Rattle.stab_base.specs.declared.node.Node.{Node}
 use Rattle.stab_base.specs.declared.node.Node.TheVariants as nodes
 use Rattle.row_value.specs.declared.content.Content.{Content}
-use Rattle.step_tables.specs.declared.message.Message.{Message}
-use Rattle.step_tables.specs.declared.message.Message.TheVariants as messages
-use Rattle.step_tables.specs.Store.{Stored, StoreStep, yours_of, entry_for, accept, store_step}
+use Rattle.step_tables.specs.Store.{Stored}
 use Rattle.step_tables.specs.Client.{Client}
-use Rattle.run_laws.specs.World.{Packet, client_at, stored_at, table_in}
-use Rattle.run_laws.specs.Turns.{world_after}
-use Rattle.run_laws.proofs.Kept.{stored_or_none}
-use Rattle.run_laws.proofs.Runs.{last_few, stored_few}
+use Rattle.memory_runs.specs.World.{Packet, client_at, stored_at, table_in}
+use Rattle.memory_runs.specs.Turns.{world_after}
+use Rattle.memory_runs.proofs.Counts.{stored_or_none, store_few, last_few, stored_few}
 use Rattle.world_steps.specs.Holds.{SpendsNumber, SpendsVersion, SpendsAt, SpendsPacket, Spends}
 use Rattle.stab_io.specs.Lines.{Next, Line, End, LineTooLong, InputTooLong}
 use Rattle.script_text.specs.declared.fault.BadLine.{BadLine}
@@ -47,22 +44,6 @@ no_limit total rest end (line ∷ lines) next behind some is which =
     elim which [ inl l ↦ (let f = e ∙ l in cc f) | inr i ↦ (let f = e ∙ i in cc f) ]
 
 -- ---- the numbers of a script's writes and versions are no more than its events
-
-pick : (b c : Bool) (x y z : StoreStep) (most : ℕ) → length x.stored ≤ most → length y.stored ≤ most → length z.stored ≤ most
-    → length (cond b x (cond c y z)).stored ≤ most
-pick true c x y z most p q r = p
-pick false true x y z most p q r = q
-pick false false x y z most p q r = r
-
--- a message adds one version at most
-store_few : (table : ℕ) (stored : List Stored) (message : Message) → length (store_step table stored message).stored ≤ length stored + 1
-store_few table stored (messages.SyncRequest request) =
-    pick (eqb (yours_of stored request.client request.row).number request.number) (nat_lt request.number (yours_of stored request.client request.row).number)
-    _ _ (accept table stored request) (length stored + 1) (omega arith) (omega arith)
-    (let e = length-append stored (record { entry = entry_for stored request; content = request.content } ∷ []) in omega (arith, e))
-store_few table stored (messages.PullRequest request) = omega arith
-store_few table stored (messages.SyncResponse response) = omega arith
-store_few table stored (messages.PullResponse response) = omega arith
 
 module _ (script : List Event) (few : length script ≤ MOST_LINES) where
   no_number : (client table : ℕ) (row : List ℕ) (content : Content) (o : Option Client) → client_at (world_after script) client ≡ o

@@ -2,7 +2,7 @@
 use Rattle.std.proofs.Common.{◌≡◌, ◌⊎◌, ℕ, ◌+◌, ◌-◌, ◌<◌, ◌≤◌, List, [], ◌∷◌, ◌++◌, length, refl, sym, ap, subst, ◌∙◌, inl, inr, append-nil, length-append, arith}
 use Rattle.std.proofs.lemmas.Bool.{cases_lt}
 use Rattle.table_model.specs.declared.event.Event.{Event}
-use Rattle.run_laws.specs.Turns.{world_after}
+use Rattle.memory_runs.specs.Turns.{world_after}
 use Rattle.world_steps.specs.Holds.{Spends}
 use Rattle.stab_io.specs.declared.limits.TheConstants.{INPUT_LIMIT}
 use Rattle.stab_io.specs.Lines.{Next, Line, LineTooLong, InputTooLong}

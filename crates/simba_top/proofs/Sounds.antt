@@ -3,9 +3,8 @@ use Rattle.std.proofs.Common.{◌≡◌, ◌⊎◌, ℕ, List, [], ◌∷◌, re
 use Rattle.std.specs.List.{AllByRecursion}
 use Rattle.table_model.specs.declared.event.Event.{Event}
 use Rattle.table_model.specs.declared.event.Event.TheVariants as events
-use Rattle.run_laws.proofs.Runs.{sound}
 use Rattle.memory_laws.specs.Lift.{IsEventual}
-use Rattle.memory_laws.proofs.Runs as memory
+use Rattle.memory_laws.proofs.Runs.{runs_are, sound}
 use Rattle.script_text.specs.Names.{Names, no_names, with_event}
 use Rattle.script_text.specs.Grammar.{SpelledBy, Spells}
 use Rattle.simba_top.specs.Script.{Spelled, IsFront}
@@ -35,4 +34,4 @@ all_eventual names (line ∷ lines) script after (inr s) =
 pub sound_run : (input : List ℕ) (script : List Event) (count : ℕ) (names : Names) (rest : List ℕ) → IsFront input script count names rest → IsSoundRun script
 sound_run input script count names rest front =
     let eventual : AllByRecursion IsEventual script = all_eventual no_names front.lines script names front.spelled in
-    record { sound = sound script; run = memory.runs_are script eventual; moved = memory.sound script eventual }
+    record { run = runs_are script eventual; sound = sound script eventual }

@@ -10,9 +10,9 @@ use Rattle.std.proofs.lemmas.Grind.{flat_map-append}
 use Rattle.std.proofs.lemmas.List.Folds.{flat_map-map}
 use Rattle.table_model.specs.declared.event.Event.{Event}
 use Rattle.table_model.specs.declared.line.TextLine.{TextLine}
-use Rattle.run_laws.specs.World.{step}
-use Rattle.run_laws.specs.Turns.{world_after, transcript}
-use Rattle.run_laws.proofs.Runs.{world_after-push, transcript-push}
+use Rattle.memory_runs.specs.World.{step}
+use Rattle.memory_runs.specs.Turns.{world_after, transcript}
+use Rattle.memory_runs.proofs.Runs.{world_after-push, transcript-push}
 use Rattle.stab_io.specs.Lines.{Line, End, LineTooLong, InputTooLong, next_of}
 use Rattle.stab_io.specs.Reading.{Reading, ahead, IsNextLine, ComesNext, CountsAll, IsFirstPast}
 use Rattle.stab_io.specs.declared.line_fault.LineFault.{LineFault}
@@ -31,7 +31,7 @@ use Rattle.world_steps.specs.Holds.{Holds}
 use Rattle.world_steps.specs.Holds.{IsCause as IsWorldCause}
 use Rattle.world_steps.specs.declared.fault.WorldFault.{WorldFault}
 use Rattle.world_steps.specs.declared.fault.WorldFault.TheVariants as world_faults
-use Rattle.run_laws.specs.World as laws
+use Rattle.memory_runs.specs.World as laws
 use Rattle.simba_top.specs.RowNames.{HasRows, FewRows, IsRowCause}
 use Rattle.simba_top.specs.declared.row_names.RowNames.{RowNames}
 use Rattle.simba_top.specs.Script.{next_in, IsFront, IsWhole}

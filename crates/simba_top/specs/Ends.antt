@@ -2,10 +2,9 @@
 use Rattle.std.specs.Prelude.{◌≡◌, ◌⊎◌, ℕ, ◌+◌, ◌-◌, ◌<◌, ◌≤◌, List, [], ◌∷◌, ◌++◌, length, map, codes, Option}
 use Rattle.std.specs.Io.KnownBytes.{Appends}
 use Rattle.table_model.specs.declared.event.Event.{Event}
-use Rattle.run_laws.specs.Turns.{turns, world_after, transcript}
-use Rattle.run_laws.specs.Sound.{IsSound}
+use Rattle.memory_runs.specs.Turns.{turns, world_after, transcript}
 use Rattle.world_tables.specs.Turns as moves
-use Rattle.world_tables.specs.Sound as sound_moves
+use Rattle.world_tables.specs.Sound.{IsSound}
 use Rattle.memory_laws.specs.Lift.{turn_of, at_once}
 use Rattle.stab_io.specs.declared.limits.TheConstants.{LINE_LIMIT, INPUT_LIMIT}
 use Rattle.stab_io.specs.Lines.{Line, LineTooLong, InputTooLong, HasNoNewline}
@@ -76,12 +75,11 @@ pub record IsCutOff (input : List ℕ) (script : List Event) (left : List ℕ) :
   pub fits : length input - length left ≤ INPUT_LIMIT
   pub few : (count < MOST_LINES) ⊎ (held ≡ [])
 
--- a script's transcript is sound; it is what the script's events write where each is a call or a delivery and then the
--- node's work until it is idle, every device write being done; and it is sound as what the moves write
+-- a script's transcript is what the script's events write where each is a call or a delivery and then the node's work
+-- until it is idle, every device write being done; and it is sound
 pub record IsSoundRun (script : List Event) : Type 0 where
-  pub sound : IsSound (turns script)
   pub run : moves.turns (map at_once script) ≡ map turn_of (turns script)
-  pub moved : sound_moves.IsSound (map turn_of (turns script))
+  pub sound : IsSound (map turn_of (turns script))
 
 -- where the sink tells its bytes: the transcript of this script was added to them
 abbrev pub Tells : List Event → Option (List ℕ) → Option (List ℕ) → Type 0

@@ -3,7 +3,7 @@ use Rattle.std.specs.Prelude.{◌≡◌, ℕ, ◌+◌, ◌≤◌, List, ◌++◌
 use Rattle.std.specs.List.{flat_map}
 use Rattle.std.specs.Io.KnownBytes.{Appends}
 use Rattle.table_model.specs.declared.event.Event.{Event}
-use Rattle.run_laws.specs.Turns.{world_after}
+use Rattle.memory_runs.specs.Turns.{world_after}
 use Rattle.stab_io.specs.Faults.{Rose, AppendsFront}
 use Rattle.stab_io.specs.Lines.{Line}
 use Rattle.stab_io.specs.Reading.{ahead}

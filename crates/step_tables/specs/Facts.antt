@@ -6,7 +6,9 @@ use Rattle.table_model.specs.declared.entry.Entry.{Entry}
 use Rattle.table_model.specs.declared.line.Write.{Write}
 use Rattle.table_model.specs.declared.sum.RowSum.{RowSum}
 use Rattle.table_model.specs.declared.message_name.MessageName.{MessageName}
+use Rattle.stab_base.specs.declared.chunk_name.ChunkName.{ChunkName}
 use Rattle.stab_base.specs.declared.node.Node.{Node}
+use Rattle.stab_base.specs.declared.step.Step.{Step}
 
 -- what a client tells when a plan of its commits: a write; that the Store has accepted a write, or refused it for good;
 -- that a write is in conflict with a version, and is resolved beside it; that a version is read; a position of a table
@@ -57,6 +59,7 @@ pub data Refusal : Type 0 where
   NoRow : Refusal
   NoPacket : (sent : ℕ) → Refusal
   Down : Refusal
+  NodeDown : (node : Node) → Refusal
 
 pub data Answer : Type 0 where
   Done : Answer
@@ -64,6 +67,8 @@ pub data Answer : Type 0 where
   Shows : (shown : Shown) → Answer
   Sums : (sum : ShownSum) → Answer
   Stores : (version : ℕ) → (content : Content) → Answer
+  Did : (step : Step) → Answer
+  Names : (names : List ChunkName) → Answer
   Refuses : (refusal : Refusal) → Answer
 
 -- a line of a transcript: an answer, an entry that an answer counts, or a fact

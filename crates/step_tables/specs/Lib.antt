@@ -1,5 +1,6 @@
 pub mod Names
 pub mod Store
+pub mod Chunks
 pub mod Client
 pub mod Members
 pub mod Facts
@@ -7,5 +8,6 @@ pub mod Sums
 pub mod Messages
 pub mod Sayings
 pub mod StoreMoves
+pub mod Travels
 pub mod Items
 pub mod ClientMoves

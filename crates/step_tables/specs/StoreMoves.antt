@@ -1,8 +1,11 @@
 -- The Store's step table, for one table: what a move makes of it, and what is told and sent. Its state is what its
 -- devices stand for, and the device writes that it has begun.
-use Rattle.std.specs.Prelude.{ℕ, ◌+◌, ◌==◌, nat_lt, not, Bool, true, ◌&&◌, List, [], ◌∷◌, ◌++◌, length, Option, Some}
+use Rattle.std.specs.Prelude.{ℕ, ◌+◌, ◌==◌, nat_lt, Bool, true, ◌&&◌, List, [], ◌∷◌, ◌++◌, length, map, Option, Some}
 use Rattle.std.specs.Prelude.{None, option_map, if◌then◌else◌}
-use Rattle.std.specs.List.{find, list_any}
+use Rattle.std.specs.List.{find}
+use Rattle.stab_base.specs.declared.chunk_name.ChunkName.{ChunkName}
+use Rattle.stab_base.specs.declared.step.Step.{Step}
+use Rattle.stab_base.specs.declared.step.Step.TheVariants as steps
 use Rattle.row_value.specs.declared.schema.Scheme.{Scheme}
 use Rattle.row_value.specs.declared.schema.Scheme.TheVariants.{Strong, Causal, Eventual}
 use Rattle.table_model.specs.declared.entry.Entry.{Entry}
@@ -10,6 +13,7 @@ use Rattle.stab_base.specs.declared.node.Node.{Node}
 use Rattle.table_model.specs.History.{same_row}
 use Rattle.table_model.specs.Last.{last_where}
 use Rattle.step_tables.specs.Store.{Stored, current_of, next_changed, version_or}
+use Rattle.step_tables.specs.Chunks.{without_names, rising, names_with, new_names, old_names}
 use Rattle.step_tables.specs.Facts.{Fact, Answer}
 use Rattle.step_tables.specs.Facts as facts
 use Rattle.step_tables.specs.Messages.{Request, Response, Pull, Pair, Header, Pulled, Outcome, Message, Send, Luck}
@@ -18,18 +22,24 @@ use Rattle.step_tables.specs.Messages as messages
 
 -- ---- state
 
--- what the devices stand for: each update whose row write landed, and the entry that is open in the log
+-- what the devices stand for: each update whose row write landed, the entry that is open in the log, and the chunks
+-- that are there and that no row names
 pub record StoreDisk : Type 0 where
   pub items : List Stored
   pub pending : Option Stored
+  pub left : List ChunkName
 
--- one device write: an entry is opened in the log, an update's row is put, the entry is closed; or nothing of what the
--- devices stand for changes
+-- One device write: a vault is opened, which changes nothing; an entry is opened in the log; a chunk is put; an update's
+-- row is put, which names these chunks and leaves those; a chunk is dropped; the entry is closed.
 pub data StoreChange : Type 0 where
+  OpenChunks : StoreChange
+  OpenRows : StoreChange
+  OpenLog : StoreChange
   Open : (item : Stored) → StoreChange
-  Put : (item : Stored) → StoreChange
+  PutChunk : (name : ChunkName) → StoreChange
+  Put : (item : Stored) → (named old : List ChunkName) → StoreChange
+  DropChunk : (name : ChunkName) → StoreChange
   Close : StoreChange
-  Keep : StoreChange
 
 -- a device write, with what is told and sent when it is done
 pub record StoreTask : Type 0 where
@@ -63,10 +73,26 @@ down d = quiet d None (facts.Refuses facts.Down)
 -- ---- a device write
 
 abbrev pub changed : StoreDisk → StoreChange → StoreDisk
+changed d OpenChunks = d
+changed d OpenRows = d
+changed d OpenLog = d
 changed d (Open item) = record d { pending = Some item }
-changed d (Put item) = record d { items = d.items ++ item ∷ [] }
+changed d (PutChunk name) = record d { left = d.left ++ name ∷ [] }
+changed d (Put item named old) =
+    record d { items = d.items ++ item ∷ []; left = without_names named d.left ++ old }
+changed d (DropChunk name) = record d { left = without_names (name ∷ []) d.left }
 changed d Close = record d { pending = None }
-changed d Keep = d
+
+-- what the write is called
+abbrev pub step_of : StoreChange → Step
+step_of OpenChunks = steps.OpenChunks
+step_of OpenRows = steps.OpenRows
+step_of OpenLog = steps.OpenLog
+step_of (Open item) = steps.LogOpen
+step_of (PutChunk name) = steps.ChunkPut
+step_of (Put item named old) = steps.RowPut
+step_of (DropChunk name) = steps.ChunkDrop
+step_of Close = steps.LogClose
 
 abbrev pub done : StoreDisk → Option (List StoreTask) → StoreStep
 done d None = down d
@@ -103,23 +129,40 @@ item_at version items = find (λ (item : Stored). item.entry.version == version)
 abbrev pub ends_with : StoreChange → Fact → StoreTask
 ends_with change fact = record { change = change; facts = fact ∷ []; sends = [] }
 
+abbrev pub only : StoreChange → StoreTask
+only change = record { change = change; facts = []; sends = [] }
+
+abbrev pub drops : List ChunkName → List StoreTask
+drops names = map (λ name. only (DropChunk name)) names
+
+-- opens the vaults, drops what no row names, and closes the entry
+abbrev pub recovering : ℕ → ℕ → StoreDisk → List StoreTask
+recovering store table d =
+    only OpenChunks ∷ only OpenRows ∷ only OpenLog
+    ∷ (drops (rising d.left) ++ ends_with Close (facts.StoreRecovered store table) ∷ [])
+
+-- opens the vaults, where no entry is pending
+abbrev pub reopening : ℕ → ℕ → List StoreTask
+reopening store table =
+    only OpenChunks ∷ only OpenRows ∷ ends_with OpenLog (facts.StoreRecovered store table) ∷ []
+
 -- the pending entry, and the item that has its version
 abbrev pub recovered : ℕ → ℕ → StoreDisk → Stored → Option Stored → StoreStep
 recovered store table d pending (Some found) = record {
-  store = record { disk = d; agenda = Some (ends_with Close (facts.StoreRecovered store table) ∷ []) };
+  store = record { disk = d; agenda = Some (recovering store table d) };
   answer = facts.Done;
   facts = facts.Forward table found.entry ∷ [];
   sends = [];
 }
 recovered store table d pending None = record {
-  store = record { disk = d; agenda = Some (ends_with Close (facts.StoreRecovered store table) ∷ []) };
+  store = record { disk = d; agenda = Some (recovering store table d) };
   answer = facts.Done;
   facts = facts.Back table pending.entry.version ∷ [];
   sends = [];
 }
 
 abbrev pub recover : ℕ → ℕ → StoreDisk → Option Stored → StoreStep
-recover store table d None = quiet d (Some (ends_with Keep (facts.StoreRecovered store table) ∷ [])) facts.Done
+recover store table d None = quiet d (Some (reopening store table)) facts.Done
 recover store table d (Some pending) = recovered store table d pending (item_at pending.entry.version d.items)
 
 -- a table that is up goes on
@@ -169,22 +212,30 @@ item_for items request = record {
   content = request.content;
 }
 
-abbrev pub accepting : ℕ → Node → Request → Stored → List StoreTask
-accepting table from request item =
-    record { change = Open item; facts = []; sends = [] }
-    ∷ record { change = Put item; facts = facts.Accepted table item.entry ∷ []; sends = [] }
-    ∷ record { change = Close; facts = []; sends = responded from request (messages.Accepted item.entry.version) ∷ [] }
-    ∷ []
+abbrev pub puts : List ChunkName → List StoreTask
+puts names = map (λ name. only (PutChunk name)) names
+
+-- opens the entry, puts each new chunk, puts the row, drops each old chunk that the row names no more, closes the entry
+abbrev pub accepting : ℕ → ℕ → List Stored → Node → Request → Stored → List StoreTask
+accepting size table items from request item =
+    let named : List ChunkName = names_with size items item in
+    let old : List ChunkName = old_names size items item in
+    only (Open item)
+    ∷ (puts (new_names size items item)
+    ++ (ends_with (Put item named old) (facts.Accepted table item.entry)
+    ∷ (drops old
+    ++ record { change = Close; facts = []; sends = responded from request (messages.Accepted item.entry.version) ∷ [] }
+    ∷ [])))
 
 abbrev pub version_of : Option Stored → ℕ
 version_of None = 0
 version_of (Some item) = item.entry.version
 
 -- a new write is taken over a base that the scheme takes
-abbrev pub judged : Scheme → ℕ → StoreDisk → Node → Request → ℕ → StoreStep
-judged g table d from request current =
+abbrev pub judged : Scheme → ℕ → ℕ → StoreDisk → Node → Request → ℕ → StoreStep
+judged g size table d from request current =
     if takes g request.base current
-    then quiet d (Some (accepting table from request (item_for d.items request))) facts.Done
+    then quiet d (Some (accepting size table d.items from request (item_for d.items request))) facts.Done
     else sending d (responded from request (outdated g current) ∷ [])
 
 abbrev pub pair_of : Option Stored → Pair
@@ -199,12 +250,12 @@ abbrev pub yours_in : List Stored → ℕ → List ℕ → Pair
 yours_in items client row = pair_of (last_where (is_by client row) items)
 
 -- accepted before, too late, or new
-abbrev pub decided : Scheme → ℕ → StoreDisk → Node → Request → Pair → StoreStep
-decided g table d from request yours =
+abbrev pub decided : Scheme → ℕ → ℕ → StoreDisk → Node → Request → Pair → StoreStep
+decided g size table d from request yours =
     if yours.number == request.number then sending d (responded from request (messages.Again yours.version) ∷ [])
     else (if nat_lt request.number yours.number
     then sending d (responded from request (messages.Late yours.number) ∷ [])
-    else judged g table d from request (version_of (current_of d.items request.row)))
+    else judged g size table d from request (version_of (current_of d.items request.row)))
 
 -- ---- a pull
 
@@ -235,18 +286,18 @@ answered d from pull =
 
 -- ---- a message; a table at work doesn't take it, and one that no rule takes is dropped
 
-abbrev pub taken : Scheme → ℕ → StoreDisk → Option (List StoreTask) → Node → Message → StoreStep
-taken g table d None from message = down d
-taken g table d (Some (task ∷ more)) from message = quiet d (Some (task ∷ more)) (facts.Refuses facts.Busy)
-taken g table d (Some []) from (SyncRequest request) =
-    decided g table d from request (yours_in d.items request.client request.row)
-taken g table d (Some []) from (PullRequest pull) = answered d from pull
-taken g table d (Some []) from (SyncResponse response) = quiet d (Some []) facts.Done
-taken g table d (Some []) from (PullResponse pulled) = quiet d (Some []) facts.Done
+abbrev pub taken : Scheme → ℕ → ℕ → StoreDisk → Option (List StoreTask) → Node → Message → StoreStep
+taken g size table d None from message = down d
+taken g size table d (Some (task ∷ more)) from message = quiet d (Some (task ∷ more)) (facts.Refuses facts.Busy)
+taken g size table d (Some []) from (SyncRequest request) =
+    decided g size table d from request (yours_in d.items request.client request.row)
+taken g size table d (Some []) from (PullRequest pull) = answered d from pull
+taken g size table d (Some []) from (SyncResponse response) = quiet d (Some []) facts.Done
+taken g size table d (Some []) from (PullResponse pulled) = quiet d (Some []) facts.Done
 
--- what a move makes of a table of this number and scheme, at a Store of this number
-abbrev pub store_step : ℕ → Scheme → ℕ → TableStore → StoreMove → StoreStep
-store_step store g table s (Take from message) = taken g table s.disk s.agenda from message
-store_step store g table s (Work luck) = worked s.disk s.agenda luck
-store_step store g table s (Crash luck) = crashed s.disk s.agenda luck
-store_step store g table s Start = started store table s.disk s.agenda
+-- what a move makes of a table of this number, scheme and size of chunks, at a Store of this number
+abbrev pub store_step : ℕ → Scheme → ℕ → ℕ → TableStore → StoreMove → StoreStep
+store_step store g size table s (Take from message) = taken g size table s.disk s.agenda from message
+store_step store g size table s (Work luck) = worked s.disk s.agenda luck
+store_step store g size table s (Crash luck) = crashed s.disk s.agenda luck
+store_step store g size table s Start = started store table s.disk s.agenda

@@ -1,5 +1,5 @@
 -- A table's part stays where more writes are known, and what it tells only adds items.
-use Rattle.std.proofs.Common.{◌++◌, ◌≡◌, ◌⊎◌, ℕ, List, [], ◌∷◌, Option, Some, None, inl, inr}
+use Rattle.std.proofs.Common.{◌++◌, ◌≡◌, ◌⊎◌, ℕ, Bool, List, [], ◌∷◌, Option, Some, None, inl, inr}
 use Rattle.row_value.specs.declared.content.Content.{Content}
 use Rattle.row_value.specs.declared.schema.Scheme.{Scheme}
 use Rattle.step_tables.specs.Store.{Stored}
@@ -10,20 +10,21 @@ use Rattle.step_tables.specs.Messages as messages
 use Rattle.step_tables.specs.Sayings.{Saying, SaysNothing, SaysEntry, SaysBack, saying}
 use Rattle.step_tables.specs.StoreMoves.{StoreDisk, StoreTask, TableStore, changed}
 use Rattle.step_tables.proofs.Lists.{among_left}
+use Rattle.world_tables.specs.Again.{may_repeat}
 use Rattle.store_laws.specs.Part.{Known, IsLawful, IsNext, Tells, TellsAll, IsLate, IsOutcome, IsAnswer, Answers, IsTold, IsUntold, IsResting, Runs, IsAt, StorePart}
 
 -- what survives one more item survives all that is told
 module _ (g : Scheme) (table : ℕ) (K : Known) (P : List Stored → Type 0) (step : (h : List Stored) (i : Stored) → IsNext g K h i → P h → P (h ++ i ∷ [])) where
-  tells_along : (h : List Stored) (s : Saying) (later : List Stored) → Tells g table K h s later → P h → P later
-  tells_along h SaysNothing later k p = rw k p
-  tells_along h (SaysEntry number entry) later (n, inl k) p = rw k.0 p
-  tells_along h (SaysEntry number entry) later (n, inr k) p = rw k.3 (step h k.0 k.2 p)
-  tells_along h (SaysBack number version) later k p = rw k.2 p
-  tells_along h other later k p = absurd k
+  tells_along : (h : List Stored) (again : Bool) (s : Saying) (later : List Stored) → Tells g table K h again s later → P h → P later
+  tells_along h again SaysNothing later k p = rw k p
+  tells_along h again (SaysEntry number entry) later (n, inl k) p = rw k.3 (step h k.0 k.2 p)
+  tells_along h again (SaysEntry number entry) later (n, inr k) p = rw k.1 p
+  tells_along h again (SaysBack number version) later k p = rw k.2 p
+  tells_along h again other later k p = absurd k
 
   pub along : (h : List Stored) (some : List Fact) (later : List Stored) → TellsAll g table K h some later → P h → P later
   along h [] later k p = rw k p
-  along h (fact ∷ more) later k p = along k.0 more later k.2 (tells_along h (saying fact) k.0 k.1 p)
+  along h (fact ∷ more) later k p = along k.0 more later k.2 (tells_along h (may_repeat fact) (saying fact) k.0 k.1 p)
 
 -- more that is known
 module _ (g : Scheme) (table : ℕ) (K L : Known) (more : (c : ℕ) (row : List ℕ) (n b : ℕ) (x : Content) → K c row n b x → L c row n b x) where
@@ -45,16 +46,16 @@ module _ (g : Scheme) (table : ℕ) (K L : Known) (more : (c : ℕ) (row : List 
     rises = l.rises;
   }
 
-  tells_knows : (h : List Stored) (s : Saying) (later : List Stored) → Tells g table K h s later → Tells g table L h s later
-  tells_knows h SaysNothing later k = k
-  tells_knows h (SaysEntry number entry) later (n, inl k) = (n, inl k)
-  tells_knows h (SaysEntry number entry) later (n, inr k) = (n, inr (k.0, k.1, next_knows h k.0 k.2, k.3))
-  tells_knows h (SaysBack number version) later k = k
-  tells_knows h other later k = absurd k
+  tells_knows : (h : List Stored) (again : Bool) (s : Saying) (later : List Stored) → Tells g table K h again s later → Tells g table L h again s later
+  tells_knows h again SaysNothing later k = k
+  tells_knows h again (SaysEntry number entry) later (n, inl k) = (n, inl (k.0, k.1, next_knows h k.0 k.2, k.3))
+  tells_knows h again (SaysEntry number entry) later (n, inr k) = (n, inr k)
+  tells_knows h again (SaysBack number version) later k = k
+  tells_knows h again other later k = absurd k
 
   all_know : (h : List Stored) (some : List Fact) (later : List Stored) → TellsAll g table K h some later → TellsAll g table L h some later
   all_know h [] later k = k
-  all_know h (fact ∷ others) later k = (k.0, tells_knows h (saying fact) k.0 k.1, all_know k.0 others later k.2)
+  all_know h (fact ∷ others) later k = (k.0, tells_knows h (may_repeat fact) (saying fact) k.0 k.1, all_know k.0 others later k.2)
 
   late_knows : (h : List Stored) (c : ℕ) (row : List ℕ) (n last : ℕ) → IsLate K h c row n last → IsLate L h c row n last
   late_knows h c row n last k = record {

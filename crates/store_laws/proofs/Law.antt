@@ -13,11 +13,15 @@ use Rattle.step_tables.specs.Members.{Among}
 use Rattle.step_tables.specs.Messages.{Request, Response, Pull, Pulled, Header, Pair, Outcome, Message, Send, Luck, SyncRequest, SyncResponse, PullRequest, PullResponse}
 use Rattle.step_tables.specs.Messages as messages
 use Rattle.step_tables.specs.Sayings.{Saying, SaysNothing, SaysEntry, SaysBack, saying}
-use Rattle.step_tables.specs.StoreMoves.{StoreDisk, StoreTask, TableStore, StoreMove, StoreStep, Open, Put, Close, Keep, Take, Work, Crash, Start, quiet, down, changed, done, crashed, failed, worked}
-use Rattle.step_tables.specs.StoreMoves.{item_at, ends_with, recovered, recover, started, takes, outdated, responded, sending, item_for, accepting, version_of, judged, pair_of, is_by, yours_in}
+use Rattle.stab_base.specs.declared.chunk_name.ChunkName.{ChunkName}
+use Rattle.step_tables.specs.Chunks.{without_names, rising, new_names, names_with, old_names}
+use Rattle.step_tables.specs.StoreMoves.{StoreDisk, StoreTask, TableStore, StoreMove, StoreStep, Open, PutChunk, Put, DropChunk, Close, Take, Work, Crash, Start, quiet, down, changed, done, crashed}
+use Rattle.step_tables.specs.StoreMoves.{failed, worked, item_at, ends_with, drops, recovering, recovered, recover, started, takes, outdated, responded, sending, item_for, puts, accepting, version_of}
+use Rattle.step_tables.specs.StoreMoves.{judged, pair_of, is_by, yours_in}
 use Rattle.step_tables.specs.StoreMoves.{decided, header_for, pulled_for, answered, taken, store_step}
 use Rattle.step_tables.specs.Items.{latest, IsItemOf, IsItemAt, IsBase, IsYours, IsChange}
 use Rattle.step_tables.proofs.Lists.{among_push, among_left, among_cases}
+use Rattle.world_tables.specs.Again.{may_repeat}
 use Rattle.store_laws.specs.Part.{Known, Knows, Counts, IsLawful, IsNext, Tells, TellsAll, IsWayTo, IsLate, IsOutcome, IsHeader, Answers, IsTold, IsUntold, IsResting, Runs, IsAt, StorePart, IsAsked}
 use Rattle.store_laws.specs.Part.{IsFair, StoreLaw}
 use Rattle.store_laws.proofs.Items.{Counts-push, counted_up, one_version, item_at-is, item_at-none, pushed_at, current_is, latest_most, latest_item, base_low, own_is, own_none, own_last, next_is}
@@ -52,16 +56,47 @@ module _ (g : Scheme) (table : ℕ) (K : Known) where
           omega arith
       over exact x o (inr e) (inr f) same less = absurd (let v = ap (λ (y : Stored). y.entry.version) (sym e ∙ f) in omega arith)
 
-  one_lawful : (h : List Stored) (s : Saying) (later : List Stored) → Tells g table K h s later → IsLawful g K h → IsLawful g K later
-  one_lawful h SaysNothing later k l = rw k l
-  one_lawful h (SaysEntry number entry) later (n, inl k) l = rw k.0 l
-  one_lawful h (SaysEntry number entry) later (n, inr k) l = rw k.3 (grown h k.0 l k.2)
-  one_lawful h (SaysBack number version) later k l = rw k.2 l
-  one_lawful h other later k l = absurd k
+  one_lawful : (h : List Stored) (again : Bool) (s : Saying) (later : List Stored) → Tells g table K h again s later → IsLawful g K h → IsLawful g K later
+  one_lawful h again SaysNothing later k l = rw k l
+  one_lawful h again (SaysEntry number entry) later (n, inl k) l = rw k.3 (grown h k.0 l k.2)
+  one_lawful h again (SaysEntry number entry) later (n, inr k) l = rw k.1 l
+  one_lawful h again (SaysBack number version) later k l = rw k.2 l
+  one_lawful h again other later k l = absurd k
 
   pub all_lawful : (h : List Stored) (some : List Fact) (later : List Stored) → TellsAll g table K h some later → IsLawful g K h → IsLawful g K later
   all_lawful h [] later k l = rw k l
-  all_lawful h (fact ∷ more) later k l = all_lawful k.0 more later k.2 (one_lawful h (saying fact) k.0 k.1 l)
+  all_lawful h (fact ∷ more) later k l = all_lawful k.0 more later k.2 (one_lawful h (may_repeat fact) (saying fact) k.0 k.1 l)
+
+  -- ---- writes that tell and send nothing, and leave the items and the entry
+
+  told_with : (h : List Stored) (d : StoreDisk) (left : List ChunkName) → IsTold h d → IsTold h (record d { left = left })
+  told_with h d left k = record { items = k.items; open_entry = k.open_entry }
+
+  puts_run : (h : List Stored) (d : StoreDisk) (names : List ChunkName) (rest : List StoreTask) → IsTold h d → ((left : List ChunkName) → Runs g table K h (record d { left = left }) rest)
+      → Runs g table K h d (puts names ++ rest)
+  puts_run h d [] rest k runs = runs d.left
+  puts_run h d (name ∷ names) rest k runs =
+      let now : List ChunkName = d.left ++ name ∷ [] in
+      (k, inl (told_with h d now k), (h, refl, tt, puts_run h (record d { left = now }) names rest (told_with h d now k) runs))
+
+  drops_run : (h : List Stored) (d : StoreDisk) (names : List ChunkName) (rest : List StoreTask) → IsTold h d → ((left : List ChunkName) → Runs g table K h (record d { left = left }) rest)
+      → Runs g table K h d (drops names ++ rest)
+  drops_run h d [] rest k runs = runs d.left
+  drops_run h d (name ∷ names) rest k runs =
+      let now : List ChunkName = without_names (name ∷ []) d.left in
+      (k, inl (told_with h d now k), (h, refl, tt, drops_run h (record d { left = now }) names rest (told_with h d now k) runs))
+
+  told_closed : (h : List Stored) (d : StoreDisk) → d.items ≡ h → IsTold h (changed d Close)
+  told_closed h d e = record { items = e; open_entry = λ i at. absurd (let both : Some i ≡ None = sym at in cc) }
+
+  -- a recovery, behind what its start tells
+  recovering_runs : (store : ℕ) (h : List Stored) (d : StoreDisk) → IsTold h d → Runs g table K h d (recovering store table d)
+  recovering_runs store h d k = (k, inl k, (h, refl, tt, (k, inl k, (h, refl, tt, (k, inl k, (h, refl, tt, drops_run h d (rising d.left) _ k closes))))))
+    where
+      closes : (left : List ChunkName) → Runs g table K h (record d { left = left }) (ends_with Close (facts.StoreRecovered store table) ∷ [])
+      closes left =
+          let shut : IsTold h (changed (record d { left = left }) Close) = told_closed h (record d { left = left }) k.items in
+          (told_with h d left k, inl shut, (h, (h, refl, refl), tt, (shut, refl)))
 
   module _ (h : List Stored) (l : IsLawful g K h) where
     still : (d : StoreDisk) (agenda : Option (List StoreTask)) (answer : Answer) → IsAt g table K h d agenda → StoreLaw g table K h (quiet d agenda answer)
@@ -100,14 +135,6 @@ module _ (g : Scheme) (table : ℕ) (K : Known) where
 
     -- ---- a start
 
-    told_at : (d : StoreDisk) → d.items ≡ h → d.pending ≡ None → IsTold h d
-    told_at d e none = record { items = e; open_entry = λ i at. absurd (let both : Some i ≡ None = sym at ∙ none in cc) }
-
-    closes : (store : ℕ) (d : StoreDisk) → IsTold h d → Runs g table K h d (ends_with Close (facts.StoreRecovered store table) ∷ [])
-    closes store d k =
-        let shut : IsTold h (changed d Close) = told_at (changed d Close) k.items refl in
-        (k, inl shut, (h, (h, refl, refl), tt, (shut, refl)))
-
     -- a pending entry without an item was never put
     not_put : (d : StoreDisk) (i : Stored) → d.pending ≡ Some i → IsResting g K h d → item_at i.entry.version d.items ≡ None → IsTold h d
     not_put d i is (inl k) none = k
@@ -122,12 +149,12 @@ module _ (g : Scheme) (table : ℕ) (K : Known) where
         → StoreLaw g table K h (recovered store table d i o)
     recovered_law store d i is r None at =
         let k : IsTold h d = not_put d i is r at in
-        record { later = h; facts = (h, (refl, is_next_version d i is k at, refl), refl); sends = tt; part = record { lawful = l; state = closes store d k } }
+        record { later = h; facts = (h, (refl, is_next_version d i is k at, refl), refl); sends = tt; part = record { lawful = l; state = recovering_runs store h d k } }
     recovered_law store d i is (inl k) (Some x) at = record {
       later = h;
-      facts = (h, (refl, inl (refl, (x, (item_at-is i.entry.version h x (rw k.items at at)).0, refl))), refl);
+      facts = (h, (refl, inr (refl, refl, (x, (item_at-is i.entry.version h x (rw k.items at at)).0, refl))), refl);
       sends = tt;
-      part = record { lawful = l; state = closes store d k };
+      part = record { lawful = l; state = recovering_runs store h d k };
     }
     recovered_law store d i is (inr u) (Some x) at =
         let pending : Some i ≡ Some u.item = sym is ∙ u.pending in
@@ -136,12 +163,11 @@ module _ (g : Scheme) (table : ℕ) (K : Known) where
         let same : u.item ≡ x = grind (arith, pending, found, items, at) in
         let later : List Stored = h ++ u.item ∷ [] in
         let stands : IsTold later d = record { items = u.items; open_entry = λ o p. inr (u.item, among_push h u.item, (let e : Some u.item ≡ Some o = sym u.pending ∙ p in let e2 : u.item ≡ o = cc in ap (λ (y : Stored). y.entry.version) e2)) } in
-        let shut : IsTold later (changed d Close) = record { items = u.items; open_entry = λ o p. absurd cc } in
         record {
           later = later;
-          facts = (later, (refl, inr (u.item, ap (λ (y : Stored). y.entry) same, u.next, refl)), refl);
+          facts = (later, (refl, inl (u.item, ap (λ (y : Stored). y.entry) same, u.next, refl)), refl);
           sends = tt;
-          part = record { lawful = grown h u.item l u.next; state = (stands, inl shut, (later, (later, refl, refl), tt, (shut, refl))) };
+          part = record { lawful = grown h u.item l u.next; state = recovering_runs store later d stands };
         }
 
     start_law : (store : ℕ) (d : StoreDisk) (agenda : Option (List StoreTask)) → IsAt g table K h d agenda → StoreLaw g table K h (started store table d agenda)
@@ -149,7 +175,7 @@ module _ (g : Scheme) (table : ℕ) (K : Known) where
     start_law store d None r = go d.pending refl r
       where
         go : (o : Option Stored) → d.pending ≡ o → IsResting g K h d → StoreLaw g table K h (recover store table d o)
-        go None is (inl k) = still d _ _ (k, inl k, (h, (h, refl, refl), tt, (k, is)))
+        go None is (inl k) = still d _ _ (k, inl k, (h, refl, tt, (k, inl k, (h, refl, tt, (k, inl k, (h, (h, refl, refl), tt, (k, is)))))))
         go None is (inr u) = absurd (let both : Some u.item ≡ None = sym u.pending ∙ is in cc)
         go (Some i) is r2 = recovered_law store d i is r2 (item_at i.entry.version d.items) refl
 
@@ -158,50 +184,64 @@ module _ (g : Scheme) (table : ℕ) (K : Known) where
     sends_law : (d : StoreDisk) (sends : List Send) → Runs g table K h d [] → Answers g table K h sends → StoreLaw g table K h (sending d sends)
     sends_law d sends p a = record { later = h; facts = refl; sends = a; part = record { lawful = l; state = p } }
 
-    module _ (d : StoreDisk) (p : Runs g table K h d []) (from : Node) (q : Request) (asked : IsAsked table K h from q) where
+    module _ (size : ℕ) (d : StoreDisk) (p : Runs g table K h d []) (from : Node) (q : Request) (asked : IsAsked table K h from q) where
       responds : (outcome : Outcome) → IsOutcome g K h (record { client = q.client; table = q.table; row = q.row; number = q.number; outcome = outcome }) outcome
           → StoreLaw g table K h (sending d (responded from q outcome ∷ []))
       responds outcome k = sends_law d _ p ((asked.table_is, asked.way, k), tt)
 
       -- the whole agenda of the next item goes well
-      accepts : (i : Stored) → IsNext g K h i → i.entry.client ≡ q.client → i.entry.number ≡ q.number → i.entry.row ≡ q.row → Runs g table K h d (accepting table from q i)
-      accepts i n client number row =
-          let e : d.items ≡ h = p.0.items in
-          let later : List Stored = h ++ i ∷ [] in
-          let opened : StoreDisk = changed d (Open i) in
-          let placed : StoreDisk = changed opened (Put i) in
-          let shut : StoreDisk = changed placed Close in
-          let put_items : d.items ++ i ∷ [] ≡ later = ap (λ (xs : List Stored). xs ++ i ∷ []) e in
-          let here : IsTold h opened = record { items = e; open_entry = λ o at. inl (let e2 : Some i ≡ Some o = at in let e3 : i ≡ o = cc in rw (← e3) n.next) } in
-          let there : IsTold later placed = record { items = put_items; open_entry = λ o at. inr (i, among_push h i, (let e2 : Some i ≡ Some o = at in let e3 : i ≡ o = cc in ap (λ (y : Stored). y.entry.version) e3)) } in
-          let last : IsTold later shut = record { items = put_items; open_entry = λ o at. absurd cc } in (
-            p.0,
-            inl here,
-            (
-              h,
-              refl,
-              tt,
-              (
-                here,
+      accepts : (i : Stored) → IsNext g K h i → i.entry.client ≡ q.client → i.entry.number ≡ q.number → i.entry.row ≡ q.row → Runs g table K h d (accepting size table d.items from q i)
+      accepts i n client number row = (p.0, inl here, (h, refl, tt, puts_run h opened (new_names size d.items i) _ here placing))
+        where
+          later : List Stored
+          later = h ++ i ∷ []
+
+          opened : StoreDisk
+          opened = changed d (Open i)
+
+          placed : List ChunkName → StoreDisk
+          placed left = record opened { items = d.items ++ i ∷ []; left = left }
+
+          put_items : d.items ++ i ∷ [] ≡ later
+          put_items = ap (λ (xs : List Stored). xs ++ i ∷ []) p.0.items
+
+          same_item : (o : Stored) → Some i ≡ Some o → i ≡ o
+          same_item o e = cc
+
+          here : IsTold h opened
+          here = record { items = p.0.items; open_entry = λ o at. inl (let e : i ≡ o = same_item o at in rw (← e) n.next) }
+
+          there : (left : List ChunkName) → IsTold later (placed left)
+          there left = record { items = put_items; open_entry = λ o at. inr (i, among_push h i, (let e : i ≡ o = same_item o at in ap (λ (y : Stored). y.entry.version) e)) }
+
+          closing : (left : List ChunkName) → Runs g table K later (placed left)
+              (record { change = Close; facts = []; sends = responded from q (messages.Accepted i.entry.version) ∷ [] } ∷ [])
+          closing left =
+              let shut : IsTold later (changed (placed left) Close) = told_closed later (placed left) put_items in (
+                there left,
+                inl shut,
+                (
+                  later,
+                  refl,
+                  ((asked.table_is, asked.way, (i, record { stands = among_push h i; client_is = client; number_is = number; row_is = row; version_is = refl })), tt),
+                  (shut, refl),
+                ),
+              )
+
+          placing : (left : List ChunkName) → Runs g table K h (record opened { left = left })
+              (ends_with (Put i (names_with size d.items i) (old_names size d.items i)) (facts.Accepted table i.entry) ∷ (drops (old_names size d.items i)
+              ++ record { change = Close; facts = []; sends = responded from q (messages.Accepted i.entry.version) ∷ [] } ∷ []))
+          placing left =
+              let now : List ChunkName = without_names (names_with size d.items i) left ++ old_names size d.items i in (
+                told_with h opened left here,
                 inr (record { item = i; pending = refl; items = put_items; next = n }),
                 (
                   later,
-                  (later, (refl, inr (i, refl, n, refl)), refl),
+                  (later, (refl, inl (i, refl, n, refl)), refl),
                   tt,
-                  (
-                    there,
-                    inl last,
-                    (
-                      later,
-                      refl,
-                      ((asked.table_is, asked.way, (i, record { stands = among_push h i; client_is = client; number_is = number; row_is = row; version_is = refl })), tt),
-                      (last, refl),
-                    ),
-                  ),
+                  drops_run later (placed now) (old_names size d.items i) _ (there now) closing,
                 ),
-              ),
-            ),
-          )
+              )
 
       -- of this number or above it nothing of the client's on the row is accepted
       abbrev Above : Type 0
@@ -237,10 +277,10 @@ module _ (g : Scheme) (table : ℕ) (K : Known) where
       outdated_is Causal is exact k = (is, k)
       outdated_is Eventual is exact k = absurd (exact refl)
 
-      judged_law : Above → StoreLaw g table K h (judged g table d from q (version_of (current_of d.items q.row)))
+      judged_law : Above → StoreLaw g table K h (judged g size table d from q (version_of (current_of d.items q.row)))
       judged_law above =
           subst (λ (xs : List Stored). StoreLaw g table K h (if takes g q.base (version_of (current_of xs q.row))
-          then quiet d (Some (accepting table from q (item_for xs q))) facts.Done
+          then quiet d (Some (accepting size table xs from q (item_for xs q))) facts.Done
           else sending d (responded from q (outdated g (version_of (current_of xs q.row))) ∷ [])))
           (sym p.0.items) (go (takes g q.base (latest h q.row)) refl)
         where
@@ -254,23 +294,24 @@ module _ (g : Scheme) (table : ℕ) (K : Known) where
           }
 
           go : (b : Bool) → takes g q.base (latest h q.row) ≡ b → StoreLaw g table K h (if b
-              then quiet d (Some (accepting table from q (item_for h q))) facts.Done
+              then quiet d (Some (accepting size table h from q (item_for h q))) facts.Done
               else sending d (responded from q (outdated g (latest h q.row)) ∷ []))
-          go true is = still d (Some (accepting table from q (item_for h q))) facts.Done (accepts (item_for h q) (next is) refl refl refl)
+          go true is = still d (Some (accepting size table h from q (item_for h q))) facts.Done
+              (subst (λ (xs : List Stored). Runs g table K h d (accepting size table xs from q (item_for h q))) p.0.items (accepts (item_for h q) (next is) refl refl refl))
           go false is =
               let k = takes_not g q.base (latest h q.row) is in
               responds (outdated g (latest h q.row)) (outdated_is g refl k.1 (late above k.0))
 
-      decided_law : (o : Option Stored) → last_where (is_by q.client q.row) h ≡ o → StoreLaw g table K h (decided g table d from q (pair_of o))
+      decided_law : (o : Option Stored) → last_where (is_by q.client q.row) h ≡ o → StoreLaw g table K h (decided g size table d from q (pair_of o))
       decided_law None at = go (0 == q.number) refl
         where
           judge : (b : Bool) → nat_lt q.number 0 ≡ b → StoreLaw g table K h (if b
-              then sending d (responded from q (messages.Late 0) ∷ []) else judged g table d from q (version_of (current_of d.items q.row)))
+              then sending d (responded from q (messages.Late 0) ∷ []) else judged g size table d from q (version_of (current_of d.items q.row)))
           judge true is = absurd (grind (arith, nat_tests, is))
           judge false is = judged_law (λ o a client row. absurd (own_none q.client q.row h o at a client row))
 
           go : (b : Bool) → (0 == q.number) ≡ b → StoreLaw g table K h (if b then sending d (responded from q (messages.Again 0) ∷ [])
-              else (if nat_lt q.number 0 then sending d (responded from q (messages.Late 0) ∷ []) else judged g table d from q (version_of (current_of d.items q.row))))
+              else (if nat_lt q.number 0 then sending d (responded from q (messages.Late 0) ∷ []) else judged g size table d from q (version_of (current_of d.items q.row))))
           go true is = absurd (let positive = asked.positive in grind (arith, nat_tests, is, positive))
           go false is = judge (nat_lt q.number 0) refl
       decided_law (Some i) at = go (i.entry.number == q.number) refl
@@ -282,12 +323,12 @@ module _ (g : Scheme) (table : ℕ) (K : Known) where
           greatest o a client row = grind (arith, mine.1, mine.2, client, row, own_last q.client q.row h i o l.counted at a client row, l.rises o i a mine.0, one_version 0 h o i l.counted a mine.0)
 
           judge : (b : Bool) → nat_lt q.number i.entry.number ≡ b → (i.entry.number == q.number) ≡ false → StoreLaw g table K h (if b
-              then sending d (responded from q (messages.Late i.entry.number) ∷ []) else judged g table d from q (version_of (current_of d.items q.row)))
+              then sending d (responded from q (messages.Late i.entry.number) ∷ []) else judged g size table d from q (version_of (current_of d.items q.row)))
           judge true is apart = responds (messages.Late i.entry.number) tt
           judge false is apart = judged_law (λ o a client row. grind (arith, nat_tests, greatest o a client row, is, apart))
 
           go : (b : Bool) → (i.entry.number == q.number) ≡ b → StoreLaw g table K h (if b then sending d (responded from q (messages.Again i.entry.version) ∷ [])
-              else (if nat_lt q.number i.entry.number then sending d (responded from q (messages.Late i.entry.number) ∷ []) else judged g table d from q (version_of (current_of d.items q.row))))
+              else (if nat_lt q.number i.entry.number then sending d (responded from q (messages.Late i.entry.number) ∷ []) else judged g size table d from q (version_of (current_of d.items q.row))))
           go true is = responds (messages.Again i.entry.version)
               (i, record { stands = mine.0; client_is = mine.1; number_is = grind (arith, nat_tests, is); row_is = mine.2; version_is = refl })
           go false is = judge (nat_lt q.number i.entry.number) refl is
@@ -325,7 +366,7 @@ module _ (g : Scheme) (table : ℕ) (K : Known) where
 
     header_is : (pull : Pull) (o : Option Stored) → next_changed pull.position h ≡ o → IsHeader h (pulled_for h pull o) (option_map (header_for h pull.client) o)
     header_is pull None at = tt
-    header_is pull (Some s) at = change_is pull.client pull.position s at
+    header_is pull (Some s) at = (change_is pull.client pull.position s at, (next_is pull.position 0 h s l.counted at).above_p)
 
     answered_law : (d : StoreDisk) (from : Node) (pull : Pull) → (pull.table ≡ table) × IsWayTo pull.client from → Runs g table K h d [] → StoreLaw g table K h (answered d from pull)
     answered_law d from pull fair p =
@@ -333,20 +374,20 @@ module _ (g : Scheme) (table : ℕ) (K : Known) where
         ((fair.0, fair.1, header_is pull (next_changed pull.position h) refl), tt) in
         sends_law d _ p (rw p.0.items answer)
 
-    take_law : (d : StoreDisk) (agenda : Option (List StoreTask)) (from : Node) (message : Message) → IsFair table K h (Take from message) → IsAt g table K h d agenda
-        → StoreLaw g table K h (taken g table d agenda from message)
-    take_law d None from message f p = still d None _ p
-    take_law d (Some (task ∷ more)) from message f p = still d (Some (task ∷ more)) _ p
-    take_law d (Some []) from (SyncResponse response) f p = still d (Some []) _ p
-    take_law d (Some []) from (PullResponse pulled) f p = still d (Some []) _ p
-    take_law d (Some []) from (PullRequest pull) f p = answered_law d from pull f p
-    take_law d (Some []) from (SyncRequest request) f p =
-        let k : StoreLaw g table K h (decided g table d from request (yours_in h request.client request.row)) =
-        decided_law d p from request f (last_where (is_by request.client request.row) h) refl in
-        subst (λ (xs : List Stored). StoreLaw g table K h (decided g table d from request (yours_in xs request.client request.row))) (sym p.0.items) k
+    take_law : (size : ℕ) (d : StoreDisk) (agenda : Option (List StoreTask)) (from : Node) (message : Message) → IsFair table K h (Take from message) → IsAt g table K h d agenda
+        → StoreLaw g table K h (taken g size table d agenda from message)
+    take_law size d None from message f p = still d None _ p
+    take_law size d (Some (task ∷ more)) from message f p = still d (Some (task ∷ more)) _ p
+    take_law size d (Some []) from (SyncResponse response) f p = still d (Some []) _ p
+    take_law size d (Some []) from (PullResponse pulled) f p = still d (Some []) _ p
+    take_law size d (Some []) from (PullRequest pull) f p = answered_law d from pull f p
+    take_law size d (Some []) from (SyncRequest request) f p =
+        let k : StoreLaw g table K h (decided g size table d from request (yours_in h request.client request.row)) =
+        decided_law size d p from request f (last_where (is_by request.client request.row) h) refl in
+        subst (λ (xs : List Stored). StoreLaw g table K h (decided g size table d from request (yours_in xs request.client request.row))) (sym p.0.items) k
 
-  pub store_law : (store : ℕ) (h : List Stored) (s : TableStore) (move : StoreMove) → IsFair table K h move → StorePart g table K h s → StoreLaw g table K h (store_step store g table s move)
-  store_law store h s (Take from message) f p = take_law h p.lawful s.disk s.agenda from message f p.state
-  store_law store h s (Work luck) f p = work_law h p.lawful s.disk s.agenda luck p.state
-  store_law store h s (Crash luck) f p = crash_law h p.lawful s.disk s.agenda luck p.state
-  store_law store h s Start f p = start_law h p.lawful store s.disk s.agenda p.state
+  pub store_law : (store size : ℕ) (h : List Stored) (s : TableStore) (move : StoreMove) → IsFair table K h move → StorePart g table K h s → StoreLaw g table K h (store_step store g size table s move)
+  store_law store size h s (Take from message) f p = take_law h p.lawful size s.disk s.agenda from message f p.state
+  store_law store size h s (Work luck) f p = work_law h p.lawful s.disk s.agenda luck p.state
+  store_law store size h s (Crash luck) f p = crash_law h p.lawful s.disk s.agenda luck p.state
+  store_law store size h s Start f p = start_law h p.lawful store s.disk s.agenda p.state

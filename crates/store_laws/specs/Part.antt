@@ -1,6 +1,7 @@
 -- What holds of a table at the Store beside the items `h` of the history that its lines tell. K is what is known of a
 -- write that was sent: its client, row, number, base and content.
-use Rattle.std.specs.Prelude.{◌≡◌, ◌≢◌, ◌≤◌, ◌<◌, ◌⊎◌, ℕ, ◌+◌, List, [], ◌∷◌, ◌++◌, length, Option, Some, None}
+use Rattle.std.specs.Prelude.{◌≡◌, ◌≢◌, ◌≤◌, ◌<◌, ◌⊎◌, ℕ, ◌+◌, Bool, true, List, [], ◌∷◌, ◌++◌, length, Option, Some}
+use Rattle.std.specs.Prelude.{None}
 use Rattle.stab_base.specs.declared.node.Node.{Node}
 use Rattle.stab_base.specs.declared.node.Node.TheVariants as nodes
 use Rattle.row_value.specs.declared.content.Content.{Content}
@@ -16,6 +17,7 @@ use Rattle.step_tables.specs.Sayings.{Saying, SaysNothing, SaysEntry, SaysBack, 
 use Rattle.step_tables.specs.StoreMoves.{StoreDisk, StoreTask, TableStore, StoreStep, StoreMove, Take, Work, Crash}
 use Rattle.step_tables.specs.StoreMoves.{Start, changed}
 use Rattle.step_tables.specs.Items.{latest, IsItemOf, IsItemAt, IsBase, IsYours, IsChange}
+use Rattle.world_tables.specs.Again.{may_repeat}
 
 -- what is known of a sent write: client, row, number, base, content
 abbrev pub Known : Type 1
@@ -52,20 +54,22 @@ pub record IsNext (g : Scheme) (K : Known) (h : List Stored) (i : Stored) : Type
 
 -- ---- what is told and sent
 
--- of a table of this number: a saying tells nothing new, an item again, or the next item
-abbrev pub Tells : Scheme → ℕ → Known → List Stored → Saying → List Stored → Type 0
-Tells g table K h SaysNothing later = later ≡ h
-Tells g table K h (SaysEntry number entry) later =
+-- of a table of this number: a saying tells the next item, or nothing; told again, it may tell an item again
+abbrev pub Tells : Scheme → ℕ → Known → List Stored → Bool → Saying → List Stored → Type 0
+Tells g table K h again SaysNothing later = later ≡ h
+Tells g table K h again (SaysEntry number entry) later =
     (number ≡ table)
-    × (((later ≡ h) × ((i : Stored) × Among h i × (i.entry ≡ entry)))
-    ⊎ ((i : Stored) × (i.entry ≡ entry) × IsNext g K h i × (later ≡ h ++ i ∷ [])))
-Tells g table K h (SaysBack number version) later = (number ≡ table) × (version ≡ length h + 1) × (later ≡ h)
-Tells g table K h other later = ⊥
+    × (((i : Stored) × (i.entry ≡ entry) × IsNext g K h i × (later ≡ h ++ i ∷ []))
+    ⊎ ((again ≡ true) × (later ≡ h) × ((i : Stored) × Among h i × (i.entry ≡ entry))))
+Tells g table K h again (SaysBack number version) later =
+    (number ≡ table) × (version ≡ length h + 1) × (later ≡ h)
+Tells g table K h again other later = ⊥
 
 abbrev pub TellsAll : Scheme → ℕ → Known → List Stored → List Fact → List Stored → Type 0
 TellsAll g table K h [] later = later ≡ h
 TellsAll g table K h (fact ∷ more) later =
-    (middle : List Stored) × Tells g table K h (saying fact) middle × TellsAll g table K middle more later
+    (middle : List Stored) × Tells g table K h (may_repeat fact) (saying fact) middle
+    × TellsAll g table K middle more later
 
 -- what leads to a client: the client itself, or a gateway
 abbrev pub IsWayTo : ℕ → Node → Type 0
@@ -100,7 +104,8 @@ IsOutcome g K h response (messages.Conflict last) =
 
 abbrev pub IsHeader : List Stored → Pulled → Option Header → Type 0
 IsHeader h pulled None = Unit {0}
-IsHeader h pulled (Some header) = IsChange pulled.client h pulled.from pulled.to header
+IsHeader h pulled (Some header) =
+    IsChange pulled.client h pulled.from pulled.to header × (pulled.from < pulled.to)
 
 abbrev pub IsAnswer : Scheme → ℕ → Known → List Stored → Option Node → Message → Type 0
 IsAnswer g table K h to (SyncRequest request) = ⊥

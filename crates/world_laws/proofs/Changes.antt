@@ -20,6 +20,7 @@ use Rattle.step_tables.proofs.Lists.{among_push, among_left, among_right, among_
 use Rattle.step_tables.proofs.Maps.{put_here, put_apart, put_cases, place_cases}
 use Rattle.client_laws.specs.Part.{Items, Sending, sending_in, sendings, IsLapsed, IsOwn, AreOwn, IsSending, IsRequest, Requests}
 use Rattle.client_laws.specs.Part as part
+use Rattle.world_tables.specs.Again.{may_repeat}
 use Rattle.world_tables.specs.Sound.{IsWrite, IsEntryAt, HasNoEntry, IsPassed, IsMet, IsSaid}
 use Rattle.world_laws.proofs.Told.{write_of-left}
 use Rattle.world_laws.proofs.Kept.{IsGood, IsGone, IsLost}
@@ -71,8 +72,8 @@ all_writes t (fact ∷ more) n w at = all_writes (own t (saying fact)) more n w 
 module _ (g : ℕ → Scheme) (c : ℕ) (h : Items) (sent : List Sending) where
   -- ---- what is told is so
 
-  record Says (s : Said) (x : Saying) : Type 0 where
-    is : IsSaid g s x
+  record Says (s : Said) (again : Bool) (x : Saying) : Type 0 where
+    is : IsSaid g s again x
     history : (hear s x).history ≡ s.history
     here : (hear s x).heard c ≡ own (s.heard c) x
     elsewhere : (q : ℕ) → q ≢ c → (hear s x).heard q ≡ s.heard q
@@ -106,25 +107,25 @@ module _ (g : ℕ → Scheme) (c : ℕ) (h : Items) (sent : List Sending) where
       }
 
   met_is : (s : Said) (client n table : ℕ) (row : List ℕ) (v : ℕ) → ((q : ℕ) → s.history q ≡ entries_of (h q)) → client ≡ c → g table ≡ Causal
-      → (p : part.IsPassed c h sent (s.heard c) n table row v) → p.item.entry.client ≢ c → ((s.heard c).at table row).read ≤ v → IsMet (g table) s client n table row v
+      → (p : part.IsPassed c h sent (s.heard c) n table row v) → p.item.entry.client ≢ c → IsMet (g table) s client n table row v
   unfolding passed_is
-  met_is s client n table row v same e causal p other rises = rw e here
+  met_is s client n table row v same e causal p other = rw e here
     where
       here : IsMet (g table) s c n table row v
-      here = record { causal = causal; passed = passed_is s c n table row v same refl p; other = other; rises = rises }
+      here = record { causal = causal; passed = passed_is s c n table row v same refl p; other = other }
 
-  one : (s : Said) → ((table : ℕ) → s.history table ≡ entries_of (h table)) → (x : Saying) → IsOwn g c h sent (s.heard c) x → Says s x
-  one s same SaysNothing k = record { is = tt; history = refl; here = refl; elsewhere = λ q apart. refl }
-  one s same (SaysWrite w) k = record {
+  one : (s : Said) → ((table : ℕ) → s.history table ≡ entries_of (h table)) → (again : Bool) (x : Saying) → IsOwn g c h sent (s.heard c) again x → Says s again x
+  one s same again SaysNothing k = record { is = tt; history = refl; here = refl; elsewhere = λ q apart. refl }
+  one s same again (SaysWrite w) k = record {
     is = subst (λ (q : ℕ). ((w.number ≡ length (s.heard q).writes + 1) × (w.read ≡ ((s.heard q).at w.table w.row).shadow))
-        ⊎ (write_of w.number (s.heard q).writes ≡ Some w)) (sym k.0) k.1;
+        ⊎ ((again ≡ true) × (write_of w.number (s.heard q).writes ≡ Some w))) (sym k.0) k.1;
     history = refl;
     here = at_here s w.client (SaysWrite w) k.0;
     elsewhere = at_elsewhere s w.client (SaysWrite w) k.0;
   }
-  one s same (SaysEntry table e) k = absurd k
-  one s same (SaysBack table v) k = absurd k
-  one s same (SaysAck client n table row v) k = record {
+  one s same again (SaysEntry table e) k = absurd k
+  one s same again (SaysBack table v) k = absurd k
+  one s same again (SaysAck client n table row v) k = record {
     is = (
       (k.1.0.entry, record { stands = rw (same table) (stands (h table) k.1.0 k.1.1.stands); row_is = k.1.1.row_is; version_is = k.1.1.version_is }, k.1.1.client_is ∙ sym k.0, k.1.1.number_is),
       rw k.0 k.2,
@@ -133,31 +134,31 @@ module _ (g : ℕ → Scheme) (c : ℕ) (h : Items) (sent : List Sending) where
     here = at_here s client (SaysAck client n table row v) k.0;
     elsewhere = at_elsewhere s client (SaysAck client n table row v) k.0;
   }
-  one s same (SaysLoss client n table row v) k = record {
-    is = (k.1, passed_is s client n table row v same k.0 k.2);
+  one s same again (SaysLoss client n table row v) k = record {
+    is = (k.1, passed_is s client n table row v same k.0 k.2, rw k.0 k.3);
     history = refl;
     here = at_here s client (SaysLoss client n table row v) k.0;
     elsewhere = at_elsewhere s client (SaysLoss client n table row v) k.0;
   }
-  one s same (SaysConflict client n table row v) k = record {
-    is = met_is s client n table row v same k.0 k.1 k.2.0 k.2.1 k.3;
+  one s same again (SaysConflict client n table row v) k = record {
+    is = (met_is s client n table row v same k.0 k.1 k.2.0 k.2.1, rw k.0 k.3);
     history = refl;
     here = at_here s client (SaysConflict client n table row v) k.0;
     elsewhere = at_elsewhere s client (SaysConflict client n table row v) k.0;
   }
-  one s same (SaysResolved client n table row v) k = record {
+  one s same again (SaysResolved client n table row v) k = record {
     is = rw k.0 (k.1, k.2, k.3);
     history = refl;
     here = at_here s client (SaysResolved client n table row v) k.0;
     elsewhere = at_elsewhere s client (SaysResolved client n table row v) k.0;
   }
-  one s same (SaysRead client table row v) k = record {
-    is = ((k.1.0.entry, entry_at s table row v k.1.0 same k.1.1), rw k.0 k.2);
+  one s same again (SaysRead client table row v) k = record {
+    is = (k.1.0.entry, entry_at s table row v k.1.0 same k.1.1, rw k.0 k.1.2);
     history = refl;
     here = at_here s client (SaysRead client table row v) k.0;
     elsewhere = at_elsewhere s client (SaysRead client table row v) k.0;
   }
-  one s same (SaysPosition client table p) k = record {
+  one s same again (SaysPosition client table p) k = record {
     is = rw (k.0, same table) (k.1, λ row. rw (current_is (h table) row) (k.2 row));
     history = refl;
     here = at_here s client (SaysPosition client table p) k.0;
@@ -173,7 +174,7 @@ module _ (g : ℕ → Scheme) (c : ℕ) (h : Items) (sent : List Sending) where
   pub all : (s : Said) → ((table : ℕ) → s.history table ≡ entries_of (h table)) → (some : List Fact) → AreOwn g c h sent (s.heard c) some → SaysAll s some
   all s same [] k = record { are = tt; history = refl; here = refl; elsewhere = λ q apart. refl }
   all s same (fact ∷ more) k =
-      let first : Says s (saying fact) = one s same (saying fact) k.0 in
+      let first : Says s (may_repeat fact) (saying fact) = one s same (may_repeat fact) (saying fact) k.0 in
       let then_own : AreOwn g c h sent ((hear s (saying fact)).heard c) more = subst (λ (t : Heard). AreOwn g c h sent t more) (sym first.here) k.1 in
       let rest : SaysAll (hear s (saying fact)) more = all (hear s (saying fact)) (λ table. ap (λ (f : ℕ → List Entry). f table) first.history ∙ same table) more then_own in
       record {
@@ -242,11 +243,11 @@ module _ (g : ℕ → Scheme) (c : ℕ) (h : Items) (sent : List Sending) where
   passed_gone : (t : Heard) (n table : ℕ) (row : List ℕ) (v : ℕ) → g table ≢ Eventual → part.IsPassed c h sent t n table row v → IsGone g c h sent t table row n
   passed_gone t n table row v exact p = record { exact = exact; write = p.write; written = p.written; table_is = p.table_is; row_is = p.row_is; lapsed = p.lapsed }
 
-  gone_fact : (t : Heard) (x : Saying) → IsOwn g c h sent t x → AreGone t → AreGone (own t x)
-  gone_fact t SaysNothing k f = f
-  gone_fact t (SaysEntry table e) k f = absurd k
-  gone_fact t (SaysBack table v) k f = absurd k
-  gone_fact t (SaysWrite w) k f = go (nat_lt (length t.writes) w.number)
+  gone_fact : (t : Heard) (again : Bool) (x : Saying) → IsOwn g c h sent t again x → AreGone t → AreGone (own t x)
+  gone_fact t again SaysNothing k f = f
+  gone_fact t again (SaysEntry table e) k f = absurd k
+  gone_fact t again (SaysBack table v) k f = absurd k
+  gone_fact t again (SaysWrite w) k f = go (nat_lt (length t.writes) w.number)
     where
       go : (b : Bool) → AreGone (if b then record t {
         writes = t.writes ++ w ∷ [];
@@ -256,11 +257,11 @@ module _ (g : ℕ → Scheme) (c : ℕ) (h : Items) (sent : List Sending) where
       go true = λ table row n lost.
           let z = row_gone t w.table w.row (row_wrote w (t.at w.table w.row)) (λ m v. f w.table w.row m v) f table row n lost in
           record { exact = z.exact; write = z.write; written = write_of-left n t.writes (w ∷ []) z.write z.written; table_is = z.table_is; row_is = z.row_is; lapsed = z.lapsed }
-  gone_fact t (SaysAck client n table row v) k f = row_gone t table row (row_acked n v (t.at table row)) (λ m z. f table row m z) f
-  gone_fact t (SaysResolved client n table row v) k f = row_gone t table row (row_resolved n v (t.at table row)) (λ m z. f table row m z) f
-  gone_fact t (SaysRead client table row v) k f = row_gone t table row (row_saw v (t.at table row)) (λ m z. f table row m z) f
-  gone_fact t (SaysPosition client table p) k f = λ q r n lost. let z = f q r n lost in record { exact = z.exact; write = z.write; written = z.written; table_is = z.table_is; row_is = z.row_is; lapsed = z.lapsed }
-  gone_fact t (SaysLoss client n table row v) k f = row_gone t table row (row_lost n (t.at table row)) lose f
+  gone_fact t again (SaysAck client n table row v) k f = row_gone t table row (row_acked n v (t.at table row)) (λ m z. f table row m z) f
+  gone_fact t again (SaysResolved client n table row v) k f = row_gone t table row (row_resolved n v (t.at table row)) (λ m z. f table row m z) f
+  gone_fact t again (SaysRead client table row v) k f = row_gone t table row (row_saw v (t.at table row)) (λ m z. f table row m z) f
+  gone_fact t again (SaysPosition client table p) k f = λ q r n lost. let z = f q r n lost in record { exact = z.exact; write = z.write; written = z.written; table_is = z.table_is; row_is = z.row_is; lapsed = z.lapsed }
+  gone_fact t again (SaysLoss client n table row v) k f = row_gone t table row (row_lost n (t.at table row)) lose f
     where
       exact : g table ≢ Eventual
       exact = λ e. absurd (let strong : Strong ≡ Eventual = sym k.1 ∙ e in cc)
@@ -268,7 +269,7 @@ module _ (g : ℕ → Scheme) (c : ℕ) (h : Items) (sent : List Sending) where
       lose : (m : ℕ) → ((version : ℕ) × ((t.at table row).conflict m ≡ Some version)) ⊎ (put (t.at table row).lost n true m ≡ true) → IsGone g c h sent t table row m
       lose m (inl z) = f table row m (inl z)
       lose m (inr z) = ⊎_elim (λ e. rw e.0 (passed_gone t n table row v exact k.2)) (λ e. f table row m (inr (sym e.1 ∙ z))) (put_cases (t.at table row).lost n true m)
-  gone_fact t (SaysConflict client n table row v) k f = row_gone t table row (row_met n v (t.at table row)) lose f
+  gone_fact t again (SaysConflict client n table row v) k f = row_gone t table row (row_met n v (t.at table row)) lose f
     where
       exact : g table ≢ Eventual
       exact = λ e. absurd (let causal : Causal ≡ Eventual = sym k.1 ∙ e in cc)
@@ -279,4 +280,4 @@ module _ (g : ℕ → Scheme) (c : ℕ) (h : Items) (sent : List Sending) where
 
   pub gone_facts : (t : Heard) (some : List Fact) → AreOwn g c h sent t some → AreGone t → AreGone (own_all t some)
   gone_facts t [] k f = f
-  gone_facts t (fact ∷ more) k f = gone_facts (own t (saying fact)) more k.1 (gone_fact t (saying fact) k.0 f)
+  gone_facts t (fact ∷ more) k f = gone_facts (own t (saying fact)) more k.1 (gone_fact t (may_repeat fact) (saying fact) k.0 f)

@@ -223,6 +223,7 @@ module _ (g : ℕ → Scheme) where
           store_knows (g table) table (KnownIn s.heard k.sent table) (KnownIn s'.heard Sent table) (known_more s.heard s'.heard k.items k.sent Sent writes sends table) (k.items table) hosted.store f.0,
           f.1 ∙ sym (ap (λ (m : ℕ → List Entry). m table) history),
         );
+        unmade = k.unmade;
         no_store = k.no_store;
         clients = client;
         no_client = no_client;

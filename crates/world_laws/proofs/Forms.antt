@@ -23,9 +23,6 @@ use Rattle.step_tables.specs.ClientMoves.{write_idle, write_free, write_by, writ
 use Rattle.step_tables.specs.ClientMoves.{response_in, response_taken, outcome_taken, pulled_in, pulled_taken, row_taken, top, begun, position_plan, row_plan, row_placed, next_pull, client_step}
 use Rattle.step_tables.specs.ClientMoves.{Write, Show, Sync, Next, Take}
 use Rattle.std.proofs.lemmas.Bool.Decides.{nat_tests}
-use Rattle.world_tables.specs.Sound.{IsForm}
-use Rattle.table_model.specs.declared.event.Event.{Event}
-use Rattle.table_model.specs.declared.event.Event.TheVariants as events
 
 -- an answer with a number, or a refusal
 abbrev pub IsNumber : Answer → Type 0
@@ -61,6 +58,8 @@ sum_form facts.Done f = absurd f
 sum_form (facts.Number number) f = absurd f
 sum_form (facts.Sums sum) f = absurd f
 sum_form (facts.Stores version content) f = absurd f
+sum_form (facts.Did step) f = absurd f
+sum_form (facts.Names names) f = absurd f
 
 module _ (c : ℕ) (d : ClientDisk) where
   strong_form : (table : ℕ) (row : List ℕ) (slots : Slots) (x : Content) (o : Option InFlight) → IsNumber (write_strong c d table row slots x o).answer
@@ -177,30 +176,30 @@ module _ (c : ℕ) (d : ClientDisk) where
 
 -- ---- the Store's
 
-module _ (g : Scheme) (table : ℕ) (d : StoreDisk) (from : Node) where
-  judged_form : (q : Request) (current : ℕ) → IsDone (store.judged g table d from q current).answer
+module _ (g : Scheme) (size table : ℕ) (d : StoreDisk) (from : Node) where
+  judged_form : (q : Request) (current : ℕ) → IsDone (store.judged g size table d from q current).answer
   judged_form q current = go (store.takes g q.base current)
     where
       go : (b : Bool) → IsDone (if b
-          then store.quiet d (Some (store.accepting table from q (store.item_for d.items q))) facts.Done
+          then store.quiet d (Some (store.accepting size table d.items from q (store.item_for d.items q))) facts.Done
           else store.sending d (store.responded from q (store.outdated g current) ∷ [])).answer
       go true = tt
       go false = tt
 
-  decided_form : (q : Request) (yours : Pair) → IsDone (store.decided g table d from q yours).answer
+  decided_form : (q : Request) (yours : Pair) → IsDone (store.decided g size table d from q yours).answer
   decided_form q yours = go (yours.number == q.number) (nat_lt q.number yours.number)
     where
       go : (a b : Bool) → IsDone (if a then store.sending d (store.responded from q (messages.Again yours.version) ∷ [])
           else (if b then store.sending d (store.responded from q (messages.Late yours.number) ∷ [])
-          else store.judged g table d from q (store.version_of (current_of d.items q.row)))).answer
+          else store.judged g size table d from q (store.version_of (current_of d.items q.row)))).answer
       go true b = tt
       go false true = tt
       go false false = judged_form q (store.version_of (current_of d.items q.row))
 
-pub taken_form : (g : Scheme) (table : ℕ) (d : StoreDisk) (agenda : Option (List StoreTask)) (from : Node) (m : Message) → IsDone (store.taken g table d agenda from m).answer
-taken_form g table d None from m = tt
-taken_form g table d (Some (task ∷ more)) from m = tt
-taken_form g table d (Some []) from (SyncRequest q) = decided_form g table d from q (store.yours_in d.items q.client q.row)
-taken_form g table d (Some []) from (PullRequest q) = tt
-taken_form g table d (Some []) from (SyncResponse q) = tt
-taken_form g table d (Some []) from (PullResponse q) = tt
+pub taken_form : (g : Scheme) (size table : ℕ) (d : StoreDisk) (agenda : Option (List StoreTask)) (from : Node) (m : Message) → IsDone (store.taken g size table d agenda from m).answer
+taken_form g size table d None from m = tt
+taken_form g size table d (Some (task ∷ more)) from m = tt
+taken_form g size table d (Some []) from (SyncRequest q) = decided_form g size table d from q (store.yours_in d.items q.client q.row)
+taken_form g size table d (Some []) from (PullRequest q) = tt
+taken_form g size table d (Some []) from (SyncResponse q) = tt
+taken_form g size table d (Some []) from (PullResponse q) = tt

@@ -3,6 +3,9 @@ pub mod Kept
 pub mod Lines
 pub mod Changes
 pub mod Looks
+pub mod Orders
+pub mod Ups
+pub mod StoreWorks
 pub mod ClientMoves
 pub mod TableMoves
 pub mod StoreMoves

@@ -5,6 +5,7 @@ use Rattle.row_value.specs.declared.schema.Scheme.{Scheme}
 use Rattle.step_tables.specs.Facts.{Fact, Line, FactLine}
 use Rattle.step_tables.specs.Facts as facts
 use Rattle.step_tables.specs.Sayings.{Saying, saying, says, Said, hear, hear_all, hear_lines}
+use Rattle.world_tables.specs.Again.{may_repeat}
 use Rattle.world_tables.specs.World.{Outbox, Packet, sent_lines, lines_from}
 use Rattle.world_tables.specs.Sound.{IsSaid, AreSaid}
 use Rattle.world_laws.proofs.Told.{SaidTold, told_step}
@@ -24,7 +25,7 @@ module _ (g : ℕ → Scheme) where
 
   abbrev pub FactsSaid : Said → List Fact → Type 0
   FactsSaid s [] = Unit {0}
-  FactsSaid s (fact ∷ more) = IsSaid g s (saying fact) × FactsSaid (hear s (saying fact)) more
+  FactsSaid s (fact ∷ more) = IsSaid g s (may_repeat fact) (saying fact) × FactsSaid (hear s (saying fact)) more
 
   facts_hear : (s : Said) (some : List Fact) → hear_lines s (map FactLine some) ≡ hear_all s some
   facts_hear s [] = refl
@@ -77,4 +78,4 @@ module _ (g : ℕ → Scheme) where
   -- what is said keeps writes and entries in order
   pub all_told : (s : Said) (some : List Fact) → SaidTold s → FactsSaid s some → SaidTold (hear_all s some)
   all_told s [] k a = k
-  all_told s (fact ∷ more) k a = all_told (hear s (saying fact)) more (told_step g s (saying fact) k a.0) a.1
+  all_told s (fact ∷ more) k a = all_told (hear s (saying fact)) more (told_step g s (may_repeat fact) (saying fact) k a.0) a.1

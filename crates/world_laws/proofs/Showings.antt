@@ -55,6 +55,8 @@ show_sum what facts.Done f is = absurd f
 show_sum what (facts.Number number) f is = absurd f
 show_sum what (facts.Sums sum) f is = absurd f
 show_sum what (facts.Stores version content) f is = absurd f
+show_sum what (facts.Did step) f is = absurd f
+show_sum what (facts.Names names) f is = absurd f
 
 module _ (g : ℕ → Scheme) (w : World) (s : Said) (k : Kept g w s) where
   -- the content of an item's version
@@ -66,7 +68,7 @@ module _ (g : ℕ → Scheme) (w : World) (s : Said) (k : Kept g w s) where
       let f = l.known i a in
       ap (content_of s) found ∙ (ap (option_map (λ (x : Write). x.content)) f.1 ∙ ap Some f.4)
 
-  no_content : (table : ℕ) → content_at s table 0 ≡ None
+  pub no_content : (table : ℕ) → content_at s table 0 ≡ None
   no_content table =
       ap (content_of s) (ap (λ (es : List Entry). entry_at 0 es) (k.history table) ∙ entry_above 0 0 (k.items table) (k.tables table).counted (omega arith))
 

@@ -1,5 +1,5 @@
 -- What a table tells and sends keeps the world.
-use Rattle.std.proofs.Common.{◌≡◌, ◌≢◌, ◌⊎◌, ℕ, ◌+◌, ◌<◌, ◌≤◌, List, [], ◌∷◌, ◌++◌, length, Option, Some, None, refl, sym, ap, ◌∙◌, subst, arith, inl, inr, ⊎_elim}
+use Rattle.std.proofs.Common.{◌≡◌, ◌≢◌, ◌⊎◌, ℕ, ◌+◌, ◌<◌, ◌≤◌, Bool, false, List, [], ◌∷◌, ◌++◌, length, Option, Some, None, refl, sym, ap, ◌∙◌, subst, arith, inl, inr, ⊎_elim}
 use Rattle.stab_base.specs.declared.node.Node.{Node}
 use Rattle.row_value.specs.declared.schema.Schema.{Schema}
 use Rattle.row_value.specs.declared.schema.Scheme.{Scheme}
@@ -20,8 +20,9 @@ use Rattle.store_laws.specs.Part.{Known, Tells, TellsAll, Answers, IsAnswer, IsL
 use Rattle.store_laws.specs.Part as store
 use Rattle.client_laws.specs.Part.{Items, Sending, IsRefused}
 use Rattle.client_laws.specs.Part as part
+use Rattle.world_tables.specs.Again.{may_repeat}
 use Rattle.world_tables.specs.World.{World, Packet, Hosted, Outbox, the_store, hosted_at, client_at, schema_at, after_table, packets_from, address, goes_on, history_on, lines_from}
-use Rattle.world_laws.proofs.Kept.{KnownIn, Lawful, IsFairMessage, IsFairPacket, Kept, MoveSound}
+use Rattle.world_laws.proofs.Kept.{KnownIn, Lawful, IsFairMessage, IsFairPacket, nothing_there, Kept, MoveSound}
 use Rattle.world_laws.proofs.Lines.{out_hear, out_said}
 use Rattle.world_laws.proofs.Changes.{stands}
 use Rattle.world_laws.proofs.Looks.{look_cases}
@@ -29,20 +30,21 @@ use Rattle.world_laws.proofs.TableMoves.{ClientGrows, LapsedGrows, Inv, Result, 
 
 module _ (client_grows : ClientGrows) (lapsed_grows : LapsedGrows) (g : ℕ → Scheme) where
   -- the history that the world keeps is the one told
-  one_history : (s : Said) (table : ℕ) (old : List Entry) (K : Known) (h : List Stored) (x : Saying) (later : List Stored) → old ≡ s.history table
-      → Tells (g table) table K h x later → goes_on old x ≡ (hear s x).history table
-  one_history s table old K h SaysNothing later e f = e
-  one_history s table old K h (SaysBack number v) later e f = e
-  one_history s table old K h (SaysEntry number entry) later e f = rw f.0 (ap (λ (es : List Entry). entered es entry) e ∙ sym (put_here s.history table (entered (s.history table) entry)))
-  one_history s table old K h other later e f = absurd f
+  one_history : (s : Said) (table : ℕ) (old : List Entry) (K : Known) (h : List Stored) (again : Bool) (x : Saying) (later : List Stored) → old ≡ s.history table
+      → Tells (g table) table K h again x later → goes_on old x ≡ (hear s x).history table
+  one_history s table old K h again SaysNothing later e f = e
+  one_history s table old K h again (SaysBack number v) later e f = e
+  one_history s table old K h again (SaysEntry number entry) later e f = rw f.0 (ap (λ (es : List Entry). entered es entry) e ∙ sym (put_here s.history table (entered (s.history table) entry)))
+  one_history s table old K h again other later e f = absurd f
 
   told_history : (s : Said) (table : ℕ) (old : List Entry) (K : Known) (h : List Stored) (some : List Fact) (later : List Stored) → old ≡ s.history table
       → TellsAll (g table) table K h some later → history_on old some ≡ (hear_all s some).history table
   told_history s table old K h [] later e f = e
   told_history s table old K h (fact ∷ more) later e f =
-      told_history (hear s (saying fact)) table (goes_on old (saying fact)) K f.0 more later (one_history s table old K h (saying fact) f.0 e f.1) f.2
+      told_history (hear s (saying fact)) table (goes_on old (saying fact)) K f.0 more later (one_history s table old K h (may_repeat fact) (saying fact) f.0 e f.1) f.2
 
-  module _ (w : World) (s : Said) (k : Kept g w s) (table : ℕ) (hosted : Hosted) (there : hosted_at w table ≡ Some hosted) (step : StoreStep)
+  module _ (w : World) (s : Said) (k : Kept g w s) (table : ℕ) (hosted : Hosted)
+      (there : (old : Hosted) × (hosted_at w table ≡ Some old) × (hosted.history ≡ old.history)) (step : StoreStep) (unmade : hosted.made ≡ false → step.store ≡ nothing_there)
       (law : StoreLaw (g table) table (KnownIn s.heard k.sent table) (k.items table) step) where
     inv : Inv client_grows lapsed_grows g w k.sent s k.items
     inv = record { told = k.told; history = k.history; lawful = k.lawful; tables = k.tables; clients = k.clients; packets = k.packets }
@@ -61,7 +63,7 @@ module _ (client_grows : ClientGrows) (lapsed_grows : LapsedGrows) (g : ℕ → 
           → StorePart (g q) q (KnownIn s'.heard k.sent q) (items q) x.store × (x.history ≡ s'.history q)
       stores q x is = ⊎_elim
           (λ e.
-          let new : Hosted = record { store = step.store; history = history_on hosted.history step.facts } in
+          let new : Hosted = record { store = step.store; history = history_on hosted.history step.facts; made = hosted.made } in
           let both : Some new ≡ Some x = sym e.1 ∙ is in
           let same : new ≡ x = cc in
           subst (λ (y : Hosted). StorePart (g q) q (KnownIn s'.heard k.sent q) (items q) y.store × (y.history ≡ s'.history q)) same
@@ -72,17 +74,27 @@ module _ (client_grows : ClientGrows) (lapsed_grows : LapsedGrows) (g : ℕ → 
                 (subst (λ (m : ℕ → Heard). StorePart (g q) q (KnownIn m k.sent q) (k.items q) x.store) (sym heard) f.0),
             f.1 ∙ (k.history q ∙ (ap entries_of (sym (elsewhere q e.0)) ∙ sym (at.history q))),
           ))
-          (look_cases w.tables table (record { store = step.store; history = history_on hosted.history step.facts }) q)
+          (look_cases w.tables table (record { store = step.store; history = history_on hosted.history step.facts; made = hosted.made }) q)
 
       declared : (q : ℕ) (x : Hosted) → hosted_at (after_table w table hosted step).world q ≡ Some x → (schema : Schema) × (schema_at w q ≡ Some schema)
-      declared q x is = ⊎_elim (λ e. k.declared q hosted (ap (hosted_at w) e.0 ∙ there)) (λ e. k.declared q x (sym e.1 ∙ is))
-          (look_cases w.tables table (record { store = step.store; history = history_on hosted.history step.facts }) q)
+      declared q x is = ⊎_elim (λ e. k.declared q there.0 (ap (hosted_at w) e.0 ∙ there.1)) (λ e. k.declared q x (sym e.1 ∙ is))
+          (look_cases w.tables table (record { store = step.store; history = history_on hosted.history step.facts; made = hosted.made }) q)
+
+      still_unmade : (q : ℕ) (x : Hosted) → hosted_at (after_table w table hosted step).world q ≡ Some x → x.made ≡ false → x.store ≡ nothing_there
+      still_unmade q x is = ⊎_elim
+          (λ e.
+          let new : Hosted = record { store = step.store; history = history_on hosted.history step.facts; made = hosted.made } in
+          let both : Some new ≡ Some x = sym e.1 ∙ is in
+          let same : new ≡ x = cc in
+          subst (λ (y : Hosted). y.made ≡ false → y.store ≡ nothing_there) same unmade)
+          (λ e. k.unmade q x (sym e.1 ∙ is))
+          (look_cases w.tables table (record { store = step.store; history = history_on hosted.history step.facts; made = hosted.made }) q)
 
       no_store : (q : ℕ) → hosted_at (after_table w table hosted step).world q ≡ None → items q ≡ []
       no_store q none = ⊎_elim
-          (λ e. absurd (let both : Some (record { store = step.store; history = history_on hosted.history step.facts }) ≡ None = sym e.1 ∙ none in cc))
+          (λ e. absurd (let both : Some (record { store = step.store; history = history_on hosted.history step.facts; made = hosted.made }) ≡ None = sym e.1 ∙ none in cc))
           (λ e. elsewhere q e.0 ∙ k.no_store q (sym e.1 ∙ none))
-          (look_cases w.tables table (record { store = step.store; history = history_on hosted.history step.facts }) q)
+          (look_cases w.tables table (record { store = step.store; history = history_on hosted.history step.facts; made = hosted.made }) q)
 
       -- ---- what is sent
 
@@ -149,6 +161,7 @@ module _ (client_grows : ClientGrows) (lapsed_grows : LapsedGrows) (g : ℕ → 
         declared = declared;
         tables = at.tables;
         stores = stores;
+        unmade = still_unmade;
         no_store = no_store;
         clients = at.clients;
         no_client = λ c none. let f = k.no_client c none in (ap (λ (m : ℕ → Heard). m c) heard ∙ f.0, f.1);
@@ -158,13 +171,13 @@ module _ (client_grows : ClientGrows) (lapsed_grows : LapsedGrows) (g : ℕ → 
     pub table_moves : (number : ℕ) → MoveSound g s w number (after_table w table hosted step)
     table_moves number =
         let out : Outbox = record { facts = step.facts; packets = packets_from the_store step.sends } in
-        let old : hosted.history ≡ s.history table = (k.stores table hosted there).1 in
+        let old : hosted.history ≡ s.history table = there.2 ∙ (k.stores table there.0 there.1).1 in
         record {
           lines = out_said g s number out [] result.are tt;
           kept = rw (out_hear g s number out []) (table_kept (hear_all s step.facts) result.items result.here result.elsewhere result.heard result.inv
               (told_history s table hosted.history (KnownIn s.heard k.sent table) (k.items table) step.facts law.later old law.facts));
           there = λ q none. ⊎_elim
-              (λ e. absurd (let both : Some (record { store = step.store; history = history_on hosted.history step.facts }) ≡ None = sym e.1 ∙ none in cc))
+              (λ e. absurd (let both : Some (record { store = step.store; history = history_on hosted.history step.facts; made = hosted.made }) ≡ None = sym e.1 ∙ none in cc))
               (λ e. sym e.1 ∙ none)
-              (look_cases w.tables table (record { store = step.store; history = history_on hosted.history step.facts }) q);
+              (look_cases w.tables table (record { store = step.store; history = history_on hosted.history step.facts; made = hosted.made }) q);
         }

@@ -26,6 +26,7 @@ use Rattle.store_laws.proofs.Items.{counted_up, above, latest_most, latest_item,
 use Rattle.store_laws.proofs.Law.{grown, base_grows}
 use Rattle.client_laws.specs.Part.{Items, Sending, Spans, IsLapsed, IsRefused, Fits, ClientPart}
 use Rattle.client_laws.specs.Part as part
+use Rattle.world_tables.specs.Again.{may_repeat}
 use Rattle.world_tables.specs.World.{World, Packet, client_at}
 use Rattle.world_tables.specs.Sound.{IsWrite, HasNoEntry, IsOver, IsNew, IsSaid}
 use Rattle.world_laws.proofs.Told.{SaidTold, told_step}
@@ -313,7 +314,7 @@ module _ (client_grows : ClientGrows) (lapsed_grows : LapsedGrows) (g : ℕ → 
       where
         header : (q : Pulled) (o : Option Header) → part.IsHeader q.client h q o → part.IsHeader q.client Later q o
         header q None f = tt
-        header q (Some hd) f = change_at q.client q.table q.from q.to hd f
+        header q (Some hd) f = (change_at q.client q.table q.from q.to hd f.0, f.1)
 
         go : (m : Message) → IsFairMessage g s.heard h sent p.from p.to m → IsFairMessage g s.heard Later sent p.from p.to m
         go (SyncRequest q) f = (f.0, f.1, base_at q.table q.row q.base f.2)
@@ -323,7 +324,7 @@ module _ (client_grows : ClientGrows) (lapsed_grows : LapsedGrows) (g : ℕ → 
 
     inv_next : Inv (hear s (SaysEntry table i.entry)) Later
     inv_next = record {
-      told = told_step g s (SaysEntry table i.entry) k.told (inr new_is);
+      told = told_step g s false (SaysEntry table i.entry) k.told (inl new_is);
       history = λ q. ⊎_elim (λ e. e.1 ∙ (entered_is ∙ sym (ap entries_of (later_is q e.0)))) (λ e. e.1 ∙ (k.history q ∙ sym (ap entries_of (put_apart h table (h table ++ i ∷ []) q e.0)))) (put_cases s.history table (entered (s.history table) i.entry) q);
       lawful = record { good = λ c r a. good_at c r (k.lawful.good c r a); gone = λ c q row m lost. gone_at c q row m (k.lawful.gone c q row m lost) };
       tables = λ q. ⊎_elim
@@ -356,18 +357,18 @@ module _ (client_grows : ClientGrows) (lapsed_grows : LapsedGrows) (g : ℕ → 
     pub heard : (hear_all s some).heard ≡ s.heard
     pub inv : Inv (hear_all s some) items
 
-  record One (s : Said) (h : Items) (table : ℕ) (x : Saying) (later : List Stored) : Type 0 where
+  record One (s : Said) (h : Items) (table : ℕ) (repeats : Bool) (x : Saying) (later : List Stored) : Type 0 where
     items : Items
     here : items table ≡ later
     elsewhere : (q : ℕ) → q ≢ table → items q ≡ h q
-    is : IsSaid g s x
+    is : IsSaid g s repeats x
     heard : (hear s x).heard ≡ s.heard
     inv : Inv (hear s x) items
 
   -- a saying that adds nothing
   again : (s : Said) (h : Items) → Inv s h → (table : ℕ) (e : Entry) → ((i : Stored) × Among (h table) i × (i.entry ≡ e)) → Inv (hear s (SaysEntry table e)) h
   again s h k table e f = record {
-    told = told_step g s (SaysEntry table e) k.told (inl there);
+    told = told_step g s true (SaysEntry table e) k.told (inr (refl, there));
     history = λ q. ⊎_elim (λ m. m.1 ∙ (entered_is ∙ ap s.history (sym m.0)) ∙ k.history q) (λ m. m.1 ∙ k.history q) (put_cases s.history table (entered (s.history table) e) q);
     lawful = k.lawful;
     tables = k.tables;
@@ -390,9 +391,10 @@ module _ (client_grows : ClientGrows) (lapsed_grows : LapsedGrows) (g : ℕ → 
               grind (arith, nat_tests, is, up, v, l)
               )
 
-  one : (s : Said) (h : Items) → Inv s h → (table : ℕ) (x : Saying) (later : List Stored) → Tells (g table) table (KnownIn s.heard sent table) (h table) x later → One s h table x later
-  one s h k table SaysNothing later f = record { items = h; here = sym f; elsewhere = λ q apart. refl; is = tt; heard = refl; inv = k }
-  one s h k table (SaysBack number version) later f = record {
+  one : (s : Said) (h : Items) → Inv s h → (table : ℕ) (repeats : Bool) (x : Saying) (later : List Stored)
+      → Tells (g table) table (KnownIn s.heard sent table) (h table) repeats x later → One s h table repeats x later
+  one s h k table repeats SaysNothing later f = record { items = h; here = sym f; elsewhere = λ q apart. refl; is = tt; heard = refl; inv = k }
+  one s h k table repeats (SaysBack number version) later f = record {
     items = h;
     here = sym f.2;
     elsewhere = λ q apart. refl;
@@ -400,34 +402,34 @@ module _ (client_grows : ClientGrows) (lapsed_grows : LapsedGrows) (g : ℕ → 
     heard = refl;
     inv = k;
   }
-  one s h k table (SaysEntry number e) later (same, inl f) =
-      let at : Inv (hear s (SaysEntry table e)) h = again s h k table e f.1 in
-      record {
-        items = h;
-        here = sym f.0;
-        elsewhere = λ q apart. refl;
-        is = inl (rw (same, k.history table) (subst (λ (x : Entry). Among (entries_of (h table)) x) f.1.2 (stands (h table) f.1.0 f.1.1)));
-        heard = refl;
-        inv = rw same at;
-      }
-  one s h k table (SaysEntry number e) later (same, inr f) =
+  one s h k table repeats (SaysEntry number e) later (same, inl f) =
       let new : IsNew g s table e = subst (λ (x : Entry). IsNew g s table x) f.1 (new_is s h k table f.0 f.2) in
       let at : Inv (hear s (SaysEntry table e)) (put h table (h table ++ f.0 ∷ [])) = subst (λ (x : Entry). Inv (hear s (SaysEntry table x)) (put h table (h table ++ f.0 ∷ []))) f.1 (inv_next s h k table f.0 f.2) in
       record {
         items = put h table (h table ++ f.0 ∷ []);
         here = put_here h table (h table ++ f.0 ∷ []) ∙ sym f.3;
         elsewhere = λ q apart. put_apart h table (h table ++ f.0 ∷ []) q apart;
-        is = inr (rw same new);
+        is = inl (rw same new);
         heard = refl;
         inv = rw same at;
       }
-  one s h k table other later f = absurd f
+  one s h k table repeats (SaysEntry number e) later (same, inr f) =
+      let at : Inv (hear s (SaysEntry table e)) h = again s h k table e f.2 in
+      record {
+        items = h;
+        here = sym f.1;
+        elsewhere = λ q apart. refl;
+        is = inr (f.0, rw (same, k.history table) (subst (λ (x : Entry). Among (entries_of (h table)) x) f.2.2 (stands (h table) f.2.0 f.2.1)));
+        heard = refl;
+        inv = rw same at;
+      }
+  one s h k table repeats other later f = absurd f
 
   pub all : (s : Said) (h : Items) → Inv s h → (table : ℕ) (some : List Fact) (later : List Stored)
       → TellsAll (g table) table (KnownIn s.heard sent table) (h table) some later → Result s h table some later
   all s h k table [] later f = record { items = h; here = sym f; elsewhere = λ q apart. refl; are = tt; heard = refl; inv = k }
   all s h k table (fact ∷ more) later f =
-      let first : One s h table (saying fact) f.0 = one s h k table (saying fact) f.0 f.1 in
+      let first : One s h table (may_repeat fact) (saying fact) f.0 = one s h k table (may_repeat fact) (saying fact) f.0 f.1 in
       let then_tells : TellsAll (g table) table (KnownIn (hear s (saying fact)).heard sent table) (first.items table) more later =
       subst (λ (xs : List Stored). TellsAll (g table) table (KnownIn (hear s (saying fact)).heard sent table) xs more later) (sym first.here)
       (subst (λ (m : ℕ → Heard). TellsAll (g table) table (KnownIn m sent table) f.0 more later) (sym first.heard) f.2) in

@@ -221,8 +221,8 @@ written_low s k c n table row w is = ((k.clients c).numbered n w is.told).3
 entry_low : (s : Said) → SaidTold s → (table : ℕ) (e : Entry) → Among (s.history table) e → e.number ≤ length (s.heard e.client).writes
 entry_low s k table e a = let w = k.entries table e a in written_low s k e.client e.number table e.row w.0 w.1
 
-told_write : (g : ℕ → Scheme) (s : Said) (w : Write) → SaidTold s → IsSaid g s (SaysWrite w) → SaidTold (hear s (SaysWrite w))
-told_write g s w k (inl new) = go (nat_lt (length (s.heard w.client).writes) w.number) refl
+told_write : (g : ℕ → Scheme) (s : Said) (again : Bool) (w : Write) → SaidTold s → IsSaid g s again (SaysWrite w) → SaidTold (hear s (SaysWrite w))
+told_write g s again w k (inl new) = go (nat_lt (length (s.heard w.client).writes) w.number) refl
   where
     go : (b : Bool) → nat_lt (length (s.heard w.client).writes) w.number ≡ b
         → SaidTold (record s {
@@ -250,7 +250,7 @@ told_write g s w k (inl new) = go (nat_lt (length (s.heard w.client).writes) w.n
             k.acks w.client n table row (rw (e.0, e.1) old)
         acks n table row (inr e) at = k.acks w.client n table row (sym (ap (λ (x : RowHeard). x.acked n) e.1) ∙ at)
     go false is = absurd (grind (arith, nat_tests, is, new.0))
-told_write g s w k (inr old) = go (nat_lt (length (s.heard w.client).writes) w.number) refl
+told_write g s again w k (inr old) = go (nat_lt (length (s.heard w.client).writes) w.number) refl
   where
     go : (b : Bool) → nat_lt (length (s.heard w.client).writes) w.number ≡ b
         → SaidTold (record s {
@@ -261,7 +261,7 @@ told_write g s w k (inr old) = go (nat_lt (length (s.heard w.client).writes) w.n
               }
               else s.heard w.client);
         })
-    go true is = absurd (let low = ((k.clients w.client).numbered w.number w old).3 in grind (arith, nat_tests, is, low))
+    go true is = absurd (let low = ((k.clients w.client).numbered w.number w old.1).3 in grind (arith, nat_tests, is, low))
     go false is = follow s w.client (s.heard w.client) k (record { told = k.clients w.client; writes = λ n x at. at; acks = λ n table row at. k.acks w.client n table row at })
 
 told_entry : (s : Said) (table : ℕ) (e : Entry) → SaidTold s → (Among (s.history table) e ⊎ ((w : Write) × IsWrite s e.client e.number table e.row w))
@@ -301,13 +301,13 @@ same_acks : (s : Said) (c table : ℕ) (row : List ℕ) (x y : RowHeard) → y.a
 same_acks s c table row x y same m at = inl (sym (ap (λ (f : ℕ → Bool). f m) same) ∙ at)
 
 -- whatever is said, this stays
-pub told_step : (g : ℕ → Scheme) (s : Said) (x : Saying) → SaidTold s → IsSaid g s x → SaidTold (hear s x)
-told_step g s SaysNothing k is = k
-told_step g s (SaysWrite w) k is = told_write g s w k is
-told_step g s (SaysEntry table e) k (inl a) = told_entry s table e k (inl a)
-told_step g s (SaysEntry table e) k (inr n) = told_entry s table e k (inr (n.write, n.written))
-told_step g s (SaysBack table version) k is = k
-told_step g s (SaysAck c n table row v) k is =
+pub told_step : (g : ℕ → Scheme) (s : Said) (again : Bool) (x : Saying) → SaidTold s → IsSaid g s again x → SaidTold (hear s x)
+told_step g s again SaysNothing k is = k
+told_step g s again (SaysWrite w) k is = told_write g s again w k is
+told_step g s again (SaysEntry table e) k (inr a) = told_entry s table e k (inl a.1)
+told_step g s again (SaysEntry table e) k (inl n) = told_entry s table e k (inr (n.write, n.written))
+told_step g s again (SaysBack table version) k is = k
+told_step g s again (SaysAck c n table row v) k is =
     let e = is.0.0 in
     let stands : Among (s.history table) e = is.0.1.stands in
     let row_is : e.row ≡ row = is.0.1.row_is in
@@ -322,13 +322,14 @@ told_step g s (SaysAck c n table row v) k is =
         → (((s.heard c).at table row).acked m ≡ true) ⊎ ((e : Entry) × Among (s.history table) e × (e.row ≡ row) × (e.client ≡ c) × (e.number ≡ m))
     acks m (inl e) at = inr (is.0.0, is.0.1.stands, is.0.1.row_is, is.0.2, is.0.3 ∙ sym e.0)
     acks m (inr e) at = inl (sym e.1 ∙ at)
-told_step g s (SaysLoss c n table row v) k is =
+told_step g s again (SaysLoss c n table row v) k is =
     follow s c _ k (row_follows s k c table row n (row_lost n ((s.heard c).at table row)) (written_low s k c n table row is.1.write is.1.written) (lost_keeps n ((s.heard c).at table row))
     (same_acks s c table row ((s.heard c).at table row) (row_lost n ((s.heard c).at table row)) refl))
-told_step g s (SaysConflict c n table row v) k is =
-    follow s c _ k (row_follows s k c table row n (row_met n v ((s.heard c).at table row)) (written_low s k c n table row is.passed.write is.passed.written) (met_keeps n v ((s.heard c).at table row))
+told_step g s again (SaysConflict c n table row v) k is =
+    follow s c _ k (row_follows s k c table row n (row_met n v ((s.heard c).at table row)) (written_low s k c n table row is.0.passed.write is.0.passed.written)
+    (met_keeps n v ((s.heard c).at table row))
     (same_acks s c table row ((s.heard c).at table row) (row_met n v ((s.heard c).at table row)) refl))
-told_step g s (SaysResolved c n table row v) k is =
+told_step g s again (SaysResolved c n table row v) k is =
     follow s c _ k (row_follows s k c table row n (row_resolved n v ((s.heard c).at table row)) low (resolved_keeps n v ((s.heard c).at table row))
     (same_acks s c table row ((s.heard c).at table row) (row_resolved n v ((s.heard c).at table row)) refl))
   where
@@ -340,10 +341,10 @@ told_step g s (SaysResolved c n table row v) k is =
         go true at =
             let f : IsFresh ((s.heard c).at table row) n = (k.clients c).fresh table row n (grind (arith, nat_tests, at)) in
             absurd (let both : None ≡ Some v = sym f.conflict ∙ is.0 in cc)
-told_step g s (SaysRead c table row v) k is =
+told_step g s again (SaysRead c table row v) k is =
     follow s c _ k (row_follows s k c table row 0 (row_saw v ((s.heard c).at table row)) (omega arith) (saw_keeps v ((s.heard c).at table row))
     (same_acks s c table row ((s.heard c).at table row) (row_saw v ((s.heard c).at table row)) refl))
-told_step g s (SaysPosition c table p) k is =
+told_step g s again (SaysPosition c table p) k is =
     follow s c _ k (record {
       told = (let t = k.clients c in record { numbered = t.numbered; found = t.found; fresh = t.fresh; last = t.last; newest = t.newest });
       writes = λ n w at. at;

@@ -113,9 +113,62 @@ over = shows Causal (told (wrote 2 1 0 6) ∷ accepted 1 2 1 0 ∷ told (wrote 1
 abbrev pub early : List Turn
 early = shows Strong (told (wrote 1 1 0 5) ∷ []) (facts.Shows (facts.Mine 1 (int 5)))
 
+-- a strong write without its answer
+abbrev pub strong_open : List Turn
+strong_open = tells Strong (told (wrote 1 1 0 5) ∷ [])
+
 -- an event without an answer, and one with two
 abbrev pub silent : List Turn
 silent = turn (events.Deliver 0) [] ∷ []
 
+-- an answer of the Store's, with a fact behind it
+abbrev pub noisy : List Turn
+noisy = turn (events.StoreShow 1 the_row) (AnswerLine (facts.Refuses facts.NoTable) ∷ told (facts.Position 1 1 0) ∷ [])
+    ∷ []
+
 abbrev pub doubled : List Turn
 doubled = turn (events.Deliver 0) (AnswerLine facts.Done ∷ AnswerLine facts.Done ∷ []) ∷ []
+
+-- ---- facts told twice, and not by a start
+
+abbrev pub twice_told : Scheme → List Line → Line → List Turn
+twice_told g before line = tells g (before ++ line ∷ line ∷ [])
+
+-- a write and its entry
+abbrev pub entered : List Line
+entered = told (wrote 1 1 0 5) ∷ accepted 1 1 1 0 ∷ []
+
+-- and another client's write over nothing
+abbrev pub contended : List Line
+contended = told (wrote 1 1 0 5) ∷ accepted 1 1 1 0 ∷ told (wrote 2 1 0 6) ∷ []
+
+abbrev pub wrote_twice : List Turn
+wrote_twice = twice_told Causal [] (told (wrote 1 1 0 5))
+
+abbrev pub accepted_twice : List Turn
+accepted_twice = twice_told Causal (told (wrote 1 1 0 5) ∷ []) (accepted 1 1 1 0)
+
+abbrev pub acked_twice : List Turn
+acked_twice = twice_told Causal entered (told (facts.Acked 1 1 1 the_row 1))
+
+-- an acknowledgement told again, below what was read since
+abbrev pub acked_below : List Turn
+acked_below = tells Causal (told (wrote 1 1 0 5) ∷ accepted 1 1 1 0 ∷ told (facts.Acked 1 1 1 the_row 1)
+    ∷ told (wrote 1 2 1 6) ∷ accepted 2 1 2 1 ∷ told (facts.Acked 1 2 1 the_row 2)
+    ∷ told (facts.Acked 1 1 1 the_row 1) ∷ [])
+
+abbrev pub refused_twice : List Turn
+refused_twice = twice_told Strong contended (told (facts.Refused 2 1 1 the_row 1))
+
+abbrev pub conflict_twice : List Turn
+conflict_twice = twice_told Causal contended (told (facts.Conflict 2 1 1 the_row 1))
+
+abbrev pub resolved_twice : List Turn
+resolved_twice = twice_told Causal (contended ++ told (facts.Conflict 2 1 1 the_row 1) ∷ [])
+    (told (facts.Resolved 2 1 1 the_row 1))
+
+abbrev pub new_twice : List Turn
+new_twice = twice_told Causal entered (told (facts.New 2 1 the_row 1))
+
+abbrev pub position_twice : List Turn
+position_twice = twice_told Causal (entered ++ told (facts.New 2 1 the_row 1) ∷ []) (told (facts.Position 2 1 1))

@@ -1,19 +1,33 @@
 //! What every run of the world keeps, whatever is delivered, lost or repeated, and wherever device writes fail.
 #![tactic(auto)]
 
-ghost use Rattle.std.specs.Prelude.{◌≡◌, ℕ, List};
+ghost use Rattle.std.specs.Prelude.{◌≡◌, ℕ, List, [], ◌∷◌};
 ghost use Rattle.row_value.specs.declared.schema.Scheme.TheVariants.{Strong, Causal, Eventual};
 ghost use Rattle.step_tables.specs.Facts.{Line};
+ghost use Rattle.step_tables.specs.Facts as facts;
 ghost use Rattle.step_tables.specs.Sayings.{nothing_said, hear_lines};
 ghost use Rattle.world_tables.specs.Sound.{IsSound};
+ghost use Rattle.world_tables.specs.Chunks.{AreChunks};
+ghost use Rattle.world_tables.specs.Settled.{IsSettled};
 ghost use Rattle.world_tables.specs.Whole.{read_by, shadow_by, position_by, greatest, last_conflict};
-ghost use Rattle.world_laws.specs.Bad.{back, blind, doubled, early, fallen, groundless, lost, misplaced, outdated};
-ghost use Rattle.world_laws.specs.Bad.{over, past, renamed, revived, selfish, settled, silent, skipped_number};
-ghost use Rattle.world_laws.specs.Bad.{skipped_version, stale, twice, unearned, unread, unseen, unwritten};
+ghost use Rattle.world_laws.specs.Bad.{back, blind, doubled, early, fallen, groundless, lost, misplaced, noisy};
+ghost use Rattle.world_laws.specs.Bad.{outdated, over, past, renamed, revived, selfish, settled, silent, skipped_number};
+ghost use Rattle.world_laws.specs.Bad.{skipped_version, stale, strong_open, twice, unearned, unread, unseen, unwritten};
 ghost use Rattle.world_tables.specs.Turns.{Happening, turns};
 ghost use Rattle.world_laws.specs.Worked.{late_repeat, late_repeat_written, read_before_write_is_no_conflict};
 ghost use Rattle.world_laws.specs.Worked.{read_before_write_is_no_conflict_written, causal_conflict};
 ghost use Rattle.world_laws.specs.Worked.{causal_conflict_written, strong_write_refused, strong_write_refused_written};
+ghost use Rattle.world_laws.specs.Worked.{object_update, object_update_written, object_names, named, said_by};
+ghost use Rattle.world_laws.specs.Bad.{wrote_twice, accepted_twice, acked_twice, acked_below, refused_twice};
+ghost use Rattle.world_laws.specs.Bad.{conflict_twice, resolved_twice, new_twice, position_twice};
+ghost use Rattle.world_laws.specs.Worked.{schemes_of, read_before_write, int, starts_retell};
+ghost use Rattle.step_tables.specs.Messages as lucks;
+ghost use Rattle.world_laws.specs.WorkedCrashes.{landed_put, landed_put_written, lost_put, lost_put_written};
+ghost use Rattle.world_laws.specs.WorkedCrashes.{failed_put, failed_put_written, failed_declaration};
+ghost use Rattle.world_laws.specs.WorkedCrashes.{failed_declaration_written, crash_between_chunks};
+ghost use Rattle.world_laws.specs.WorkedCrashes.{crash_between_chunks_written, crash_behind_chunks};
+ghost use Rattle.world_laws.specs.WorkedCrashes.{crash_behind_chunks_written, forward, two_tables};
+ghost use Rattle.world_laws.specs.WorkedCrashes.{two_tables_written, loud, nameless};
 
 /// What the fold of the lines has of a client is what the whole list of lines says: the versions read are the greatest
 /// that lines name, with conflicts and without, a position is the greatest, and a number's conflict is the last that
@@ -32,11 +46,13 @@ pub fn the_fold_is_the_whole_list()
         ≡ last_conflict client table row number lines }
 {}
 
-/// Every run's transcript is sound, whatever is delivered, lost, repeated or overtaken, wherever a device write fails
-/// and takes its node down, and for tables of all three schemes: each event has one answer in a form of its command;
-/// the versions of each table's history are 1, 2, 3; the writes of each client are numbered 1, 2, 3, and each entry is
-/// one of them, accepted once, by the rule of its table's scheme; a write in a conflict or refused is never accepted;
-/// each
+/// Every run's transcript is sound, whatever is delivered, lost, repeated or overtaken, wherever a device call fails
+/// and takes its node down, and for tables of all three schemes. A run is a list of deeds: events, holds and freeings
+/// of a node, its device writes one by one or all at once, crashes of the Store inside any device write, undone or
+/// done, or beside any, starts of a Store that is down, also of one whose start failed or crashed, and the names of its
+/// chunks. Each deed has one answer in a form of its command, and a crash, a hold and a freeing tell nothing; the
+/// versions of each table's history are 1, 2, 3; the writes of each client are numbered 1, 2, 3, and each entry is one
+/// of them, accepted once, by the rule of its table's scheme; a write in a conflict or refused is never accepted; each
 /// `show` gives what the client's lines make it show, and each `sshow` and `history` what was accepted; what a client
 /// has read never falls, and what its position covers it has read; and no write is lost from sight.
 pub fn every_run_is_sound()
@@ -61,6 +77,104 @@ pub fn a_causal_conflict()
 /// A strong table: a write that another client's comes before.
 pub fn a_strong_refusal()
     ensures { turns strong_write_refused ≡ strong_write_refused_written }
+{}
+
+/// An object in place of another, computed, and the chunks that the Store names behind it: the first chunk stays, and
+/// two are new.
+pub fn an_object_in_place_of_another()
+    ensures run { turns object_update ≡ object_update_written }
+    ensures chunks { AreChunks (said_by object_update_written) 1 64 object_names }
+{}
+
+/// Other names aren't those of the chunks: where one is missing, where they stand in another order, and where one has a
+/// version that no entry has.
+pub fn other_chunk_names_are_refused()
+    ensures missing { AreChunks (said_by object_update_written) 1 64 (named 1 0 ∷ named 2 0 ∷ []) → ⊥ }
+    ensures turned { AreChunks (said_by object_update_written) 1 64 (named 2 0 ∷ named 1 0 ∷ named 2 1 ∷ []) → ⊥ }
+    ensures unknown { AreChunks (said_by object_update_written) 1 64 (named 1 0 ∷ named 2 0 ∷ named 3 0 ∷ []) → ⊥ }
+{}
+
+/// A crash of a held Store inside a row's put, computed. Where the put landed its start goes forward to the entry, and
+/// answers the request that comes again by it; where it didn't the start takes the version back, no row is shown, and
+/// the request that comes again is accepted with the same version.
+pub fn a_crash_inside_the_rows_put()
+    ensures landed { turns landed_put ≡ landed_put_written }
+    ensures lost { turns lost_put ≡ lost_put_written }
+{}
+
+/// A crash of a Store of two tables, computed: the write at work is that of the table of least number, and the other
+/// table loses what it has begun. The start tells of both tables, and then does the work of the first and of the
+/// second.
+pub fn a_crash_of_two_tables()
+    ensures { turns two_tables ≡ two_tables_written }
+{}
+
+/// A device write that fails, computed: the delivery says so and tells nothing, the Store takes nothing until it is
+/// started, and the start takes the version back.
+pub fn a_failed_write_takes_the_store_down()
+    ensures { turns failed_put ≡ failed_put_written }
+{}
+
+/// A table whose declaration failed, computed: it is there behind the Store's next start.
+pub fn a_failed_declaration_is_made_up_for()
+    ensures { turns failed_declaration ≡ failed_declaration_written }
+{}
+
+/// Crashes beside the chunks of an object, computed: what no row names is dropped, also where the recovery crashes
+/// itself; what the row names that landed stays.
+pub fn a_crash_beside_chunks()
+    ensures between { turns crash_between_chunks ≡ crash_between_chunks_written }
+    ensures landed { turns (crash_behind_chunks lucks.FailedAfter) ≡ crash_behind_chunks_written (forward 1 1 1 0) 4
+        (named 1 0 ∷ named 1 1 ∷ named 1 2 ∷ []) }
+    ensures lost { turns (crash_behind_chunks lucks.FailedBefore) ≡ crash_behind_chunks_written
+        (facts.FactLine (facts.Back 1 1)) 7 [] }
+{}
+
+/// Settled, computed: behind a causal conflict one client shows the row's last version, and the other a conflict with
+/// it.
+pub fn a_conflict_is_settled()
+    ensures { IsSettled (schemes_of causal_conflict_written) (said_by causal_conflict_written)
+        ((1, 1) ∷ (2, 1) ∷ []) }
+{}
+
+/// Where a client shows a write that waits, or hasn't read a row, or a strong write is open, it isn't settled.
+pub fn unsettled_tables_are_refused()
+    ensures waiting { IsSettled (schemes_of late_repeat_written) (said_by late_repeat_written) ((1, 1) ∷ []) → ⊥ }
+    ensures behind { IsSettled (schemes_of late_repeat_written) (said_by late_repeat_written) ((2, 1) ∷ []) → ⊥ }
+    ensures strong { IsSettled (schemes_of strong_open) (said_by strong_open) [] → ⊥ }
+{}
+
+/// A worked transcript is sound.
+pub fn a_worked_transcript_is_sound()
+    ensures { IsSound read_before_write_is_no_conflict_written }
+{}
+
+/// With one line spoilt it isn't: another content in `wrote`, the version of `acked` one too high, a `show` answered by
+/// the older version.
+pub fn a_spoilt_line_is_refused()
+    ensures wrote { IsSound (read_before_write 7 1 (facts.Clean 2 (int 6))) → ⊥ }
+    ensures acked { IsSound (read_before_write 6 2 (facts.Clean 2 (int 6))) → ⊥ }
+    ensures shown { IsSound (read_before_write 6 1 (facts.Clean 1 (int 5))) → ⊥ }
+{}
+
+/// A start may tell again what stands: `redone` a write and an acknowledgement, even below what was read since, and
+/// `forward` an entry.
+pub fn what_a_start_tells_again_is_sound()
+    ensures { IsSound starts_retell }
+{}
+
+/// Told again in any other way it isn't: `wrote`, `accepted`, `acked` at once or below what was read since, `refused`,
+/// `conflict`, `resolved`, `new` of another client's entry, and a position.
+pub fn a_fact_told_twice_is_refused()
+    ensures wrote { IsSound wrote_twice → ⊥ }
+    ensures accepted { IsSound accepted_twice → ⊥ }
+    ensures acked { IsSound acked_twice → ⊥ }
+    ensures below { IsSound acked_below → ⊥ }
+    ensures refused { IsSound refused_twice → ⊥ }
+    ensures conflict { IsSound conflict_twice → ⊥ }
+    ensures resolved { IsSound resolved_twice → ⊥ }
+    ensures read { IsSound new_twice → ⊥ }
+    ensures position { IsSound position_twice → ⊥ }
 {}
 
 /// A history whose first version is 2 isn't sound.
@@ -188,7 +302,22 @@ pub fn an_event_without_an_answer_is_refused()
     ensures { IsSound silent → ⊥ }
 {}
 
+/// A fact behind what the Store shows isn't sound.
+pub fn a_fact_behind_the_stores_answer_is_refused()
+    ensures { IsSound noisy → ⊥ }
+{}
+
 /// An event with two answers isn't sound.
 pub fn a_second_answer_is_refused()
     ensures { IsSound doubled → ⊥ }
+{}
+
+/// A crash that tells a fact isn't sound.
+pub fn a_crash_that_tells_is_refused()
+    ensures { IsSound loud → ⊥ }
+{}
+
+/// A single write that is answered without its name isn't sound.
+pub fn a_write_without_its_name_is_refused()
+    ensures { IsSound nameless → ⊥ }
 {}

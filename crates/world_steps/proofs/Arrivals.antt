@@ -8,8 +8,8 @@ use Rattle.stab_base.specs.declared.limits.TheConstants.{NUMBER_MAX}
 use Rattle.step_tables.specs.declared.out.Out.{Out}
 use Rattle.step_tables.specs.Store.{Stored, store_step}
 use Rattle.store_core.specs.Holds.{and_more}
-use Rattle.run_laws.specs.World.{Packet, table_in, stored_at, to_store}
-use Rattle.run_laws.specs.World as laws
+use Rattle.memory_runs.specs.World.{Packet, table_in, stored_at, to_store}
+use Rattle.memory_runs.specs.World as laws
 use Rattle.world_steps.specs.declared.hosted.Hosted.{Hosted}
 use Rattle.world_steps.specs.declared.fault.WorldFault.{WorldFault}
 use Rattle.world_steps.specs.declared.fault.WorldFault.TheVariants.{Limit, Memory}

@@ -10,8 +10,8 @@ use Rattle.stab_base.specs.declared.node.Node.TheVariants as nodes
 use Rattle.step_tables.specs.declared.out.Out.{Out}
 use Rattle.step_tables.specs.Client.{Client, ClientStep}
 use Rattle.client_core.specs.State.{NodeState, gathered}
-use Rattle.run_laws.specs.World.{WorldStep, Packet, the_store, packets_of, answer_lines, sent_from, after_client, at_client, call, client_at}
-use Rattle.run_laws.specs.World as laws
+use Rattle.memory_runs.specs.World.{WorldStep, Packet, the_store, packets_of, answer_lines, sent_from, after_client, at_client, call, client_at}
+use Rattle.memory_runs.specs.World as laws
 use Rattle.world_steps.specs.declared.fault.WorldFault.{WorldFault}
 use Rattle.world_steps.specs.declared.world.World.{World}
 use Rattle.world_steps.specs.Network.{packets_in, packets_from}

@@ -5,4 +5,4 @@ pub mod Maps
 pub mod CallSteps
 pub mod Arrivals
 pub mod Shows
-pub mod Sounds
+pub mod Moves

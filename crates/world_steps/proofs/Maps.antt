@@ -12,8 +12,8 @@ use Rattle.std.proofs.lemmas.Bool.{eqb-true}
 use Rattle.step_tables.specs.Store.{Stored}
 use Rattle.step_tables.specs.Client.{Client}
 use Rattle.client_core.specs.State.{NodeState}
-use Rattle.run_laws.specs.World.{client_at, stored_at}
-use Rattle.run_laws.specs.World as laws
+use Rattle.memory_runs.specs.World.{client_at, stored_at}
+use Rattle.memory_runs.specs.World as laws
 use Rattle.world_steps.specs.declared.hosted.Hosted.{Hosted}
 use Rattle.world_steps.specs.Hosted.{Hosts}
 use Rattle.world_steps.specs.Holds.{HostsThere, HasTables, HasClients, idle}

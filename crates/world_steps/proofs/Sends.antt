@@ -6,7 +6,7 @@ use Rattle.table_model.specs.declared.line.TextLine.TheVariants as lines
 use Rattle.step_tables.specs.declared.message.Message.{Message}
 use Rattle.client_core.specs.State.{to_owner}
 use Rattle.store_core.specs.Holds.{addressed}
-use Rattle.run_laws.specs.World.{Packet, told, the_store, packets_of}
+use Rattle.memory_runs.specs.World.{Packet, told, the_store, packets_of}
 use Rattle.std.specs.Prelude.{map}
 use Rattle.world_steps.specs.Network.{packet_from, packets_from}
 

@@ -8,8 +8,8 @@ use Rattle.table_model.specs.declared.line.TextLine.{TextLine}
 use Rattle.step_tables.specs.Store.{Stored, current_of}
 use Rattle.step_tables.specs.Client.{Client, ClientStep, answered}
 use Rattle.client_core.specs.State.{NodeState}
-use Rattle.run_laws.specs.World.{after_client, at_client, call, client_at, stored_at, store_shows, store_row, answer_lines}
-use Rattle.run_laws.specs.World as laws
+use Rattle.memory_runs.specs.World.{after_client, at_client, call, client_at, stored_at, store_shows, store_row, answer_lines}
+use Rattle.memory_runs.specs.World as laws
 use Rattle.world_steps.specs.declared.fault.WorldFault.{WorldFault}
 use Rattle.world_steps.specs.declared.world.World.{World}
 use Rattle.world_steps.specs.declared.hosted.Hosted.{Hosted}

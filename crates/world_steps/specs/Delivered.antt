@@ -8,7 +8,7 @@ use Rattle.step_tables.specs.Store.{Stored, store_step}
 use Rattle.step_tables.specs.Client.{Client, deliver_step}
 use Rattle.store_core.specs.Holds.{and_more}
 use Rattle.client_core.specs.State.{gathered}
-use Rattle.run_laws.specs.World.{World, WorldStep, Packet, table_in, answer_lines, sent_from}
+use Rattle.memory_runs.specs.World.{World, WorldStep, Packet, table_in, answer_lines, sent_from}
 use Rattle.world_steps.specs.Network.{packets_from}
 use Rattle.world_steps.specs.declared.fault.WorldFault.{WorldFault}
 use Rattle.world_steps.specs.declared.fault.WorldFault.TheVariants.{Limit, Memory}

@@ -12,8 +12,8 @@ use Rattle.stab_base.specs.declared.node.Node.{Node}
 use Rattle.stab_base.specs.declared.node.Node.TheVariants as nodes
 use Rattle.client_core.specs.State.{NodeState, nothing_gathered}
 use Rattle.client_core.specs.Causes.{IsTaken}
-use Rattle.run_laws.specs.World.{schema_at, stored_at, client_at, table_in}
-use Rattle.run_laws.specs.World as laws
+use Rattle.memory_runs.specs.World.{schema_at, stored_at, client_at, table_in}
+use Rattle.memory_runs.specs.World as laws
 use Rattle.world_steps.specs.declared.fault.WorldFault.{WorldFault}
 use Rattle.world_steps.specs.declared.fault.WorldFault.TheVariants.{Limit, Memory}
 use Rattle.world_steps.specs.declared.hosted.Hosted.{Hosted}

@@ -24,6 +24,9 @@ entry_told (facts.Wrote write) = []
 entry_told (facts.Acked client number table row version) = []
 entry_told (facts.New client table row version) = []
 entry_told (facts.Position client table position) = []
+entry_told (facts.Forward table entry) = []
+entry_told (facts.Back table version) = []
+entry_told (facts.Recovered store table) = []
 
 -- the entries that facts tell
 abbrev pub entries_told : List Fact → List Entry

@@ -3,4 +3,4 @@ pub mod Hosted
 pub mod Holds
 pub mod Delivered
 pub mod Calls
-pub mod Sounds
+pub mod Moves

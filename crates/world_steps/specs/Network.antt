@@ -2,8 +2,8 @@
 use Rattle.std.specs.Prelude.{List, map, Option, unwrap_or}
 use Rattle.stab_base.specs.declared.node.Node.{Node}
 use Rattle.step_tables.specs.declared.message.Message.{Message}
-use Rattle.run_laws.specs.World.{the_store}
-use Rattle.run_laws.specs.World as laws
+use Rattle.memory_runs.specs.World.{the_store}
+use Rattle.memory_runs.specs.World as laws
 use Rattle.world_steps.specs.declared.network.Packet.{Packet}
 use Rattle.world_steps.specs.declared.network.Network.{Network}
 

@@ -1,6 +1,7 @@
 //! A packet's way to its party. Where there is none, the packet is lost.
 ghost use Rattle.std.specs.Prelude.{◌≡◌, IfOk, IfErr, OnOk};
-ghost use Rattle.run_laws.specs.World.{World as AWorld, stored_at, client_at, table_in, to_store, to_client, carried};
+ghost use Rattle.memory_runs.specs.World.{World as AWorld, stored_at, client_at, table_in};
+ghost use Rattle.memory_runs.specs.World.{to_store, to_client, carried};
 ghost use Rattle.world_steps.specs.Network.{packet_of};
 ghost use Rattle.world_steps.specs.Holds.{HasTables, HasClients, SpendsVersion, SpendsAt};
 ghost use Rattle.world_steps.specs.Delivered.{store_out, client_out, IsVersionCause, IsPacketCause, Tells};

@@ -1,7 +1,7 @@
 //! Every packet that was ever sent. A packet stays: it may be delivered again, later than others, or never.
 ghost use Rattle.std.specs.Prelude.{◌≡◌, [], ◌∷◌, ◌++◌, length, slice_get, option_copied, option_map, IfErr, OnOk};
 ghost use Rattle.table_model.specs.declared.line.TextLine.TheVariants as text;
-ghost use Rattle.run_laws.specs.World.{told, sent_fact, sent_from, table_in};
+ghost use Rattle.memory_runs.specs.World.{told, sent_fact, sent_from, table_in};
 ghost use Rattle.world_steps.specs.Network.{packets_in, packet_of, packets_from};
 
 use crate::fault::WorldFault;

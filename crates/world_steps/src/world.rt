@@ -1,11 +1,15 @@
-ghost use Rattle.std.specs.Prelude.{◌≡◌, [], ◌∷◌, ◌++◌, List, length, slice_get, IfOk, IfErr, OnOk, None};
+ghost use Rattle.std.specs.Prelude.{◌≡◌, [], ◌∷◌, ◌++◌, List, length, map, slice_get, IfOk, IfErr, OnOk, None};
+ghost use Rattle.std.specs.List.{AllByRecursion};
 ghost use Rattle.table_model.specs.declared.event.Event.{Event as AnEvent};
 ghost use Rattle.step_tables.specs.Client.{Client, write_step, show_step, sum_step, sync_step, pull_step};
-ghost use Rattle.run_laws.specs.World.{World as AWorld, start, step, declared, joined, open_all, with_opened, call};
-ghost use Rattle.run_laws.specs.World.{delivered, store_shows, history_lines, answer_lines, entry_lines, sent_from};
-ghost use Rattle.run_laws.specs.World.{schema_at, stored_at, client_at};
-ghost use Rattle.run_laws.specs.Turns.{world_after};
-ghost use Rattle.world_steps.specs.Sounds.{GoesOnSound};
+ghost use Rattle.memory_runs.specs.World.{World as AWorld, start, step, declared, joined, open_all, with_opened, call};
+ghost use Rattle.memory_runs.specs.World.{delivered, store_shows, history_lines, answer_lines, entry_lines, sent_from};
+ghost use Rattle.memory_runs.specs.World.{schema_at, stored_at, client_at};
+ghost use Rattle.memory_runs.specs.Turns.{world_after};
+ghost use Rattle.memory_laws.specs.Lift.{line_of, IsEventual};
+ghost use Rattle.world_tables.specs.World as moves;
+ghost use Rattle.world_tables.specs.World.{World as MovedWorld, lines_of};
+ghost use Rattle.world_steps.specs.Moves.{HoldsMoves, GoesOnSound};
 ghost use Rattle.world_steps.specs.Network.{packets_in, packets_from};
 ghost use Rattle.world_steps.specs.Holds.{Holds, idle, IsCause, Spends};
 
@@ -37,7 +41,8 @@ pub struct World {
 impl World {
     /// A world in which nothing is declared.
     pub fn new(alloc: Global) -> World
-        ensures { Holds start result }
+        ensures held { Holds start result }
+        ensures moved { HoldsMoves moves.start result }
     {
         World {
             schemas: BTreeMap::new(alloc),
@@ -50,11 +55,18 @@ impl World {
 
     /// Carries out an event: the lines that it writes. `Limit` where a client has made its last write, or a table has
     /// given its last version. What a fault leaves of the world isn't said; it ends the run.
+    ///
+    /// `lines` and `world` speak of nodes in memory; `moved_lines` and `moved_world` of moves: the event is a call or a
+    /// delivery, and then the node's work until it is idle, every device write being done.
     pub fn step(&mut self, event: &Event) -> Result<Lines, WorldFault>
         ensures lines { (w : AWorld) → Holds w self.old → IfOk result (λ lines. lines ≡ (step w event.now).lines) }
         ensures world { (w : AWorld) → Holds w self.old → OnOk result (Holds (step w event.now).world self.new) }
-        ensures sound { (script : List AnEvent) → Holds (world_after script) self.old
-            → IfOk result (λ lines. GoesOnSound script event.now lines) }
+        ensures moved_lines { (w : MovedWorld) → HoldsMoves w self.old
+            → IfOk result (λ lines. map line_of lines ≡ lines_of w (moves.step w (moves.Does event.now) [])) }
+        ensures moved_world { (w : MovedWorld) → HoldsMoves w self.old → IsEventual event.now
+            → OnOk result (HoldsMoves (moves.step w (moves.Does event.now) []).world self.new) }
+        ensures sound { (script : List AnEvent) → AllByRecursion IsEventual script → IsEventual event.now
+            → Holds (world_after script) self.old → IfOk result (λ lines. GoesOnSound script event.now lines) }
         ensures cause { (w : AWorld) → Holds w self.old → IfErr result (IsCause w event.now) }
         ensures unspent { (w : AWorld) → Holds w self.old → OnOk result (Spends w event.now → ⊥) }
     {

@@ -1,7 +1,7 @@
 -- What every transcript keeps, said of each line by what the lines before it say.
 use Rattle.std.specs.Prelude.{◌≡◌, ◌≢◌, ◌⊎◌, ℕ, ◌+◌, ◌<◌, ◌≤◌, ◌==◌, Bool, true, false, List, [], ◌∷◌, ◌++◌, length}
 use Rattle.std.specs.Prelude.{map, Option, Some, None, option_map, if◌then◌else◌, MatchBool}
-use Rattle.std.specs.List.{AllByRecursion, find}
+use Rattle.std.specs.List.{find}
 use Rattle.row_value.specs.declared.content.Content.{Content}
 use Rattle.row_value.specs.declared.schema.Scheme.{Scheme}
 use Rattle.row_value.specs.declared.schema.Scheme.TheVariants.{Strong, Causal, Eventual}
@@ -17,14 +17,19 @@ use Rattle.step_tables.specs.Members.{Among}
 use Rattle.step_tables.specs.Sayings.{Saying, SaysNothing, SaysWrite, SaysEntry, SaysBack, SaysAck, SaysLoss}
 use Rattle.step_tables.specs.Sayings.{SaysConflict, SaysResolved, SaysRead, SaysPosition, says, RowHeard, Heard, Said}
 use Rattle.step_tables.specs.Sayings.{nothing_said, hear, hear_lines, write_of, open_of, open_in}
-use Rattle.world_tables.specs.World.{entry_lines}
-use Rattle.world_tables.specs.Turns.{Turn, transcript_of}
+use Rattle.world_tables.specs.Again.{is_again, IsUp}
+use Rattle.world_tables.specs.World.{entry_lines, Deed, Does, Hold, Free, Work, WorkAll, Crash, Start, Chunks}
+use Rattle.world_tables.specs.Turns.{Turn}
 
 -- ---- the scheme of a table: that of its first declaration
 
-abbrev pub scheme_for : List Event → ℕ → Scheme
+abbrev pub declared_by : Event → ℕ → Scheme → Scheme
+declared_by (events.Table number schema) table rest = if number == table then schema.scheme else rest
+declared_by other table rest = rest
+
+abbrev pub scheme_for : List Deed → ℕ → Scheme
 scheme_for [] table = Eventual
-scheme_for (events.Table number schema ∷ more) table = if number == table then schema.scheme else scheme_for more table
+scheme_for (Does event ∷ more) table = declared_by event table (scheme_for more table)
 scheme_for (other ∷ more) table = scheme_for more table
 
 -- ---- entries and writes in what was said
@@ -89,46 +94,56 @@ pub record IsMet (g : Scheme) (s : Said) (client number table : ℕ) (row : List
   pub causal : g ≡ Causal
   pub passed : IsPassed s client number table row version
   pub other : passed.entry.client ≢ client
-  pub rises : ((s.heard client).at table row).read ≤ version
 
--- ---- each line, by what it says
+-- ---- each line, by what it says, and by whether it may tell again what was told before
 
 -- the client's last write on the row is open, and has this number
 abbrev pub IsOpen : RowHeard → ℕ → Type 0
 IsOpen x number = (write : Write) × (open_of x ≡ Some write) × (write.number ≡ number)
 
--- WRITE: the next of its client, over the version read; or told again. ENTRY: new, or told again. BACK: one above the
--- last version. ACK: of an entry of this write; not below what was read, or told again. LOSS: in a strong table.
--- CONFLICT: in a causal one. RESOLVED: beside the version in the write's last conflict, while it is open; or told
--- again. READ: an entry of the row, not below what was read. POSITION: never falls, and each row whose current version
--- it covers has been read at it
-abbrev pub IsSaid : (ℕ → Scheme) → Said → Saying → Type 0
-IsSaid g s SaysNothing = Unit {0}
-IsSaid g s (SaysWrite write) =
-    ((write.number ≡ length (s.heard write.client).writes + 1)
-    × (write.read ≡ ((s.heard write.client).at write.table write.row).shadow))
-    ⊎ (write_of write.number (s.heard write.client).writes ≡ Some write)
-IsSaid g s (SaysEntry table entry) = Among (s.history table) entry ⊎ IsNew g s table entry
-IsSaid g s (SaysBack table version) = version ≡ length (s.history table) + 1
-IsSaid g s (SaysAck client number table row version) =
+-- WRITE: the next of its client, over the version read. ENTRY: new. BACK: one above the last version. ACK: of an entry
+-- of this write, which was not acknowledged, above what was read. LOSS: in a strong table, of a write that was not
+-- refused. CONFLICT: in a causal one, above what was read. RESOLVED: beside the version in the write's last conflict,
+-- while it is open, not below what was read. READ: an entry of the row, above what was read, but the client's own where
+-- that was read already. POSITION: rises, and each row whose current version it covers has been read at it.
+-- Told again, each may be what stands already
+abbrev pub IsSaid : (ℕ → Scheme) → Said → Bool → Saying → Type 0
+IsSaid g s again SaysNothing = Unit {0}
+IsSaid g s again (SaysWrite write) =
+    let t : Heard = s.heard write.client in
+    ((write.number ≡ length t.writes + 1) × (write.read ≡ (t.at write.table write.row).shadow))
+    ⊎ ((again ≡ true) × (write_of write.number t.writes ≡ Some write))
+IsSaid g s again (SaysEntry table entry) =
+    IsNew g s table entry ⊎ ((again ≡ true) × Among (s.history table) entry)
+IsSaid g s again (SaysBack table version) = version ≡ length (s.history table) + 1
+IsSaid g s again (SaysAck client number table row version) =
+    let x : RowHeard = (s.heard client).at table row in
     ((entry : Entry) × IsEntryAt s table row version entry × (entry.client ≡ client) × (entry.number ≡ number))
-    × ((((s.heard client).at table row).acked number ≡ true) ⊎ (((s.heard client).at table row).read ≤ version))
-IsSaid g s (SaysLoss client number table row latest) = (g table ≡ Strong) × IsPassed s client number table row latest
-IsSaid g s (SaysConflict client number table row version) = IsMet (g table) s client number table row version
-IsSaid g s (SaysResolved client number table row version) =
-    (((s.heard client).at table row).conflict number ≡ Some version)
-    × (IsOpen ((s.heard client).at table row) number ⊎ (((s.heard client).at table row).resolved number ≡ true))
-    × (((s.heard client).at table row).read ≤ version)
-IsSaid g s (SaysRead client table row version) =
-    ((entry : Entry) × IsEntryAt s table row version entry) × (((s.heard client).at table row).read ≤ version)
-IsSaid g s (SaysPosition client table position) =
-    ((s.heard client).position table ≤ position)
+    × (((x.acked number ≡ false) × (x.read < version)) ⊎ ((again ≡ true) × (x.acked number ≡ true)))
+IsSaid g s again (SaysLoss client number table row latest) =
+    let x : RowHeard = (s.heard client).at table row in
+    (g table ≡ Strong) × IsPassed s client number table row latest
+    × ((x.lost number ≡ false) ⊎ ((again ≡ true) × (x.lost number ≡ true)))
+IsSaid g s again (SaysConflict client number table row version) =
+    let x : RowHeard = (s.heard client).at table row in
+    IsMet (g table) s client number table row version × IsUp again x.read version
+IsSaid g s again (SaysResolved client number table row version) =
+    let x : RowHeard = (s.heard client).at table row in
+    (x.conflict number ≡ Some version) × (IsOpen x number ⊎ ((again ≡ true) × (x.resolved number ≡ true)))
+    × (x.read ≤ version)
+IsSaid g s again (SaysRead client table row version) =
+    let x : RowHeard = (s.heard client).at table row in
+    (entry : Entry) × IsEntryAt s table row version entry
+    × (IsUp again x.read version ⊎ ((entry.client ≡ client) × (x.read ≡ version)))
+IsSaid g s again (SaysPosition client table position) =
+    let t : Heard = s.heard client in
+    IsUp again (t.position table) position
     × ((row : List ℕ) → current (s.history table) row ≤ position
-    → ((s.heard client).at table row).read ≡ current (s.history table) row)
+    → (t.at table row).read ≡ current (s.history table) row)
 
 abbrev pub AreSaid : (ℕ → Scheme) → Said → List Line → Type 0
 AreSaid g s [] = Unit {0}
-AreSaid g s (line ∷ more) = IsSaid g s (says line) × AreSaid g (hear s (says line)) more
+AreSaid g s (line ∷ more) = IsSaid g s (is_again line) (says line) × AreSaid g (hear s (says line)) more
 
 -- ---- what is shown
 
@@ -182,53 +197,93 @@ IsStored s table row other = Unit {0}
 
 -- an answer with the lines that it counts: a `show` gives what the client's lines make it show, a `sum` gives it by
 -- digests, the Store gives its rows and histories as its lines make them
-abbrev pub IsAnswer : (ℕ → Scheme) → Said → Event → Answer → List Line → Type 0
-IsAnswer g s (events.Show client table row) answer counted = IsShown (shown_of g s client table row) answer
-IsAnswer g s (events.Sum client table row) answer counted = IsSum (shown_of g s client table row) answer
-IsAnswer g s (events.StoreShow table row) answer counted = IsStored s table row answer
-IsAnswer g s (events.History table) (facts.Number number) counted =
+abbrev pub IsEventAnswer : (ℕ → Scheme) → Said → Event → Answer → List Line → Type 0
+IsEventAnswer g s (events.Show client table row) answer counted = IsShown (shown_of g s client table row) answer
+IsEventAnswer g s (events.Sum client table row) answer counted = IsSum (shown_of g s client table row) answer
+IsEventAnswer g s (events.StoreShow table row) answer counted = IsStored s table row answer
+IsEventAnswer g s (events.History table) (facts.Number number) counted =
     (number ≡ length (s.history table)) × (counted ≡ entry_lines table (s.history table))
-IsAnswer g s event answer counted = Unit {0}
+IsEventAnswer g s event answer counted = Unit {0}
 
--- ---- Shape: a declaration writes nothing; every other event has one answer, in a form of its command, the lines that
+abbrev pub IsAnswer : (ℕ → Scheme) → Said → Deed → Answer → List Line → Type 0
+IsAnswer g s (Does event) answer counted = IsEventAnswer g s event answer counted
+IsAnswer g s other answer counted = Unit {0}
+
+-- ---- Shape: a declaration writes nothing; every other deed has one answer, in a form of its command, the lines that
 -- it counts, and facts
 
-abbrev pub is_declaration : Event → Bool
-is_declaration (events.Store store) = true
-is_declaration (events.Table table schema) = true
-is_declaration (events.Client client gate tables) = true
+abbrev pub declares : Event → Bool
+declares (events.Store store) = true
+declares (events.Table table schema) = true
+declares (events.Client client gate tables) = true
+declares other = false
+
+abbrev pub is_declaration : Deed → Bool
+is_declaration (Does event) = declares event
 is_declaration other = false
 
-abbrev pub IsForm : Event → Answer → Type 0
-IsForm event (facts.Refuses refusal) = Unit {0}
-IsForm (events.Write client table row content) (facts.Number number) = Unit {0}
-IsForm (events.Show client table row) (facts.Shows what) = Unit {0}
-IsForm (events.Sum client table row) (facts.Shows what) = Unit {0}
-IsForm (events.Sum client table row) (facts.Sums sum) = Unit {0}
-IsForm (events.Sync client table) (facts.Number number) = Unit {0}
-IsForm (events.Pull client table) facts.Done = Unit {0}
-IsForm (events.Deliver packet) facts.Done = Unit {0}
-IsForm (events.StoreShow table row) (facts.Stores version content) = Unit {0}
-IsForm (events.History table) (facts.Number number) = Unit {0}
-IsForm event answer = ⊥
+abbrev pub IsEventForm : Event → Answer → Type 0
+IsEventForm event (facts.Refuses refusal) = Unit {0}
+IsEventForm (events.Write client table row content) (facts.Number number) = Unit {0}
+IsEventForm (events.Show client table row) (facts.Shows what) = Unit {0}
+IsEventForm (events.Sum client table row) (facts.Shows what) = Unit {0}
+IsEventForm (events.Sum client table row) (facts.Sums sum) = Unit {0}
+IsEventForm (events.Sync client table) (facts.Number number) = Unit {0}
+IsEventForm (events.Pull client table) facts.Done = Unit {0}
+IsEventForm (events.Deliver packet) facts.Done = Unit {0}
+IsEventForm (events.StoreShow table row) (facts.Stores version content) = Unit {0}
+IsEventForm (events.History table) (facts.Number number) = Unit {0}
+IsEventForm event answer = ⊥
 
-abbrev pub IsCounted : Event → Answer → List Line → Type 0
-IsCounted (events.History table) (facts.Number number) counted =
+abbrev pub IsForm : Deed → Answer → Type 0
+IsForm (Does event) answer = IsEventForm event answer
+IsForm deed (facts.Refuses refusal) = Unit {0}
+IsForm (Hold node) facts.Done = Unit {0}
+IsForm (Free node) facts.Done = Unit {0}
+IsForm (Work node) (facts.Did step) = Unit {0}
+IsForm (WorkAll node) (facts.Number number) = Unit {0}
+IsForm (Crash node calls pick) facts.Done = Unit {0}
+IsForm (Start node) facts.Done = Unit {0}
+IsForm (Chunks table) (facts.Names names) = Unit {0}
+IsForm (Chunks table) (facts.Number number) = number ≡ 0
+IsForm deed answer = ⊥
+
+abbrev pub IsEventCounted : Event → Answer → List Line → Type 0
+IsEventCounted (events.History table) (facts.Number number) counted =
     (history : List Entry) × (counted ≡ entry_lines table history) × (length history ≡ number)
-IsCounted event answer counted = counted ≡ []
+IsEventCounted event answer counted = counted ≡ []
 
--- an event's lines: its answer, the lines counted, and facts; behind what was said
-pub record IsAnswered (g : ℕ → Scheme) (s : Said) (event : Event) (lines : List Line) : Type 0 where
+abbrev pub IsCounted : Deed → Answer → List Line → Type 0
+IsCounted (Does event) answer counted = IsEventCounted event answer counted
+IsCounted other answer counted = counted ≡ []
+
+abbrev pub IsEventQuiet : Event → List Fact → Type 0
+IsEventQuiet (events.StoreShow table row) told = told ≡ []
+IsEventQuiet (events.History table) told = told ≡ []
+IsEventQuiet event told = Unit {0}
+
+-- where the Store is asked, nothing is told, and neither where a node is held or freed, or crashes
+abbrev pub IsQuiet : Deed → List Fact → Type 0
+IsQuiet (Does event) told = IsEventQuiet event told
+IsQuiet (Hold node) told = told ≡ []
+IsQuiet (Free node) told = told ≡ []
+IsQuiet (Crash node calls pick) told = told ≡ []
+IsQuiet (Chunks table) told = told ≡ []
+IsQuiet other told = Unit {0}
+
+-- a deed's lines: its answer, the lines counted, and facts; behind what was said
+pub record IsAnswered (g : ℕ → Scheme) (s : Said) (deed : Deed) (lines : List Line) : Type 0 where
   pub answer : Answer
   pub counted : List Line
   pub told : List Fact
   pub lines_are : lines ≡ AnswerLine answer ∷ counted ++ map FactLine told
-  pub form : IsForm event answer
-  pub counts : IsCounted event answer counted
-  pub is : IsAnswer g s event answer counted
+  pub form : IsForm deed answer
+  pub counts : IsCounted deed answer counted
+  pub quiet : IsQuiet deed told
+  pub is : IsAnswer g s deed answer counted
 
 abbrev pub IsTurn : (ℕ → Scheme) → Said → Turn → Type 0
-IsTurn g s turn = MatchBool (is_declaration turn.event) (turn.lines ≡ []) (IsAnswered g s turn.event turn.lines)
+IsTurn g s turn = MatchBool (is_declaration turn.deed) (turn.lines ≡ []) (IsAnswered g s turn.deed turn.lines)
 
 -- ---- In sight: no write is lost from sight. It is an entry, or its client shows it, or it is an open write of a
 -- strong table, or a later write of its client on the row stands in the lines, or a line names it as refused or
@@ -261,4 +316,4 @@ IsSoundFrom g s (turn ∷ turns) =
     InSight g s × IsTurn g s turn × AreSaid g s turn.lines × IsSoundFrom g (hear_lines s turn.lines) turns
 
 abbrev pub IsSound : List Turn → Type 0
-IsSound turns = IsSoundFrom (scheme_for (map (λ (turn : Turn). turn.event) turns)) nothing_said turns
+IsSound turns = IsSoundFrom (scheme_for (map (λ (turn : Turn). turn.deed) turns)) nothing_said turns

@@ -1,10 +1,10 @@
 -- What lines say of a client and a row, over the whole list of lines.
-use Rattle.std.specs.Prelude.{ℕ, ◌==◌, Bool, true, false, ◌&&◌, ◌||◌, max, List, [], ◌∷◌, Option, Some, None}
+use Rattle.std.specs.Prelude.{ℕ, ◌==◌, Bool, ◌&&◌, max, List, [], ◌∷◌, Option, Some, None}
 use Rattle.std.specs.Prelude.{if◌then◌else◌}
 use Rattle.std.specs.Option.{option_or}
 use Rattle.table_model.specs.History.{same_row}
 use Rattle.step_tables.specs.Facts.{Line}
-use Rattle.step_tables.specs.Sayings.{Saying, SaysAck, SaysLoss, SaysConflict, SaysResolved, SaysRead, SaysPosition}
+use Rattle.step_tables.specs.Sayings.{Saying, SaysAck, SaysConflict, SaysResolved, SaysRead, SaysPosition}
 use Rattle.step_tables.specs.Sayings.{says}
 
 -- whether a saying is of this client, on this row of this table

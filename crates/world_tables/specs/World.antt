@@ -1,25 +1,32 @@
--- The world: what an event makes of all nodes and of the network, with the lucks of the device writes that it does.
-use Rattle.std.specs.Prelude.{ℕ, ◌+◌, Bool, true, false, ◌||◌, List, [], ◌∷◌, ◌++◌, length, map, slice_get, Option}
-use Rattle.std.specs.Prelude.{Some, None, option_to_list, if◌then◌else◌}
+-- The world: what a deed makes of all nodes and of the network, with the lucks of the device calls that it does.
+use Rattle.std.specs.Prelude.{ℕ, zero, suc, ◌+◌, ◌==◌, nat_le, nat_lt, Bool, true, false, ◌||◌, not, List, []}
+use Rattle.std.specs.Prelude.{◌∷◌, ◌++◌, length, map, filter, drop, slice_get, Option, Some, None, option_to_list}
+use Rattle.std.specs.Prelude.{if◌then◌else◌}
+use Rattle.std.specs.List.{flat_map, find, list_any}
 use Rattle.std.specs.Ordering.{nat_cmp}
-use Rattle.std.specs.Map.{lookup}
+use Rattle.std.specs.Map.{lookup, keys_of}
 use Rattle.std.specs.BTreeMap.{is_at, insert_entry}
 use Rattle.stab_base.specs.declared.node.Node.{Node}
 use Rattle.stab_base.specs.declared.node.Node.TheVariants as nodes
+use Rattle.stab_base.specs.declared.chunk_name.ChunkName.{ChunkName}
+use Rattle.stab_base.specs.declared.step.Step.{Step}
+use Rattle.stab_base.specs.declared.step.Step.TheVariants as steps
 use Rattle.row_value.specs.declared.schema.Schema.{Schema}
 use Rattle.row_value.specs.declared.schema.Scheme.{Scheme}
 use Rattle.row_value.specs.declared.schema.Scheme.TheVariants.{Eventual}
 use Rattle.table_model.specs.declared.entry.Entry.{Entry}
 use Rattle.table_model.specs.declared.event.Event.{Event}
 use Rattle.table_model.specs.declared.event.Event.TheVariants as events
+use Rattle.table_model.specs.History.{same_row}
 use Rattle.step_tables.specs.Store.{Stored, current_of}
+use Rattle.step_tables.specs.Chunks.{chunks_of, names_of, rising}
 use Rattle.step_tables.specs.Facts.{Fact, Answer, Refusal, Line, AnswerLine, EntryLine, FactLine}
 use Rattle.step_tables.specs.Facts as facts
 use Rattle.step_tables.specs.Messages.{Message, Send, Luck, name_of, table_of}
 use Rattle.step_tables.specs.Messages as messages
-use Rattle.step_tables.specs.Sayings.{Saying, SaysNothing, SaysEntry, saying, entered}
+use Rattle.step_tables.specs.Sayings.{Saying, SaysEntry, saying, entered}
 use Rattle.step_tables.specs.StoreMoves as store
-use Rattle.step_tables.specs.StoreMoves.{TableStore, StoreTask, StoreMove, StoreStep, store_step}
+use Rattle.step_tables.specs.StoreMoves.{TableStore, StoreDisk, StoreTask, StoreMove, StoreStep, store_step}
 use Rattle.step_tables.specs.ClientMoves as client
 use Rattle.step_tables.specs.ClientMoves.{TableDisk, Client, ClientTask, ClientMove, ClientStep, client_step}
 
@@ -29,21 +36,25 @@ pub record Packet : Type 0 where
   pub to : Node
   pub message : Message
 
--- a table at the Store, and the history that it has told
+-- a table at the Store, the history that it has told, and whether its devices were made: a declaration in which a disk
+-- fails leaves that to the Store's next start
 pub record Hosted : Type 0 where
   pub store : TableStore
   pub history : List Entry
+  pub made : Bool
 
--- the declared tables with their schemas, the clients, and every packet that was ever sent, in order: each may be
--- delivered at any time, again, or never
+-- the declared tables with their schemas, the clients, every packet that was ever sent, in order: each may be delivered
+-- at any time, again, or never; the nodes on hold, and the Stores that are down
 pub record World : Type 0 where
   pub schemas : List (ℕ × Schema)
   pub tables : List (ℕ × Hosted)
   pub clients : List (ℕ × Client)
   pub packets : List Packet
+  pub holds : List Node
+  pub downs : List Node
 
 abbrev pub start : World
-start = record { schemas = []; tables = []; clients = []; packets = [] }
+start = record { schemas = []; tables = []; clients = []; packets = []; holds = []; downs = [] }
 
 abbrev pub schema_at : World → ℕ → Option Schema
 schema_at w table = lookup (is_at (nat_cmp table)) w.schemas
@@ -58,12 +69,48 @@ abbrev pub scheme_in : Option Schema → Scheme
 scheme_in None = Eventual
 scheme_in (Some schema) = schema.scheme
 
+-- the size of a table's chunks
+abbrev pub chunk_in : Option Schema → ℕ
+chunk_in None = 0
+chunk_in (Some schema) = schema.chunk
+
 -- the one Store owns every table
 abbrev pub owner : ℕ
 owner = 1
 
 abbrev pub the_store : Node
 the_store = nodes.Store owner
+
+-- the tables of a Store, by rising number
+abbrev pub tables_of : World → ℕ → List ℕ
+tables_of w number = if number == owner then keys_of w.tables else []
+
+-- ---- holds, and nodes that are down
+
+abbrev pub same_node : Node → Node → Bool
+same_node (nodes.Store a) (nodes.Store b) = a == b
+same_node (nodes.Gate a) (nodes.Gate b) = a == b
+same_node (nodes.Client a) (nodes.Client b) = a == b
+same_node a b = false
+
+abbrev pub has_node : List Node → Node → Bool
+has_node some node = list_any (same_node node) some
+
+abbrev pub without_node : List Node → Node → List Node
+without_node some node = filter (λ other. not (same_node node other)) some
+
+abbrev pub is_client_down : Option Client → Bool
+is_client_down None = false
+is_client_down (Some node) = has_none node.agenda
+  where
+    has_none : Option (List ClientTask) → Bool
+    has_none None = true
+    has_none (Some agenda) = false
+
+abbrev pub is_down : World → Node → Bool
+is_down w (nodes.Store number) = has_node w.downs (nodes.Store number)
+is_down w (nodes.Client c) = is_client_down (client_at w c)
+is_down w (nodes.Gate gate) = false
 
 -- ---- what moves tell and send, and the lines of it
 
@@ -93,7 +140,7 @@ pub record WorldStep : Type 0 where
 abbrev pub lines_of : World → WorldStep → List Line
 lines_of w s = map AnswerLine (option_to_list s.answer) ++ (s.counted ++ lines_from (length w.packets) s.outs)
 
--- behind some moves of an event: what they told and sent, and whether a device write failed
+-- behind some moves of a deed: what they told and sent, and whether a device call failed
 pub record Moved : Type 0 where
   pub world : World
   pub outs : List Outbox
@@ -106,12 +153,21 @@ abbrev pub and_then : Moved → (World → Moved) → Moved
 and_then m f =
     record { world = (f m.world).world; outs = m.outs ++ (f m.world).outs; failed = m.failed || (f m.world).failed }
 
+-- the same where nothing has failed so far; else nothing more is done
+abbrev pub and_unless : Moved → (World → Moved) → Moved
+and_unless m f = if m.failed then m else and_then m f
+
+abbrev pub failing : Moved → Moved
+failing m = record m { failed = true }
+
 abbrev pub is_fault : Answer → Bool
 is_fault facts.Done = false
 is_fault (facts.Number number) = false
 is_fault (facts.Shows shown) = false
 is_fault (facts.Sums sum) = false
 is_fault (facts.Stores version content) = false
+is_fault (facts.Did step) = false
+is_fault (facts.Names names) = false
 is_fault (facts.Refuses refusal) = is_device refusal
   where
     is_device : Refusal → Bool
@@ -144,7 +200,7 @@ after_table w table hosted s =
       world = record w {
         tables =
             insert_entry nat_cmp w.tables table
-            (record { store = s.store; history = history_on hosted.history s.facts });
+            (record { store = s.store; history = history_on hosted.history s.facts; made = hosted.made });
         packets = w.packets ++ packets;
       };
       outs = record { facts = s.facts; packets = packets } ∷ [];
@@ -152,7 +208,9 @@ after_table w table hosted s =
     }
 
 abbrev pub table_step : World → ℕ → Hosted → StoreMove → StoreStep
-table_step w table hosted move = store_step owner (scheme_in (schema_at w table)) table hosted.store move
+table_step w table hosted move =
+    let schema : Option Schema = schema_at w table in
+    store_step owner (scheme_in schema) (chunk_in schema) table hosted.store move
 
 abbrev pub move_hosted : World → ℕ → StoreMove → Option Hosted → Moved
 move_hosted w table move None = still w
@@ -188,11 +246,6 @@ abbrev pub other_lucks : List Luck → List Luck
 other_lucks [] = []
 other_lucks (luck ∷ more) = more
 
-abbrev pub table_works : ℕ → List StoreTask → List Luck → World → Moved
-table_works table [] lucks w = still w
-table_works table (task ∷ tasks) lucks w =
-    and_then (move_table table (store.Work (first_luck lucks)) w) (table_works table tasks (other_lucks lucks))
-
 abbrev pub client_works : ℕ → List ClientTask → List Luck → World → Moved
 client_works c [] lucks w = still w
 client_works c (task ∷ tasks) lucks w =
@@ -206,9 +259,6 @@ abbrev pub hosted_tasks : Option Hosted → List StoreTask
 hosted_tasks None = []
 hosted_tasks (Some hosted) = tasks_in hosted.store.agenda
 
-abbrev pub table_follows : ℕ → List Luck → World → Moved
-table_follows table lucks w = table_works table (hosted_tasks (hosted_at w table)) lucks w
-
 abbrev pub client_tasks : Option Client → List ClientTask
 client_tasks None = []
 client_tasks (Some node) = tasks_in node.agenda
@@ -216,9 +266,140 @@ client_tasks (Some node) = tasks_in node.agenda
 abbrev pub client_follows : ℕ → List Luck → World → Moved
 client_follows c lucks w = client_works c (client_tasks (client_at w c)) lucks w
 
--- ---- events
+-- ---- a Store's tables
 
--- an event whose device write failed is answered so
+-- a table loses what it has begun
+abbrev pub table_falls : ℕ → World → Moved
+table_falls table w = move_table table (store.Crash messages.FailedBefore) w
+
+abbrev pub tables_fall : List ℕ → World → Moved
+tables_fall [] w = still w
+tables_fall (table ∷ tables) w = and_then (table_falls table w) (tables_fall tables)
+
+abbrev pub with_down : Node → World → World
+with_down node w = record w { downs = node ∷ w.downs }
+
+abbrev pub without_down : Node → World → World
+without_down node w = record w { downs = without_node w.downs node }
+
+-- a Store goes down with all its tables
+abbrev pub store_falls : ℕ → World → Moved
+store_falls number w =
+    and_then (tables_fall (tables_of w number) w) (λ x. still (with_down (nodes.Store number) x))
+
+-- a device call that fails takes its Store down
+abbrev pub or_falls : ℕ → Moved → Moved
+or_falls number m = if m.failed then and_then m (store_falls number) else m
+
+abbrev pub is_at_work : World → ℕ → Bool
+is_at_work w table = has_tasks (hosted_tasks (hosted_at w table))
+  where
+    has_tasks : List StoreTask → Bool
+    has_tasks [] = false
+    has_tasks (task ∷ tasks) = true
+
+-- a Store's table of least number that has writes to do
+abbrev pub busy_table : World → ℕ → Option ℕ
+busy_table w number = find (is_at_work w) (tables_of w number)
+
+-- its next write
+abbrev pub write_next : ℕ → Luck → Option ℕ → World → Moved
+write_next number luck None w = still w
+write_next number luck (Some table) w = or_falls number (move_table table (store.Work luck) w)
+
+-- so many writes of a Store, of its table of least number that has any
+abbrev pub store_works : ℕ → ℕ → List Luck → World → Moved
+store_works number zero lucks w = still w
+store_works number (suc more) lucks w =
+    and_unless (write_next number (first_luck lucks) (busy_table w number) w)
+    (store_works number more (other_lucks lucks))
+
+abbrev pub tasks_of : World → ℕ → List StoreTask
+tasks_of w number = flat_map (λ table. hosted_tasks (hosted_at w table)) (tables_of w number)
+
+-- the work of a Store until it is idle
+abbrev pub store_until_idle : ℕ → List Luck → World → Moved
+store_until_idle number lucks w = store_works number (length (tasks_of w number)) lucks w
+
+-- where the Store isn't on hold
+abbrev pub store_follows : ℕ → List Luck → World → Moved
+store_follows number lucks w =
+    if has_node w.holds (nodes.Store number) then still w else store_until_idle number lucks w
+
+-- behind a step of a table that had no writes to do: where it has some now
+abbrev pub table_follows : ℕ → List Luck → World → Moved
+table_follows table lucks w = if is_at_work w table then store_follows owner lucks w else still w
+
+-- a table whose declaration failed is declared, and has recovered
+abbrev pub declared_late : ℕ → StoreStep
+declared_late table = record {
+  store = record { disk = record { items = []; pending = None; left = [] }; agenda = Some [] };
+  answer = facts.Done;
+  facts = facts.StoreRecovered owner table ∷ [];
+  sends = [];
+}
+
+abbrev pub start_hosted : World → ℕ → Option Hosted → Moved
+start_hosted w table None = still w
+start_hosted w table (Some hosted) = if hosted.made then move_table table store.Start w
+    else after_table w table (record hosted { made = true }) (declared_late table)
+
+-- a table is started, where what is read of its disks can be
+abbrev pub table_starts : ℕ → Luck → World → Moved
+table_starts table messages.Done w = start_hosted w table (hosted_at w table)
+table_starts table messages.FailedBefore w = failing (still w)
+table_starts table messages.FailedAfter w = failing (still w)
+
+abbrev pub tables_start : List ℕ → List Luck → World → Moved
+tables_start [] lucks w = still w
+tables_start (table ∷ tables) lucks w =
+    and_unless (table_starts table (first_luck lucks) w) (tables_start tables (other_lucks lucks))
+
+-- all tables of a Store are started, one after the other; where one isn't the Store is still down, with all of them
+abbrev pub store_starts : ℕ → List Luck → World → Moved
+store_starts number lucks w =
+    let tables : List ℕ = tables_of w number in
+    let m : Moved = tables_start tables lucks w in
+    if m.failed then and_then m (tables_fall tables)
+    else and_then m (λ x. store_follows number (drop (length tables) lucks) (without_down (nodes.Store number) x))
+
+-- how the write at work goes in a crash in which so many calls of its disk pass: where no disk fails by itself it is
+-- undone with 0 or 1, done with 4, and either with 2 or 3
+abbrev pub luck_of : ℕ → Luck → Luck
+luck_of calls luck = if nat_le calls 1 then messages.FailedBefore
+    else (if nat_lt calls 4 then luck else messages.FailedAfter)
+
+abbrev pub crash_luck : ℕ → List Luck → Luck → Luck
+crash_luck calls lucks messages.Done = luck_of calls (first_luck lucks)
+crash_luck calls lucks messages.FailedBefore = messages.FailedBefore
+crash_luck calls lucks messages.FailedAfter = messages.FailedAfter
+
+abbrev pub table_crashes : Luck → Option ℕ → World → Moved
+table_crashes luck None w = still w
+table_crashes luck (Some table) w = move_table table (store.Crash luck) w
+
+-- a Store crashes inside the next write of its busy table of least number, or beside any
+abbrev pub store_crashes : ℕ → ℕ → List Luck → World → Moved
+store_crashes number calls lucks w =
+    and_then
+    (table_crashes (crash_luck calls (other_lucks lucks) (first_luck lucks)) (busy_table w number) w)
+    (store_falls number)
+
+-- ---- deeds
+
+-- what a line of a script does: an event, or something that is done to a node. A held node does its device writes only
+-- one by one, or all at once, when a line says so
+pub data Deed : Type 0 where
+  Does : (event : Event) → Deed
+  Hold : (node : Node) → Deed
+  Free : (node : Node) → Deed
+  Work : (node : Node) → Deed
+  WorkAll : (node : Node) → Deed
+  Crash : (node : Node) → (calls pick : ℕ) → Deed
+  Start : (node : Node) → Deed
+  Chunks : (table : ℕ) → Deed
+
+-- a deed whose device call failed is answered so
 abbrev pub answering : Answer → Moved → WorldStep
 answering answer m = record {
   world = m.world;
@@ -236,16 +417,33 @@ refused w refusal = answered w (facts.Refuses refusal)
 abbrev pub silent : World → WorldStep
 silent w = record { world = w; answer = None; counted = []; outs = [] }
 
--- a table that is there already stays as it is, and so does a client
-abbrev pub declared : World → ℕ → Schema → Option Hosted → World
-declared w table schema None = record w {
+abbrev pub unless_down : World → Node → WorldStep → WorldStep
+unless_down w node s = if is_down w node then refused w (facts.NodeDown node) else s
+
+abbrev pub agenda_of : Bool → Option (List StoreTask)
+agenda_of true = Some []
+agenda_of false = None
+
+abbrev pub with_table : World → ℕ → Schema → Bool → Bool → World
+with_table w table schema made up = record w {
   schemas = insert_entry nat_cmp w.schemas table schema;
   tables = insert_entry nat_cmp w.tables table (record {
-    store = record { disk = record { items = []; pending = None }; agenda = Some [] };
+    store = record { disk = record { items = []; pending = None; left = [] }; agenda = agenda_of up };
     history = [];
+    made = made;
   });
 }
-declared w table schema (Some hosted) = w
+
+-- a new table is up where its Store is; a disk that fails takes the Store down
+abbrev pub made_with : World → ℕ → Schema → Luck → World
+made_with w table schema messages.Done = with_table w table schema true (not (is_down w the_store))
+made_with w table schema messages.FailedBefore = (store_falls owner (with_table w table schema false false)).world
+made_with w table schema messages.FailedAfter = (store_falls owner (with_table w table schema false false)).world
+
+-- a table that is there already stays as it is, and so does a client
+abbrev pub declared : World → ℕ → Schema → Luck → Option Hosted → World
+declared w table schema luck None = made_with w table schema luck
+declared w table schema luck (Some hosted) = w
 
 abbrev pub opened : Schema → TableDisk
 opened schema = record { schema = schema; position = 0; rows = [] }
@@ -266,19 +464,45 @@ abbrev pub joined : World → ℕ → List ℕ → Option Client → World
 joined w c tables (Some node) = w
 joined w c tables None = record w { clients = insert_entry nat_cmp w.clients c (new_client (open_all w [] tables)) }
 
+-- whether a client that had no writes to do has some behind a step
+abbrev pub gets_tasks : Option (List ClientTask) → World → ℕ → Bool
+gets_tasks (Some []) w c = has_tasks (client_tasks (client_at w c))
+  where
+    has_tasks : List ClientTask → Bool
+    has_tasks [] = false
+    has_tasks (task ∷ tasks) = true
+gets_tasks agenda w c = false
+
+-- the work that follows such a step
+abbrev pub client_follows_from : Option (List ClientTask) → ℕ → List Luck → World → Moved
+client_follows_from agenda c lucks w = if gets_tasks agenda w c then client_follows c lucks w else still w
+
 abbrev pub call_there : World → ℕ → ClientMove → List Luck → Option Client → WorldStep
 call_there w c move lucks None = refused w facts.NoTable
 call_there w c move lucks (Some node) =
-    answering (client_step c node move).answer (and_then (move_client c move w) (client_follows c lucks))
+    unless_down w (nodes.Client c)
+    (answering (client_step c node move).answer
+    (and_then (move_client c move w) (client_follows_from node.agenda c lucks)))
 
 -- a client's move, and the work that follows
 abbrev pub call : World → ℕ → ClientMove → List Luck → WorldStep
 call w c move lucks = call_there w c move lucks (client_at w c)
 
+-- a table that has no writes to do reads its disks for a message, which may fail; any other refuses
+abbrev pub take_read : World → ℕ → Hosted → StoreMove → List Luck → Luck → WorldStep
+take_read w table hosted move lucks messages.Done =
+    answering (table_step w table hosted move).answer (and_then (move_table table move w) (table_follows table lucks))
+take_read w table hosted move lucks messages.FailedBefore = answering facts.Done (failing (store_falls owner w))
+take_read w table hosted move lucks messages.FailedAfter = answering facts.Done (failing (store_falls owner w))
+
+abbrev pub take_at : World → ℕ → Hosted → StoreMove → List Luck → Option (List StoreTask) → WorldStep
+take_at w table hosted move lucks (Some []) = take_read w table hosted move (other_lucks lucks) (first_luck lucks)
+take_at w table hosted move lucks agenda =
+    answering (table_step w table hosted move).answer (move_table table move w)
+
 abbrev pub to_hosted : World → ℕ → StoreMove → List Luck → Option Hosted → WorldStep
 to_hosted w table move lucks None = answered w facts.Done
-to_hosted w table move lucks (Some hosted) =
-    answering (table_step w table hosted move).answer (and_then (move_table table move w) (table_follows table lucks))
+to_hosted w table move lucks (Some hosted) = take_at w table hosted move lucks hosted.store.agenda
 
 abbrev pub to_there : World → ℕ → Message → List Luck → Option Client → WorldStep
 to_there w c message lucks None = answered w facts.Done
@@ -287,8 +511,9 @@ to_there w c message lucks (Some node) = call_there w c (client.Take message) lu
 -- a packet whose party or table isn't there is lost
 abbrev pub carried : World → Packet → List Luck → Node → WorldStep
 carried w packet lucks (nodes.Store number) =
-    to_hosted w (table_of packet.message) (store.Take packet.from packet.message) lucks
-    (hosted_at w (table_of packet.message))
+    unless_down w (nodes.Store number)
+    (to_hosted w (table_of packet.message) (store.Take packet.from packet.message) lucks
+    (hosted_at w (table_of packet.message)))
 carried w packet lucks (nodes.Client c) = to_there w c packet.message lucks (client_at w c)
 carried w packet lucks (nodes.Gate gate) = answered w facts.Done
 
@@ -300,13 +525,38 @@ abbrev pub row_shown : Option Stored → Answer
 row_shown None = facts.Refuses facts.NoRow
 row_shown (Some item) = facts.Stores item.entry.version item.content
 
-abbrev pub store_shown : TableStore → List ℕ → Option (List StoreTask) → Answer
-store_shown s row None = facts.Refuses facts.Down
-store_shown s row (Some agenda) = row_shown (current_of s.disk.items row)
+-- the Store reads its disks for a row
+abbrev pub row_read : World → Hosted → List ℕ → Luck → WorldStep
+row_read w hosted row messages.Done = answered w (row_shown (current_of hosted.store.disk.items row))
+row_read w hosted row messages.FailedBefore = answering facts.Done (failing (store_falls owner w))
+row_read w hosted row messages.FailedAfter = answering facts.Done (failing (store_falls owner w))
 
-abbrev pub store_shows : World → List ℕ → Option Hosted → WorldStep
-store_shows w row None = refused w facts.NoTable
-store_shows w row (Some hosted) = answered w (store_shown hosted.store row hosted.store.agenda)
+abbrev pub store_shows : World → List ℕ → List Luck → Option Hosted → WorldStep
+store_shows w row lucks None = refused w facts.NoTable
+store_shows w row lucks (Some hosted) = unless_down w the_store (row_read w hosted row (first_luck lucks))
+
+-- each row that the items are of, once
+abbrev pub rows_in : List Stored → List (List ℕ)
+rows_in [] = []
+rows_in (item ∷ items) =
+    item.entry.row ∷ filter (λ row. not (same_row item.entry.row row)) (rows_in items)
+
+-- the chunks that are on the devices of a table whose chunks have this size: those of its rows, and those that no row
+-- names
+abbrev pub names_on : ℕ → StoreDisk → List ChunkName
+names_on size disk =
+    rising (flat_map (λ row. names_of (chunks_of size disk.items row)) (rows_in disk.items) ++ disk.left)
+
+-- no name is the number 0
+abbrev pub names_answer : List ChunkName → Answer
+names_answer [] = facts.Number 0
+names_answer (name ∷ names) = facts.Names (name ∷ names)
+
+abbrev pub chunk_names : World → ℕ → Option Hosted → WorldStep
+chunk_names w table None = refused w facts.NoTable
+chunk_names w table (Some hosted) =
+    unless_down w the_store
+    (answered w (names_answer (names_on (chunk_in (schema_at w table)) hosted.store.disk)))
 
 abbrev pub entry_lines : ℕ → List Entry → List Line
 entry_lines table history = map (EntryLine table) history
@@ -320,16 +570,61 @@ history_lines w table (Some hosted) = record {
   outs = [];
 }
 
--- what an event makes of the world, where its device writes go so
-abbrev pub step : World → Event → List Luck → WorldStep
-step w (events.Store number) lucks = silent w
-step w (events.Table table schema) lucks = silent (declared w table schema (hosted_at w table))
-step w (events.Client c gate tables) lucks = silent (joined w c tables (client_at w c))
-step w (events.Write c table row content) lucks = call w c (client.Write table row content) lucks
-step w (events.Show c table row) lucks = call w c (client.Show table row) lucks
-step w (events.Sum c table row) lucks = call w c (client.Sum table row) lucks
-step w (events.Sync c table) lucks = call w c (client.Sync table) lucks
-step w (events.Pull c table) lucks = call w c (client.Next table) lucks
-step w (events.Deliver packet) lucks = delivered w lucks (slice_get w.packets packet)
-step w (events.StoreShow table row) lucks = store_shows w row (hosted_at w table)
-step w (events.History table) lucks = history_lines w table (hosted_at w table)
+-- what an event makes of the world, where its device calls go so
+abbrev pub event_step : World → Event → List Luck → WorldStep
+event_step w (events.Store number) lucks = silent w
+event_step w (events.Table table schema) lucks =
+    silent (declared w table schema (first_luck lucks) (hosted_at w table))
+event_step w (events.Client c gate tables) lucks = silent (joined w c tables (client_at w c))
+event_step w (events.Write c table row content) lucks = call w c (client.Write table row content) lucks
+event_step w (events.Show c table row) lucks = call w c (client.Show table row) lucks
+event_step w (events.Sum c table row) lucks = call w c (client.Sum table row) lucks
+event_step w (events.Sync c table) lucks = call w c (client.Sync table) lucks
+event_step w (events.Pull c table) lucks = call w c (client.Next table) lucks
+event_step w (events.Deliver packet) lucks = delivered w lucks (slice_get w.packets packet)
+event_step w (events.StoreShow table row) lucks = store_shows w row lucks (hosted_at w table)
+event_step w (events.History table) lucks = history_lines w table (hosted_at w table)
+
+-- ---- what is done to a node; only a Store has devices so far
+
+abbrev pub next_step : List StoreTask → Step
+next_step [] = steps.Idle
+next_step (task ∷ tasks) = store.step_of task.change
+
+abbrev pub busy_step : World → Option ℕ → Step
+busy_step w None = steps.Idle
+busy_step w (Some table) = next_step (hosted_tasks (hosted_at w table))
+
+abbrev pub worked : World → List Luck → Node → WorldStep
+worked w lucks (nodes.Store number) =
+    let busy : Option ℕ = busy_table w number in
+    answering (facts.Did (busy_step w busy)) (write_next number (first_luck lucks) busy w)
+worked w lucks other = answered w (facts.Did steps.Idle)
+
+abbrev pub all_worked : World → List Luck → Node → WorldStep
+all_worked w lucks (nodes.Store number) =
+    answering (facts.Number (length (tasks_of w number))) (store_until_idle number lucks w)
+all_worked w lucks other = answered w (facts.Number 0)
+
+abbrev pub crashed : World → ℕ → List Luck → Node → WorldStep
+crashed w calls lucks (nodes.Store number) = answering facts.Done (store_crashes number calls lucks w)
+crashed w calls lucks other = answered w facts.Done
+
+-- a node that is up goes on
+abbrev pub started : World → List Luck → Node → WorldStep
+started w lucks (nodes.Store number) = if is_down w (nodes.Store number)
+    then answering facts.Done (store_starts number lucks w)
+    else answered w facts.Done
+started w lucks other = answered w facts.Done
+
+-- what a deed makes of the world, where its device calls go so
+abbrev pub step : World → Deed → List Luck → WorldStep
+step w (Does event) lucks = event_step w event lucks
+step w (Hold node) lucks = unless_down w node (answered (record w { holds = node ∷ w.holds }) facts.Done)
+step w (Free node) lucks =
+    unless_down w node (answered (record w { holds = without_node w.holds node }) facts.Done)
+step w (Work node) lucks = unless_down w node (worked w lucks node)
+step w (WorkAll node) lucks = unless_down w node (all_worked w lucks node)
+step w (Crash node calls pick) lucks = unless_down w node (crashed w calls lucks node)
+step w (Start node) lucks = started w lucks node
+step w (Chunks table) lucks = chunk_names w table (hosted_at w table)

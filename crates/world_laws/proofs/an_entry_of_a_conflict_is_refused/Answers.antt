@@ -1,7 +1,5 @@
-use Rattle.std.proofs.Common.{refl, ⊎_elim, arith}
-use Rattle.step_tables.proofs.Lists.{among_here, among_cons, among_none}
-use Rattle.world_laws.specs.Worked.{the_row}
+use Rattle.std.proofs.Common.{sym, ⊎_elim, true≢false}
 use Rattle.world_laws.proofs.an_entry_of_a_conflict_is_refused.Goals as goal
 
 pub returns : goal.returns
-returns c = λ sound. ⊎_elim (λ a. grind (arith, among_cons _ _ _ a, among_none)) (λ n. absurd (let e = n.standing in cc)) sound.3.2.1.1.1.1.1.0
+returns c = λ sound. ⊎_elim (λ n. absurd (let e = n.standing in cc)) (λ a. true≢false (sym a.0)) sound.3.2.1.1.1.1.1.0

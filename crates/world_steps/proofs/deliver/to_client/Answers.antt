@@ -1,7 +1,7 @@
 use Rattle.std.proofs.Common.{[], Option, sym, ap, ◌∙◌, subst}
 use Rattle.step_tables.specs.Client.{Client, deliver_step}
 use Rattle.client_core.specs.State.{NodeState}
-use Rattle.run_laws.specs.World.{client_at, to_client}
+use Rattle.memory_runs.specs.World.{client_at, to_client}
 use Rattle.world_steps.specs.Network.{packet_of}
 use Rattle.world_steps.specs.Holds.{HasClients}
 use Rattle.world_steps.proofs.Maps.{client_there, clients_inserted, some_there}

@@ -1,5 +1,5 @@
 use Rattle.std.proofs.lemmas.Result.{err_from_is_err_and}
-use Rattle.run_laws.specs.Turns.{world_after}
+use Rattle.memory_runs.specs.Turns.{world_after}
 use Rattle.simba_top.proofs.Turns.{carries_out, row_stops, world_stops}
 use Rattle.simba_top.proofs.turn.Run.carry_out.Goals as goal
 

@@ -1,5 +1,5 @@
 use Rattle.std.proofs.Common.{◌≡◌, ◌++◌, length}
-use Rattle.run_laws.specs.World.{told, sent_from}
+use Rattle.memory_runs.specs.World.{told, sent_from}
 use Rattle.world_steps.specs.Network.{packets_in, packets_from}
 use Rattle.world_steps.proofs.network.Network.send_all.Given as goal
 

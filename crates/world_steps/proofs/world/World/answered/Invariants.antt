@@ -1,5 +1,5 @@
 use Rattle.std.proofs.Common.{◌≡◌, ◌++◌}
-use Rattle.run_laws.specs.World.{answer_lines, told}
+use Rattle.memory_runs.specs.World.{answer_lines, told}
 use Rattle.world_steps.proofs.world.World.answered.Given as goal
 
 abbrev pub invariant-loop-fact : goal.invariant-loop-fact

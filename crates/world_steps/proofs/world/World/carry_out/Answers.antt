@@ -1,7 +1,7 @@
 use Rattle.std.proofs.Common.{◌≡◌, List, ℕ, sym, subst}
 use Rattle.std.specs.Prelude.{IfOk, IfErr, OnOk}
 use Rattle.table_model.specs.declared.event.Event.{Event}
-use Rattle.run_laws.specs.World.{step, joined, client_at}
+use Rattle.memory_runs.specs.World.{step, joined, client_at}
 use Rattle.world_steps.specs.Holds.{Holds, IsCause, Spends}
 use Rattle.world_steps.proofs.world.World.carry_out.Goals as goal
 

@@ -1,7 +1,7 @@
 use Rattle.std.proofs.Common.{◌≡◌, ◌∷◌, ◌++◌, length, drop}
 use Rattle.table_model.specs.declared.line.Answer.TheVariants as answers
 use Rattle.table_model.specs.declared.line.TextLine.TheVariants as text
-use Rattle.run_laws.specs.World.{entry_lines}
+use Rattle.memory_runs.specs.World.{entry_lines}
 use Rattle.world_steps.proofs.world.World.listed.Given as goal
 
 abbrev pub invariant-loop-entry : goal.invariant-loop-entry

@@ -1,7 +1,7 @@
 use Rattle.std.proofs.Common.{◌≡◌, ℕ, zero, suc, ◌+◌, ◌<◌, List, [], ◌∷◌, length, drop, slice_index_or, refl, sym, ap, ◌∙◌, arith, rules}
 use Rattle.step_tables.specs.Client.{Client}
 use Rattle.client_core.specs.State.{NodeState}
-use Rattle.run_laws.specs.World.{World, open_all, with_opened, schema_at}
+use Rattle.memory_runs.specs.World.{World, open_all, with_opened, schema_at}
 use Rattle.world_steps.proofs.world.World.opened.Goals as goal
 
 open_next : (w : World) (client : Client) (tables : List ℕ) (i : ℕ) → i < length tables

@@ -1,7 +1,7 @@
 use Rattle.std.proofs.Common.{◌≡◌, [], drop}
 use Rattle.client_core.specs.State.{nothing_gathered}
-use Rattle.run_laws.specs.World.{open_all}
-use Rattle.run_laws.specs.World as laws
+use Rattle.memory_runs.specs.World.{open_all}
+use Rattle.memory_runs.specs.World as laws
 use Rattle.world_steps.specs.Holds.{Holds}
 use Rattle.world_steps.proofs.world.World.opened.Given as goal
 

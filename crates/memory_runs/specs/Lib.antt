@@ -1,0 +1,4 @@
+pub mod Told
+pub mod World
+pub mod Turns
+pub mod Lines

@@ -1,0 +1,12 @@
+pub mod Names
+pub mod Left
+pub mod Rows
+pub mod Cuts
+pub mod Listed
+pub mod Plain
+pub mod Keys
+pub mod Moves
+pub mod Idle
+pub mod Steps
+pub mod Quiets
+pub mod Runs

@@ -1,0 +1,342 @@
+-- No move tells that a packet was sent, and what moves send goes to clients, gateways and the one Store.
+use Rattle.std.proofs.Common.{◌≡◌, ℕ, Bool, true, false, List, [], ◌∷◌, ◌++◌, Option, Some, None, Result, Ok, Err, refl}
+use Rattle.std.specs.Prelude.{map, if◌then◌else◌, ◌==◌, nat_le, nat_lt, option_map, option_to_list}
+use Rattle.stab_base.specs.declared.node.Node.{Node}
+use Rattle.stab_base.specs.declared.node.Node.TheVariants as nodes
+use Rattle.stab_base.specs.declared.chunk_name.ChunkName.{ChunkName}
+use Rattle.row_value.specs.declared.content.Content.{Content}
+use Rattle.row_value.specs.declared.schema.Scheme.{Scheme}
+use Rattle.row_value.specs.declared.schema.Scheme.TheVariants.{Strong, Causal, Eventual}
+use Rattle.row_value.specs.declared.fit.FitFault.{FitFault}
+use Rattle.row_value.specs.Fit.{fit_of}
+use Rattle.step_tables.specs.declared.slots.InFlight.{InFlight}
+use Rattle.step_tables.specs.declared.slots.Shadow.{Shadow}
+use Rattle.step_tables.specs.Facts.{Fact, ClientFact, Answer}
+use Rattle.step_tables.specs.Facts as facts
+use Rattle.step_tables.specs.Messages.{Request, Response, Pull, Pulled, Header, Pair, Outcome, Message, Send, Luck, SyncRequest, SyncResponse, PullRequest, PullResponse}
+use Rattle.step_tables.specs.Messages as messages
+use Rattle.step_tables.specs.Store.{Stored, current_of}
+use Rattle.step_tables.specs.StoreMoves as store
+use Rattle.step_tables.specs.StoreMoves.{StoreDisk, StoreTask, TableStore, StoreMove, StoreStep, store_step}
+use Rattle.step_tables.specs.Chunks.{rising, new_names, old_names}
+use Rattle.step_tables.specs.ClientMoves as client
+use Rattle.step_tables.specs.ClientMoves.{Slots, TableDisk, ClientDisk, ClientTask, Client, ClientMove, ClientStep, Plan, RowPut, RowOut, client_step}
+use Rattle.world_tables.specs.World.{owner, address}
+
+abbrev pub IsPlainFact : Fact → Type 0
+IsPlainFact (facts.Sent packet from to name) = ⊥
+IsPlainFact other = Unit {0}
+
+abbrev pub ArePlainFacts : List Fact → Type 0
+ArePlainFacts [] = Unit {0}
+ArePlainFacts (fact ∷ more) = IsPlainFact fact × ArePlainFacts more
+
+-- there is one Store
+abbrev pub IsPlace : Node → Type 0
+IsPlace (nodes.Store number) = number ≡ owner
+IsPlace other = Unit {0}
+
+abbrev pub ToPlaces : List Send → Type 0
+ToPlaces [] = Unit {0}
+ToPlaces (send ∷ more) = IsPlace (address send.to) × ToPlaces more
+
+-- ---- clients
+
+abbrev pub ArePlainTasks : List ClientTask → Type 0
+ArePlainTasks [] = Unit {0}
+ArePlainTasks (task ∷ more) = ArePlainFacts task.facts × ToPlaces task.sends × ArePlainTasks more
+
+abbrev pub IsPlainAgenda : Option (List ClientTask) → Type 0
+IsPlainAgenda None = Unit {0}
+IsPlainAgenda (Some tasks) = ArePlainTasks tasks
+
+pub record IsPlainStep (s : ClientStep) : Type 0 where
+  pub facts : ArePlainFacts s.facts
+  pub sends : ToPlaces s.sends
+  pub agenda : IsPlainAgenda s.client.agenda
+
+told_plain : (some : List ClientFact) → ArePlainFacts (map facts.Client some)
+told_plain [] = tt
+told_plain (fact ∷ more) = (tt, told_plain more)
+
+retold_plain : (some : List ClientFact) → ArePlainFacts (map facts.Redone some)
+retold_plain [] = tt
+retold_plain (fact ∷ more) = (tt, retold_plain more)
+
+rest_plain : (p : Plan) (some : List Fact) (sends : List Send) → ArePlainFacts some → ToPlaces sends → ArePlainTasks (client.rest_of p some sends)
+rest_plain p some sends f t = go p.row p.position
+  where
+    go : (row : Option RowPut) (position : Option ℕ) → ArePlainTasks (client.row_task p row ++ (client.table_task p position ++ record { change = client.Finish; facts = some; sends = sends } ∷ []))
+    go None None = (f, t, tt)
+    go None (Some n) = (tt, tt, (f, t, tt))
+    go (Some x) None = (tt, tt, (f, t, tt))
+    go (Some x) (Some n) = (tt, tt, (tt, tt, (f, t, tt)))
+
+quiet_plain : (d : ClientDisk) (agenda : Option (List ClientTask)) (a : Answer) → IsPlainAgenda agenda → IsPlainStep (client.quiet d agenda a)
+quiet_plain d agenda a p = record { facts = tt; sends = tt; agenda = p }
+
+begun_plain : (d : ClientDisk) (a : Answer) (p : Plan) (sends : List Send) → ToPlaces sends → IsPlainStep (client.begun d a p sends)
+begun_plain d a p sends t = record { facts = tt; sends = tt; agenda = (told_plain p.facts, tt, rest_plain p [] sends tt t) }
+
+module _ (c : ℕ) (d : ClientDisk) where
+  idle_sends : (sends : List Send) → ToPlaces sends → IsPlainStep (record (client.ignored d) { sends = sends })
+  idle_sends sends t = record { facts = tt; sends = t; agenda = tt }
+
+  strong_plain : (table : ℕ) (row : List ℕ) (slots : Slots) (x : Content) (o : Option InFlight) → IsPlainStep (client.write_strong c d table row slots x o)
+  strong_plain table row slots x None = begun_plain d _ _ _ (refl, tt)
+  strong_plain table row slots x (Some out) = quiet_plain d (Some []) _ tt
+
+  by_plain : (g : Scheme) (table : ℕ) (row : List ℕ) (opened : TableDisk) (slots : Slots) (x : Content) → IsPlainStep (client.write_by g c d table row opened slots x)
+  by_plain Strong table row opened slots x = strong_plain table row slots x (client.first_out opened.rows)
+  by_plain Causal table row opened slots x = begun_plain d _ _ [] tt
+  by_plain Eventual table row opened slots x = begun_plain d _ _ [] tt
+
+  free_plain : (g : Scheme) (table : ℕ) (row : List ℕ) (opened : TableDisk) (slots : Slots) (x : Content) (y : Option Shadow) → IsPlainStep (client.write_free g c d table row opened slots x y)
+  free_plain g table row opened slots x None = by_plain g table row opened slots x
+  free_plain g table row opened slots x (Some y) = quiet_plain d (Some []) _ tt
+
+  write_idle_plain : (g : Scheme) (agenda : List ClientTask) (table : ℕ) (row : List ℕ) (opened : TableDisk) (x : Content) → ArePlainTasks agenda
+      → IsPlainStep (client.write_idle g c d agenda table row opened x)
+  write_idle_plain g (task ∷ more) table row opened x p = quiet_plain d (Some (task ∷ more)) _ p
+  write_idle_plain g [] table row opened x p = free_plain g table row opened (client.slots_at opened row) x (client.slots_at opened row).conflict
+
+  fitting_plain : (g : Scheme) (agenda : List ClientTask) (table : ℕ) (row : List ℕ) (opened : TableDisk) (x : Content) (fit : Result (Unit {0}) FitFault) → ArePlainTasks agenda
+      → IsPlainStep (client.write_fitting g c d agenda table row opened x fit)
+  fitting_plain g agenda table row opened x (Ok fits) p = write_idle_plain g agenda table row opened x p
+  fitting_plain g agenda table row opened x (Err fault) p = quiet_plain d (Some agenda) _ p
+
+  write_to_plain : (agenda : List ClientTask) (table : ℕ) (row : List ℕ) (x : Content) (o : Option TableDisk) → ArePlainTasks agenda → IsPlainStep (client.write_to c d agenda table row x o)
+  write_to_plain agenda table row x None p = quiet_plain d (Some agenda) _ p
+  write_to_plain agenda table row x (Some opened) p = fitting_plain opened.schema.scheme agenda table row opened x (fit_of opened.schema x) p
+
+  write_plain : (agenda : Option (List ClientTask)) (table : ℕ) (row : List ℕ) (x : Content) → IsPlainAgenda agenda → IsPlainStep (client.write_step c d agenda table row x)
+  write_plain None table row x p = quiet_plain d None _ tt
+  write_plain (Some agenda) table row x p = write_to_plain agenda table row x (client.table_at (client.seen d) table) p
+
+  show_plain : (agenda : Option (List ClientTask)) (table : ℕ) (row : List ℕ) → IsPlainAgenda agenda → IsPlainStep (client.show_step d agenda table row)
+  show_plain None table row p = quiet_plain d None _ tt
+  show_plain (Some agenda) table row p = quiet_plain d (Some agenda) _ p
+
+  sum_plain : (agenda : Option (List ClientTask)) (table : ℕ) (row : List ℕ) → IsPlainAgenda agenda → IsPlainStep (client.sum_step d agenda table row)
+  sum_plain agenda table row p = let s = show_plain agenda table row p in record { facts = s.facts; sends = s.sends; agenda = s.agenda }
+
+  resent_places : (table : ℕ) (rows : List (List ℕ × Slots)) → ToPlaces (client.resent c table rows)
+  resent_places table [] = tt
+  resent_places table (x ∷ rows) = go x.1.out (resent_places table rows)
+    where
+      go : (o : Option InFlight) → ToPlaces (client.resent c table rows) → ToPlaces (option_to_list (option_map (client.request_for c table x.0) o) ++ client.resent c table rows)
+      go None rest = rest
+      go (Some out) rest = (refl, rest)
+
+  first_plain : (table : ℕ) (again : List Send) (o : Option RowOut) → ToPlaces again → IsPlainStep (client.sync_first c d table again o)
+  first_plain table again None t = record { facts = tt; sends = t; agenda = tt }
+  first_plain table again (Some x) t =
+      let b = begun_plain d facts.Done (client.send_plan d table x) (client.request_for c table x.row x.out ∷ []) (refl, tt) in
+      record { facts = tt; sends = t; agenda = b.agenda }
+
+  sync_in_plain : (agenda : List ClientTask) (table : ℕ) (o : Option TableDisk) → ArePlainTasks agenda → IsPlainStep (client.sync_in c d agenda table o)
+  sync_in_plain agenda table None p = quiet_plain d (Some agenda) _ p
+  sync_in_plain (task ∷ more) table (Some opened) p = quiet_plain d (Some (task ∷ more)) _ p
+  sync_in_plain [] table (Some opened) p = first_plain table (client.resent c table opened.rows) (client.first_to_send opened.rows) (resent_places table opened.rows)
+
+  sync_plain : (agenda : Option (List ClientTask)) (table : ℕ) → IsPlainAgenda agenda → IsPlainStep (client.sync_step c d agenda table)
+  sync_plain None table p = quiet_plain d None _ tt
+  sync_plain (Some agenda) table p = sync_in_plain agenda table (client.table_at (client.seen d) table) p
+
+  next_in_plain : (agenda : List ClientTask) (table : ℕ) (o : Option TableDisk) → ArePlainTasks agenda → IsPlainStep (client.next_in c d agenda table o)
+  next_in_plain agenda table None p = quiet_plain d (Some agenda) _ p
+  next_in_plain (task ∷ more) table (Some opened) p = quiet_plain d (Some (task ∷ more)) _ p
+  next_in_plain [] table (Some opened) p = idle_sends _ (refl, tt)
+
+  next_plain : (agenda : Option (List ClientTask)) (table : ℕ) → IsPlainAgenda agenda → IsPlainStep (client.next_step c d agenda table)
+  next_plain None table p = quiet_plain d None _ tt
+  next_plain (Some agenda) table p = next_in_plain agenda table (client.table_at (client.seen d) table) p
+
+  outcome_plain : (table : ℕ) (row : List ℕ) (opened : TableDisk) (slots : Slots) (out : InFlight) (o : Outcome) → IsPlainStep (client.outcome_taken c d table row opened slots out o)
+  outcome_plain table row opened slots out (messages.Accepted v) = begun_plain d _ _ [] tt
+  outcome_plain table row opened slots out (messages.Again v) = begun_plain d _ _ [] tt
+  outcome_plain table row opened slots out (messages.Late v) = quiet_plain d (Some []) _ tt
+  outcome_plain table row opened slots out (messages.Stale v) = begun_plain d _ _ _ (refl, tt)
+  outcome_plain table row opened slots out (messages.Conflict v) = idle_sends _ (refl, tt)
+
+  response_plain : (r : Response) (opened : TableDisk) (o : Option InFlight) → IsPlainStep (client.response_taken c d r opened o)
+  response_plain r opened None = quiet_plain d (Some []) _ tt
+  response_plain r opened (Some out) = go (out.number == r.number)
+    where
+      go : (b : Bool) → IsPlainStep (if b then client.outcome_taken c d r.table r.row opened (client.slots_at opened r.row) out r.outcome else client.ignored d)
+      go true = outcome_plain r.table r.row opened (client.slots_at opened r.row) out r.outcome
+      go false = quiet_plain d (Some []) _ tt
+
+  response_in_plain : (r : Response) (o : Option TableDisk) → IsPlainStep (client.response_in c d r o)
+  response_in_plain r None = quiet_plain d (Some []) _ tt
+  response_in_plain r (Some opened) = response_plain r opened (client.slots_at opened r.row).out
+
+  next_pull_places : (table : ℕ) (q : Pulled) → ToPlaces (client.next_pull c table q)
+  next_pull_places table q = go (nat_lt q.to q.latest)
+    where
+      go : (b : Bool) → ToPlaces (if b then client.pull_from c table q.to ∷ [] else [])
+      go true = (refl, tt)
+      go false = tt
+
+  row_plain : (q : Pulled) (opened : TableDisk) (hd : Header) (slots : Slots) → IsPlainStep (client.row_taken c d q opened hd slots)
+  row_plain q opened hd slots = go (nat_le hd.version (client.top slots.conflict slots.shadow))
+    where
+      go : (b : Bool) → IsPlainStep (if b
+          then client.begun d facts.Done (client.position_plan c d q.table q.to) (client.next_pull c q.table q)
+          else client.begun d facts.Done (client.row_plan c d q.table hd.row q.to (client.row_placed opened.schema.scheme c q.table hd slots slots.out)) (client.next_pull c q.table q))
+      go true = begun_plain d _ _ _ (next_pull_places q.table q)
+      go false = begun_plain d _ _ _ (next_pull_places q.table q)
+
+  pulled_plain : (q : Pulled) (opened : TableDisk) (o : Option Header) → IsPlainStep (client.pulled_taken c d q opened o)
+  pulled_plain q opened None = quiet_plain d (Some []) _ tt
+  pulled_plain q opened (Some hd) = go (q.from == opened.position)
+    where
+      go : (b : Bool) → IsPlainStep (if b then client.row_taken c d q opened hd (client.slots_at opened hd.row) else client.ignored d)
+      go true = row_plain q opened hd (client.slots_at opened hd.row)
+      go false = quiet_plain d (Some []) _ tt
+
+  pulled_in_plain : (q : Pulled) (o : Option TableDisk) → IsPlainStep (client.pulled_in c d q o)
+  pulled_in_plain q None = quiet_plain d (Some []) _ tt
+  pulled_in_plain q (Some opened) = pulled_plain q opened q.header
+
+  take_plain : (agenda : Option (List ClientTask)) (m : Message) → IsPlainAgenda agenda → IsPlainStep (client.take_step c d agenda m)
+  take_plain None m p = quiet_plain d None _ tt
+  take_plain (Some (task ∷ more)) m p = quiet_plain d (Some (task ∷ more)) _ p
+  take_plain (Some []) (SyncRequest q) p = quiet_plain d (Some []) _ tt
+  take_plain (Some []) (PullRequest q) p = quiet_plain d (Some []) _ tt
+  take_plain (Some []) (SyncResponse r) p = response_in_plain r (client.table_at (client.seen d) r.table)
+  take_plain (Some []) (PullResponse q) p = pulled_in_plain q (client.table_at (client.seen d) q.table)
+
+  work_plain : (agenda : Option (List ClientTask)) (luck : Luck) → IsPlainAgenda agenda → IsPlainStep (client.worked d agenda luck)
+  work_plain None messages.Done p = quiet_plain d None _ tt
+  work_plain None messages.FailedBefore p = quiet_plain d None _ tt
+  work_plain None messages.FailedAfter p = quiet_plain d None _ tt
+  work_plain (Some []) messages.Done p = quiet_plain d (Some []) _ tt
+  work_plain (Some []) messages.FailedBefore p = quiet_plain d None _ tt
+  work_plain (Some []) messages.FailedAfter p = quiet_plain d None _ tt
+  work_plain (Some (task ∷ more)) messages.Done p = record { facts = p.0; sends = p.1; agenda = p.2 }
+  work_plain (Some (task ∷ more)) messages.FailedBefore p = record { facts = tt; sends = tt; agenda = tt }
+  work_plain (Some (task ∷ more)) messages.FailedAfter p = record { facts = tt; sends = tt; agenda = tt }
+
+-- the moves that the world makes of a client: all but one that resolves a conflict, a crash and a start
+abbrev pub IsWorldly : ClientMove → Type 0
+IsWorldly (client.Resolve table row version choice) = ⊥
+IsWorldly (client.Crash luck) = ⊥
+IsWorldly client.Start = ⊥
+IsWorldly other = Unit {0}
+
+pub client_plain : (c : ℕ) (s : Client) (move : ClientMove) → IsWorldly move → IsPlainAgenda s.agenda → IsPlainStep (client_step c s move)
+client_plain c s (client.Write table row x) f p = write_plain c s.disk s.agenda table row x p
+client_plain c s (client.Show table row) f p = show_plain c s.disk s.agenda table row p
+client_plain c s (client.Sum table row) f p = sum_plain c s.disk s.agenda table row p
+client_plain c s (client.Sync table) f p = sync_plain c s.disk s.agenda table p
+client_plain c s (client.Next table) f p = next_plain c s.disk s.agenda table p
+client_plain c s (client.Take m) f p = take_plain c s.disk s.agenda m p
+client_plain c s (client.Work luck) f p = work_plain c s.disk s.agenda luck p
+client_plain c s (client.Resolve table row version choice) f p = absurd f
+client_plain c s (client.Crash luck) f p = absurd f
+client_plain c s client.Start f p = absurd f
+
+-- ---- tables at the Store
+
+abbrev pub ArePlainWrites : List StoreTask → Type 0
+ArePlainWrites [] = Unit {0}
+ArePlainWrites (task ∷ more) = ArePlainFacts task.facts × ToPlaces task.sends × ArePlainWrites more
+
+abbrev pub HasPlainWrites : Option (List StoreTask) → Type 0
+HasPlainWrites None = Unit {0}
+HasPlainWrites (Some tasks) = ArePlainWrites tasks
+
+pub record IsPlainMove (s : StoreStep) : Type 0 where
+  pub facts : ArePlainFacts s.facts
+  pub sends : ToPlaces s.sends
+  pub agenda : HasPlainWrites s.store.agenda
+
+still_plain : (d : StoreDisk) (agenda : Option (List StoreTask)) (a : Answer) → HasPlainWrites agenda → IsPlainMove (store.quiet d agenda a)
+still_plain d agenda a p = record { facts = tt; sends = tt; agenda = p }
+
+puts_plain : (names : List ChunkName) (more : List StoreTask) → ArePlainWrites more → ArePlainWrites (store.puts names ++ more)
+puts_plain [] more p = p
+puts_plain (n ∷ names) more p = (tt, tt, puts_plain names more p)
+
+drops_plain : (names : List ChunkName) (more : List StoreTask) → ArePlainWrites more → ArePlainWrites (store.drops names ++ more)
+drops_plain [] more p = p
+drops_plain (n ∷ names) more p = (tt, tt, drops_plain names more p)
+
+sending_plain : (d : StoreDisk) (sends : List Send) → ToPlaces sends → IsPlainMove (store.sending d sends)
+sending_plain d sends t = record { facts = tt; sends = t; agenda = tt }
+
+module _ (g : Scheme) (size table : ℕ) (d : StoreDisk) (from : Node) (place : IsPlace from) where
+  judged_plain : (q : Request) (current : ℕ) → IsPlainMove (store.judged g size table d from q current)
+  judged_plain q current = go (store.takes g q.base current)
+    where
+      item : Stored
+      item = store.item_for d.items q
+
+      go : (b : Bool) → IsPlainMove (if b then store.quiet d (Some (store.accepting size table d.items from q item)) facts.Done
+          else store.sending d (store.responded from q (store.outdated g current) ∷ []))
+      go true = still_plain d (Some (store.accepting size table d.items from q item)) facts.Done
+          (tt, tt, puts_plain (new_names size d.items item) _ ((tt, tt), tt, drops_plain (old_names size d.items item) _ (tt, (place, tt), tt)))
+      go false = sending_plain d _ (place, tt)
+
+  decided_plain : (q : Request) (yours : Pair) → IsPlainMove (store.decided g size table d from q yours)
+  decided_plain q yours = go (yours.number == q.number) (nat_lt q.number yours.number)
+    where
+      go : (a b : Bool) → IsPlainMove (if a then store.sending d (store.responded from q (messages.Again yours.version) ∷ [])
+          else (if b then store.sending d (store.responded from q (messages.Late yours.number) ∷ [])
+          else store.judged g size table d from q (store.version_of (current_of d.items q.row))))
+      go true b = sending_plain d _ (place, tt)
+      go false true = sending_plain d _ (place, tt)
+      go false false = judged_plain q (store.version_of (current_of d.items q.row))
+
+  taken_plain : (agenda : Option (List StoreTask)) (m : Message) → HasPlainWrites agenda → IsPlainMove (store.taken g size table d agenda from m)
+  taken_plain None m p = still_plain d None _ tt
+  taken_plain (Some (task ∷ more)) m p = still_plain d (Some (task ∷ more)) _ p
+  taken_plain (Some []) (SyncRequest q) p = decided_plain q (store.yours_in d.items q.client q.row)
+  taken_plain (Some []) (PullRequest q) p = sending_plain d _ (place, tt)
+  taken_plain (Some []) (SyncResponse q) p = still_plain d (Some []) _ tt
+  taken_plain (Some []) (PullResponse q) p = still_plain d (Some []) _ tt
+
+worked_plain : (d : StoreDisk) (agenda : Option (List StoreTask)) (luck : Luck) → HasPlainWrites agenda → IsPlainMove (store.worked d agenda luck)
+worked_plain d None messages.Done p = still_plain d None _ tt
+worked_plain d None messages.FailedBefore p = record { facts = tt; sends = tt; agenda = tt }
+worked_plain d None messages.FailedAfter p = record { facts = tt; sends = tt; agenda = tt }
+worked_plain d (Some []) messages.Done p = still_plain d (Some []) _ tt
+worked_plain d (Some []) messages.FailedBefore p = record { facts = tt; sends = tt; agenda = tt }
+worked_plain d (Some []) messages.FailedAfter p = record { facts = tt; sends = tt; agenda = tt }
+worked_plain d (Some (task ∷ more)) messages.Done p = record { facts = p.0; sends = p.1; agenda = p.2 }
+worked_plain d (Some (task ∷ more)) messages.FailedBefore p = record { facts = tt; sends = tt; agenda = tt }
+worked_plain d (Some (task ∷ more)) messages.FailedAfter p = record { facts = tt; sends = tt; agenda = tt }
+
+crashed_plain : (d : StoreDisk) (agenda : Option (List StoreTask)) (luck : Luck) → IsPlainMove (store.crashed d agenda luck)
+crashed_plain d None luck = record { facts = tt; sends = tt; agenda = tt }
+crashed_plain d (Some []) luck = record { facts = tt; sends = tt; agenda = tt }
+crashed_plain d (Some (task ∷ more)) messages.Done = record { facts = tt; sends = tt; agenda = tt }
+crashed_plain d (Some (task ∷ more)) messages.FailedBefore = record { facts = tt; sends = tt; agenda = tt }
+crashed_plain d (Some (task ∷ more)) messages.FailedAfter = record { facts = tt; sends = tt; agenda = tt }
+
+recovering_plain : (number table : ℕ) (d : StoreDisk) → ArePlainWrites (store.recovering number table d)
+recovering_plain number table d = (tt, tt, (tt, tt, (tt, tt, drops_plain (rising d.left) _ ((tt, tt), tt, tt))))
+
+started_plain : (number table : ℕ) (d : StoreDisk) (agenda : Option (List StoreTask)) → HasPlainWrites agenda → IsPlainMove (store.started number table d agenda)
+started_plain number table d (Some agenda) p = still_plain d (Some agenda) _ p
+started_plain number table d None p = go d.pending
+  where
+    found : (i : Stored) (o : Option Stored) → IsPlainMove (store.recovered number table d i o)
+    found i None = record { facts = (tt, tt); sends = tt; agenda = recovering_plain number table d }
+    found i (Some item) = record { facts = (tt, tt); sends = tt; agenda = recovering_plain number table d }
+
+    go : (o : Option Stored) → IsPlainMove (store.recover number table d o)
+    go None = still_plain d _ _ (tt, tt, (tt, tt, ((tt, tt), tt, tt)))
+    go (Some i) = found i (store.item_at i.entry.version d.items)
+
+-- a message comes from a client, a gateway or the Store
+abbrev pub IsFrom : StoreMove → Type 0
+IsFrom (store.Take from m) = IsPlace from
+IsFrom other = Unit {0}
+
+pub move_plain : (number : ℕ) (g : Scheme) (size table : ℕ) (s : TableStore) (move : StoreMove) → IsFrom move → HasPlainWrites s.agenda → IsPlainMove (store_step number g size table s move)
+move_plain number g size table s (store.Take from m) f p = taken_plain g size table s.disk from f s.agenda m p
+move_plain number g size table s (store.Work luck) f p = worked_plain s.disk s.agenda luck p
+move_plain number g size table s (store.Crash luck) f p = crashed_plain s.disk s.agenda luck
+move_plain number g size table s store.Start f p = started_plain number table s.disk s.agenda p

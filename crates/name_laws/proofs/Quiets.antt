@@ -1,0 +1,386 @@
+-- Where the Store is quiet, none of its tables has writes to do.
+use Rattle.std.proofs.Common.{◌≡◌, ◌⊎◌, inl, inr, ⊎_elim, ℕ, zero, suc, Bool, true, false, List, [], ◌∷◌, ◌++◌, length, Option, Some, None, refl, sym, ◌∙◌, ap, subst, arith, true≢false}
+use Rattle.std.specs.Prelude.{map, not, drop, ◌==◌, ◌||◌, slice_get, option_map, if◌then◌else◌}
+use Rattle.std.specs.List.{flat_map, find}
+use Rattle.std.specs.Map.{keys_of}
+use Rattle.std.proofs.lemmas.Bool.Decides.{nat_tests}
+use Rattle.stab_base.specs.declared.node.Node.{Node}
+use Rattle.stab_base.specs.declared.node.Node.TheVariants as nodes
+use Rattle.row_value.specs.declared.schema.Schema.{Schema}
+use Rattle.table_model.specs.declared.event.Event.{Event}
+use Rattle.table_model.specs.declared.event.Event.TheVariants as events
+use Rattle.step_tables.specs.Facts.{Answer}
+use Rattle.step_tables.specs.Facts as facts
+use Rattle.step_tables.specs.Messages.{Message, Luck, table_of}
+use Rattle.step_tables.specs.Messages as messages
+use Rattle.step_tables.specs.StoreMoves as store
+use Rattle.step_tables.specs.StoreMoves.{StoreTask}
+use Rattle.step_tables.specs.ClientMoves as client
+use Rattle.step_tables.specs.ClientMoves.{Client, ClientTask, ClientMove, client_step}
+use Rattle.step_tables.proofs.Lists.{among_get}
+use Rattle.world_tables.specs.Quiet.{Quiet, sent_in, comes_to, if_done, held_after, loud_by, loud_after, after, at_first}
+use Rattle.world_tables.specs.World.{World, Packet, Hosted, Moved, WorldStep, start, owner, the_store, hosted_at, client_at, tables_of, same_node, has_node, without_node, is_down, still}
+use Rattle.world_tables.specs.World.{and_then, lines_of, tasks_in, hosted_tasks}
+use Rattle.world_tables.specs.World.{move_hosted, move_client, move_there, first_luck, other_lucks, client_works, client_tasks, client_follows, gets_tasks, client_follows_from}
+use Rattle.world_tables.specs.World.{is_at_work, busy_table, write_next, tasks_of, tables_fall, tables_start, with_down, without_down, store_falls, store_works, store_until_idle}
+use Rattle.world_tables.specs.World.{store_follows, table_crashes, crash_luck, store_crashes, store_starts}
+use Rattle.world_tables.specs.World.{Deed, Does, Hold, Free, Work, WorkAll, Crash, Start, Chunks, answering, answered, refused, unless_down, agenda_of, with_table, declared, joined}
+use Rattle.world_tables.specs.World.{call_there, call, take_read, take_at, to_hosted, to_there, carried, delivered, row_read, store_shows, chunk_names, history_lines, worked, all_worked}
+use Rattle.world_tables.specs.World.{crashed, started, event_step, step}
+use Rattle.world_laws.proofs.Looks.{look_cases}
+use Rattle.name_laws.proofs.Plain.{IsPlace}
+use Rattle.name_laws.proofs.Moves.{IsFine, packets_in}
+use Rattle.name_laws.proofs.Steps.{to_join, holding, Stepped, lines_sent, lines_answer, holds_by, schemas_by, step_stepped, start_fine}
+use Rattle.name_laws.proofs.Idle.{Idle, fallen_idle, until_idle, busy_none, table_follows_idle, down_idle, starts_idle}
+
+-- ---- clients change no table
+
+client_tables : (w : World) (c : ℕ) (move : ClientMove) → (move_client c move w).world.tables ≡ w.tables
+client_tables w c move = go (client_at w c)
+  where
+    go : (o : Option Client) → (move_there w c move o).world.tables ≡ w.tables
+    go None = refl
+    go (Some node) = refl
+
+works_tables : (c : ℕ) (tasks : List ClientTask) (lucks : List Luck) (w : World) → (client_works c tasks lucks w).world.tables ≡ w.tables
+works_tables c [] lucks w = refl
+works_tables c (task ∷ tasks) lucks w = works_tables c tasks (other_lucks lucks) (move_client c (client.Work (first_luck lucks)) w).world ∙ client_tables w c (client.Work (first_luck lucks))
+
+follows_tables : (agenda : Option (List ClientTask)) (c : ℕ) (lucks : List Luck) (w : World) → (client_follows_from agenda c lucks w).world.tables ≡ w.tables
+follows_tables agenda c lucks w = go (gets_tasks agenda w c)
+  where
+    go : (b : Bool) → (if b then client_follows c lucks w else still w).world.tables ≡ w.tables
+    go true = works_tables c (client_tasks (client_at w c)) lucks w
+    go false = refl
+
+down_tables : (w : World) (node : Node) (s : WorldStep) → s.world.tables ≡ w.tables → (unless_down w node s).world.tables ≡ w.tables
+down_tables w node s same = go (is_down w node)
+  where
+    go : (b : Bool) → (if b then refused w (facts.NodeDown node) else s).world.tables ≡ w.tables
+    go true = refl
+    go false = same
+
+call_tables : (w : World) (c : ℕ) (move : ClientMove) (lucks : List Luck) (o : Option Client) → (call_there w c move lucks o).world.tables ≡ w.tables
+call_tables w c move lucks None = refl
+call_tables w c move lucks (Some node) = down_tables w (nodes.Client c) _ (follows_tables node.agenda c lucks (move_client c move w).world ∙ client_tables w c move)
+
+same_idle : (w x : World) → x.tables ≡ w.tables → Idle w → Idle x
+same_idle w x same idle q hosted at = idle q hosted (ap (λ ts. hosted_at (record w { tables = ts }) q) (sym same) ∙ at)
+
+down_idle_step : (w : World) (node : Node) (s : WorldStep) → Idle w → Idle s.world → Idle (unless_down w node s).world
+down_idle_step w node s idle up = go (is_down w node)
+  where
+    go : (b : Bool) → Idle (if b then refused w (facts.NodeDown node) else s).world
+    go true = idle
+    go false = up
+
+-- ---- lists of nodes
+
+abbrev IsLoud : List Node → Bool
+IsLoud loud = has_node loud the_store
+
+-- what comes to another node
+comes_less : (q : Quiet) (o : Option Node) → IsLoud (comes_to q o) ≡ false → IsLoud q.loud ≡ false
+comes_less q None is = is
+comes_less q (Some node) is = go (has_node q.held node) is
+  where
+    or_false : (a b : Bool) → (a || b) ≡ false → b ≡ false
+    or_false true b e = absurd (true≢false e)
+    or_false false b e = e
+
+    go : (b : Bool) → IsLoud (if b then node ∷ q.loud else q.loud) ≡ false → IsLoud q.loud ≡ false
+    go true e = or_false (same_node the_store node) (IsLoud q.loud) e
+    go false e = e
+
+-- what comes to the Store while it is on hold makes it loud
+comes_free : (q : Quiet) → IsLoud (comes_to q (Some the_store)) ≡ false → has_node q.held the_store ≡ false
+comes_free q is = go (has_node q.held the_store) refl is
+  where
+    go : (b : Bool) → has_node q.held the_store ≡ b → IsLoud (if b then the_store ∷ q.loud else q.loud) ≡ false → has_node q.held the_store ≡ false
+    go true held e = absurd (true≢false e)
+    go false free e = free
+
+same_both : (node other : Node) → same_node the_store node ≡ false → same_node node other ≡ true → same_node the_store other ≡ false
+same_both (nodes.Store a) (nodes.Store b) apart same = go (owner == b) refl
+  where
+    go : (t : Bool) → (owner == b) ≡ t → (owner == b) ≡ false
+    go false e = e
+    go true e = absurd (grind (arith, nat_tests, apart, same, e))
+same_both (nodes.Store a) (nodes.Client c) apart same = refl
+same_both (nodes.Store a) (nodes.Gate g) apart same = refl
+same_both (nodes.Client a) (nodes.Client c) apart same = refl
+same_both (nodes.Client a) (nodes.Store c) apart same = absurd (true≢false (sym same))
+same_both (nodes.Client a) (nodes.Gate c) apart same = refl
+same_both (nodes.Gate a) (nodes.Client c) apart same = refl
+same_both (nodes.Gate a) (nodes.Store c) apart same = absurd (true≢false (sym same))
+same_both (nodes.Gate a) (nodes.Gate c) apart same = refl
+
+-- another node taken out
+without_other : (some : List Node) (node : Node) → same_node the_store node ≡ false → IsLoud (without_node some node) ≡ IsLoud some
+without_other [] node apart = refl
+without_other (x ∷ xs) node apart = go (same_node node x) refl (without_other xs node apart)
+  where
+    go : (b : Bool) → same_node node x ≡ b → IsLoud (without_node xs node) ≡ IsLoud xs → IsLoud (if not b then x ∷ without_node xs node else without_node xs node) ≡ IsLoud (x ∷ xs)
+    go true same rest = rest ∙ ap (λ (c : Bool). c || IsLoud xs) (sym (same_both node x apart same))
+    go false same rest = ap (λ (c : Bool). same_node the_store x || c) rest
+
+-- ---- another Store has no tables
+
+other_node : (number : ℕ) → (number ≡ owner) ⊎ ((number == owner ≡ false) × (same_node the_store (nodes.Store number) ≡ false))
+other_node number = go (number == owner) refl
+  where
+    turned : (number == owner) ≡ false → (b : Bool) → (owner == number) ≡ b → (owner == number) ≡ false
+    turned is false e = e
+    turned is true e = absurd (grind (arith, nat_tests, is, e))
+
+    go : (b : Bool) → (number == owner) ≡ b → (number ≡ owner) ⊎ ((number == owner ≡ false) × (same_node the_store (nodes.Store number) ≡ false))
+    go true is = inl (grind (arith, nat_tests, is))
+    go false is = inr (is, turned is (owner == number) refl)
+
+no_tables : (w : World) (number : ℕ) → (number == owner) ≡ false → tables_of w number ≡ []
+no_tables w number is = ap (λ (b : Bool). if b then keys_of w.tables else []) is
+
+-- ---- deeds
+
+module _ (w : World) (f : IsFine w) where
+  -- a message to a table
+  hosted_idle : (table : ℕ) (from : Node) (m : Message) (lucks : List Luck) → IsPlace from → Idle w → has_node w.holds the_store ≡ false → (o : Option Hosted) → hosted_at w table ≡ o
+      → Idle (to_hosted w table (store.Take from m) lucks o).world
+  hosted_idle table from m lucks place idle free None at = idle
+  hosted_idle table from m lucks place idle free (Some hosted) at = go hosted.store.agenda refl
+    where
+      reads : (luck : Luck) → Idle (take_read w table hosted (store.Take from m) (other_lucks lucks) luck).world
+      reads messages.Done = table_follows_idle w table from m (other_lucks lucks) f place idle free
+      reads messages.FailedBefore = fallen_idle w
+      reads messages.FailedAfter = fallen_idle w
+
+      go : (o : Option (List StoreTask)) → hosted.store.agenda ≡ o → Idle (take_at w table hosted (store.Take from m) lucks o).world
+      go (Some []) is = reads (first_luck lucks)
+      go (Some (task ∷ more)) is = absurd (let none : [] ≡ task ∷ more = sym (idle table hosted at) ∙ ap tasks_in is in cc)
+      go None is = subst (λ (o : Option Hosted). Idle (move_hosted w table (store.Take from m) o).world) (sym at) (down_idle w table hosted from m idle is)
+
+  carried_idle : (q : Quiet) → q.held ≡ w.holds → (p : Packet) (lucks : List Luck) → IsPlace p.from → IsPlace p.to → (IsLoud q.loud ≡ false → Idle w) → (to : Node) → p.to ≡ to
+      → IsLoud (comes_to q (Some to)) ≡ false → Idle (carried w p lucks to).world
+  carried_idle q held p lucks from place idle (nodes.Store number) is quiet =
+      let number_is : number ≡ owner = subst IsPlace is place in
+      let here : IsLoud (comes_to q (Some the_store)) ≡ false = subst (λ (n : ℕ). IsLoud (comes_to q (Some (nodes.Store n))) ≡ false) number_is quiet in
+      let rest : Idle w = idle (comes_less q (Some (nodes.Store number)) quiet) in
+      down_idle_step w (nodes.Store number) _ rest
+      (hosted_idle (table_of p.message) p.from p.message lucks from rest (ap (λ (hs : List Node). has_node hs the_store) (sym held) ∙ comes_free q here) (hosted_at w (table_of p.message)) refl)
+  carried_idle q held p lucks from place idle (nodes.Gate gate) is quiet = idle (comes_less q (Some (nodes.Gate gate)) quiet)
+  carried_idle q held p lucks from place idle (nodes.Client c) is quiet =
+      same_idle w (to_there w c p.message lucks (client_at w c)).world (go (client_at w c)) (idle (comes_less q (Some (nodes.Client c)) quiet))
+    where
+      go : (o : Option Client) → (to_there w c p.message lucks o).world.tables ≡ w.tables
+      go None = refl
+      go (Some node) = call_tables w c (client.Take p.message) lucks (Some node)
+
+  delivered_idle : (q : Quiet) → q.held ≡ w.holds → q.sent ≡ map (λ (p : Packet). p.to) w.packets → (n : ℕ) (lucks : List Luck) → (IsLoud q.loud ≡ false → Idle w)
+      → IsLoud (comes_to q (slice_get q.sent n)) ≡ false → Idle (delivered w lucks (slice_get w.packets n)).world
+  delivered_idle q held sent n lucks idle quiet = go (slice_get w.packets n) refl
+    where
+      get_map : (ps : List Packet) (k : ℕ) → slice_get (map (λ (p : Packet). p.to) ps) k ≡ option_map (λ (p : Packet). p.to) (slice_get ps k)
+      get_map [] k = refl
+      get_map (p ∷ ps) zero = refl
+      get_map (p ∷ ps) (suc k) = get_map ps k
+
+      found : slice_get q.sent n ≡ option_map (λ (p : Packet). p.to) (slice_get w.packets n)
+      found = ap (λ (ns : List Node). slice_get ns n) sent ∙ get_map w.packets n
+
+      go : (o : Option Packet) → slice_get w.packets n ≡ o → Idle (delivered w lucks o).world
+      go None at = idle (comes_less q (slice_get q.sent n) quiet)
+      go (Some p) at =
+          let places = f.places p (among_get w.packets n p at) in
+          carried_idle q held p lucks places.0 places.1 idle p.to refl
+          (subst (λ (o : Option Node). IsLoud (comes_to q o) ≡ false) (found ∙ ap (option_map (λ (x : Packet). x.to)) at) quiet)
+
+  shows_idle : (row : List ℕ) (lucks : List Luck) → Idle w → (o : Option Hosted) → Idle (store_shows w row lucks o).world
+  shows_idle row lucks idle None = idle
+  shows_idle row lucks idle (Some hosted) = down_idle_step w the_store _ idle (read (first_luck lucks))
+    where
+      read : (luck : Luck) → Idle (row_read w hosted row luck).world
+      read messages.Done = idle
+      read messages.FailedBefore = fallen_idle w
+      read messages.FailedAfter = fallen_idle w
+
+  declared_idle : (table : ℕ) (schema : Schema) (luck : Luck) → Idle w → (o : Option Hosted) → Idle (declared w table schema luck o)
+  declared_idle table schema luck idle (Some hosted) = idle
+  declared_idle table schema messages.FailedBefore idle None = fallen_idle (with_table w table schema false false)
+  declared_idle table schema messages.FailedAfter idle None = fallen_idle (with_table w table schema false false)
+  declared_idle table schema messages.Done idle None = λ q found at. ⊎_elim
+      (λ e. let both : Some new ≡ Some found = sym e.1 ∙ at in let same : new ≡ found = cc in subst (λ (y : Hosted). tasks_in y.store.agenda ≡ []) same (none up))
+      (λ e. idle q found (sym e.1 ∙ at)) (look_cases w.tables table new q)
+    where
+      up : Bool
+      up = not (is_down w the_store)
+
+      new : Hosted
+      new = record { store = record { disk = record { items = []; pending = None; left = [] }; agenda = agenda_of up }; history = []; made = true }
+
+      none : (b : Bool) → tasks_in (agenda_of b) ≡ []
+      none true = refl
+      none false = refl
+
+  history_idle : (table : ℕ) → Idle w → (o : Option Hosted) → Idle (history_lines w table o).world
+  history_idle table idle None = idle
+  history_idle table idle (Some hosted) = idle
+
+  joined_idle : (c : ℕ) (tables : List ℕ) → Idle w → (o : Option Client) → Idle (joined w c tables o)
+  joined_idle c tables idle None = idle
+  joined_idle c tables idle (Some node) = idle
+
+  chunks_idle : (table : ℕ) → Idle w → (o : Option Hosted) → Idle (chunk_names w table o).world
+  chunks_idle table idle None = idle
+  chunks_idle table idle (Some hosted) = down_idle_step w the_store _ idle idle
+
+  call_idle : (c : ℕ) (move : ClientMove) (lucks : List Luck) → Idle w → Idle (call w c move lucks).world
+  call_idle c move lucks idle = same_idle w (call w c move lucks).world (call_tables w c move lucks (client_at w c)) idle
+
+  event_idle : (q : Quiet) → q.held ≡ w.holds → q.sent ≡ map (λ (p : Packet). p.to) w.packets → (event : Event) (lucks : List Luck) → (IsLoud q.loud ≡ false → Idle w)
+      → IsLoud (loud_by q event) ≡ false → Idle (event_step w event lucks).world
+  event_idle q held sent (events.Store number) lucks idle quiet = idle quiet
+  event_idle q held sent (events.Table table schema) lucks idle quiet = declared_idle table schema (first_luck lucks) (idle quiet) (hosted_at w table)
+  event_idle q held sent (events.Client c gate tables) lucks idle quiet = joined_idle c tables (idle quiet) (client_at w c)
+  event_idle q held sent (events.Write c table row x) lucks idle quiet = call_idle c (client.Write table row x) lucks (idle quiet)
+  event_idle q held sent (events.Show c table row) lucks idle quiet = call_idle c (client.Show table row) lucks (idle quiet)
+  event_idle q held sent (events.Sum c table row) lucks idle quiet = call_idle c (client.Sum table row) lucks (idle quiet)
+  event_idle q held sent (events.Sync c table) lucks idle quiet = call_idle c (client.Sync table) lucks (idle quiet)
+  event_idle q held sent (events.Pull c table) lucks idle quiet = call_idle c (client.Next table) lucks (idle quiet)
+  event_idle q held sent (events.Deliver n) lucks idle quiet = delivered_idle q held sent n lucks idle quiet
+  event_idle q held sent (events.StoreShow table row) lucks idle quiet = shows_idle row lucks (idle quiet) (hosted_at w table)
+  event_idle q held sent (events.History table) lucks idle quiet = history_idle table (idle quiet) (hosted_at w table)
+
+  -- ---- what is done to a node
+
+  worked_idle : (lucks : List Luck) → Idle w → (node : Node) → Idle (worked w lucks node).world
+  worked_idle lucks idle (nodes.Store number) = subst (λ (o : Option ℕ). Idle (write_next number (first_luck lucks) o w).world) (sym (busy_none w idle number)) idle
+  worked_idle lucks idle (nodes.Client c) = idle
+  worked_idle lucks idle (nodes.Gate gate) = idle
+
+  -- another Store has nothing to do
+  others_still : (number : ℕ) (lucks : List Luck) → number == owner ≡ false → store_until_idle number lucks w ≡ still w
+  others_still number lucks apart =
+      ap (λ (tables : List ℕ). store_works number (length (flat_map (λ table. hosted_tasks (hosted_at w table)) tables)) lucks w) (no_tables w number apart)
+
+  all_idle_by : (loud : List Node) (node : Node) (lucks : List Luck) → (IsLoud loud ≡ false → Idle w)
+      → IsLoud (if_done (unless_down w node (all_worked w lucks node)).answer (without_node loud node) loud) ≡ false → Idle (unless_down w node (all_worked w lucks node)).world
+  all_idle_by loud node lucks idle = go (is_down w node) node
+    where
+      apart_idle : (x : Node) → same_node the_store x ≡ false → IsLoud (without_node loud x) ≡ false → Idle w
+      apart_idle x apart quiet = idle (sym (without_other loud x apart) ∙ quiet)
+
+      here : (number : ℕ) → number ≡ owner → Idle (store_until_idle number lucks w).world
+      here number same = subst (λ (n : ℕ). Idle (store_until_idle n lucks w).world) (sym same) (until_idle lucks w f)
+
+      elsewhere : (number : ℕ) → number == owner ≡ false → same_node the_store (nodes.Store number) ≡ false
+          → IsLoud (if_done (answering (facts.Number (length (tasks_of w number))) (store_until_idle number lucks w)).answer (without_node loud (nodes.Store number)) loud) ≡ false
+          → Idle (store_until_idle number lucks w).world
+      elsewhere number none apart quiet =
+          let same = others_still number lucks none in
+          subst (λ (m : Moved). Idle m.world) (sym same)
+          (apart_idle (nodes.Store number) apart
+          (subst (λ (m : Moved). IsLoud (if_done (answering (facts.Number (length (tasks_of w number))) m).answer (without_node loud (nodes.Store number)) loud) ≡ false) same quiet))
+
+      go : (b : Bool) (x : Node) → IsLoud (if_done (if b then refused w (facts.NodeDown x) else all_worked w lucks x).answer (without_node loud x) loud) ≡ false
+          → Idle (if b then refused w (facts.NodeDown x) else all_worked w lucks x).world
+      go true x quiet = idle quiet
+      go false (nodes.Client c) quiet = apart_idle (nodes.Client c) refl quiet
+      go false (nodes.Gate gate) quiet = apart_idle (nodes.Gate gate) refl quiet
+      go false (nodes.Store number) quiet = ⊎_elim (λ same. here number same) (λ e. elsewhere number e.0 e.1 quiet) (other_node number)
+
+  crash_idle : (calls : ℕ) (lucks : List Luck) → Idle w → (number : ℕ) → Idle (store_crashes number calls lucks w).world
+  crash_idle calls lucks idle number = ⊎_elim here (λ e. elsewhere e.0) (other_node number)
+    where
+      luck : Luck
+      luck = crash_luck calls (other_lucks lucks) (first_luck lucks)
+
+      here : number ≡ owner → Idle (store_crashes number calls lucks w).world
+      here same = subst (λ (n : ℕ). Idle (store_crashes n calls lucks w).world) (sym same) (fallen_idle (table_crashes luck (busy_table w owner) w).world)
+
+      elsewhere : number == owner ≡ false → Idle (store_crashes number calls lucks w).world
+      elsewhere apart =
+          subst (λ (tables : List ℕ). Idle (and_then (table_crashes luck (find (is_at_work w) tables) w) (store_falls number)).world) (sym (no_tables w number apart))
+          (subst (λ (tables : List ℕ). Idle (and_then (tables_fall tables w) (λ x. still (with_down (nodes.Store number) x))).world) (sym (no_tables w number apart)) idle)
+
+  crashed_idle : (calls : ℕ) (lucks : List Luck) → Idle w → (node : Node) → Idle (crashed w calls lucks node).world
+  crashed_idle calls lucks idle (nodes.Store number) = crash_idle calls lucks idle number
+  crashed_idle calls lucks idle (nodes.Client c) = idle
+  crashed_idle calls lucks idle (nodes.Gate gate) = idle
+
+  started_idle : (q : Quiet) → q.held ≡ w.holds → (lucks : List Luck) → (IsLoud q.loud ≡ false → Idle w) → (node : Node) → IsLoud (comes_to q (Some node)) ≡ false → Idle (started w lucks node).world
+  started_idle q held lucks idle (nodes.Client c) quiet = idle (comes_less q (Some (nodes.Client c)) quiet)
+  started_idle q held lucks idle (nodes.Gate gate) quiet = idle (comes_less q (Some (nodes.Gate gate)) quiet)
+  started_idle q held lucks idle (nodes.Store number) quiet = go (is_down w (nodes.Store number))
+    where
+      rest : Idle w
+      rest = idle (comes_less q (Some (nodes.Store number)) quiet)
+
+      here : number ≡ owner → Idle (store_starts number lucks w).world
+      here same =
+          let there : IsLoud (comes_to q (Some the_store)) ≡ false = subst (λ (n : ℕ). IsLoud (comes_to q (Some (nodes.Store n))) ≡ false) same quiet in
+          subst (λ (n : ℕ). Idle (store_starts n lucks w).world) (sym same) (starts_idle lucks w f (ap (λ (hs : List Node). has_node hs the_store) (sym held) ∙ comes_free q there))
+
+      free_or_not : (b : Bool) → number == owner ≡ false → Idle (if b then still (without_down (nodes.Store number) w) else store_until_idle number lucks (without_down (nodes.Store number) w)).world
+      free_or_not true apart = rest
+      free_or_not false apart =
+          subst (λ (tables : List ℕ). Idle (store_works number (length (flat_map (λ table. hosted_tasks (hosted_at w table)) tables)) lucks (without_down (nodes.Store number) w)).world)
+          (sym (no_tables w number apart)) rest
+
+      elsewhere : number == owner ≡ false → Idle (store_starts number lucks w).world
+      elsewhere apart = stays (tables_of w number) (no_tables w number apart)
+        where
+          stays : (tables : List ℕ) → tables ≡ [] → Idle (if (tables_start tables lucks w).failed then and_then (tables_start tables lucks w) (tables_fall tables)
+              else and_then (tables_start tables lucks w) (λ x. store_follows number (drop (length tables) lucks) (without_down (nodes.Store number) x))).world
+          stays [] none = free_or_not (has_node w.holds (nodes.Store number)) apart
+          stays (t ∷ ts) none = absurd cc
+
+      go : (b : Bool) → Idle (if b then answering facts.Done (store_starts number lucks w) else answered w facts.Done).world
+      go true = ⊎_elim here (λ e. elsewhere e.0) (other_node number)
+      go false = rest
+
+  step_idle : (q : Quiet) → q.held ≡ w.holds → q.sent ≡ map (λ (p : Packet). p.to) w.packets → (deed : Deed) (lucks : List Luck) → (IsLoud q.loud ≡ false → Idle w)
+      → IsLoud (loud_after q deed (step w deed lucks).answer) ≡ false → Idle (step w deed lucks).world
+  step_idle q held sent (Does event) lucks idle quiet = event_idle q held sent event lucks idle quiet
+  step_idle q held sent (Hold node) lucks idle quiet = down_idle_step w node _ (idle quiet) (idle quiet)
+  step_idle q held sent (Free node) lucks idle quiet = down_idle_step w node _ (idle quiet) (idle quiet)
+  step_idle q held sent (Work node) lucks idle quiet = down_idle_step w node _ (idle quiet) (worked_idle lucks (idle quiet) node)
+  step_idle q held sent (WorkAll node) lucks idle quiet = all_idle_by q.loud node lucks idle quiet
+  step_idle q held sent (Crash node calls pick) lucks idle quiet = down_idle_step w node _ (idle quiet) (crashed_idle calls lucks (idle quiet) node)
+  step_idle q held sent (Start node) lucks idle quiet = started_idle q held lucks idle node quiet
+  step_idle q held sent (Chunks table) lucks idle quiet = chunks_idle table (idle quiet) (hosted_at w table)
+
+-- ---- what is followed along the lines
+
+pub record Follows (w : World) (q : Quiet) : Type 0 where
+  pub fine : IsFine w
+  pub held : q.held ≡ w.holds
+  pub sent : q.sent ≡ map (λ (p : Packet). p.to) w.packets
+  pub idle : has_node q.loud the_store ≡ false → Idle w
+
+pub start_follows : Follows start at_first
+start_follows = record { fine = start_fine; held = refl; sent = refl; idle = λ quiet table hosted at. absurd cc }
+
+held_same : (q : Quiet) (w : World) (deed : Deed) (answer : Option Answer) → q.held ≡ w.holds → held_after q deed answer ≡ held_after (holding w) deed answer
+held_same q w (Hold node) answer same = ap (λ (held : List Node). if_done answer (node ∷ held) held) same
+held_same q w (Free node) answer same = ap (λ (held : List Node). if_done answer (without_node held node) held) same
+held_same q w (Does event) answer same = same
+held_same q w (Work node) answer same = same
+held_same q w (WorkAll node) answer same = same
+held_same q w (Crash node calls pick) answer same = same
+held_same q w (Start node) answer same = same
+held_same q w (Chunks table) answer same = same
+
+pub step_follows : (w : World) (q : Quiet) (deed : Deed) (lucks : List Luck) → Follows w q
+    → Follows (step w deed lucks).world (after q (record { deed = deed; lines = lines_of w (step w deed lucks) }))
+step_follows w q deed lucks k =
+    let s : WorldStep = step w deed lucks in
+    let x : Stepped w (holds_by w deed lucks) (schemas_by w deed lucks) s = step_stepped w deed lucks k.fine in
+    let answer = lines_answer w (holds_by w deed lucks) (schemas_by w deed lucks) s x in
+    record {
+      fine = x.fine;
+      held = ap (held_after q deed) answer ∙ (held_same q w deed s.answer k.held ∙ sym x.holds_are);
+      sent = ap (λ (ns : List Node). ns ++ sent_in (lines_of w s)) k.sent
+          ∙ (ap (λ (ns : List Node). map (λ (p : Packet). p.to) w.packets ++ ns) (lines_sent w (holds_by w deed lucks) (schemas_by w deed lucks) s x)
+          ∙ (sym (to_join w.packets (packets_in s.outs)) ∙ ap (λ (ps : List Packet). map (λ (p : Packet). p.to) ps) (sym x.packets)));
+      idle = λ quiet. step_idle w k.fine q k.held k.sent deed lucks k.idle (ap (λ (a : Option Answer). IsLoud (loud_after q deed a)) (sym answer) ∙ quiet);
+    }

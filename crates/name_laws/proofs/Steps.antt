@@ -1,0 +1,368 @@
+-- What each deed keeps of the tables, the packets and the nodes on hold.
+use Rattle.std.proofs.Common.{◌≡◌, ⊎_elim, ℕ, ◌+◌, Bool, true, false, List, [], ◌∷◌, ◌++◌, length, Option, Some, None, refl, sym, ◌∙◌, ap, subst, append-nil}
+use Rattle.std.specs.Prelude.{map, not, slice_get, option_to_list, if◌then◌else◌}
+use Rattle.stab_base.specs.declared.node.Node.{Node}
+use Rattle.stab_base.specs.declared.node.Node.TheVariants as nodes
+use Rattle.row_value.specs.declared.schema.Schema.{Schema}
+use Rattle.table_model.specs.declared.entry.Entry.{Entry}
+use Rattle.table_model.specs.declared.event.Event.{Event}
+use Rattle.table_model.specs.declared.event.Event.TheVariants as events
+use Rattle.step_tables.specs.Facts.{Fact, Answer, Line, AnswerLine, EntryLine, FactLine}
+use Rattle.step_tables.specs.Facts as facts
+use Rattle.step_tables.specs.Messages.{Message, Luck, table_of, name_of}
+use Rattle.step_tables.specs.Messages as messages
+use Rattle.step_tables.specs.StoreMoves as store
+use Rattle.step_tables.specs.StoreMoves.{StoreTask}
+use Rattle.step_tables.specs.ClientMoves as client
+use Rattle.step_tables.specs.ClientMoves.{Client, ClientMove, client_step}
+use Rattle.step_tables.proofs.Lists.{among_get, among_none}
+use Rattle.world_tables.specs.Quiet.{Quiet, sent_in, answer_in, held_after}
+use Rattle.world_tables.specs.World.{World, Packet, Hosted, Outbox, Moved, WorldStep, start, owner, the_store, hosted_at, client_at, without_node, is_down, still, and_then, failing, lines_of}
+use Rattle.world_tables.specs.World.{lines_from, sent_lines}
+use Rattle.world_tables.specs.World.{move_table, move_client, table_step, other_lucks, first_luck, busy_table, busy_step, write_next, tasks_of, store_falls, table_follows, store_until_idle}
+use Rattle.world_tables.specs.World.{store_crashes, store_starts}
+use Rattle.world_tables.specs.World.{Deed, Does, Hold, Free, Work, WorkAll, Crash, Start, Chunks, answering, answered, refused, silent, unless_down, agenda_of, with_table, made_with, declared}
+use Rattle.world_tables.specs.World.{joined, client_follows_from}
+use Rattle.world_tables.specs.World.{call_there, take_read, take_at, to_hosted, to_there, carried, delivered, row_read, row_shown, store_shows, names_on, names_answer, chunk_names}
+use Rattle.world_tables.specs.World.{entry_lines, history_lines, worked, all_worked, crashed, started, event_step, step}
+use Rattle.step_tables.specs.Store.{current_of}
+use Rattle.world_tables.specs.World.{new_client, open_all, schema_at, chunk_in}
+use Rattle.world_laws.proofs.Looks.{look_cases}
+use Rattle.world_laws.proofs.StoreWorks.{AreSilent, store_falls_silent}
+use Rattle.name_laws.proofs.Keys.{insert_keys_rise}
+use Rattle.name_laws.proofs.Plain.{IsPlainFact, ArePlainFacts, IsPlace, IsPlainAgenda, IsWorldly}
+use Rattle.name_laws.proofs.Moves.{IsFineTable, IsFine, packets_in, ArePlainOuts, Went, still_went, then_went, failing_went, table_went, client_went, follows_from_went, store_falls_went}
+use Rattle.name_laws.proofs.Moves.{write_went, store_works_went, table_follows_went, crashes_went, starts_went}
+
+pub record Stepped (w : World) (holds : List Node) (schemas : List (ℕ × Schema)) (s : WorldStep) : Type 0 where
+  pub fine : IsFine s.world
+  pub packets : s.world.packets ≡ w.packets ++ packets_in s.outs
+  pub plain : ArePlainOuts s.outs
+  pub holds_are : s.world.holds ≡ holds
+  pub schemas_are : s.world.schemas ≡ schemas
+  pub counted : (rest : List Line) → sent_in (s.counted ++ rest) ≡ sent_in rest
+  pub unanswered : s.answer ≡ None → (s.counted ≡ []) × (s.outs ≡ [])
+
+-- ---- what the lines say
+
+facts_sent : (some : List Fact) (rest : List Line) → ArePlainFacts some → sent_in (map FactLine some ++ rest) ≡ sent_in rest
+facts_sent [] rest p = refl
+facts_sent (fact ∷ more) rest p = one fact p.0 (facts_sent more rest p.1)
+  where
+    one : (f : Fact) → IsPlainFact f → sent_in (map FactLine more ++ rest) ≡ sent_in rest → sent_in (FactLine f ∷ (map FactLine more ++ rest)) ≡ sent_in rest
+    one (facts.Client f) q later = later
+    one (facts.Redone f) q later = later
+    one (facts.Accepted t e) q later = later
+    one (facts.Forward t e) q later = later
+    one (facts.Back t v) q later = later
+    one (facts.StoreRecovered n t) q later = later
+    one (facts.ClientRecovered c) q later = later
+    one (facts.Sent n a b m) q later = absurd q
+
+packets_sent : (number : ℕ) (packets : List Packet) (rest : List Line) → sent_in (sent_lines number packets ++ rest) ≡ map (λ (p : Packet). p.to) packets ++ sent_in rest
+packets_sent number [] rest = refl
+packets_sent number (p ∷ packets) rest = ap (λ (ns : List Node). p.to ∷ ns) (packets_sent (number + 1) packets rest)
+
+pub to_join : (xs ys : List Packet) → map (λ (p : Packet). p.to) (xs ++ ys) ≡ map (λ (p : Packet). p.to) xs ++ map (λ (p : Packet). p.to) ys
+to_join [] ys = refl
+to_join (x ∷ xs) ys = ap (λ (ns : List Node). x.to ∷ ns) (to_join xs ys)
+
+outs_sent : (number : ℕ) (outs : List Outbox) → ArePlainOuts outs → sent_in (lines_from number outs) ≡ map (λ (p : Packet). p.to) (packets_in outs)
+outs_sent number [] p = refl
+outs_sent number (out ∷ more) p =
+    facts_sent out.facts (sent_lines number out.packets ++ lines_from (number + length out.packets) more) p.0
+    ∙ (packets_sent number out.packets (lines_from (number + length out.packets) more)
+    ∙ (ap (λ (ns : List Node). map (λ (q : Packet). q.to) out.packets ++ ns) (outs_sent (number + length out.packets) more p.1) ∙ sym (to_join out.packets (packets_in more))))
+
+pub lines_sent : (w : World) (holds : List Node) (schemas : List (ℕ × Schema)) (s : WorldStep) → Stepped w holds schemas s → sent_in (lines_of w s) ≡ map (λ (p : Packet). p.to) (packets_in s.outs)
+lines_sent w holds schemas s k = go s.answer
+  where
+    behind : sent_in (s.counted ++ lines_from (length w.packets) s.outs) ≡ map (λ (p : Packet). p.to) (packets_in s.outs)
+    behind = k.counted (lines_from (length w.packets) s.outs) ∙ outs_sent (length w.packets) s.outs k.plain
+
+    go : (a : Option Answer) → sent_in (map AnswerLine (option_to_list a) ++ (s.counted ++ lines_from (length w.packets) s.outs)) ≡ map (λ (p : Packet). p.to) (packets_in s.outs)
+    go None = behind
+    go (Some a) = behind
+
+pub lines_answer : (w : World) (holds : List Node) (schemas : List (ℕ × Schema)) (s : WorldStep) → Stepped w holds schemas s → answer_in (lines_of w s) ≡ s.answer
+lines_answer w holds schemas s k = go s.answer refl
+  where
+    go : (a : Option Answer) → s.answer ≡ a → answer_in (map AnswerLine (option_to_list a) ++ (s.counted ++ lines_from (length w.packets) s.outs)) ≡ s.answer
+    go (Some a) is = sym is
+    go None is =
+        let u = k.unanswered is in
+        ap (λ (ls : List Line). answer_in (ls ++ lines_from (length w.packets) s.outs)) u.0 ∙ (ap (λ (outs : List Outbox). answer_in (lines_from (length w.packets) outs)) u.1 ∙ sym is)
+
+-- ---- an answer to some moves
+
+pub answering_stepped : (w : World) (a : Answer) (m : Moved) → Went w m → Stepped w w.holds w.schemas (answering a m)
+answering_stepped w a m went = record {
+  fine = went.fine;
+  packets = went.packets;
+  plain = went.plain;
+  holds_are = went.holds;
+  schemas_are = went.schemas;
+  counted = λ rest. refl;
+  unanswered = λ none. absurd cc;
+}
+
+answered_stepped : (w : World) (a : Answer) → IsFine w → Stepped w w.holds w.schemas (answered w a)
+answered_stepped w a f = answering_stepped w a (still w) (still_went w f)
+
+down_stepped : (w : World) (node : Node) (s : WorldStep) → IsFine w → Stepped w w.holds w.schemas s → Stepped w w.holds w.schemas (unless_down w node s)
+down_stepped w node s f k = go (is_down w node)
+  where
+    go : (b : Bool) → Stepped w w.holds w.schemas (if b then refused w (facts.NodeDown node) else s)
+    go true = answered_stepped w (facts.Refuses (facts.NodeDown node)) f
+    go false = k
+
+fallen_stepped : (w : World) → IsFine w → Stepped w w.holds w.schemas (answering facts.Done (failing (store_falls owner w)))
+fallen_stepped w f = answering_stepped w facts.Done (failing (store_falls owner w)) (failing_went w (store_falls owner w) (store_falls_went owner w f))
+
+-- ---- events
+
+call_stepped : (w : World) (c : ℕ) (move : ClientMove) (lucks : List Luck) → IsWorldly move → IsFine w → (o : Option Client) → Stepped w w.holds w.schemas (call_there w c move lucks o)
+call_stepped w c move lucks worldly f None = answered_stepped w (facts.Refuses facts.NoTable) f
+call_stepped w c move lucks worldly f (Some node) =
+    let m : Moved = move_client c move w in
+    down_stepped w (nodes.Client c) _ f (answering_stepped w (client_step c node move).answer (and_then m (client_follows_from node.agenda c lucks))
+    (then_went w m (client_follows_from node.agenda c lucks) (client_went w c move worldly f) (λ x. follows_from_went node.agenda c lucks m.world x)))
+
+hosted_stepped : (w : World) (table : ℕ) (from : Node) (m : Message) (lucks : List Luck) → IsPlace from → IsFine w → (o : Option Hosted)
+    → Stepped w w.holds w.schemas (to_hosted w table (store.Take from m) lucks o)
+hosted_stepped w table from m lucks place f None = answered_stepped w facts.Done f
+hosted_stepped w table from m lucks place f (Some hosted) = go hosted.store.agenda
+  where
+    first : Moved
+    first = move_table table (store.Take from m) w
+
+    went : Went w first
+    went = table_went w table (store.Take from m) place f
+
+    alone : Stepped w w.holds w.schemas (answering (table_step w table hosted (store.Take from m)).answer first)
+    alone = answering_stepped w (table_step w table hosted (store.Take from m)).answer first went
+
+    reads : (luck : Luck) → Stepped w w.holds w.schemas (take_read w table hosted (store.Take from m) (other_lucks lucks) luck)
+    reads messages.FailedBefore = fallen_stepped w f
+    reads messages.FailedAfter = fallen_stepped w f
+    reads messages.Done = answering_stepped w (table_step w table hosted (store.Take from m)).answer (and_then first (table_follows table (other_lucks lucks)))
+        (then_went w first (table_follows table (other_lucks lucks)) went (λ x. table_follows_went table (other_lucks lucks) first.world x))
+
+    go : (o : Option (List StoreTask)) → Stepped w w.holds w.schemas (take_at w table hosted (store.Take from m) lucks o)
+    go None = alone
+    go (Some (task ∷ more)) = alone
+    go (Some []) = reads (first_luck lucks)
+
+carried_stepped : (w : World) (p : Packet) (lucks : List Luck) → IsPlace p.from → IsFine w → (to : Node) → Stepped w w.holds w.schemas (carried w p lucks to)
+carried_stepped w p lucks place f (nodes.Store number) =
+    down_stepped w (nodes.Store number) _ f (hosted_stepped w (table_of p.message) p.from p.message lucks place f (hosted_at w (table_of p.message)))
+carried_stepped w p lucks place f (nodes.Gate gate) = answered_stepped w facts.Done f
+carried_stepped w p lucks place f (nodes.Client c) = go (client_at w c)
+  where
+    go : (o : Option Client) → Stepped w w.holds w.schemas (to_there w c p.message lucks o)
+    go None = answered_stepped w facts.Done f
+    go (Some node) = call_stepped w c (client.Take p.message) lucks tt f (Some node)
+
+delivered_stepped : (w : World) (n : ℕ) (lucks : List Luck) → IsFine w → (o : Option Packet) → slice_get w.packets n ≡ o → Stepped w w.holds w.schemas (delivered w lucks o)
+delivered_stepped w n lucks f None at = answered_stepped w (facts.Refuses (facts.NoPacket (length w.packets))) f
+delivered_stepped w n lucks f (Some p) at = carried_stepped w p lucks (f.places p (among_get w.packets n p at)).0 f p.to
+
+shows_stepped : (w : World) (row : List ℕ) (lucks : List Luck) → IsFine w → (o : Option Hosted) → Stepped w w.holds w.schemas (store_shows w row lucks o)
+shows_stepped w row lucks f None = answered_stepped w (facts.Refuses facts.NoTable) f
+shows_stepped w row lucks f (Some hosted) = down_stepped w the_store _ f (read (first_luck lucks))
+  where
+    read : (luck : Luck) → Stepped w w.holds w.schemas (row_read w hosted row luck)
+    read messages.Done = answered_stepped w (row_shown (current_of hosted.store.disk.items row)) f
+    read messages.FailedBefore = fallen_stepped w f
+    read messages.FailedAfter = fallen_stepped w f
+
+entries_sent : (table : ℕ) (history : List Entry) (rest : List Line) → sent_in (entry_lines table history ++ rest) ≡ sent_in rest
+entries_sent table [] rest = refl
+entries_sent table (e ∷ es) rest = entries_sent table es rest
+
+history_stepped : (w : World) (table : ℕ) → IsFine w → (o : Option Hosted) → Stepped w w.holds w.schemas (history_lines w table o)
+history_stepped w table f None = answered_stepped w (facts.Refuses facts.NoTable) f
+history_stepped w table f (Some hosted) = record {
+  fine = f;
+  packets = sym (append-nil w.packets);
+  plain = tt;
+  holds_are = refl;
+  schemas_are = refl;
+  counted = λ rest. entries_sent table hosted.history rest;
+  unanswered = λ none. absurd cc;
+}
+
+silent_stepped : (w x : World) → IsFine x → x.packets ≡ w.packets → x.holds ≡ w.holds → Stepped w w.holds x.schemas (silent x)
+silent_stepped w x f packets holds = record {
+  fine = f;
+  packets = packets ∙ sym (append-nil w.packets);
+  plain = tt;
+  holds_are = holds;
+  schemas_are = refl;
+  counted = λ rest. refl;
+  unanswered = λ none. (refl, refl);
+}
+
+pub with_table_fine : (w : World) (table : ℕ) (schema : Schema) (made up : Bool) → IsFine w → IsFine (with_table w table schema made up)
+with_table_fine w table schema made up f = record {
+  keys = insert_keys_rise w.tables table new f.keys;
+  tables = λ q x at. ⊎_elim
+      (λ e. let both : Some new ≡ Some x = sym e.1 ∙ at in let same : new ≡ x = cc in subst (λ (y : Hosted). IsFineTable y.store) same (new_fine up))
+      (λ e. f.tables q x (sym e.1 ∙ at)) (look_cases w.tables table new q);
+  clients = f.clients;
+  places = f.places;
+}
+  where
+    new : Hosted
+    new = record { store = record { disk = record { items = []; pending = None; left = [] }; agenda = agenda_of up }; history = []; made = made }
+
+    new_fine : (b : Bool) → IsFineTable (record { disk = record { items = []; pending = None; left = [] }; agenda = agenda_of b })
+    new_fine true = record { clean = refl; writes = tt }
+    new_fine false = record { clean = λ none. refl; writes = tt }
+
+no_packets : (outs : List Outbox) → AreSilent outs → packets_in outs ≡ []
+no_packets [] a = refl
+no_packets (out ∷ more) a = ap (λ (ps : List Packet). ps ++ packets_in more) a.1 ∙ no_packets more a.2
+
+declared_stepped : (w : World) (table : ℕ) (schema : Schema) (luck : Luck) → IsFine w → (o : Option Hosted)
+    → Stepped w w.holds (declared w table schema luck o).schemas (silent (declared w table schema luck o))
+declared_stepped w table schema luck f (Some hosted) = silent_stepped w w f refl refl
+declared_stepped w table schema luck f None = go luck
+  where
+    x : World
+    x = with_table w table schema false false
+
+    fell : Went x (store_falls owner x)
+    fell = store_falls_went owner x (with_table_fine w table schema false false f)
+
+    fallen : Stepped w w.holds (store_falls owner x).world.schemas (silent (store_falls owner x).world)
+    fallen = silent_stepped w (store_falls owner x).world fell.fine
+        (fell.packets ∙ (ap (λ (ps : List Packet). w.packets ++ ps) (no_packets (store_falls owner x).outs (store_falls_silent owner x)) ∙ append-nil w.packets)) fell.holds
+
+    go : (l : Luck) → Stepped w w.holds (made_with w table schema l).schemas (silent (made_with w table schema l))
+    go messages.Done = silent_stepped w (with_table w table schema true (not (is_down w the_store))) (with_table_fine w table schema true (not (is_down w the_store)) f) refl refl
+    go messages.FailedBefore = fallen
+    go messages.FailedAfter = fallen
+
+joined_stepped : (w : World) (c : ℕ) (tables : List ℕ) → IsFine w → (o : Option Client) → Stepped w w.holds w.schemas (silent (joined w c tables o))
+joined_stepped w c tables f (Some node) = silent_stepped w w f refl refl
+joined_stepped w c tables f None = silent_stepped w (joined w c tables None) (record {
+  keys = f.keys;
+  tables = f.tables;
+  clients = λ q x at. ⊎_elim
+      (λ e. let both : Some new ≡ Some x = sym e.1 ∙ at in let same : new ≡ x = cc in subst (λ (y : Client). IsPlainAgenda y.agenda) same tt)
+      (λ e. f.clients q x (sym e.1 ∙ at)) (look_cases w.clients c new q);
+  places = f.places;
+}) refl refl
+  where
+    new : Client
+    new = new_client (open_all w [] tables)
+
+-- the schemas behind an event
+abbrev pub schemas_of : World → Event → List Luck → List (ℕ × Schema)
+schemas_of w (events.Table table schema) lucks = (declared w table schema (first_luck lucks) (hosted_at w table)).schemas
+schemas_of w other lucks = w.schemas
+
+event_stepped : (w : World) (event : Event) (lucks : List Luck) → IsFine w → Stepped w w.holds (schemas_of w event lucks) (event_step w event lucks)
+event_stepped w (events.Store number) lucks f = silent_stepped w w f refl refl
+event_stepped w (events.Table table schema) lucks f = declared_stepped w table schema (first_luck lucks) f (hosted_at w table)
+event_stepped w (events.Client c gate tables) lucks f = joined_stepped w c tables f (client_at w c)
+event_stepped w (events.Write c table row x) lucks f = call_stepped w c (client.Write table row x) lucks tt f (client_at w c)
+event_stepped w (events.Show c table row) lucks f = call_stepped w c (client.Show table row) lucks tt f (client_at w c)
+event_stepped w (events.Sum c table row) lucks f = call_stepped w c (client.Sum table row) lucks tt f (client_at w c)
+event_stepped w (events.Sync c table) lucks f = call_stepped w c (client.Sync table) lucks tt f (client_at w c)
+event_stepped w (events.Pull c table) lucks f = call_stepped w c (client.Next table) lucks tt f (client_at w c)
+event_stepped w (events.Deliver n) lucks f = delivered_stepped w n lucks f (slice_get w.packets n) refl
+event_stepped w (events.StoreShow table row) lucks f = shows_stepped w row lucks f (hosted_at w table)
+event_stepped w (events.History table) lucks f = history_stepped w table f (hosted_at w table)
+
+-- ---- what is done to a node
+
+worked_stepped : (w : World) (lucks : List Luck) → IsFine w → (node : Node) → Stepped w w.holds w.schemas (worked w lucks node)
+worked_stepped w lucks f (nodes.Store number) =
+    let busy : Option ℕ = busy_table w number in
+    answering_stepped w (facts.Did (busy_step w busy)) (write_next number (first_luck lucks) busy w) (write_went number (first_luck lucks) busy w f)
+worked_stepped w lucks f (nodes.Client c) = answered_stepped w _ f
+worked_stepped w lucks f (nodes.Gate gate) = answered_stepped w _ f
+
+all_worked_stepped : (w : World) (lucks : List Luck) → IsFine w → (node : Node) → Stepped w w.holds w.schemas (all_worked w lucks node)
+all_worked_stepped w lucks f (nodes.Store number) =
+    answering_stepped w (facts.Number (length (tasks_of w number))) (store_until_idle number lucks w) (store_works_went number (length (tasks_of w number)) lucks w f)
+all_worked_stepped w lucks f (nodes.Client c) = answered_stepped w _ f
+all_worked_stepped w lucks f (nodes.Gate gate) = answered_stepped w _ f
+
+crashed_stepped : (w : World) (calls : ℕ) (lucks : List Luck) → IsFine w → (node : Node) → Stepped w w.holds w.schemas (crashed w calls lucks node)
+crashed_stepped w calls lucks f (nodes.Store number) = answering_stepped w facts.Done (store_crashes number calls lucks w) (crashes_went number calls lucks w f)
+crashed_stepped w calls lucks f (nodes.Client c) = answered_stepped w _ f
+crashed_stepped w calls lucks f (nodes.Gate gate) = answered_stepped w _ f
+
+started_stepped : (w : World) (lucks : List Luck) → IsFine w → (node : Node) → Stepped w w.holds w.schemas (started w lucks node)
+started_stepped w lucks f (nodes.Store number) = go (is_down w (nodes.Store number))
+  where
+    go : (b : Bool) → Stepped w w.holds w.schemas (if b then answering facts.Done (store_starts number lucks w) else answered w facts.Done)
+    go true = answering_stepped w facts.Done (store_starts number lucks w) (starts_went number lucks w f)
+    go false = answered_stepped w facts.Done f
+started_stepped w lucks f (nodes.Client c) = answered_stepped w _ f
+started_stepped w lucks f (nodes.Gate gate) = answered_stepped w _ f
+
+chunks_stepped : (w : World) (table : ℕ) → IsFine w → (o : Option Hosted) → Stepped w w.holds w.schemas (chunk_names w table o)
+chunks_stepped w table f None = answered_stepped w (facts.Refuses facts.NoTable) f
+chunks_stepped w table f (Some hosted) = down_stepped w the_store _ f (answered_stepped w (names_answer (names_on (chunk_in (schema_at w table)) hosted.store.disk)) f)
+
+-- the nodes on hold
+abbrev pub with_holds : World → List Node → World
+with_holds w holds = record w { holds = holds }
+
+holds_stepped : (w : World) (holds : List Node) → IsFine w → Stepped w holds w.schemas (answered (with_holds w holds) facts.Done)
+holds_stepped w holds f = record {
+  fine = record { keys = f.keys; tables = f.tables; clients = f.clients; places = f.places };
+  packets = sym (append-nil w.packets);
+  plain = tt;
+  holds_are = refl;
+  schemas_are = refl;
+  counted = λ rest. refl;
+  unanswered = λ none. absurd cc;
+}
+
+-- the nodes that are on hold alone
+abbrev pub holding : World → Quiet
+holding w = record { held = w.holds; loud = []; sent = [] }
+
+-- the nodes on hold behind a deed
+abbrev pub holds_by : World → Deed → List Luck → List Node
+holds_by w deed lucks = held_after (holding w) deed (step w deed lucks).answer
+
+held_stepped : (w : World) (node : Node) (lucks : List Luck) → IsFine w → Stepped w (holds_by w (Hold node) lucks) w.schemas (step w (Hold node) lucks)
+held_stepped w node lucks f = go (is_down w node)
+  where
+    go : (b : Bool)
+        → Stepped w (held_after (holding w) (Hold node) (if b then refused w (facts.NodeDown node) else answered (with_holds w (node ∷ w.holds)) facts.Done).answer) w.schemas
+        (if b then refused w (facts.NodeDown node) else answered (with_holds w (node ∷ w.holds)) facts.Done)
+    go true = answered_stepped w (facts.Refuses (facts.NodeDown node)) f
+    go false = holds_stepped w (node ∷ w.holds) f
+
+freed_stepped : (w : World) (node : Node) (lucks : List Luck) → IsFine w → Stepped w (holds_by w (Free node) lucks) w.schemas (step w (Free node) lucks)
+freed_stepped w node lucks f = go (is_down w node)
+  where
+    go : (b : Bool)
+        → Stepped w (held_after (holding w) (Free node) (if b then refused w (facts.NodeDown node) else answered (with_holds w (without_node w.holds node)) facts.Done).answer) w.schemas
+        (if b then refused w (facts.NodeDown node) else answered (with_holds w (without_node w.holds node)) facts.Done)
+    go true = answered_stepped w (facts.Refuses (facts.NodeDown node)) f
+    go false = holds_stepped w (without_node w.holds node) f
+
+abbrev pub schemas_by : World → Deed → List Luck → List (ℕ × Schema)
+schemas_by w (Does event) lucks = schemas_of w event lucks
+schemas_by w other lucks = w.schemas
+
+pub step_stepped : (w : World) (deed : Deed) (lucks : List Luck) → IsFine w → Stepped w (holds_by w deed lucks) (schemas_by w deed lucks) (step w deed lucks)
+step_stepped w (Does event) lucks f = event_stepped w event lucks f
+step_stepped w (Hold node) lucks f = held_stepped w node lucks f
+step_stepped w (Free node) lucks f = freed_stepped w node lucks f
+step_stepped w (Work node) lucks f = down_stepped w node _ f (worked_stepped w lucks f node)
+step_stepped w (WorkAll node) lucks f = down_stepped w node _ f (all_worked_stepped w lucks f node)
+step_stepped w (Crash node calls pick) lucks f = down_stepped w node _ f (crashed_stepped w calls lucks f node)
+step_stepped w (Start node) lucks f = started_stepped w lucks f node
+step_stepped w (Chunks table) lucks f = chunks_stepped w table f (hosted_at w table)
+
+pub start_fine : IsFine start
+start_fine = record { keys = tt; tables = λ q x at. absurd cc; clients = λ q x at. absurd cc; places = λ p a. absurd (among_none p a) }

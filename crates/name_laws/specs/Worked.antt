@@ -1,0 +1,90 @@
+-- Worked scripts of an object in place of another, whose drop of a chunk crashes or fails, with what they write.
+use Rattle.std.specs.Prelude.{List, [], ◌∷◌, ◌++◌}
+use Rattle.stab_base.specs.declared.chunk_name.ChunkName.{ChunkName}
+use Rattle.stab_base.specs.declared.node.Node.TheVariants as nodes
+use Rattle.stab_base.specs.declared.step.Step.TheVariants as steps
+use Rattle.table_model.specs.declared.event.Event.TheVariants as events
+use Rattle.table_model.specs.declared.message_name.MessageName.TheVariants as names
+use Rattle.step_tables.specs.Facts.{AnswerLine}
+use Rattle.step_tables.specs.Facts as facts
+use Rattle.step_tables.specs.Messages as lucks
+use Rattle.world_tables.specs.World.{the_store, Does, Hold, Work, WorkAll, Crash, Start, Chunks}
+use Rattle.world_tables.specs.Turns.{Turn, Happening}
+use Rattle.world_laws.specs.Worked.{the_row, happens, turn, told, wrote_content, accepted, sent, pictures}
+use Rattle.world_laws.specs.Worked.{object, named}
+use Rattle.world_laws.specs.WorkedCrashes.{done, done_so, turn_of, did, forward, recovered, sends, sends_written}
+
+-- a second object that has the first one's first chunk is asked for
+abbrev pub replaces : List Happening
+replaces =
+    sends pictures (object 65)
+    ++ happens (events.Deliver 0)
+    ∷ happens (events.Deliver 1)
+    ∷ happens (events.Write 1 1 the_row (object 130))
+    ∷ happens (events.Sync 1 1)
+    ∷ []
+
+abbrev pub replaces_written : List Turn
+replaces_written =
+    sends_written pictures (object 65)
+    ++ turn (events.Deliver 0) (AnswerLine facts.Done ∷ accepted 1 1 1 0
+    ∷ sent 1 the_store (nodes.Client 1) names.SyncResponse ∷ [])
+    ∷ turn (events.Deliver 1) (AnswerLine facts.Done ∷ told (facts.Acked 1 1 1 the_row 1) ∷ [])
+    ∷ turn (events.Write 1 1 the_row (object 130)) (AnswerLine (facts.Number 2)
+    ∷ told (wrote_content 1 2 1 (object 130)) ∷ [])
+    ∷ turn (events.Sync 1 1) (AnswerLine (facts.Number 1) ∷ sent 2 (nodes.Client 1) the_store names.SyncRequest ∷ [])
+    ∷ []
+
+-- the drop of the other one is undone by a crash
+abbrev pub replaced : List Happening
+replaced =
+    replaces
+    ++ done (Hold the_store)
+    ∷ happens (events.Deliver 2)
+    ∷ done (Work the_store)
+    ∷ done (Work the_store)
+    ∷ done (Work the_store)
+    ∷ done (Work the_store)
+    ∷ done (Crash the_store 1 0)
+    ∷ done (Start the_store)
+    ∷ done (Chunks 1)
+    ∷ done (WorkAll the_store)
+    ∷ done (Chunks 1)
+    ∷ []
+
+-- behind the start, where the Store isn't quiet, the chunk that was to be dropped is there; these are listed at the end
+abbrev pub replaced_written : List ChunkName → List Turn
+replaced_written listed =
+    replaces_written
+    ++ turn_of (Hold the_store) (AnswerLine facts.Done ∷ [])
+    ∷ turn (events.Deliver 2) (AnswerLine facts.Done ∷ [])
+    ∷ did steps.LogOpen
+    ∷ did steps.ChunkPut
+    ∷ did steps.ChunkPut
+    ∷ turn_of (Work the_store) (AnswerLine (facts.Did steps.RowPut) ∷ accepted 2 1 2 1 ∷ [])
+    ∷ turn_of (Crash the_store 1 0) (AnswerLine facts.Done ∷ [])
+    ∷ turn_of (Start the_store) (AnswerLine facts.Done ∷ forward 2 1 2 1 ∷ [])
+    ∷ turn_of (Chunks 1) (AnswerLine (facts.Names (named 1 0 ∷ named 1 1 ∷ named 2 0 ∷ named 2 1 ∷ [])) ∷ [])
+    ∷ turn_of (WorkAll the_store) (AnswerLine (facts.Number 5) ∷ recovered ∷ [])
+    ∷ turn_of (Chunks 1) (AnswerLine (facts.Names listed) ∷ [])
+    ∷ []
+
+-- the Store isn't on hold, and the drop fails: behind what it reads, four writes are done
+abbrev pub failed_drop : List Happening
+failed_drop =
+    replaces
+    ++ done_so (lucks.Done ∷ lucks.Done ∷ lucks.Done ∷ lucks.Done ∷ lucks.Done ∷ lucks.FailedBefore ∷ [])
+    (Does (events.Deliver 2))
+    ∷ done (Chunks 1)
+    ∷ done (Start the_store)
+    ∷ done (Chunks 1)
+    ∷ []
+
+abbrev pub failed_drop_written : List ChunkName → List Turn
+failed_drop_written listed =
+    replaces_written
+    ++ turn (events.Deliver 2) (AnswerLine (facts.Refuses facts.NoDevice) ∷ accepted 2 1 2 1 ∷ [])
+    ∷ turn_of (Chunks 1) (AnswerLine (facts.Refuses (facts.NodeDown the_store)) ∷ [])
+    ∷ turn_of (Start the_store) (AnswerLine facts.Done ∷ forward 2 1 2 1 ∷ recovered ∷ [])
+    ∷ turn_of (Chunks 1) (AnswerLine (facts.Names listed) ∷ [])
+    ∷ []

@@ -1,0 +1,52 @@
+-- The messages of the program as those of the tables by moves.
+use Rattle.std.specs.Prelude.{option_map}
+use Rattle.step_tables.specs.declared.message.Message.{Message}
+use Rattle.step_tables.specs.declared.message.Message.TheVariants as kinds
+use Rattle.step_tables.specs.declared.message.Outcome.{Outcome}
+use Rattle.step_tables.specs.declared.message.Outcome.TheVariants as outcomes
+use Rattle.step_tables.specs.declared.message.PullResponse.{PullResponse}
+use Rattle.step_tables.specs.declared.message.RowHeader.{RowHeader}
+use Rattle.step_tables.specs.Messages as messages
+
+abbrev pub outcome_of : Outcome → messages.Outcome
+outcome_of (outcomes.Accepted version) = messages.Accepted version
+outcome_of (outcomes.Again version) = messages.Again version
+outcome_of (outcomes.Late last) = messages.Late last
+
+abbrev pub header_of : RowHeader → messages.Header
+header_of h = record {
+  row = h.row;
+  version = h.version;
+  yours = record { number = h.yours.number; version = h.yours.version };
+  content = h.content;
+}
+
+abbrev pub pulled_of : PullResponse → messages.Pulled
+pulled_of q = record {
+  client = q.client;
+  table = q.table;
+  from = q.from;
+  to = q.to;
+  latest = q.latest;
+  header = option_map header_of q.header;
+}
+
+abbrev pub message_of : Message → messages.Message
+message_of (kinds.SyncRequest q) = messages.SyncRequest (record {
+  client = q.client;
+  table = q.table;
+  row = q.row;
+  number = q.number;
+  base = q.base;
+  content = q.content;
+})
+message_of (kinds.SyncResponse r) = messages.SyncResponse (record {
+  client = r.client;
+  table = r.table;
+  row = r.row;
+  number = r.number;
+  outcome = outcome_of r.outcome;
+})
+message_of (kinds.PullRequest q) =
+    messages.PullRequest (record { client = q.client; table = q.table; position = q.position })
+message_of (kinds.PullResponse q) = messages.PullResponse (pulled_of q)

@@ -1,0 +1,511 @@
+-- Where the Store isn't down, each of its tables is up.
+use Rattle.std.proofs.Common.{◌≡◌, ◌≢◌, ◌⊎◌, inl, inr, ℕ, zero, suc, Bool, true, false, List, [], ◌∷◌, length, Option, Some, None, refl, sym, ap, ◌∙◌, subst, arith, ⊎_elim, true≢false}
+use Rattle.std.specs.Prelude.{◌==◌, ◌||◌, not, nat_lt, drop, slice_get, if◌then◌else◌}
+use Rattle.std.specs.List.{find}
+use Rattle.std.proofs.lemmas.Bool.Decides.{nat_tests}
+use Rattle.std.specs.Ordering.{nat_cmp}
+use Rattle.std.specs.Cmp.{unsigned_tied}
+use Rattle.std.specs.Map.{lookup, keys_of}
+use Rattle.std.specs.BTreeMap.{is_at}
+use Rattle.stab_base.specs.declared.node.Node.{Node}
+use Rattle.stab_base.specs.declared.node.Node.TheVariants as nodes
+use Rattle.row_value.specs.declared.schema.Schema.{Schema}
+use Rattle.row_value.specs.declared.schema.Scheme.{Scheme}
+use Rattle.table_model.specs.declared.event.Event.{Event}
+use Rattle.table_model.specs.declared.event.Event.TheVariants as events
+use Rattle.step_tables.specs.Store.{Stored, current_of}
+use Rattle.step_tables.specs.Facts as facts
+use Rattle.step_tables.specs.Members.{Among}
+use Rattle.step_tables.specs.Messages.{Request, Pair, Message, Luck, SyncRequest, SyncResponse, PullRequest, PullResponse, table_of}
+use Rattle.step_tables.specs.Messages as messages
+use Rattle.step_tables.specs.StoreMoves as store
+use Rattle.step_tables.specs.StoreMoves.{StoreDisk, StoreTask, StoreMove, StoreStep}
+use Rattle.step_tables.specs.ClientMoves as client
+use Rattle.step_tables.specs.ClientMoves.{Client, ClientTask, ClientMove}
+use Rattle.step_tables.proofs.Lists.{among_none, among_cons, among_here, among_next}
+use Rattle.world_tables.specs.World.{World, Packet, Hosted, Moved, WorldStep, start, schema_at, hosted_at, client_at, scheme_in, chunk_in, owner, the_store, tables_of, same_node, has_node, without_node, is_down, still, and_then, and_unless, is_fault}
+use Rattle.world_tables.specs.World.{history_on, after_table, table_step, move_hosted, move_table, move_there, move_client, first_luck, other_lucks, client_works, client_tasks, client_follows}
+use Rattle.world_tables.specs.World.{tables_fall, with_down, without_down, store_falls, or_falls, is_at_work, busy_table, write_next, store_works, tasks_of, store_until_idle, store_follows, table_follows}
+use Rattle.world_tables.specs.World.{declared_late, start_hosted, table_starts, tables_start, store_starts, crash_luck, table_crashes, store_crashes}
+use Rattle.world_tables.specs.World.{Deed, Does, Hold, Free, Work, WorkAll, Crash, Start, Chunks, answering, answered, refused, unless_down, agenda_of, with_table, declared, joined, gets_tasks}
+use Rattle.world_tables.specs.World.{call_there, take_read, take_at, to_hosted, to_there, carried, delivered, row_read, store_shows, chunk_names, history_lines, worked, all_worked, crashed, started, event_step, step}
+use Rattle.world_laws.proofs.Looks.{look_cases}
+
+abbrev pub IsUpAt : Option (List StoreTask) → Type 0
+IsUpAt o = (agenda : List StoreTask) × (o ≡ Some agenda)
+
+abbrev pub AllUp : World → Type 0
+AllUp w = (table : ℕ) (hosted : Hosted) → hosted_at w table ≡ Some hosted → IsUpAt hosted.store.agenda
+
+abbrev pub IsUp : World → Type 0
+IsUp w = is_down w the_store ≡ false → AllUp w
+
+pub start_up : IsUp start
+start_up up table hosted at = absurd cc
+
+-- ---- a table's moves
+
+module _ (x : Scheme) (size table : ℕ) (d : StoreDisk) where
+  judged_up : (from : Node) (q : Request) (current : ℕ) → IsUpAt (store.judged x size table d from q current).store.agenda
+  judged_up from q current = go (store.takes x q.base current)
+    where
+      go : (b : Bool) → IsUpAt (if b then store.quiet d (Some (store.accepting size table d.items from q (store.item_for d.items q))) facts.Done
+          else store.sending d (store.responded from q (store.outdated x current) ∷ [])).store.agenda
+      go true = (_, refl)
+      go false = ([], refl)
+
+  decided_up : (from : Node) (q : Request) (yours : Pair) → IsUpAt (store.decided x size table d from q yours).store.agenda
+  decided_up from q yours = go (yours.number == q.number) (nat_lt q.number yours.number)
+    where
+      go : (a b : Bool) → IsUpAt (if a then store.sending d (store.responded from q (messages.Again yours.version) ∷ [])
+          else (if b then store.sending d (store.responded from q (messages.Late yours.number) ∷ [])
+          else store.judged x size table d from q (store.version_of (current_of d.items q.row)))).store.agenda
+      go true b = ([], refl)
+      go false true = ([], refl)
+      go false false = judged_up from q (store.version_of (current_of d.items q.row))
+
+  taken_up : (agenda : List StoreTask) (from : Node) (m : Message) → IsUpAt (store.taken x size table d (Some agenda) from m).store.agenda
+  taken_up (task ∷ more) from m = (task ∷ more, refl)
+  taken_up [] from (SyncRequest q) = decided_up from q (store.yours_in d.items q.client q.row)
+  taken_up [] from (PullRequest q) = ([], refl)
+  taken_up [] from (SyncResponse q) = ([], refl)
+  taken_up [] from (PullResponse q) = ([], refl)
+
+  worked_up : (agenda : List StoreTask) (luck : Luck) → is_fault (store.worked d (Some agenda) luck).answer ≡ false → IsUpAt (store.worked d (Some agenda) luck).store.agenda
+  worked_up [] messages.Done fine = ([], refl)
+  worked_up (task ∷ more) messages.Done fine = (more, refl)
+  worked_up agenda messages.FailedBefore fine = absurd cc
+  worked_up agenda messages.FailedAfter fine = absurd cc
+
+  taken_at : (o : Option (List StoreTask)) → IsUpAt o → (from : Node) (m : Message) → IsUpAt (store.taken x size table d o from m).store.agenda
+  taken_at None up from m = absurd (let e = up.1 in cc)
+  taken_at (Some agenda) up from m = taken_up agenda from m
+
+  worked_at : (o : Option (List StoreTask)) → IsUpAt o → (luck : Luck) → is_fault (store.worked d o luck).answer ≡ false → IsUpAt (store.worked d o luck).store.agenda
+  worked_at None up luck fine = absurd (let e = up.1 in cc)
+  worked_at (Some agenda) up luck fine = worked_up agenda luck fine
+
+  -- a table that is started is up
+  started_at : (o : Option (List StoreTask)) → IsUpAt (store.started owner table d o).store.agenda
+  started_at (Some agenda) = (agenda, refl)
+  started_at None = recover d.pending
+    where
+      found : (pending : Stored) (i : Option Stored) → IsUpAt (store.recovered owner table d pending i).store.agenda
+      found pending None = (_, refl)
+      found pending (Some i) = (_, refl)
+
+      recover : (o : Option Stored) → IsUpAt (store.recover owner table d o).store.agenda
+      recover None = (_, refl)
+      recover (Some pending) = found pending (store.item_at pending.entry.version d.items)
+
+-- behind a step of a table
+after_up : (w : World) (table : ℕ) (hosted : Hosted) (s : StoreStep) → IsUpAt s.store.agenda → (q : ℕ) (found : Hosted) → hosted_at (after_table w table hosted s).world q ≡ Some found
+    → IsUpAt found.store.agenda ⊎ ((q ≢ table) × (hosted_at w q ≡ Some found))
+after_up w table hosted s up q found at = ⊎_elim
+    (λ e. let both : Some new ≡ Some found = sym e.1 ∙ at in let same : new ≡ found = cc in inl (subst (λ (y : Hosted). IsUpAt y.store.agenda) same up))
+    (λ e. inr (e.0, sym e.1 ∙ at)) (look_cases w.tables table new q)
+  where
+    new : Hosted
+    new = record { store = s.store; history = history_on hosted.history s.facts; made = hosted.made }
+
+-- the moves of tables and clients change nothing of what is down
+move_downs : (w : World) (table : ℕ) (move : StoreMove) → (move_table table move w).world.downs ≡ w.downs
+move_downs w table move = go (hosted_at w table)
+  where
+    go : (o : Option Hosted) → (move_hosted w table move o).world.downs ≡ w.downs
+    go None = refl
+    go (Some hosted) = refl
+
+falls_downs : (tables : List ℕ) (w : World) → (tables_fall tables w).world.downs ≡ w.downs
+falls_downs [] w = refl
+falls_downs (table ∷ tables) w = falls_downs tables (move_table table (store.Crash messages.FailedBefore) w).world ∙ move_downs w table (store.Crash messages.FailedBefore)
+
+move_up : (w : World) (table : ℕ) (move : StoreMove)
+    → ((hosted : Hosted) → hosted_at w table ≡ Some hosted → IsUpAt hosted.store.agenda → IsUpAt (table_step w table hosted move).store.agenda) → IsUp w → IsUp (move_table table move w).world
+move_up w table move f up is = go (hosted_at w table) refl
+  where
+    all : AllUp w
+    all = up (ap (λ (downs : List Node). has_node downs the_store) (sym (move_downs w table move)) ∙ is)
+
+    go : (o : Option Hosted) → hosted_at w table ≡ o → AllUp (move_hosted w table move o).world
+    go None at = all
+    go (Some hosted) at = λ q found there. ⊎_elim (λ e. e) (λ e. all q found e.1)
+        (after_up w table hosted (table_step w table hosted move) (f hosted at (all table hosted at)) q found there)
+
+take_up : (w : World) (table : ℕ) (from : Node) (m : Message) → IsUp w → IsUp (move_table table (store.Take from m) w).world
+take_up w table from m up = move_up w table (store.Take from m)
+    (λ hosted at is. taken_at (scheme_in (schema_at w table)) (chunk_in (schema_at w table)) table hosted.store.disk hosted.store.agenda is from m) up
+
+work_up : (w : World) (table : ℕ) (luck : Luck) → (move_table table (store.Work luck) w).failed ≡ false → IsUp w → IsUp (move_table table (store.Work luck) w).world
+work_up w table luck fine up = move_up w table (store.Work luck)
+    (λ hosted at is. worked_at (scheme_in (schema_at w table)) (chunk_in (schema_at w table)) table hosted.store.disk hosted.store.agenda is luck
+    (subst (λ (o : Option Hosted). (move_hosted w table (store.Work luck) o).failed ≡ false) at fine)) up
+
+-- ---- a Store's work
+
+-- the Store that has fallen is down
+fallen_up : (w : World) → IsUp (store_falls owner w).world
+fallen_up w is = absurd cc
+
+unless_up : (m : Moved) (f : World → Moved) → IsUp m.world → (m.failed ≡ false → IsUp (f m.world).world) → IsUp (and_unless m f).world
+unless_up m f a b = go m.failed refl
+  where
+    go : (failed : Bool) → m.failed ≡ failed → IsUp (if failed then m else and_then m f).world
+    go true is = a
+    go false is = b is
+
+or_falls_up : (m : Moved) → (m.failed ≡ false → IsUp m.world) → IsUp (or_falls owner m).world
+or_falls_up m a = go m.failed refl
+  where
+    go : (failed : Bool) → m.failed ≡ failed → IsUp (if failed then and_then m (store_falls owner) else m).world
+    go true is = fallen_up m.world
+    go false is = a is
+
+write_up : (luck : Luck) (o : Option ℕ) (w : World) → IsUp w → IsUp (write_next owner luck o w).world
+write_up luck None w up = up
+write_up luck (Some table) w up = or_falls_up (move_table table (store.Work luck) w) (λ fine. work_up w table luck fine up)
+
+-- another Store has no tables
+owner_or_none : (w : World) (node : ℕ) → (node ≡ owner) ⊎ ((node == owner ≡ false) × (tables_of w node ≡ []))
+owner_or_none w node = go (node == owner) refl
+  where
+    go : (b : Bool) → (node == owner) ≡ b → (node ≡ owner) ⊎ ((node == owner ≡ false) × (tables_of w node ≡ []))
+    go true is = inl (grind (arith, nat_tests, is))
+    go false is = inr (is, ap (λ (b : Bool). if b then keys_of w.tables else []) is)
+
+next_up : (node : ℕ) (luck : Luck) (w : World) → IsUp w → IsUp (write_next node luck (busy_table w node) w).world
+next_up node luck w up = ⊎_elim
+    (λ same. subst (λ (n : ℕ). IsUp (write_next n luck (busy_table w n) w).world) (sym same) (write_up luck (busy_table w owner) w up))
+    (λ e. subst (λ (tables : List ℕ). IsUp (write_next node luck (find (is_at_work w) tables) w).world) (sym e.1) up)
+    (owner_or_none w node)
+
+works_up : (node count : ℕ) (lucks : List Luck) (w : World) → IsUp w → IsUp (store_works node count lucks w).world
+works_up node zero lucks w up = up
+works_up node (suc more) lucks w up =
+    let m : Moved = write_next node (first_luck lucks) (busy_table w node) w in
+    let first : IsUp m.world = next_up node (first_luck lucks) w up in
+    unless_up m (store_works node more (other_lucks lucks)) first (λ fine. works_up node more (other_lucks lucks) m.world first)
+
+follows_up : (node : ℕ) (lucks : List Luck) (w : World) → IsUp w → IsUp (store_follows node lucks w).world
+follows_up node lucks w up = go (has_node w.holds (nodes.Store node))
+  where
+    go : (held : Bool) → IsUp (if held then still w else store_until_idle node lucks w).world
+    go true = up
+    go false = works_up node (length (tasks_of w node)) lucks w up
+
+table_follows_up : (table : ℕ) (lucks : List Luck) (w : World) → IsUp w → IsUp (table_follows table lucks w).world
+table_follows_up table lucks w up = go (is_at_work w table)
+  where
+    go : (busy : Bool) → IsUp (if busy then store_follows owner lucks w else still w).world
+    go true = follows_up owner lucks w up
+    go false = up
+
+-- ---- crashes and starts
+
+-- another Store that is down
+other_down : (node : ℕ) (downs : List Node) → node == owner ≡ false → has_node (nodes.Store node ∷ downs) the_store ≡ has_node downs the_store
+other_down node downs is = ap (λ (b : Bool). b || has_node downs the_store) (turned (owner == node) refl)
+  where
+    turned : (b : Bool) → (owner == node) ≡ b → b ≡ false
+    turned true e = absurd (grind (arith, nat_tests, is, e))
+    turned false e = refl
+
+crash_up : (node calls : ℕ) (lucks : List Luck) (w : World) → IsUp w → IsUp (store_crashes node calls lucks w).world
+crash_up node calls lucks w up = ⊎_elim here (λ e. elsewhere e.0 e.1) (owner_or_none w node)
+  where
+    luck : Luck
+    luck = crash_luck calls (other_lucks lucks) (first_luck lucks)
+
+    here : node ≡ owner → IsUp (store_crashes node calls lucks w).world
+    here same = subst (λ (n : ℕ). IsUp (store_crashes n calls lucks w).world) (sym same) (fallen_up (table_crashes luck (busy_table w owner) w).world)
+
+    other : node == owner ≡ false → IsUp (record w { downs = nodes.Store node ∷ w.downs })
+    other apart is = up (sym (other_down node w.downs apart) ∙ is)
+
+    falls : (tables : List ℕ) → tables ≡ [] → IsUp (record w { downs = nodes.Store node ∷ w.downs }) → IsUp (and_then (tables_fall tables w) (λ x. still (with_down (nodes.Store node) x))).world
+    falls tables none then_up = subst (λ (ts : List ℕ). IsUp (and_then (tables_fall ts w) (λ x. still (with_down (nodes.Store node) x))).world) (sym none) then_up
+
+    elsewhere : node == owner ≡ false → tables_of w node ≡ [] → IsUp (store_crashes node calls lucks w).world
+    elsewhere apart none = subst (λ (ts : List ℕ). IsUp (and_then (table_crashes luck (find (is_at_work w) ts) w) (store_falls node)).world) (sym none)
+        (falls (tables_of w node) none (other apart))
+
+-- what a lookup finds is among the keys
+pub lookup_among : {V : Type 0} (es : List (ℕ × V)) (q : ℕ) (v : V) → lookup (is_at (nat_cmp q)) es ≡ Some v → Among (keys_of es) q
+lookup_among [] q v at = absurd cc
+lookup_among (e ∷ es) q v at = go (λ there. lookup_among es q v there) (is_at (nat_cmp q) e.0) refl
+  where
+    go : (lookup (is_at (nat_cmp q)) es ≡ Some v → Among (keys_of es) q) → (b : Bool) → is_at (nat_cmp q) e.0 ≡ b → Among (keys_of (e ∷ es)) q
+    go rest true is = let same : q ≡ e.0 = grind (arith, nat_tests, unsigned_tied q e.0, is) in subst (λ (n : ℕ). Among (keys_of (e ∷ es)) n) (sym same) (among_here e.0 (keys_of es))
+    go rest false is = among_next e.0 (keys_of es) q (rest (sym (ap (λ (b : Bool). if b then Some e.1 else lookup (is_at (nat_cmp q)) es) is) ∙ at))
+
+-- each table is up, or is still to be started
+abbrev Awaits : World → List ℕ → Type 0
+Awaits w tables = (q : ℕ) (hosted : Hosted) → hosted_at w q ≡ Some hosted → IsUpAt hosted.store.agenda ⊎ Among tables q
+
+start_awaits : (w : World) (table : ℕ) (tables : List ℕ) → Awaits w (table ∷ tables) → Awaits (start_hosted w table (hosted_at w table)).world tables
+start_awaits w table tables a = go (hosted_at w table) refl
+  where
+    later : (q : ℕ) (hosted : Hosted) → (q ≢ table) → hosted_at w q ≡ Some hosted → IsUpAt hosted.store.agenda ⊎ Among tables q
+    later q hosted apart at = ⊎_elim (λ up. inl up) (λ b. ⊎_elim (λ e. absurd (apart (sym e))) (λ d. inr d) (among_cons table tables q b)) (a q hosted at)
+
+    behind : (hosted : Hosted) (s : StoreStep) → IsUpAt s.store.agenda → Awaits (after_table w table hosted s).world tables
+    behind hosted s up q found at = ⊎_elim (λ e. inl e) (λ e. later q found e.0 e.1) (after_up w table hosted s up q found at)
+
+    go : (o : Option Hosted) → hosted_at w table ≡ o → Awaits (start_hosted w table o).world tables
+    go None is = λ q hosted at. ⊎_elim (λ up. inl up)
+        (λ b. ⊎_elim (λ e. absurd (let both : None ≡ Some hosted = sym is ∙ (ap (hosted_at w) e ∙ at) in cc)) (λ d. inr d) (among_cons table tables q b)) (a q hosted at)
+    go (Some hosted) is = made hosted.made
+      where
+        started : Awaits (move_hosted w table store.Start (Some hosted)).world tables
+        started = behind hosted (table_step w table hosted store.Start)
+            (started_at (scheme_in (schema_at w table)) (chunk_in (schema_at w table)) table hosted.store.disk hosted.store.agenda)
+
+        made : (b : Bool) → Awaits (if b then move_table table store.Start w else after_table w table (record hosted { made = true }) (declared_late table)).world tables
+        made true = subst (λ (o : Option Hosted). Awaits (move_hosted w table store.Start o).world tables) (sym is) started
+        made false = behind (record hosted { made = true }) (declared_late table) ([], refl)
+
+tables_up : (tables : List ℕ) (lucks : List Luck) (w : World) → Awaits w tables → (tables_start tables lucks w).failed ≡ false → AllUp (tables_start tables lucks w).world
+tables_up [] lucks w a fine = λ q hosted at. ⊎_elim (λ up. up) (λ b. absurd (among_none q b)) (a q hosted at)
+tables_up (table ∷ tables) lucks w a fine = go (λ v b safe. tables_up tables (other_lucks lucks) v b safe) (first_luck lucks) fine
+  where
+    rest : Moved → Moved
+    rest m = and_unless m (tables_start tables (other_lucks lucks))
+
+    go : ((v : World) → Awaits v tables → (tables_start tables (other_lucks lucks) v).failed ≡ false → AllUp (tables_start tables (other_lucks lucks) v).world)
+        → (luck : Luck) → (rest (table_starts table luck w)).failed ≡ false → AllUp (rest (table_starts table luck w)).world
+    go on_from messages.FailedBefore safe = absurd cc
+    go on_from messages.FailedAfter safe = absurd cc
+    go on_from messages.Done safe = on (start_hosted w table (hosted_at w table)).failed refl safe
+      where
+        m : Moved
+        m = start_hosted w table (hosted_at w table)
+
+        on : (b : Bool) → m.failed ≡ b → (if b then m else and_then m (tables_start tables (other_lucks lucks))).failed ≡ false
+            → AllUp (if b then m else and_then m (tables_start tables (other_lucks lucks))).world
+        on true is safe_here = absurd (true≢false (sym is ∙ safe_here))
+        on false is safe_here = on_from m.world (start_awaits w table tables a)
+            (sym (ap (λ (b : Bool). b || (tables_start tables (other_lucks lucks) m.world).failed) is) ∙ safe_here)
+
+starts_downs : (tables : List ℕ) (lucks : List Luck) (w : World) → (tables_start tables lucks w).world.downs ≡ w.downs
+starts_downs [] lucks w = refl
+starts_downs (table ∷ tables) lucks w = go (starts_downs tables (other_lucks lucks) (start_hosted w table (hosted_at w table)).world) (first_luck lucks)
+  where
+    hosted : (o : Option Hosted) → hosted_at w table ≡ o → (start_hosted w table o).world.downs ≡ w.downs
+    hosted None is = refl
+    hosted (Some x) is = made x.made
+      where
+        made : (b : Bool) → (if b then move_table table store.Start w else after_table w table (record x { made = true }) (declared_late table)).world.downs ≡ w.downs
+        made true = move_downs w table store.Start
+        made false = refl
+
+    go : (tables_start tables (other_lucks lucks) (start_hosted w table (hosted_at w table)).world).world.downs ≡ (start_hosted w table (hosted_at w table)).world.downs
+        → (luck : Luck) → (and_unless (table_starts table luck w) (tables_start tables (other_lucks lucks))).world.downs ≡ w.downs
+    go rest messages.FailedBefore = refl
+    go rest messages.FailedAfter = refl
+    go rest messages.Done = on (start_hosted w table (hosted_at w table)).failed
+      where
+        m : Moved
+        m = start_hosted w table (hosted_at w table)
+
+        on : (b : Bool) → (if b then m else and_then m (tables_start tables (other_lucks lucks))).world.downs ≡ w.downs
+        on true = hosted (hosted_at w table) refl
+        on false = rest ∙ hosted (hosted_at w table) refl
+
+without_other : (node : ℕ) (downs : List Node) → node == owner ≡ false → has_node (without_node downs (nodes.Store node)) the_store ≡ has_node downs the_store
+without_other node [] apart = refl
+without_other node (first ∷ downs) apart = go (without_other node downs apart) (same_node (nodes.Store node) first) refl
+  where
+    differs : (other : Node) → same_node (nodes.Store node) other ≡ true → same_node the_store other ≡ false
+    differs (nodes.Store n) is = grind (arith, nat_tests, is, apart)
+    differs (nodes.Client c) is = absurd cc
+    differs (nodes.Gate gate) is = absurd cc
+
+    go : has_node (without_node downs (nodes.Store node)) the_store ≡ has_node downs the_store
+        → (b : Bool) → same_node (nodes.Store node) first ≡ b → has_node (if not b then first ∷ without_node downs (nodes.Store node) else without_node downs (nodes.Store node)) the_store
+        ≡ has_node (first ∷ downs) the_store
+    go rest true is = rest ∙ ap (λ (b : Bool). b || has_node downs the_store) (sym (differs first is))
+    go rest false is = ap (λ (b : Bool). same_node the_store first || b) rest
+
+starts_up : (node : ℕ) (lucks : List Luck) (w : World) → is_down w (nodes.Store node) ≡ true → IsUp w → IsUp (store_starts node lucks w).world
+starts_up node lucks w down up = go m.failed refl
+  where
+    tables : List ℕ
+    tables = tables_of w node
+
+    m : Moved
+    m = tables_start tables lucks w
+
+    -- where the Store is still down
+    failed : node ≡ owner → IsUp (tables_fall tables m.world).world
+    failed same is = absurd (true≢false (sym down ∙ (ap (λ (n : ℕ). is_down w (nodes.Store n)) same
+        ∙ (ap (λ (downs : List Node). has_node downs the_store) (sym (falls_downs tables m.world ∙ starts_downs tables lucks w)) ∙ is))))
+
+    awaits : node ≡ owner → Awaits w tables
+    awaits same = subst (λ (n : ℕ). Awaits w (tables_of w n)) (sym same) (λ q hosted at. inr (lookup_among w.tables q hosted at))
+
+    none_failed : tables ≡ [] → m ≡ still w
+    none_failed none = ap (λ (ts : List ℕ). tables_start ts lucks w) none
+
+    go : (b : Bool) → m.failed ≡ b
+        → IsUp (if b then and_then m (tables_fall tables) else and_then m (λ x. store_follows node (drop (length tables) lucks) (without_down (nodes.Store node) x))).world
+    go true is = ⊎_elim failed (λ e. absurd (let none = ap (λ (x : Moved). x.failed) (none_failed e.1) in true≢false (sym is ∙ none))) (owner_or_none w node)
+    go false is = follows_up node (drop (length tables) lucks) (without_down (nodes.Store node) m.world) (⊎_elim
+        (λ same is_down_not. tables_up tables lucks w (awaits same) is)
+        (λ e is_down_not. subst (λ (x : Moved). AllUp x.world) (sym (none_failed e.1))
+        (up (sym (without_other node w.downs e.0) ∙ (ap (λ (x : Moved). has_node (without_node x.world.downs (nodes.Store node)) the_store) (sym (none_failed e.1)) ∙ is_down_not))))
+        (owner_or_none w node))
+
+-- ---- clients
+
+abbrev IsStoreSame : World → World → Type 0
+IsStoreSame w v = (v.tables ≡ w.tables) × (v.downs ≡ w.downs)
+
+same_up : (w v : World) → IsStoreSame w v → IsUp w → IsUp v
+same_up w v e up is = subst (λ (ts : List (ℕ × Hosted)). (table : ℕ) (hosted : Hosted) → lookup (is_at (nat_cmp table)) ts ≡ Some hosted → IsUpAt hosted.store.agenda) (sym e.0)
+    (up (ap (λ (downs : List Node). has_node downs the_store) (sym e.1) ∙ is))
+
+client_same : (w : World) (c : ℕ) (move : ClientMove) → IsStoreSame w (move_client c move w).world
+client_same w c move = go (client_at w c)
+  where
+    go : (o : Option Client) → IsStoreSame w (move_there w c move o).world
+    go None = (refl, refl)
+    go (Some node) = (refl, refl)
+
+client_works_up : (c : ℕ) (tasks : List ClientTask) (lucks : List Luck) (w : World) → IsUp w → IsUp (client_works c tasks lucks w).world
+client_works_up c [] lucks w up = up
+client_works_up c (task ∷ tasks) lucks w up =
+    client_works_up c tasks (other_lucks lucks) (move_client c (client.Work (first_luck lucks)) w).world
+    (same_up w (move_client c (client.Work (first_luck lucks)) w).world (client_same w c (client.Work (first_luck lucks))) up)
+
+-- ---- deeds
+
+unless_down_up : (w : World) (node : Node) (s : WorldStep) → IsUp w → IsUp s.world → IsUp (unless_down w node s).world
+unless_down_up w node s up then_up = go (is_down w node)
+  where
+    go : (b : Bool) → IsUp (if b then refused w (facts.NodeDown node) else s).world
+    go true = up
+    go false = then_up
+
+call_up : (w : World) (c : ℕ) (move : ClientMove) (lucks : List Luck) → IsUp w → (o : Option Client) → IsUp (call_there w c move lucks o).world
+call_up w c move lucks up None = up
+call_up w c move lucks up (Some node) = unless_down_up w (nodes.Client c) _ up (go (gets_tasks node.agenda v c))
+  where
+    v : World
+    v = (move_client c move w).world
+
+    first : IsUp v
+    first = same_up w v (client_same w c move) up
+
+    go : (b : Bool) → IsUp (if b then client_follows c lucks v else still v).world
+    go true = client_works_up c (client_tasks (client_at v c)) lucks v first
+    go false = first
+
+hosted_up : (w : World) (table : ℕ) (from : Node) (m : Message) (lucks : List Luck) → IsUp w → (o : Option Hosted) → IsUp (to_hosted w table (store.Take from m) lucks o).world
+hosted_up w table from m lucks up None = up
+hosted_up w table from m lucks up (Some hosted) = go hosted.store.agenda
+  where
+    first : IsUp (move_table table (store.Take from m) w).world
+    first = take_up w table from m up
+
+    reads : (luck : Luck) → IsUp (take_read w table hosted (store.Take from m) (other_lucks lucks) luck).world
+    reads messages.FailedBefore = fallen_up w
+    reads messages.FailedAfter = fallen_up w
+    reads messages.Done = table_follows_up table (other_lucks lucks) (move_table table (store.Take from m) w).world first
+
+    go : (o : Option (List StoreTask)) → IsUp (take_at w table hosted (store.Take from m) lucks o).world
+    go None = first
+    go (Some (task ∷ more)) = first
+    go (Some []) = reads (first_luck lucks)
+
+carried_up : (w : World) (p : Packet) (lucks : List Luck) → IsUp w → (to : Node) → IsUp (carried w p lucks to).world
+carried_up w p lucks up (nodes.Store number) = unless_down_up w (nodes.Store number) _ up (hosted_up w (table_of p.message) p.from p.message lucks up (hosted_at w (table_of p.message)))
+carried_up w p lucks up (nodes.Gate gate) = up
+carried_up w p lucks up (nodes.Client c) = go (client_at w c)
+  where
+    go : (o : Option Client) → IsUp (to_there w c p.message lucks o).world
+    go None = up
+    go (Some node) = call_up w c (client.Take p.message) lucks up (Some node)
+
+delivered_up : (w : World) (lucks : List Luck) → IsUp w → (o : Option Packet) → IsUp (delivered w lucks o).world
+delivered_up w lucks up None = up
+delivered_up w lucks up (Some p) = carried_up w p lucks up p.to
+
+shows_up : (w : World) (row : List ℕ) (lucks : List Luck) → IsUp w → (o : Option Hosted) → IsUp (store_shows w row lucks o).world
+shows_up w row lucks up None = up
+shows_up w row lucks up (Some hosted) = unless_down_up w the_store _ up (read (first_luck lucks))
+  where
+    read : (luck : Luck) → IsUp (row_read w hosted row luck).world
+    read messages.Done = up
+    read messages.FailedBefore = fallen_up w
+    read messages.FailedAfter = fallen_up w
+
+history_up : (w : World) (table : ℕ) → IsUp w → (o : Option Hosted) → IsUp (history_lines w table o).world
+history_up w table up None = up
+history_up w table up (Some hosted) = up
+
+chunks_up : (w : World) (table : ℕ) → IsUp w → (o : Option Hosted) → IsUp (chunk_names w table o).world
+chunks_up w table up None = up
+chunks_up w table up (Some hosted) = unless_down_up w the_store _ up up
+
+-- a new table is up where its Store is
+declared_up : (w : World) (table : ℕ) (schema : Schema) (luck : Luck) → IsUp w → (o : Option Hosted) → IsUp (declared w table schema luck o)
+declared_up w table schema luck up (Some hosted) = up
+declared_up w table schema messages.FailedBefore up None = fallen_up (with_table w table schema false false)
+declared_up w table schema messages.FailedAfter up None = fallen_up (with_table w table schema false false)
+declared_up w table schema messages.Done up None = λ is q found at. ⊎_elim
+    (λ e. let both : Some new ≡ Some found = sym e.1 ∙ at in let same : new ≡ found = cc in subst (λ (y : Hosted). IsUpAt y.store.agenda) same ([], ap (λ (b : Bool). agenda_of (not b)) is))
+    (λ e. up is q found (sym e.1 ∙ at)) (look_cases w.tables table new q)
+  where
+    new : Hosted
+    new = record { store = record { disk = record { items = []; pending = None; left = [] }; agenda = agenda_of (not (is_down w the_store)) }; history = []; made = true }
+
+joined_up : (w : World) (c : ℕ) (tables : List ℕ) → IsUp w → (o : Option Client) → IsUp (joined w c tables o)
+joined_up w c tables up None = up
+joined_up w c tables up (Some node) = up
+
+event_up : (w : World) (event : Event) (lucks : List Luck) → IsUp w → IsUp (event_step w event lucks).world
+event_up w (events.Store number) lucks up = up
+event_up w (events.Table table schema) lucks up = declared_up w table schema (first_luck lucks) up (hosted_at w table)
+event_up w (events.Client c gate tables) lucks up = joined_up w c tables up (client_at w c)
+event_up w (events.Write c table row x) lucks up = call_up w c (client.Write table row x) lucks up (client_at w c)
+event_up w (events.Show c table row) lucks up = call_up w c (client.Show table row) lucks up (client_at w c)
+event_up w (events.Sum c table row) lucks up = call_up w c (client.Sum table row) lucks up (client_at w c)
+event_up w (events.Sync c table) lucks up = call_up w c (client.Sync table) lucks up (client_at w c)
+event_up w (events.Pull c table) lucks up = call_up w c (client.Next table) lucks up (client_at w c)
+event_up w (events.Deliver n) lucks up = delivered_up w lucks up (slice_get w.packets n)
+event_up w (events.StoreShow table row) lucks up = shows_up w row lucks up (hosted_at w table)
+event_up w (events.History table) lucks up = history_up w table up (hosted_at w table)
+
+worked_node_up : (w : World) (lucks : List Luck) → IsUp w → (node : Node) → IsUp (worked w lucks node).world
+worked_node_up w lucks up (nodes.Store number) = next_up number (first_luck lucks) w up
+worked_node_up w lucks up (nodes.Client c) = up
+worked_node_up w lucks up (nodes.Gate gate) = up
+
+all_worked_up : (w : World) (lucks : List Luck) → IsUp w → (node : Node) → IsUp (all_worked w lucks node).world
+all_worked_up w lucks up (nodes.Store number) = works_up number (length (tasks_of w number)) lucks w up
+all_worked_up w lucks up (nodes.Client c) = up
+all_worked_up w lucks up (nodes.Gate gate) = up
+
+crashed_up : (w : World) (calls : ℕ) (lucks : List Luck) → IsUp w → (node : Node) → IsUp (crashed w calls lucks node).world
+crashed_up w calls lucks up (nodes.Store number) = crash_up number calls lucks w up
+crashed_up w calls lucks up (nodes.Client c) = up
+crashed_up w calls lucks up (nodes.Gate gate) = up
+
+started_up : (w : World) (lucks : List Luck) → IsUp w → (node : Node) → IsUp (started w lucks node).world
+started_up w lucks up (nodes.Store number) = go (is_down w (nodes.Store number)) refl
+  where
+    go : (b : Bool) → is_down w (nodes.Store number) ≡ b → IsUp (if b then answering facts.Done (store_starts number lucks w) else answered w facts.Done).world
+    go true is = starts_up number lucks w is up
+    go false is = up
+started_up w lucks up (nodes.Client c) = up
+started_up w lucks up (nodes.Gate gate) = up
+
+pub step_up : (w : World) (deed : Deed) (lucks : List Luck) → IsUp w → IsUp (step w deed lucks).world
+step_up w (Does event) lucks up = event_up w event lucks up
+step_up w (Hold node) lucks up = unless_down_up w node _ up up
+step_up w (Free node) lucks up = unless_down_up w node _ up up
+step_up w (Work node) lucks up = unless_down_up w node _ up (worked_node_up w lucks up node)
+step_up w (WorkAll node) lucks up = unless_down_up w node _ up (all_worked_up w lucks up node)
+step_up w (Crash node calls pick) lucks up = unless_down_up w node _ up (crashed_up w calls lucks up node)
+step_up w (Start node) lucks up = started_up w lucks up node
+step_up w (Chunks table) lucks up = chunks_up w table up (hosted_at w table)

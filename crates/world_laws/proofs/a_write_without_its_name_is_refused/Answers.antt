@@ -1,0 +1,12 @@
+use Rattle.std.proofs.Common.{◌≡◌, subst}
+use Rattle.step_tables.specs.Facts.{Answer}
+use Rattle.step_tables.specs.Facts as facts
+use Rattle.world_tables.specs.World.{the_store, Work}
+use Rattle.world_tables.specs.Sound.{IsForm}
+use Rattle.world_laws.proofs.a_write_without_its_name_is_refused.Goals as goal
+
+pub returns : goal.returns
+returns c = λ sound.
+    let k = sound.1 in
+    let e : k.answer ≡ facts.Done = cc in
+    subst (λ (a : Answer). IsForm (Work the_store) a) e k.form

@@ -1,0 +1,200 @@
+-- What a table's three devices hold, as the disk of the Store's step table; and the writes of an agenda as its tasks.
+use Rattle.std.specs.Prelude.{◌≡◌, ◌⊎◌, ℕ, ◌+◌, ◌==◌, List, [], ◌∷◌, ◌++◌, length, map, Option, Some, None}
+use Rattle.std.specs.Prelude.{filter, IsSome, FitsSigned, if◌then◌else◌}
+use Rattle.std.specs.Int.{w64}
+use Rattle.std.specs.List.{flat_map, find, AllByRecursion}
+use Rattle.stab_base.specs.declared.chunk_name.ChunkName.{ChunkName}
+use Rattle.row_value.specs.declared.schema.Schema.{Schema}
+use Rattle.row_value.specs.declared.content.Cell.{Cell}
+use Rattle.row_value.specs.declared.content.Cell.TheVariants as cell_kinds
+use Rattle.row_value.specs.declared.content.Content.{Content}
+use Rattle.row_value.specs.declared.content.Content.TheVariants as contents
+use Rattle.row_value.specs.declared.pieces.Piece.{Piece}
+use Rattle.row_value.specs.declared.pieces.Piece.TheVariants.{Keep, Fresh}
+use Rattle.row_value.specs.declared.pieces.PieceObject.{PieceObject}
+use Rattle.row_value.specs.declared.pieces.PieceContent.{PieceContent}
+use Rattle.row_value.specs.declared.pieces.PieceContent.TheVariants.{Gone, Row}
+use Rattle.chunk_store.specs.Standing.{chunk_in}
+use Rattle.row_store.specs.declared.stored.LastWrite.{LastWrite}
+use Rattle.row_store.specs.declared.stored.StoredRow.{StoredRow}
+use Rattle.row_store.specs.Data.{row_of}
+use Rattle.row_store.specs.Spelling.{AreLasts}
+use Rattle.status_log.specs.Entry.{Entry}
+use Rattle.store_commit.specs.declared.update.Update.{Update}
+use Rattle.store_commit.specs.Devs.{Devs, Write, changed_by}
+use Rattle.store_commit.specs.Devs as devs
+use Rattle.store_commit.specs.NamedChunks.{Among}
+use Rattle.step_tables.specs.Store.{Stored, current_of}
+use Rattle.step_tables.specs.Messages.{Pair, Request}
+use Rattle.step_tables.specs.Chunks.{Named, first_object, other_objects, is_of_version, chunks_of, chunks_with}
+use Rattle.step_tables.specs.Chunks.{new_names, old_names}
+use Rattle.step_tables.specs.StoreMoves.{StoreDisk, StoreChange, StoreTask, changed, yours_in, item_for}
+use Rattle.step_tables.specs.StoreMoves as moves
+
+-- ---- a row
+
+-- an object by the names of its chunks
+abbrev pub kept_object : List ℕ → List Named → PieceObject
+kept_object object held = record { len = length object; pieces = map (λ (chunk : Named). Keep chunk.0) held }
+
+abbrev pub kept_objects : List (List ℕ) → List (List Named) → List PieceObject
+kept_objects [] held = []
+kept_objects (object ∷ objects) held =
+    kept_object object (first_object held) ∷ kept_objects objects (other_objects held)
+
+-- a content by the names of its chunks
+abbrev pub kept_content : Content → List (List Named) → PieceContent
+kept_content contents.Gone held = Gone
+kept_content (contents.Row cells objects) held = Row cells (kept_objects objects held)
+
+-- a client's last write in a list of them; zeros where there is none
+abbrev pub pair_or : Option LastWrite → Pair
+pair_or None = record { number = 0; version = 0 }
+pair_or (Some last) = record { number = last.number; version = last.version }
+
+abbrev pub pair_in : List LastWrite → ℕ → Pair
+pair_in lasts client = pair_or (find (λ (last : LastWrite). last.client == client) lasts)
+
+-- this is how a Store keeps the row of an item
+pub record IsStoredAs (size : ℕ) (items : List Stored) (item : Stored) (stored : StoredRow) : Type 0 where
+  pub row : stored.row ≡ item.entry.row
+  pub version : stored.version ≡ item.entry.version
+  pub content : stored.content ≡ kept_content item.content (chunks_of size items item.entry.row)
+  pub lasts : (client : ℕ) → pair_in stored.pairs client ≡ yours_in items client item.entry.row
+  pub rising : AreLasts 0 stored.pairs
+
+abbrev pub StandsRow : ℕ → List Stored → Option Stored → Option StoredRow → Type 0
+StandsRow size items None None = Unit {0}
+StandsRow size items None (Some stored) = ⊥
+StandsRow size items (Some item) None = ⊥
+StandsRow size items (Some item) (Some stored) = IsStoredAs size items item stored
+
+-- ---- the chunks
+
+-- a chunk that a row has
+pub record IsHeld (size : ℕ) (items : List Stored) (name : ChunkName) (bytes : List ℕ) : Type 0 where
+  pub row : List ℕ
+  pub among : Among (name, bytes) (flat_map (λ (object : List Named). object) (chunks_of size items row))
+
+-- the device has the chunks of the rows and those that are left, and no other
+pub record StandChunks (size : ℕ) (chunks : List (ChunkName × List ℕ)) (disk : StoreDisk) : Type 0 where
+  pub held : (name : ChunkName) (bytes : List ℕ) → IsHeld size disk.items name bytes → chunk_in chunks name ≡ Some bytes
+  pub left : (name : ChunkName) → Among name disk.left → IsSome (chunk_in chunks name)
+  pub only : (name : ChunkName) (bytes : List ℕ) → chunk_in chunks name ≡ Some bytes
+      → IsHeld size disk.items name bytes ⊎ Among name disk.left
+  pub apart : (name : ChunkName) (bytes : List ℕ) → Among name disk.left → IsHeld size disk.items name bytes → ⊥
+
+-- ---- the open entry
+
+-- this entry tells of an item behind these
+pub record IsEntryOf (size : ℕ) (before : List Stored) (item : Stored) (entry : Entry) : Type 0 where
+  pub version : entry.version ≡ item.entry.version
+  pub row : entry.row ≡ item.entry.row
+  pub client : entry.client ≡ item.entry.client
+  pub number : entry.number ≡ item.entry.number
+  pub base : entry.base ≡ item.entry.base
+  pub fresh : entry.fresh ≡ length (new_names size before item)
+  pub old : entry.old ≡ old_names size before item
+
+-- each of these is one of those
+abbrev pub AreWithin : List ChunkName → List ChunkName → Type 0
+AreWithin names all = (name : ChunkName) → Among name names → Among name all
+
+-- An item that is pending is the next, and some of its new chunks are left; or the last, and some of its old ones are.
+pub record IsBegun (size : ℕ) (disk : StoreDisk) (item : Stored) (entry : Entry) : Type 0 where
+  pub before : List Stored
+  pub entry_of : IsEntryOf size before item entry
+  pub next : item.entry.version ≡ length before + 1
+  pub stage : ((disk.items ≡ before) × AreWithin disk.left (new_names size before item))
+      ⊎ ((disk.items ≡ before ++ item ∷ []) × AreWithin disk.left (old_names size before item))
+
+abbrev pub StandsEntry : ℕ → StoreDisk → Option Stored → Option Entry → Type 0
+StandsEntry size disk None None = disk.left ≡ []
+StandsEntry size disk None (Some entry) = ⊥
+StandsEntry size disk (Some item) None = ⊥
+StandsEntry size disk (Some item) (Some entry) = IsBegun size disk item entry
+
+-- ---- the devices
+
+-- versions run 1 to n
+abbrev pub AreNumbered : ℕ → List Stored → Type 0
+AreNumbered n [] = Unit {0}
+AreNumbered n (item ∷ items) = (item.entry.version ≡ n + 1) × AreNumbered (n + 1) items
+
+-- What the devices of a live table hold is this disk: each row by its last item, with the names of its chunks and the
+-- last write of each client on it; each chunk of a row, and what is left; and the open entry.
+pub record Stands (schema : Schema) (d : Devs) (disk : StoreDisk) : Type 0 where
+  pub table : d.held.table ≡ Some (schema, 2)
+  pub numbered : AreNumbered 0 disk.items
+  pub rows : (row : List ℕ) → StandsRow schema.chunk disk.items (current_of disk.items row) (row_of d.held row)
+  pub chunks : StandChunks schema.chunk d.chunks disk
+  pub entry : StandsEntry schema.chunk disk disk.pending d.pending
+
+-- ---- writes and tasks
+
+-- a device write as a change of the step table's disk
+abbrev pub IsWriteOf : ℕ → List Stored → Write → StoreChange → Type 0
+IsWriteOf size items devs.OpenChunks moves.OpenChunks = Unit {0}
+IsWriteOf size items devs.OpenRows moves.OpenRows = Unit {0}
+IsWriteOf size items devs.OpenLog moves.OpenLog = Unit {0}
+IsWriteOf size items (devs.OpenEntry entry) (moves.Open item) = IsEntryOf size items item entry
+IsWriteOf size items (devs.PutChunk name bytes) (moves.PutChunk other) = name ≡ other
+IsWriteOf size items (devs.PutRow stored) (moves.Put item named old) =
+    (stored.row ≡ item.entry.row) × (stored.version ≡ item.entry.version)
+IsWriteOf size items (devs.DropChunk name) (moves.DropChunk other) = name ≡ other
+IsWriteOf size items devs.CloseEntry moves.Close = Unit {0}
+IsWriteOf size items write change = ⊥
+
+-- The devices hold this disk now and behind each of these writes, which are those of these tasks.
+abbrev pub Follows : Schema → Devs → List Write → StoreDisk → List StoreTask → Type 0
+Follows schema d [] disk [] = Stands schema d disk
+Follows schema d (write ∷ writes) disk (task ∷ tasks) =
+    Stands schema d disk × IsWriteOf schema.chunk disk.items write task.change
+    × Follows schema (changed_by d write) writes (changed disk task.change) tasks
+Follows schema d writes disk tasks = ⊥
+
+-- ---- the update of a request
+
+-- each number among the cells is one of 64 bits
+abbrev pub IsWord : Cell → Type 0
+IsWord (cell_kinds.Int n) = FitsSigned w64 n
+IsWord (cell_kinds.Bool b) = Unit {0}
+IsWord (cell_kinds.Text text) = Unit {0}
+
+abbrev pub HaveWords : Content → Type 0
+HaveWords contents.Gone = Unit {0}
+HaveWords (contents.Row some objects) = AllByRecursion IsWord some
+
+abbrev pub piece_of : ℕ → Named → Piece
+piece_of version held = if is_of_version version held.0 then Fresh held.0.ordinal else Keep held.0
+
+abbrev pub pieced_objects : ℕ → List (List ℕ) → List (List Named) → List PieceObject
+pieced_objects version [] held = []
+pieced_objects version (object ∷ objects) held =
+    record { len = length object; pieces = map (piece_of version) (first_object held) }
+    ∷ pieced_objects version objects (other_objects held)
+
+-- a content with its new chunks by their ordinals
+abbrev pub pieced_content : ℕ → Content → List (List Named) → PieceContent
+pieced_content version contents.Gone held = Gone
+pieced_content version (contents.Row cells objects) held = Row cells (pieced_objects version objects held)
+
+-- the bytes of the new chunks, by their ordinals
+abbrev pub fresh_bytes : ℕ → List (List Named) → List (List ℕ)
+fresh_bytes version held =
+    map (λ (chunk : Named). chunk.1)
+    (filter (λ (chunk : Named). is_of_version version chunk.0) (flat_map (λ (object : List Named). object) held))
+
+-- what a Store takes on for a request: the next version, whose chunks are those of its content against the row's
+abbrev pub update_for : ℕ → List Stored → Request → Update
+update_for size items request =
+    let item : Stored = item_for items request in
+    let held : List (List Named) = chunks_with size (chunks_of size items request.row) item in
+    record {
+      row = request.row;
+      client = request.client;
+      number = request.number;
+      base = request.base;
+      content = pieced_content item.entry.version request.content held;
+      fresh = fresh_bytes item.entry.version held;
+    }

@@ -1,0 +1,345 @@
+-- What a move of one table makes of all, and what the moves of all make of them.
+use Rattle.std.proofs.Common.{◌≡◌, ℕ, zero, suc, ◌+◌, ◌<◌, ◌≤◌, ◌++◌, length, drop, Bool, true, false, cond, List, [], ◌∷◌, Option, Some, None, Result, Ok, Err, refl, sym, ap, ◌∙◌, subst, arith}
+use Rattle.std.proofs.Common.{◌≢◌, rules, append-nil, append_assoc}
+use Rattle.std.specs.Prelude.{filter, not, ◌||◌, IfOk, IsSome, slice_index_or, if◌then◌else◌}
+use Rattle.std.specs.List.{find}
+use Rattle.std.specs.declared.cmp.Ordering.{Ordering}
+use Rattle.std.specs.Ordering.{nat_cmp, is_eq}
+use Rattle.std.specs.Cmp.{nat_cmp_total}
+use Rattle.std.proofs.lemmas.Cmp.{tied_itself}
+use Rattle.std.specs.BTreeMap.{is_at, WritesThrough}
+use Rattle.std.specs.BTreeMap as tree
+use Rattle.std.proofs.Math.Seq.{drop-cons}
+use Rattle.std.proofs.lemmas.List.Elements.{filter-append}
+use Rattle.disk_trait.specs.Calls.{DiskState}
+use Rattle.stab_base.specs.declared.step.Step.{Step}
+use Rattle.table_model.specs.declared.entry.Entry.{Entry}
+use Rattle.step_tables.specs.Store.{Stored}
+use Rattle.step_tables.specs.Messages.{Luck}
+use Rattle.step_tables.specs.Messages as messages
+use Rattle.step_tables.specs.StoreMoves.{StoreDisk, StoreTask, TableStore, StoreStep, StoreMove, Work, Crash, Start, crashed, worked, started, recover, recovered, item_at}
+use Rattle.store_node.specs.declared.fault.NodeFault.{NodeFault}
+use Rattle.store_node.specs.declared.node.StoreOut.{StoreOut}
+use Rattle.store_node.specs.Node.{has_task}
+use Rattle.store_node.specs.Node.{own_faults}
+use Rattle.world_tables.specs.World.{World, Outbox, Moved, still, and_then, and_unless, failing, schema_at, hosted_at, is_fault, the_store, owner, packets_from, after_table, table_step}
+use Rattle.world_tables.specs.World.{move_hosted, move_table}
+use Rattle.world_tables.specs.World.{table_falls, tables_fall, table_starts, tables_start, start_hosted, declared_late, is_at_work, busy_step, next_step, tasks_in, hosted_tasks}
+use Rattle.world_tables.specs.World as world
+use Rattle.store_host.specs.declared.hosted.Hosted.{Hosted}
+use Rattle.store_host.specs.Holds.{IsHosted, HostedThere, HoldsTables, behind_step, outs_in, says_something, said_by, faults_in, faults_at, SameFaults, RisenFaults}
+use Rattle.store_host.specs.Steps.{HasTold, HasNodeCause, moved_at, started_by}
+use Rattle.store_host.specs.Calls.{AreMoved, HasCause}
+use Rattle.store_host.proofs.Maps.{moved_tables, found, at_same}
+
+pub some_there : {X : Type 0} (o : Option X) (x : X) → Some x ≡ o → IsSome o
+some_there None x e = absurd cc
+some_there (Some y) x e = search rules
+
+-- ---- whether a table has writes to do
+
+at_work : (w : World) (table : ℕ) (disk : StoreDisk) (agenda : Option (List StoreTask)) (history : List Entry) (made : Bool)
+    → hosted_at w table ≡ Some (record { store = record { disk = disk; agenda = agenda }; history = history; made = made }) → is_at_work w table ≡ has_task agenda
+at_work w table disk None history made e = rw e refl
+at_work w table disk (Some []) history made e = rw e refl
+at_work w table disk (Some (task ∷ tasks)) history made e = rw e refl
+
+pub at_work_is : (w : World) (table : ℕ) (hosted : world.Hosted) → hosted_at w table ≡ Some hosted → is_at_work w table ≡ has_task hosted.store.agenda
+at_work_is w table hosted e = at_work w table hosted.store.disk hosted.store.agenda hosted.history hosted.made e
+
+pub none_at_work : (w : World) (table : ℕ) → hosted_at w table ≡ None → is_at_work w table ≡ false
+none_at_work w table e = rw e refl
+
+pub drop_next : (ns : List ℕ) (i : ℕ) → i < length ns → drop i ns ≡ slice_index_or ns i 0 ∷ drop (i + 1) ns
+drop_next ns i below = let next : suc i ≡ i + 1 = omega arith in drop-cons ns i 0 below ∙ ap (λ (k : ℕ). slice_index_or ns i 0 ∷ drop k ns) next
+
+pub drop_done : (ns : List ℕ) (i : ℕ) → length ns ≤ i → drop i ns ≡ []
+drop_done [] zero all = refl
+drop_done [] (suc i) all = refl
+drop_done (n ∷ ns) zero all = absurd (omega (arith, all))
+drop_done (n ∷ ns) (suc i) all = drop_done ns i (omega (arith, all))
+
+pub find_hit : (f : ℕ → Bool) (ns : List ℕ) (i : ℕ) → i < length ns → f (slice_index_or ns i 0) ≡ true → find f (drop i ns) ≡ Some (slice_index_or ns i 0)
+find_hit f ns i below is =
+    ap (λ (l : List ℕ). find f l) (drop_next ns i below) ∙ ap (λ (b : Bool). cond b (Some (slice_index_or ns i 0)) (find f (drop (i + 1) ns))) is
+
+pub find_miss : (f : ℕ → Bool) (ns : List ℕ) (i : ℕ) → i < length ns → f (slice_index_or ns i 0) ≡ false → find f (drop (i + 1) ns) ≡ find f (drop i ns)
+find_miss f ns i below is =
+    sym (ap (λ (l : List ℕ). find f l) (drop_next ns i below) ∙ ap (λ (b : Bool). cond b (Some (slice_index_or ns i 0)) (find f (drop (i + 1) ns))) is)
+
+-- ---- answers that are no fault, and that are
+
+pub done_answer : (d : StoreDisk) (agenda : Option (List StoreTask)) → is_fault (worked d agenda messages.Done).answer ≡ false
+done_answer d None = refl
+done_answer d (Some []) = refl
+done_answer d (Some (task ∷ tasks)) = refl
+
+pub crash_answer : (d : StoreDisk) (agenda : Option (List StoreTask)) (luck : Luck) → is_fault (crashed d agenda luck).answer ≡ false
+crash_answer d None luck = refl
+crash_answer d (Some []) luck = refl
+crash_answer d (Some (task ∷ tasks)) messages.Done = refl
+crash_answer d (Some (task ∷ tasks)) messages.FailedBefore = refl
+crash_answer d (Some (task ∷ tasks)) messages.FailedAfter = refl
+
+-- ---- one table
+
+module _ {D : Type 0} (state : D → DiskState) (w : World) (numbers : List ℕ) (old new : tree.BTreeMap ℕ (Hosted D)) (table : ℕ) (it : Hosted D) (was : Hosted D)
+    (at : Some was ≡ tree.get nat_cmp old table) (wrote : WritesThrough nat_cmp (nat_cmp table) old it new) (h : HoldsTables state w numbers old) where
+  told_after : (hosted base : world.Hosted) (s : StoreStep) (before after : List StoreOut) → hosted_at w table ≡ Some hosted → HasTold state (schema_at w table) table base s it before after
+      → AreMoved state w numbers new before after (is_fault s.answer) (after_table w table base s)
+  told_after hosted base s before after there t = record {
+    held = moved_tables state w numbers old new table it (wrote.3 (some_there _ was at)).0 hosted (behind_step base s) (w.packets ++ packets_from the_store s.sends) h there t.behind wrote.1;
+    outs = t.outs;
+    downs = refl;
+    failed = refl;
+  }
+
+  pub table_moved : (move : StoreMove) (hosted : world.Hosted) (before after : List StoreOut) (fails : Bool) → hosted_at w table ≡ Some hosted
+      → HasTold state (schema_at w table) table hosted (moved_at (schema_at w table) table hosted move) it before after → is_fault (moved_at (schema_at w table) table hosted move).answer ≡ fails
+      → AreMoved state w numbers new before after fails (move_table table move w)
+  table_moved move hosted before after fails there t fault =
+      subst (λ (o : Option world.Hosted). AreMoved state w numbers new before after fails (move_hosted w table move o)) (sym there)
+      (subst (λ (b : Bool). AreMoved state w numbers new before after b (after_table w table hosted (table_step w table hosted move))) fault
+      (told_after hosted hosted (table_step w table hosted move) before after there t))
+
+  pub work_done : (r : Result Step NodeFault) (hosted : world.Hosted) (before after : List StoreOut) → hosted_at w table ≡ Some hosted
+      → IfOk r (λ step. HasTold state (schema_at w table) table hosted (moved_at (schema_at w table) table hosted (Work messages.Done)) it before after
+      × (step ≡ next_step (tasks_in hosted.store.agenda)))
+      → IfOk r (λ step. AreMoved state w numbers new before after false (move_table table (Work messages.Done) w) × (step ≡ next_step (hosted_tasks (hosted_at w table))))
+  work_done (Err e) hosted before after there k = tt
+  work_done (Ok step) hosted before after there k = (
+    table_moved (Work messages.Done) hosted before after false there k.0 (done_answer hosted.store.disk hosted.store.agenda),
+    k.1 ∙ ap (λ (o : Option world.Hosted). next_step (hosted_tasks o)) (sym there),
+  )
+
+  -- a table that stays where it is
+  pub same_tables : (hosted : world.Hosted) → hosted_at w table ≡ Some hosted → IsHosted state (schema_at w table) table hosted it → HoldsTables state w numbers new
+  same_tables hosted there here = record {
+    there = λ q. subst (λ (o : Option (Hosted D)). HostedThere state (schema_at w q) q (hosted_at w q) o) (sym ((wrote.3 (some_there _ was at)).0 q)) (one q (is_at (nat_cmp table) q) refl);
+    all = h.all;
+    keys = h.keys ∙ sym wrote.1;
+    rising = h.rising;
+  }
+    where
+      one : (q : ℕ) (b : Bool) → is_at (nat_cmp table) q ≡ b → HostedThere state (schema_at w q) q (hosted_at w q) (cond b (Some it) (tree.get nat_cmp old q))
+      one q false is = h.there q
+      one q true is =
+          subst (λ (k : ℕ). HostedThere state (schema_at w k) k (hosted_at w k) (Some it)) (at_same table q is)
+          (subst (λ (o : Option world.Hosted). HostedThere state (schema_at w table) table o (Some it)) (sym there) here)
+
+-- a table that isn't there
+pub nothing_moved : {D : Type 0} (state : D → DiskState) (w : World) (numbers : List ℕ) (tables : tree.BTreeMap ℕ (Hosted D)) (outs : List StoreOut) → HoldsTables state w numbers tables
+    → AreMoved state w numbers tables outs outs false (still w)
+nothing_moved state w numbers tables outs h = record { held = h; outs = sym (append-nil (outs_in outs)); downs = refl; failed = refl }
+
+-- ---- faults of one table
+
+module _ {D : Type 0} (state : D → DiskState) (old new : tree.BTreeMap ℕ (Hosted D)) (table : ℕ) (it : Hosted D) (was : Hosted D) (at : Some was ≡ tree.get nat_cmp old table)
+    (u : (q : ℕ) → tree.get nat_cmp new q ≡ cond (is_at (nat_cmp table) q) (Some it) (tree.get nat_cmp old q)) where
+  faults_there : (q : ℕ) (b : Bool) → is_at (nat_cmp table) q ≡ b → (faults_at state new q ≡ cond b (own_faults state it.node) (faults_at state old q))
+      × (b ≡ true → faults_at state old q ≡ own_faults state was.node)
+  faults_there q true is = (
+    ap (λ (o : Option (Hosted D)). faults_in state o) (u q ∙ ap (λ (b : Bool). cond b (Some it) (tree.get nat_cmp old q)) is),
+    λ _. sym (ap (λ (o : Option (Hosted D)). faults_in state o) (at ∙ ap (λ (k : ℕ). tree.get nat_cmp old k) (at_same table q is))),
+  )
+  faults_there q false is = (ap (λ (o : Option (Hosted D)). faults_in state o) (u q ∙ ap (λ (b : Bool). cond b (Some it) (tree.get nat_cmp old q)) is), λ e. absurd cc)
+
+  pub faults_same : own_faults state it.node ≡ own_faults state was.node → SameFaults state old new
+  faults_same same q = go (is_at (nat_cmp table) q) refl
+    where
+      go : (b : Bool) → is_at (nat_cmp table) q ≡ b → faults_at state new q ≡ faults_at state old q
+      go true is = (faults_there q true is).0 ∙ same ∙ sym ((faults_there q true is).1 refl)
+      go false is = (faults_there q false is).0
+
+  pub faults_risen : own_faults state was.node < own_faults state it.node → RisenFaults state old new
+  faults_risen rose = record { each = λ q. go q (is_at (nat_cmp table) q) refl; one = (table, here) }
+    where
+      go : (q : ℕ) (b : Bool) → is_at (nat_cmp table) q ≡ b → faults_at state old q ≤ faults_at state new q
+      go q true is = let a = (faults_there q true is).0 in let b = (faults_there q true is).1 refl in omega (arith, a, b)
+      go q false is = let a = (faults_there q false is).0 in omega (arith, a)
+
+      here : faults_at state old table < faults_at state new table
+      here =
+          let is : is_at (nat_cmp table) table ≡ true = ap is_eq (tied_itself nat_cmp_total table) in
+          let a = (faults_there table true is).0 in
+          let b = (faults_there table true is).1 refl in
+          omega (arith, a, b)
+
+  pub tables_cause : {T : Type 0} (r : Result T NodeFault) → HasNodeCause state was.node it.node r → HasCause state old new r
+  tables_cause r k = record { counted = λ no. faults_same (k.counted no); cause = λ failed. faults_risen (k.cause failed); only = k.only }
+
+pub added_faults : {D : Type 0} (state : D → DiskState) (old new : tree.BTreeMap ℕ (Hosted D)) (table : ℕ) (it : Hosted D)
+    → ((q : ℕ) → tree.get nat_cmp new q ≡ cond (is_at (nat_cmp table) q) (Some it) (tree.get nat_cmp old q)) → faults_at state new table ≡ own_faults state it.node
+added_faults {D} state old new table it u =
+    ap (λ (o : Option (Hosted D)). faults_in state o) (u table ∙ ap (λ (r : Ordering). cond (is_eq r) (Some it) (tree.get nat_cmp old table)) (tied_itself nat_cmp_total table))
+
+pub other_faults : {D : Type 0} (state : D → DiskState) (old new : tree.BTreeMap ℕ (Hosted D)) (table : ℕ) (it : Hosted D)
+    → ((q : ℕ) → tree.get nat_cmp new q ≡ cond (is_at (nat_cmp table) q) (Some it) (tree.get nat_cmp old q)) → (q : ℕ) → q ≢ table → faults_at state new q ≡ faults_at state old q
+other_faults {D} state old new table it u q apart = go (is_at (nat_cmp table) q) refl
+  where
+    go : (b : Bool) → is_at (nat_cmp table) q ≡ b → faults_at state new q ≡ faults_at state old q
+    go true is = absurd (apart (sym (at_same table q is)))
+    go false is = ap (λ (o : Option (Hosted D)). faults_in state o) (u q ∙ ap (λ (b : Bool). cond b (Some it) (tree.get nat_cmp old q)) is)
+
+-- ---- causes of calls one after the other
+
+module _ {D T : Type 0} (state : D → DiskState) (old mid new : tree.BTreeMap ℕ (Hosted D)) (r : Result T NodeFault) where
+  pub later_cause : SameFaults state old mid → HasCause state mid new r → HasCause state old new r
+  later_cause same k = record { counted = λ no q. k.counted no q ∙ same q; cause = λ failed. rises (k.cause failed); only = k.only }
+    where
+      rises : RisenFaults state mid new → RisenFaults state old new
+      rises x = record {
+        each = λ q. let a = same q in let b = x.each q in omega (arith, a, b);
+        one = (x.one.0, let a = same x.one.0 in let b = x.one.1 in omega (arith, a, b));
+      }
+
+  pub then_cause : HasCause state old mid r → SameFaults state mid new → HasCause state old new r
+  then_cause k same = record { counted = λ no q. same q ∙ k.counted no q; cause = λ failed. rises (k.cause failed); only = k.only }
+    where
+      rises : RisenFaults state old mid → RisenFaults state old new
+      rises x = record {
+        each = λ q. let a = same q in let b = x.each q in omega (arith, a, b);
+        one = (x.one.0, let a = same x.one.0 in let b = x.one.1 in omega (arith, a, b));
+      }
+
+-- ---- all tables fall
+
+pub fall_next : (ns : List ℕ) (i : ℕ) → i < length ns → (v : World) → (tables_fall (drop i ns) v).world ≡ (tables_fall (drop (i + 1) ns) (table_falls (slice_index_or ns i 0) v).world).world
+fall_next ns i below v = ap (λ (l : List ℕ). (tables_fall l v).world) (drop_next ns i below)
+
+-- a move that tells and sends nothing, doesn't fail, and takes no node down
+pub record IsSilent (w : World) (m : Moved) : Type 0 where
+  pub said : said_by m ≡ []
+  pub failed : m.failed ≡ false
+  pub downs : m.world.downs ≡ w.downs
+
+pub both_silent : (w : World) (m : Moved) (f : World → Moved) → IsSilent w m → IsSilent m.world (f m.world) → IsSilent w (and_then m f)
+both_silent w m f a b = record {
+  said = filter-append says_something m.outs (f m.world).outs ∙ (ap (λ (l : List Outbox). l ++ said_by (f m.world)) a.said ∙ b.said);
+  failed = ap (λ (x : Bool). x || (f m.world).failed) a.failed ∙ b.failed;
+  downs = b.downs ∙ a.downs;
+}
+
+crash_at_silent : (w : World) (table : ℕ) (disk : StoreDisk) (agenda : Option (List StoreTask)) (history : List Entry) (made : Bool) (luck : Luck)
+    → IsSilent w (move_hosted w table (Crash luck) (Some (record { store = record { disk = disk; agenda = agenda }; history = history; made = made })))
+crash_at_silent w table disk None history made luck = record { said = refl; failed = refl; downs = refl }
+crash_at_silent w table disk (Some []) history made luck = record { said = refl; failed = refl; downs = refl }
+crash_at_silent w table disk (Some (task ∷ tasks)) history made messages.Done = record { said = refl; failed = refl; downs = refl }
+crash_at_silent w table disk (Some (task ∷ tasks)) history made messages.FailedBefore = record { said = refl; failed = refl; downs = refl }
+crash_at_silent w table disk (Some (task ∷ tasks)) history made messages.FailedAfter = record { said = refl; failed = refl; downs = refl }
+
+crash_there_silent : (w : World) (table : ℕ) (luck : Luck) (o : Option world.Hosted) → IsSilent w (move_hosted w table (Crash luck) o)
+crash_there_silent w table luck None = record { said = refl; failed = refl; downs = refl }
+crash_there_silent w table luck (Some hosted) = crash_at_silent w table hosted.store.disk hosted.store.agenda hosted.history hosted.made luck
+
+pub crash_silent : (w : World) (table : ℕ) (luck : Luck) → IsSilent w (move_table table (Crash luck) w)
+crash_silent w table luck = crash_there_silent w table luck (hosted_at w table)
+
+pub falls_silent : (ns : List ℕ) (w : World) → IsSilent w (tables_fall ns w)
+falls_silent [] w = record { said = refl; failed = refl; downs = refl }
+falls_silent (table ∷ ns) w = both_silent w (table_falls table w) (tables_fall ns) (crash_silent w table messages.FailedBefore) (falls_silent ns (table_falls table w).world)
+
+-- ---- all tables start
+
+abbrev pub put_before : List Outbox → Moved → Moved
+put_before outs m = record { world = m.world; outs = outs ++ m.outs; failed = m.failed }
+
+-- behind some starts that went well: the world there, what they told, and that the rest of the starts goes on from there
+pub record Begins {D : Type 0} (state : D → DiskState) (w : World) (all : List ℕ) (tables : tree.BTreeMap ℕ (Hosted D)) (before after : List StoreOut) (ns rest : List ℕ) : Type 0 where
+  pub here : World
+  pub told : List Outbox
+  pub held : HoldsTables state here all tables
+  pub outs : outs_in after ≡ outs_in before ++ filter says_something told
+  pub downs : here.downs ≡ w.downs
+  pub goes : (lucks : List Luck) → (more : List Luck) × (tables_start ns more w ≡ put_before told (tables_start rest lucks here))
+
+module _ {D : Type 0} (state : D → DiskState) (w : World) (all ns : List ℕ) (before : List StoreOut) where
+  pub begins : (tables : tree.BTreeMap ℕ (Hosted D)) → HoldsTables state w all tables → Begins state w all tables before before ns ns
+  begins tables h = record { here = w; told = []; held = h; outs = sym (append-nil (outs_in before)); downs = refl; goes = λ lucks. (lucks, refl) }
+
+  start_goes : (table : ℕ) (rest : List ℕ) (lucks : List Luck) (v : World) → (table_starts table messages.Done v).failed ≡ false
+      → tables_start (table ∷ rest) (messages.Done ∷ lucks) v ≡ and_then (table_starts table messages.Done v) (tables_start rest lucks)
+  start_goes table rest lucks v well = ap (λ (b : Bool). if b then table_starts table messages.Done v else and_then (table_starts table messages.Done v) (tables_start rest lucks)) well
+
+  start_joins : (told : List Outbox) (m : Moved) (f : World → Moved) → m.failed ≡ false → put_before told (and_then m f) ≡ put_before (told ++ m.outs) (f m.world)
+  start_joins told m f well =
+      ap (λ (b : Bool). record { world = (f m.world).world; outs = told ++ (m.outs ++ (f m.world).outs); failed = b || (f m.world).failed }) well
+      ∙ ap (λ (l : List Outbox). record { world = (f m.world).world; outs = l; failed = (f m.world).failed }) (sym (append_assoc told (m.outs) ((f m.world).outs)))
+
+  pub begins_next : (old new : tree.BTreeMap ℕ (Hosted D)) (mid after : List StoreOut) (table : ℕ) (left rest : List ℕ) → left ≡ table ∷ rest → (b : Begins state w all old before mid ns left)
+      → AreMoved state b.here all new mid after false (table_starts table messages.Done b.here) → Begins state w all new before after ns rest
+  begins_next old new mid after table left rest is b m = record {
+    here = (table_starts table messages.Done b.here).world;
+    told = b.told ++ (table_starts table messages.Done b.here).outs;
+    held = m.held;
+    outs = m.outs ∙ (ap (λ (l : List Outbox). l ++ said_by (table_starts table messages.Done b.here)) b.outs
+        ∙ (append_assoc (outs_in before) (filter says_something b.told) (said_by (table_starts table messages.Done b.here))
+        ∙ ap (λ (l : List Outbox). outs_in before ++ l) (sym (filter-append says_something b.told (table_starts table messages.Done b.here).outs))));
+    downs = m.downs ∙ b.downs;
+    goes = λ lucks.
+        let g = b.goes (messages.Done ∷ lucks) in (
+          g.0,
+          g.1 ∙ (ap (λ (l : List ℕ). put_before b.told (tables_start l (messages.Done ∷ lucks) b.here)) is
+              ∙ (ap (put_before b.told) (start_goes table rest lucks b.here m.failed)
+              ∙ start_joins b.told (table_starts table messages.Done b.here) (tables_start rest lucks) m.failed)),
+        );
+  }
+
+  abbrev Ends : tree.BTreeMap ℕ (Hosted D) → List StoreOut → Bool → Type 0
+  Ends tables after fails = (lucks : List Luck) × AreMoved state w all tables before after fails (tables_start ns lucks w)
+
+  ends_at : (tables : tree.BTreeMap ℕ (Hosted D)) (after : List StoreOut) (left : List ℕ) (lucks : List Luck) (fails : Bool) (b : Begins state w all tables before after ns left)
+      → tables_start left lucks b.here ≡ record { world = b.here; outs = []; failed = fails } → Ends tables after fails
+  ends_at tables after left lucks fails b is =
+      let g = b.goes lucks in
+      let whole : tables_start ns g.0 w ≡ record { world = b.here; outs = b.told ++ []; failed = fails } = g.1 ∙ ap (put_before b.told) is in (
+        g.0,
+        subst (λ (m : Moved). AreMoved state w all tables before after fails m) (sym whole) (record {
+          held = b.held;
+          outs = b.outs ∙ ap (λ (l : List Outbox). outs_in before ++ filter says_something l) (sym (append-nil b.told));
+          downs = b.downs;
+          failed = refl;
+        }),
+      )
+
+  -- none is left
+  pub ends_well : (tables : tree.BTreeMap ℕ (Hosted D)) (after : List StoreOut) (left : List ℕ) → left ≡ [] → Begins state w all tables before after ns left → Ends tables after false
+  ends_well tables after left none b = ends_at tables after left [] false b (ap (λ (l : List ℕ). tables_start l [] b.here) none)
+
+  -- the next one fails
+  pub ends_badly : (old new : tree.BTreeMap ℕ (Hosted D)) (mid after : List StoreOut) (table : ℕ) (left rest : List ℕ) → left ≡ table ∷ rest → (b : Begins state w all old before mid ns left)
+      → HoldsTables state b.here all new → after ≡ mid → Ends new after true
+  ends_badly old new mid after table left rest is b held same =
+      ends_at new after left (messages.FailedBefore ∷ []) true
+      (record { here = b.here; told = b.told; held = held; outs = ap outs_in same ∙ b.outs; downs = b.downs; goes = b.goes })
+      (ap (λ (l : List ℕ). tables_start l (messages.FailedBefore ∷ []) b.here) is)
+
+-- ---- a start of one table
+
+module _ {D : Type 0} (state : D → DiskState) (w : World) (numbers : List ℕ) (old new : tree.BTreeMap ℕ (Hosted D)) (table : ℕ) (it : Hosted D) (was : Hosted D)
+    (at : Some was ≡ tree.get nat_cmp old table) (wrote : WritesThrough nat_cmp (nat_cmp table) old it new) (h : HoldsTables state w numbers old) where
+  start_answer : (disk : StoreDisk) (agenda : Option (List StoreTask)) → is_fault (started owner table disk agenda).answer ≡ false
+  start_answer disk (Some tasks) = refl
+  start_answer disk None = by_pending disk.pending refl
+    where
+      by_pending : (o : Option Stored) → disk.pending ≡ o → is_fault (recover owner table disk o).answer ≡ false
+      by_pending None is = refl
+      by_pending (Some pending) is = by_item (item_at pending.entry.version disk.items)
+        where
+          by_item : (o : Option Stored) → is_fault (recovered owner table disk pending o).answer ≡ false
+          by_item None = refl
+          by_item (Some found) = refl
+
+  pub table_started : (store : TableStore) (history : List Entry) (made : Bool) (before after : List StoreOut)
+      → hosted_at w table ≡ Some (record { store = store; history = history; made = made })
+      → HasTold state (schema_at w table) table (record { store = store; history = history; made = true })
+      (started_by (schema_at w table) table (record { store = store; history = history; made = made }) made) it before after
+      → AreMoved state w numbers new before after false (table_starts table messages.Done w)
+  table_started store history true before after there t =
+      let hosted : world.Hosted = record { store = store; history = history; made = true } in
+      subst (λ (o : Option world.Hosted). AreMoved state w numbers new before after false (start_hosted w table o)) (sym there)
+      (table_moved state w numbers old new table it was at wrote h Start hosted before after false there t (start_answer store.disk store.agenda))
+  table_started store history false before after there t =
+      subst (λ (o : Option world.Hosted). AreMoved state w numbers new before after false (start_hosted w table o)) (sym there)
+      (told_after state w numbers old new table it was at wrote h (record { store = store; history = history; made = false }) (record { store = store; history = history; made = true })
+      (declared_late table) before after there t)

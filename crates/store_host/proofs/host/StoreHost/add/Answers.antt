@@ -1,0 +1,48 @@
+use Rattle.std.proofs.Common.{Bool, Some, true, false, ◌∙◌, subst, arith}
+use Rattle.std.specs.Prelude.{OnOk}
+use Rattle.std.proofs.lemmas.Result.{on_ok_weaker}
+use Rattle.world_tables.specs.World.{with_table}
+use Rattle.store_host.specs.Holds.{HoldsStore}
+use Rattle.store_host.proofs.Moving.{added_faults, other_faults}
+use Rattle.store_host.proofs.host.StoreHost.add.Goals as goal
+
+pub returns-in-Ok-clause-added : goal.returns-in-Ok-clause-added
+returns-in-Ok-clause-added g c w h =
+    subst (λ (b : Bool). OnOk c.put.result (HoldsStore g.D.Disk.state (with_table w c.args.table c.args.schema true b) c.put.new.self)) h.up
+    (c.put.ensures.put w c.args.schema true c.args.self.now.is_up h (c.in-Ok.ensures.declared (Some c.args.schema) c.args.table c.new-hosted.ensures.hosted))
+
+pub returns-in-Ok-clause-counted : goal.returns-in-Ok-clause-counted
+returns-in-Ok-clause-counted g c =
+    on_ok_weaker c.put.result
+    (λ u. added_faults g.D.Disk.state c.args.self.now.tables c.put.new.self.tables c.args.table c.declare.new.self u
+    ∙ (c.in-Ok.ensures.cause.counted (λ e. absurd cc) ∙ c.new-hosted.ensures.faults))
+    c.put.ensures.tables
+
+pub fall-requires : goal.fall-requires
+fall-requires g c =
+    let n = c.requires.held in (
+      with_table n.0 c.args.table c.args.schema false false,
+      c.in_ok-put-in-Err-Disk.ensures.put n.0 c.args.schema false false n.1 (c.in-Err-Disk.ensures.refused (Some c.args.schema) c.args.table c.new-hosted.ensures.hosted),
+    )
+
+pub returns-in_ok-put-in-Err-Disk-clause-failed : goal.returns-in_ok-put-in-Err-Disk-clause-failed
+returns-in_ok-put-in-Err-Disk-clause-failed g c w h failed =
+    (c.fall.ensures.fallen (with_table w c.args.table c.args.schema false false)
+    (c.in_ok-put-in-Err-Disk.ensures.put w c.args.schema false false h (c.in-Err-Disk.ensures.refused (Some c.args.schema) c.args.table c.new-hosted.ensures.hosted))).held
+
+pub returns-in_ok-put-in-Err-Disk-clause-cause : goal.returns-in_ok-put-in-Err-Disk-clause-cause
+returns-in_ok-put-in-Err-Disk-clause-cause g c failed =
+    let there = added_faults g.D.Disk.state c.args.self.now.tables c.put-in-Err-Disk.new.self.tables c.args.table c.declare.new.self c.in_ok-put-in-Err-Disk.ensures.tables in
+    let same = c.fall.ensures.counted c.args.table in
+    let given = c.new-hosted.ensures.faults in
+    let rose = c.in-Err-Disk.ensures.cause.cause (let is = c.in-Err-Disk.field-0-is in cc) in
+    omega (arith, there, same, given, rose)
+
+pub returns-in-Ok-clause-others : goal.returns-in-Ok-clause-others
+returns-in-Ok-clause-others g c q apart =
+    on_ok_weaker c.put.result (λ u. other_faults g.D.Disk.state c.args.self.now.tables c.put.new.self.tables c.args.table c.declare.new.self u q apart) c.put.ensures.tables
+
+pub returns-in_ok-put-in-Err-Disk-clause-others_failed : goal.returns-in_ok-put-in-Err-Disk-clause-others_failed
+returns-in_ok-put-in-Err-Disk-clause-others_failed g c q apart failed =
+    c.fall.ensures.counted q
+    ∙ other_faults g.D.Disk.state c.args.self.now.tables c.put-in-Err-Disk.new.self.tables c.args.table c.declare.new.self c.in_ok-put-in-Err-Disk.ensures.tables q apart

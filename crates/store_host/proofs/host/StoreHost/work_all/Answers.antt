@@ -1,0 +1,43 @@
+use Rattle.std.proofs.Common.{ℕ, List, refl, sym, ◌∙◌, subst, ⊎_elim}
+use Rattle.std.proofs.lemmas.Result.{err_from_is_err_and}
+use Rattle.stab_base.specs.declared.step.Step.{Step}
+use Rattle.step_tables.specs.Messages as messages
+use Rattle.store_host.specs.Holds.{HoldsTables}
+use Rattle.store_host.proofs.Draining.{drains, drains_next, drained, drained_badly, err_cause}
+use Rattle.store_host.proofs.host.StoreHost.work_all.Goals as goal
+
+pub loop-count-init : goal.loop-count-init
+loop-count-init g c = record { drained = λ w h. drains g.D.Disk.state w c.args.self.now h; up = c.requires.up; counted = λ q. refl }
+
+pub loop-count-preserved : goal.loop-count-preserved
+loop-count-preserved g c = record {
+  drained = λ w h.
+      let d = c.loop-count.invariant.drained w h in
+      let tables = subst (λ (ns : List ℕ). HoldsTables g.D.Disk.state d.here ns c.loop-count.self.tables) (sym c.as_slice.ensures) d.held.tables in
+      drains_next g.D.Disk.state w c.args.self.now c.loop-count.self c.loop-count.count d c.work.new.self c.in-Some._table (c.in-Some.ensures d.here tables) (c.in_ok-work.ensures.done d.here d.held).0;
+  up = c.in_ok-work.ensures.up;
+  counted = λ q. c.in_ok-work.ensures.cause.counted (λ e. absurd cc) q ∙ c.loop-count.invariant.counted q;
+}
+
+pub returns-in_default-clause-done : goal.returns-in_default-clause-done
+returns-in_default-clause-done g c w h =
+    let d = c.loop-count.invariant.drained w h in
+    let tables = subst (λ (ns : List ℕ). HoldsTables g.D.Disk.state d.here ns c.loop-count.self.tables) (sym c.as_slice.ensures) d.held.tables in
+    drained g.D.Disk.state w c.args.self.now c.loop-count.self c.loop-count.count d (c.in_default.ensures d.here tables)
+
+pub returns-in_err-work-clause-failed : goal.returns-in_err-work-clause-failed
+returns-in_err-work-clause-failed g c w h =
+    let p = err_from_is_err_and c.from_residual.result c.from_residual.ensures.1 in
+    let d = c.loop-count.invariant.drained w h in
+    let tables = subst (λ (ns : List ℕ). HoldsTables g.D.Disk.state d.here ns c.loop-count.self.tables) (sym c.as_slice.ensures) d.held.tables in
+    let busy = c.in-Some.ensures d.here tables in
+    rw (p.1, p.2) (λ failed.
+    ⊎_elim
+    (drained_badly g.D.Disk.state w c.args.self.now c.loop-count.self c.loop-count.count d c.work.new.self c.in-Some._table messages.FailedBefore (λ v hosted. refl) busy)
+    (drained_badly g.D.Disk.state w c.args.self.now c.loop-count.self c.loop-count.count d c.work.new.self c.in-Some._table messages.FailedAfter (λ v hosted. refl) busy)
+    (c.in_err-work.ensures.failed d.here d.held (let is = failed in cc)))
+
+pub returns-in_err-work-clause-cause : goal.returns-in_err-work-clause-cause
+returns-in_err-work-clause-cause g c =
+    let p = err_from_is_err_and c.from_residual.result c.from_residual.ensures.1 in
+    rw (p.1, p.2) (err_cause g.D.Disk.state c.args.self.now.tables c.loop-count.self.tables c.work.new.self.tables Step ℕ c.in_err-work.field-0.0 c.loop-count.invariant.counted c.in_err-work.ensures.cause)

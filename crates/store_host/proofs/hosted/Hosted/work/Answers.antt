@@ -1,0 +1,34 @@
+use Rattle.std.proofs.Common.{Ok, Err, refl, ◌∙◌}
+use Rattle.std.proofs.lemmas.Result.{err_from_is_err_and}
+use Rattle.step_tables.specs.StoreMoves.{done}
+use Rattle.store_host.proofs.Hosting.{telling, told_cause, done_cause, next_is}
+use Rattle.store_host.proofs.hosted.Hosted.work.Goals as goal
+
+pub returns-in_err-tell-in-Ok-clause-cause : goal.returns-in_err-tell-in-Ok-clause-cause
+returns-in_err-tell-in-Ok-clause-cause g c =
+    let n = c.requires in
+    let k = c.in-Ok.ensures.works n.0 n.1 in
+    let p = err_from_is_err_and c.from_residual.result c.from_residual.ensures.1 in
+    rw (p.1, p.2) (told_cause g.D.Disk.state c.args.self.now.node c.work.new.self c.tell.new.self.node k.counted c.tell.ensures.devs
+    (Err c.in_err-tell-in-Ok.field-0.0) c.in_err-tell-in-Ok.ensures.memory)
+
+pub returns-in_ok-tell-in-Ok-clause-done : goal.returns-in_ok-tell-in-Ok-clause-done
+returns-in_ok-tell-in-Ok-clause-done g c schema table hosted h =
+    let k = c.in-Ok.ensures.works hosted.store h.node in
+    let mid = record c.args.self.now { node = c.work.new.self } in (
+      c.in_ok-tell-in-Ok.ensures.told schema table hosted (done hosted.store.disk hosted.store.agenda)
+          (telling g.D.Disk.state schema table hosted (done hosted.store.disk hosted.store.agenda) c.args.self.now mid h k.done.0 hosted.made (c.work.ensures.declared ∙ h.made) refl),
+      k.done.1 ∙ next_is g.D.Disk.state schema table hosted.store.agenda,
+    )
+
+pub returns-in_ok-tell-in-Ok-clause-cause : goal.returns-in_ok-tell-in-Ok-clause-cause
+returns-in_ok-tell-in-Ok-clause-cause g c =
+    let n = c.requires in
+    let k = c.in-Ok.ensures.works n.0 n.1 in
+    told_cause g.D.Disk.state c.args.self.now.node c.work.new.self c.tell.new.self.node k.counted c.tell.ensures.devs (Ok c.in-Ok.step) tt
+
+pub returns-in-Err-clause-cause : goal.returns-in-Err-clause-cause
+returns-in-Err-clause-cause g c =
+    let n = c.requires in
+    let k = c.in-Err.ensures.works n.0 n.1 in
+    done_cause g.D.Disk.state c.args.self.now.node c.work.new.self c.in-Err.fault k.cause k.only

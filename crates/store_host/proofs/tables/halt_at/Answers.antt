@@ -1,0 +1,15 @@
+use Rattle.std.proofs.Common.{[], false}
+use Rattle.step_tables.specs.Messages as messages
+use Rattle.step_tables.specs.StoreMoves.{Crash}
+use Rattle.world_tables.specs.World.{schema_at}
+use Rattle.store_host.proofs.Maps.{found}
+use Rattle.store_host.proofs.Moving.{table_moved, crash_answer}
+use Rattle.store_host.proofs.tables.halt_at.Goals as goal
+
+pub returns-in-Some-clause-fallen : goal.returns-in-Some-clause-fallen
+returns-in-Some-clause-fallen g c w numbers h =
+    let f = found g.D.Disk.state w numbers c.args.tables.now c.args.table c.in-Some.hosted.now h c.in-Some.ensures.value in
+    (table_moved g.D.Disk.state w numbers c.args.tables.now (c.get_mut.follows.lender c.halt.new.self) c.args.table c.halt.new.self c.in-Some.hosted.now c.in-Some.ensures.value
+    (c.get_mut.follows.holds c.halt.new.self) h
+    (Crash messages.FailedBefore) f.0 [] [] false f.1 (c.halt.ensures.halted (schema_at w c.args.table) c.args.table f.0 f.2)
+    (crash_answer f.0.store.disk f.0.store.agenda messages.FailedBefore)).held

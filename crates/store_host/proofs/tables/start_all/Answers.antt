@@ -1,0 +1,46 @@
+use Rattle.std.proofs.Common.{Err, ◌+◌, drop, refl, ◌∙◌, rules}
+use Rattle.std.proofs.lemmas.Result.{err_from_is_err_and}
+use Rattle.std.specs.Prelude.{slice_index_or}
+use Rattle.store_host.proofs.Moving.{later_cause, begins, begins_next, ends_well, ends_badly, drop_next, drop_done}
+use Rattle.store_host.proofs.tables.start_all.Goals as goal
+
+pub loop-table-init : goal.loop-table-init
+loop-table-init g c = record { begun = λ w all h. begins g.D.Disk.state w all c.args.numbers.now c.args.outs.now c.args.tables.now h; counted = λ q. refl }
+
+pub start_at-requires : goal.start_at-requires
+start_at-requires g c = let n = c.requires in let b = c.loop-table.invariant.begun n.0 n.1 n.2 in (b.here, n.1, b.held)
+
+pub loop-table-preserved : goal.loop-table-preserved
+loop-table-preserved g c =
+    let ns = c.args.numbers.now in
+    let i = c.loop-table.table-index in
+    record {
+      begun = λ w all h.
+          let b = c.loop-table.invariant.begun w all h in
+          begins_next g.D.Disk.state w all ns c.args.outs.now c.loop-table.tables c.start_at.new.tables c.loop-table.outs c.start_at.new.outs (slice_index_or ns i 0) (drop i ns) (drop (i + 1) ns)
+          (drop_next ns i (search rules)) b
+          (c.in_ok-start_at.ensures.started b.here all b.held);
+      counted = λ q. c.in_ok-start_at.ensures.cause.counted (λ e. absurd cc) q ∙ c.loop-table.invariant.counted q;
+    }
+
+pub returns-in_err-start_at-clause-refused : goal.returns-in_err-start_at-clause-refused
+returns-in_err-start_at-clause-refused g c w all h =
+    let p = err_from_is_err_and c.from_residual.result c.from_residual.ensures.1 in
+    let ns = c.args.numbers.now in
+    let i = c.loop-table.table-index in
+    let b = c.loop-table.invariant.begun w all h in
+    rw (p.1, p.2) (λ failed.
+    let k = c.in_err-start_at.ensures.refused b.here all b.held failed in
+    ends_badly g.D.Disk.state w all ns c.args.outs.now c.loop-table.tables c.start_at.new.tables c.loop-table.outs c.start_at.new.outs (slice_index_or ns i 0) (drop i ns) (drop (i + 1) ns)
+    (drop_next ns i (search rules)) b k.0 k.1)
+
+pub returns-in_err-start_at-clause-cause : goal.returns-in_err-start_at-clause-cause
+returns-in_err-start_at-clause-cause g c =
+    let p = err_from_is_err_and c.from_residual.result c.from_residual.ensures.1 in
+    rw (p.1, p.2) (later_cause g.D.Disk.state c.args.tables.now c.loop-table.tables c.start_at.new.tables (Err c.in_err-start_at.field-0.0) c.loop-table.invariant.counted c.in_err-start_at.ensures.cause)
+
+pub returns-clause-started : goal.returns-clause-started
+returns-clause-started g c w all h =
+    let ns = c.args.numbers.now in
+    let i = c.loop-table.table-index in
+    ends_well g.D.Disk.state w all ns c.args.outs.now c.loop-table.tables c.loop-table.outs (drop i ns) (drop_done ns i (search rules)) (c.loop-table.invariant.begun w all h)

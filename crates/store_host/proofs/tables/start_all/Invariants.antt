@@ -1,0 +1,12 @@
+use Rattle.std.proofs.Common.{ℕ, List, drop}
+use Rattle.world_tables.specs.World.{World}
+use Rattle.store_host.specs.Holds.{HoldsTables, SameFaults}
+use Rattle.store_host.proofs.Moving.{Begins}
+use Rattle.store_host.proofs.tables.start_all.Given as goal
+
+abbrev pub invariant-loop-table : goal.invariant-loop-table
+invariant-loop-table g l = record {
+  begun : (w : World) (all : List ℕ) → HoldsTables g.D.Disk.state w all l.fn.tables
+      → Begins g.D.Disk.state w all l.tables l.fn.outs l.outs l.fn.numbers (drop l.table-index l.numbers);
+  counted : SameFaults g.D.Disk.state l.fn.tables l.tables;
+}

@@ -1,0 +1,298 @@
+//! A Store with its tables.
+ghost use Rattle.std.specs.Prelude.{◌≡◌, ◌⊎◌, ◌<◌, ◌≤◌, ◌≢◌, ◌+◌, ℕ, [], List, Option, None, Some, not, false, true};
+ghost use Rattle.std.specs.Prelude.{IfOk, IfErr, OnOk, IsErrOf, option_copied, option_map, is_some, map, length};
+ghost use Rattle.std.specs.Prelude.{Bool, if◌then◌else◌};
+ghost use Rattle.std.specs.Ordering.{nat_cmp};
+ghost use Rattle.std.specs.BTreeMap as tree;
+ghost use Rattle.std.specs.BTreeMap.{is_at};
+ghost use Rattle.row_value.specs.declared.schema.Schema.{Schema as ASchema};
+ghost use Rattle.row_value.specs.declared.schema.Scheme.TheVariants.{Eventual};
+ghost use Rattle.row_store.specs.Spelling.{table_payload};
+ghost use Rattle.vault.specs.Limit.{payload_most};
+ghost use Rattle.value_codec.specs.SchemaSpelling.{HasSchemaSpelling};
+ghost use Rattle.step_tables.specs.Messages as messages;
+ghost use Rattle.step_tables.specs.Messages.{Luck};
+ghost use Rattle.store_node.specs.declared.fault.NodeFault.TheVariants.{Disk as DiskFailed, Memory};
+ghost use Rattle.world_tables.specs.World.{World as AWorld, Hosted as AHosted, owner, the_store, is_down, hosted_at};
+ghost use Rattle.world_tables.specs.World.{busy_table, busy_step, write_next, store_falls, store_crashes, tables_of};
+ghost use Rattle.world_tables.specs.World.{tasks_of, store_until_idle, is_at_work};
+ghost use Rattle.world_tables.specs.World.{tables_start, tables_fall, and_then, still, without_down, with_table};
+ghost use Rattle.store_host.specs.Holds.{IsHosted, HoldsStore, IsStore, SameFaults, faults_at, disks_at};
+ghost use Rattle.store_host.specs.Steps.{new_table, faults_of};
+ghost use Rattle.store_host.specs.Calls.{IsMoved, HasCause};
+
+use crate::hosted::Hosted;
+use crate::tables::{crash_busy, first_busy, halt_all, is_busy_at, numbers_of, start_all, work_at};
+use disk_trait::Disk;
+use row_value::Schema;
+use stab_base::{Sequence, Step, StoreNo, TableNo};
+use std::alloc::Global;
+use std::collections::BTreeMap;
+use store_node::{NodeFault, StoreOut};
+use table_model::{History, Tables};
+
+/// A Store with its tables, each on its three disks. The Store is up or down with all of them.
+#[derive(Drop)]
+pub struct StoreHost<D: Disk> {
+    pub(crate) number: StoreNo,
+    pub(crate) tables: BTreeMap<TableNo, Hosted<D>>,
+    pub(crate) numbers: Tables,
+    pub(crate) is_up: bool,
+    pub(crate) outs: Sequence<StoreOut>,
+    pub(crate) alloc: Global,
+}
+
+impl<D: Disk + Drop> StoreHost<D> {
+    /// A Store with no tables, which is up.
+    pub fn new(alloc: Global, number: StoreNo) -> StoreHost<D>
+        requires { number ≡ owner }
+        ensures held { (w : AWorld) → w.tables ≡ [] → is_down w the_store ≡ false → HoldsStore D.state w result }
+        ensures told { result.outs ≡ [] }
+        ensures up { result.is_up ≡ true }
+    {
+        StoreHost {
+            number,
+            tables: BTreeMap::new(alloc),
+            numbers: Sequence::new(alloc),
+            is_up: true,
+            outs: Sequence::new(alloc),
+            alloc,
+        }
+    }
+
+    /// Whether the Store is up.
+    pub fn is_up(&self) -> bool
+        ensures up { result ≡ self.now.is_up }
+        ensures held { (w : AWorld) → HoldsStore D.state w self.now → result ≡ not (is_down w the_store) }
+    {
+        self.is_up
+    }
+
+    /// Whether the table was added.
+    pub fn has(&self, table: TableNo) -> bool
+        ensures there { result ≡ is_some (tree.get nat_cmp self.now.tables table) }
+        ensures held { (w : AWorld) → HoldsStore D.state w self.now → result ≡ is_some (hosted_at w table) }
+    {
+        self.tables.contains_key(&table)
+    }
+
+    /// Whether the table has writes to do.
+    pub fn is_busy(&self, table: TableNo) -> bool
+        ensures { (w : AWorld) → HoldsStore D.state w self.now → result ≡ is_at_work w table }
+    {
+        is_busy_at(&self.tables, table)
+    }
+
+    /// What the table has told, in order.
+    pub fn history(&self, table: TableNo) -> Option<&History>
+        ensures { (w : AWorld) → HoldsStore D.state w self.now
+            → option_copied result ≡ option_map (λ (hosted : AHosted). hosted.history) (hosted_at w table) }
+    {
+        match self.tables.get(&table) {
+            Some(hosted) => Some(&hosted.history),
+            None => None,
+        }
+    }
+
+    /// Hands over what the moves so far told and sent, those that did neither left out. It takes no memory.
+    pub fn take_outs(&mut self) -> Sequence<StoreOut>
+        ensures outs { result ≡ self.old.outs }
+        ensures none { self.new.outs ≡ [] }
+        ensures held { (w : AWorld) → HoldsStore D.state w self.old → HoldsStore D.state w self.new }
+        ensures same { self.new ≡ record self.old { outs = self.new.outs } }
+    {
+        std::mem::replace(&mut self.outs, Sequence::new(self.alloc))
+    }
+
+    // Adds a table that isn't there.
+    fn put(&mut self, table: TableNo, hosted: Hosted<D>) -> Result<(), NodeFault>
+        requires { tree.get nat_cmp self.old.tables table ≡ None }
+        ensures put { (w : AWorld) (schema : ASchema) (made up : Bool) → HoldsStore D.state w self.old
+            → IsHosted D.state (Some schema) table (new_table made up) hosted
+            → OnOk result (HoldsStore D.state (with_table w table schema made up) self.new) }
+        ensures outs { self.new.outs ≡ self.old.outs }
+        ensures tables { OnOk result ((q : ℕ) → tree.get nat_cmp self.new.tables q
+            ≡ (if is_at (nat_cmp table) q then Some hosted else tree.get nat_cmp self.old.tables q)) }
+        ensures memory { IfErr result (λ e. e ≡ Memory) }
+    {
+        self.tables.insert(table, hosted)?;
+        self.numbers = numbers_of(self.alloc, &self.tables)?;
+        Ok(())
+    }
+
+    /// Adds a table of an eventual scheme on its disks for chunks, rows and log, whatever they hold, and makes it one
+    /// with no rows. It is up where the Store is.
+    ///
+    /// `Disk` where a disk failed: the table is there, the Store is down with all its tables, and its next start makes
+    /// the table.
+    pub fn add(
+        &mut self,
+        table: TableNo,
+        schema: Schema,
+        chunk_disk: D,
+        row_disk: D,
+        log_disk: D,
+    ) -> Result<(), NodeFault>
+        requires held { IsStore D.state self.old }
+        requires absent { tree.get nat_cmp self.old.tables table ≡ None }
+        requires size { 0 < schema.chunk }
+        requires scheme { schema.scheme ≡ Eventual }
+        requires spelled { HasSchemaSpelling schema }
+        requires short { length (table_payload schema 2) ≤ payload_most }
+        ensures added { (w : AWorld) → HoldsStore D.state w self.old
+            → OnOk result (HoldsStore D.state (with_table w table schema true (not (is_down w the_store))) self.new) }
+        ensures failed { (w : AWorld) → HoldsStore D.state w self.old → IsErrOf result DiskFailed
+            → HoldsStore D.state (store_falls owner (with_table w table schema false false)).world self.new }
+        ensures outs { self.new.outs ≡ self.old.outs }
+        ensures counted { OnOk result (faults_at D.state self.new.tables table
+            ≡ faults_of D.state chunk_disk row_disk log_disk) }
+        ensures cause { IsErrOf result DiskFailed
+            → faults_of D.state chunk_disk row_disk log_disk < faults_at D.state self.new.tables table }
+        ensures others { (q : ℕ) → q ≢ table
+            → OnOk result (faults_at D.state self.new.tables q ≡ faults_at D.state self.old.tables q) }
+        ensures others_failed { (q : ℕ) → q ≢ table → IsErrOf result DiskFailed
+            → faults_at D.state self.new.tables q ≡ faults_at D.state self.old.tables q }
+        ensures only { IfErr result (λ e. (e ≡ DiskFailed) ⊎ (e ≡ Memory)) }
+    {
+        let mut hosted = Hosted::new(
+            self.alloc,
+            self.number,
+            table,
+            schema,
+            chunk_disk,
+            row_disk,
+            log_disk,
+        );
+        match hosted.declare(self.is_up) {
+            Ok(()) => self.put(table, hosted),
+            Err(NodeFault::Disk) => {
+                self.put(table, hosted)?;
+                self.fall();
+                Err(NodeFault::Disk)
+            }
+            Err(fault) => Err(fault),
+        }
+    }
+
+    // Takes the Store down with all its tables, beside any write.
+    fn fall(&mut self)
+        requires { IsStore D.state self.old }
+        ensures fallen { (w : AWorld) → HoldsStore D.state w self.old
+            → IsMoved D.state self.old self.new (store_falls owner w) }
+        ensures counted { SameFaults D.state self.old.tables self.new.tables }
+        ensures down { self.new.is_up ≡ false }
+        ensures outs { self.new.outs ≡ self.old.outs }
+    {
+        halt_all(self.numbers.as_slice(), &mut self.tables);
+        self.is_up = false;
+    }
+
+    /// Does the next write of the table of least number that has any; what it is called, `Idle` where there is none.
+    ///
+    /// `Disk` where a disk failed: the Store is then down, and the write is undone or done.
+    pub fn work(&mut self) -> Result<Step, NodeFault>
+        requires held { IsStore D.state self.old }
+        requires up { self.old.is_up ≡ true }
+        ensures done { (w : AWorld) → HoldsStore D.state w self.old → IfOk result (λ step.
+            IsMoved D.state self.old self.new (write_next owner messages.Done (busy_table w owner) w)
+            × (step ≡ busy_step w (busy_table w owner))) }
+        ensures failed { (w : AWorld) → HoldsStore D.state w self.old → IsErrOf result DiskFailed
+            → IsMoved D.state self.old self.new (write_next owner messages.FailedBefore (busy_table w owner) w)
+            ⊎ IsMoved D.state self.old self.new (write_next owner messages.FailedAfter (busy_table w owner) w) }
+        ensures up { OnOk result (self.new.is_up ≡ true) }
+        ensures cause { HasCause D.state self.old.tables self.new.tables result }
+    {
+        let Some(table) = first_busy(self.numbers.as_slice(), &self.tables) else {
+            return Ok(Step::Idle);
+        };
+        match work_at(&mut self.tables, &mut self.outs, table) {
+            Ok(step) => Ok(step),
+            Err(NodeFault::Disk) => {
+                self.fall();
+                Err(NodeFault::Disk)
+            }
+            Err(fault) => Err(fault),
+        }
+    }
+
+    /// Does all writes, one after the other, until there are none: how many they were.
+    ///
+    /// `Disk` where a disk failed: the Store is then down, and the last write is undone or done.
+    pub fn work_all(&mut self) -> Result<u64, NodeFault>
+        requires held { IsStore D.state self.old }
+        requires up { self.old.is_up ≡ true }
+        ensures done { (w : AWorld) → HoldsStore D.state w self.old → IfOk result (λ count.
+            (count ≡ length (tasks_of w owner))
+            × (lucks : List Luck) × ((store_until_idle owner lucks w).failed ≡ false)
+            × IsMoved D.state self.old self.new (store_until_idle owner lucks w)) }
+        ensures failed { (w : AWorld) → HoldsStore D.state w self.old → IsErrOf result DiskFailed
+            → (lucks : List Luck) × ((store_until_idle owner lucks w).failed ≡ true)
+            × IsMoved D.state self.old self.new (store_until_idle owner lucks w) }
+        ensures cause { HasCause D.state self.old.tables self.new.tables result }
+    {
+        for count in 0..u64::MAX {
+            let Some(_table) = first_busy(self.numbers.as_slice(), &self.tables) else {
+                return Ok(count);
+            };
+            self.work()?;
+        }
+        Err(NodeFault::Memory)
+    }
+
+    /// Crashes the Store: of the disk of the next write the first `calls` calls pass, and a write that follows lands
+    /// its first `pick` bytes. The Store is then down with all its tables. It takes no memory.
+    pub fn crash(&mut self, calls: u32, pick: u64)
+        requires held { IsStore D.state self.old }
+        requires up { self.old.is_up ≡ true }
+        ensures crashed { (w : AWorld) → HoldsStore D.state w self.old
+            → (lucks : List Luck) × IsMoved D.state self.old self.new (store_crashes owner calls lucks w) }
+        ensures down { self.new.is_up ≡ false }
+        ensures outs { self.new.outs ≡ self.old.outs }
+    {
+        crash_busy(self.numbers.as_slice(), &mut self.tables, calls, pick);
+        self.fall();
+    }
+
+    /// Starts all tables, one after the other, and the Store is up.
+    ///
+    /// `Disk` where a disk failed: the Store is then still down, with all its tables.
+    pub fn start(&mut self) -> Result<(), NodeFault>
+        requires held { IsStore D.state self.old }
+        requires down { self.old.is_up ≡ false }
+        ensures started { (w : AWorld) → HoldsStore D.state w self.old → OnOk result ((lucks : List Luck)
+            × ((tables_start (tables_of w owner) lucks w).failed ≡ false)
+            × IsMoved D.state self.old self.new (and_then (tables_start (tables_of w owner) lucks w)
+            (λ x. still (without_down the_store x)))) }
+        ensures failed { (w : AWorld) → HoldsStore D.state w self.old → IsErrOf result DiskFailed
+            → (lucks : List Luck) × ((tables_start (tables_of w owner) lucks w).failed ≡ true)
+            × IsMoved D.state self.old self.new (and_then (tables_start (tables_of w owner) lucks w)
+            (tables_fall (tables_of w owner))) }
+        ensures up { OnOk result (self.new.is_up ≡ true) }
+        ensures cause { HasCause D.state self.old.tables self.new.tables result }
+    {
+        match start_all(self.numbers.as_slice(), &mut self.tables, &mut self.outs) {
+            Ok(()) => {
+                self.is_up = true;
+                Ok(())
+            }
+            Err(NodeFault::Disk) => {
+                halt_all(self.numbers.as_slice(), &mut self.tables);
+                Err(NodeFault::Disk)
+            }
+            Err(fault) => Err(fault),
+        }
+    }
+
+    /// Gives back the disks of each table, by rising number: those of the chunks, the rows and the log.
+    pub fn into_disks(self) -> Result<Sequence<(TableNo, (D, D, D))>, NodeFault>
+        ensures disks { IfOk result (λ disks. disks ≡ map disks_at self.tables.entries) }
+        ensures memory { IfErr result (λ e. e ≡ Memory) }
+    {
+        let StoreHost { tables, alloc, .. } = self;
+        let mut disks = Sequence::new(alloc);
+        for (table, hosted) in tables {
+            disks.push((table, hosted.into_disks()))?;
+        }
+        Ok(disks)
+    }
+}

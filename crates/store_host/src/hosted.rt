@@ -1,0 +1,222 @@
+//! A table of the Store, and the history that it has told.
+ghost use Rattle.std.specs.Prelude.{◌≡◌, ◌⊎◌, ◌<◌, ◌≤◌, ℕ, length, false, [], ◌∷◌, ◌++◌, map, List, Option, Some};
+ghost use Rattle.std.specs.Prelude.{true, filter, IfOk, IfErr, OnOk, OnErr};
+ghost use Rattle.std.specs.Prelude.{IsErrOf};
+ghost use Rattle.vault.specs.Limit.{payload_most};
+ghost use Rattle.value_codec.specs.SchemaSpelling.{HasSchemaSpelling};
+ghost use Rattle.row_store.specs.Spelling.{table_payload};
+ghost use Rattle.row_value.specs.declared.schema.Scheme.TheVariants.{Eventual};
+ghost use Rattle.row_value.specs.declared.schema.Schema.{Schema as ASchema};
+ghost use Rattle.step_tables.specs.Sayings.{saying};
+ghost use Rattle.step_tables.specs.StoreMoves.{StoreStep, Work, Crash};
+ghost use Rattle.step_tables.specs.Messages as messages;
+ghost use Rattle.store_node.specs.declared.fault.NodeFault.TheVariants.{Disk as DiskFailed, Memory};
+ghost use Rattle.store_node.specs.Due.{fact_of};
+ghost use Rattle.store_node.specs.Node.{IsNode, own_faults};
+ghost use Rattle.world_tables.specs.World.{owner, goes_on, history_on, next_step, tasks_in};
+ghost use Rattle.world_tables.specs.World as world;
+ghost use Rattle.store_host.specs.Holds.{IsHosted, outs_in, outbox_of, says_something, disks_at};
+ghost use Rattle.store_host.specs.Steps.{IsTelling, HasTold, moved_at, started_at, new_table, faults_of, HasNodeCause};
+
+use disk_trait::Disk;
+use row_value::Schema;
+use stab_base::{Sequence, Step, StoreNo, TableNo};
+use std::alloc::Global;
+use store_node::{NodeFault, StoreFact, StoreOut, TableNode};
+use table_model::History;
+
+/// A table of the Store, and the history that it has told.
+#[derive(Drop)]
+pub(crate) struct Hosted<D: Disk> {
+    pub(crate) node: TableNode<D>,
+    pub(crate) history: History,
+}
+
+// Adds the entry that a fact tells, where its version is new.
+fn keep(history: &mut History, fact: &StoreFact) -> Result<(), NodeFault>
+    ensures kept { OnOk result (history.new ≡ goes_on history.old (saying (fact_of fact.now))) }
+    ensures memory { IfErr result (λ e. e ≡ Memory) }
+{
+    if let StoreFact::Accepted { entry, .. } | StoreFact::Forward { entry, .. } = fact {
+        if (history.len() as u64) < entry.version {
+            history.push(*entry)?;
+        }
+    }
+    Ok(())
+}
+
+fn keep_all(history: &mut History, facts: &[StoreFact]) -> Result<(), NodeFault>
+    ensures kept { OnOk result (history.new ≡ history_on history.old (map fact_of facts.now)) }
+    ensures memory { IfErr result (λ e. e ≡ Memory) }
+{
+    for fact in facts {
+        keep(history, fact)?;
+    }
+    Ok(())
+}
+
+// Whether there is a fact or a message.
+fn says_something(out: &StoreOut) -> bool
+    ensures { result ≡ says_something (outbox_of out.now) }
+{
+    if out.facts.len() != 0 {
+        return true;
+    }
+    out.messages.len() != 0
+}
+
+// Adds what a table told and sent, unless it is nothing.
+fn put(outs: &mut Sequence<StoreOut>, out: StoreOut) -> Result<(), NodeFault>
+    ensures put { OnOk result (outs_in outs.new ≡ outs_in outs.old ++ filter says_something (outbox_of out ∷ [])) }
+    ensures memory { IfErr result (λ e. e ≡ Memory) }
+{
+    if !says_something(&out) {
+        return Ok(());
+    }
+    outs.push(out)?;
+    Ok(())
+}
+
+impl<D: Disk + Drop> Hosted<D> {
+    /// A table that isn't declared yet, and has told nothing.
+    pub(crate) fn new(
+        alloc: Global,
+        store: StoreNo,
+        table: TableNo,
+        schema: Schema,
+        chunk_disk: D,
+        row_disk: D,
+        log_disk: D,
+    ) -> Hosted<D>
+        requires store { store ≡ owner }
+        requires size { 0 < schema.chunk }
+        requires scheme { schema.scheme ≡ Eventual }
+        requires spelled { HasSchemaSpelling schema }
+        requires short { length (table_payload schema 2) ≤ payload_most }
+        ensures hosted { IsHosted D.state (Some schema) table (new_table false false) result }
+        ensures declared { result.node.is_declared ≡ false }
+        ensures faults { own_faults D.state result.node ≡ faults_of D.state chunk_disk row_disk log_disk }
+    {
+        Hosted {
+            node: TableNode::new(alloc, store, table, schema, chunk_disk, row_disk, log_disk),
+            history: Sequence::new(alloc),
+        }
+    }
+
+    /// Makes the table one with no rows, which is up or down.
+    pub(crate) fn declare(&mut self, is_up: bool) -> Result<(), NodeFault>
+        requires node { IsNode D.state self.old.node }
+        requires undeclared { self.old.node.is_declared ≡ false }
+        ensures declared { (declared : Option ASchema) (table : ℕ)
+            → IsHosted D.state declared table (new_table false false) self.old
+            → OnOk result (IsHosted D.state declared table (new_table true is_up) self.new) }
+        ensures refused { (declared : Option ASchema) (table : ℕ)
+            → IsHosted D.state declared table (new_table false false) self.old
+            → OnErr result (IsHosted D.state declared table (new_table false false) self.new) }
+        ensures cause { HasNodeCause D.state self.old.node self.new.node result }
+    {
+        match self.node.declare() {
+            Ok(()) => {
+                if is_up {
+                    return Ok(());
+                }
+                self.node.halt();
+                Ok(())
+            }
+            Err(fault) => Err(fault),
+        }
+    }
+
+    // Puts what the node tells and sends behind what was told, and keeps the entries that it tells.
+    fn tell(&mut self, outs: &mut Sequence<StoreOut>) -> Result<(), NodeFault>
+        ensures told { (schema : Option ASchema) (table : ℕ) (hosted : world.Hosted) (step : StoreStep)
+            → IsTelling D.state schema table hosted step self.old
+            → OnOk result (HasTold D.state schema table hosted step self.new outs.old outs.new) }
+        ensures devs { self.new.node.devs ≡ self.old.node.devs }
+        ensures memory { IfErr result (λ e. e ≡ Memory) }
+    {
+        let out = self.node.take_out();
+        keep_all(&mut self.history, out.facts.as_slice())?;
+        put(outs, out)
+    }
+
+    /// Does the next write, if there is one, and puts what it tells and sends behind what was told.
+    pub(crate) fn work(&mut self, outs: &mut Sequence<StoreOut>) -> Result<Step, NodeFault>
+        requires { IsNode D.state self.old.node }
+        ensures done { (schema : Option ASchema) (table : ℕ) (hosted : world.Hosted)
+            → IsHosted D.state schema table hosted self.old → IfOk result (λ step.
+            HasTold D.state schema table hosted (moved_at schema table hosted (Work messages.Done))
+            self.new outs.old outs.new × (step ≡ next_step (tasks_in hosted.store.agenda))) }
+        ensures failed { (schema : Option ASchema) (table : ℕ) (hosted : world.Hosted)
+            → IsHosted D.state schema table hosted self.old → IsErrOf result DiskFailed
+            → HasTold D.state schema table hosted (moved_at schema table hosted (Work messages.FailedBefore))
+            self.new outs.old outs.new
+            ⊎ HasTold D.state schema table hosted (moved_at schema table hosted (Work messages.FailedAfter))
+            self.new outs.old outs.new }
+        ensures cause { HasNodeCause D.state self.old.node self.new.node result }
+    {
+        if !self.node.is_up() {
+            return Ok(Step::Idle);
+        }
+        match self.node.work() {
+            Ok(step) => {
+                self.tell(outs)?;
+                Ok(step)
+            }
+            Err(fault) => Err(fault),
+        }
+    }
+
+    /// Crashes the node inside its next write, if it is up. It takes no memory.
+    pub(crate) fn crash(&mut self, calls: u32, pick: u64)
+        requires { IsNode D.state self.old.node }
+        ensures crashed { (schema : Option ASchema) (table : ℕ) (hosted : world.Hosted)
+            → IsHosted D.state schema table hosted self.old
+            → HasTold D.state schema table hosted (moved_at schema table hosted (Crash messages.FailedBefore))
+            self.new [] []
+            ⊎ HasTold D.state schema table hosted (moved_at schema table hosted (Crash messages.FailedAfter))
+            self.new [] [] }
+    {
+        if self.node.is_up() {
+            self.node.crash(calls, pick);
+        }
+    }
+
+    /// Takes the node down beside any write. It takes no memory.
+    pub(crate) fn halt(&mut self)
+        requires { IsNode D.state self.old.node }
+        ensures halted { (schema : Option ASchema) (table : ℕ) (hosted : world.Hosted)
+            → IsHosted D.state schema table hosted self.old
+            → HasTold D.state schema table hosted (moved_at schema table hosted (Crash messages.FailedBefore))
+            self.new [] [] }
+        ensures counted { own_faults D.state self.new.node ≡ own_faults D.state self.old.node }
+    {
+        self.node.halt();
+    }
+
+    /// Starts the node, and puts what it tells behind what was told.
+    pub(crate) fn start(&mut self, outs: &mut Sequence<StoreOut>) -> Result<(), NodeFault>
+        requires { IsNode D.state self.old.node }
+        ensures started { (schema : Option ASchema) (table : ℕ) (hosted : world.Hosted)
+            → IsHosted D.state schema table hosted self.old
+            → OnOk result (HasTold D.state schema table (record hosted { made = true })
+            (started_at schema table hosted) self.new outs.old outs.new) }
+        ensures refused { (schema : Option ASchema) (table : ℕ) (hosted : world.Hosted)
+            → IsHosted D.state schema table hosted self.old → IsErrOf result DiskFailed
+            → IsHosted D.state schema table hosted self.new × (outs.new ≡ outs.old) }
+        ensures cause { HasNodeCause D.state self.old.node self.new.node result }
+    {
+        match self.node.start() {
+            Ok(()) => self.tell(outs),
+            Err(fault) => Err(fault),
+        }
+    }
+
+    /// The disks of the chunks, the rows and the log.
+    pub(crate) fn into_disks(self) -> (D, D, D)
+        ensures { (number : ℕ) → (number, result) ≡ disks_at (number, self) }
+    {
+        let Hosted { node, .. } = self;
+        node.into_disks()
+    }
+}

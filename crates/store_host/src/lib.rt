@@ -1,0 +1,8 @@
+//! A Store with its tables, each on its three devices.
+#![tactic(auto)]
+
+mod host;
+mod hosted;
+mod tables;
+
+pub use host::StoreHost;

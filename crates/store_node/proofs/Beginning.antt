@@ -1,0 +1,178 @@
+-- What a start promises of a node in any of its states.
+use Rattle.std.proofs.Common.{◌≡◌, ◌⊎◌, inl, inr, ⊎_elim, ℕ, ◌+◌, ◌<◌, ◌≤◌, ◌++◌, length, map, Bool, true, false, List, [], ◌∷◌, Option, Some, None, Result, Ok, Err, refl, sym, ◌∙◌, ap, subst, arith, append-nil}
+use Rattle.std.specs.Prelude.{IsErrOf, OnOk, OnErr, IfErr}
+use Rattle.std.proofs.lemmas.List.{map-append}
+use Rattle.disk_trait.specs.Calls.{DiskState}
+use Rattle.disk_trait.specs.Fuse.{behind, inner_of}
+use Rattle.disk_trait.specs.declared.fuse.FuseDisk.{FuseDisk}
+use Rattle.stab_base.specs.declared.chunk_name.ChunkName.{ChunkName}
+use Rattle.store_commit.specs.declared.devs.TableDevs.{TableDevs}
+use Rattle.store_commit.specs.declared.recovery.Recovery.{Recovery}
+use Rattle.store_commit.specs.declared.fault.CommitFault.{CommitFault}
+use Rattle.store_commit.specs.NamedChunks.{NamedChunks}
+use Rattle.store_commit.specs.There.{WholeRows}
+use Rattle.store_commit.specs.Standing.{devs, writes_of, AreUp, AreSound, AreSynced}
+use Rattle.step_tables.specs.Facts.{Fact}
+use Rattle.step_tables.specs.Facts as facts_of
+use Rattle.step_tables.specs.StoreMoves.{StoreDisk, StoreTask, TableStore, Start}
+use Rattle.store_node.specs.Devices.{BeginsStart}
+use Rattle.store_node.specs.Due.{fact_of, send_of, facts_found}
+use Rattle.store_node.specs.Fault.{fault_of}
+use Rattle.store_node.specs.Gathered.{HasRoom}
+use Rattle.store_node.specs.declared.gathered.Gathered.{Gathered}
+use Rattle.store_node.specs.declared.told.StoreFact.{StoreFact}
+use Rattle.store_node.specs.declared.told.StoreFact.TheVariants as told
+use Rattle.store_node.specs.declared.owed.Owed.TheVariants as owed
+use Rattle.store_node.specs.declared.fault.NodeFault.{NodeFault}
+use Rattle.store_node.specs.declared.fault.NodeFault.TheVariants as node_faults
+use Rattle.store_node.specs.declared.node.TableNode.{TableNode}
+use Rattle.store_node.specs.Node.{IsWorking, IsResting, IsTable, IsNode, IsSame, told_by, sent_by, own_faults, nothing_stored, facts_in}
+use Rattle.store_node.specs.Calls.{Falls, IsBehind, Stays, Declares, DeclaresLate, Recovers, Starts, step_at, late}
+use Rattle.store_node.proofs.Recovering.{recovered_at, unrecovered_at}
+use Rattle.store_node.proofs.Working.{IsKept}
+use Rattle.store_node.proofs.Whole.{whole_stands}
+
+module _ {D : Type 0} (state : D → DiskState) (images : D → ℕ → List ℕ → Type 0) where
+  abbrev st : FuseDisk D → DiskState
+  st f = behind state f
+
+  abbrev im : FuseDisk D → ℕ → List ℕ → Type 0
+  im f = images (inner_of f)
+
+  abbrev at : StoreDisk → Option (List StoreTask) → TableStore
+  at disk agenda = record { disk = disk; agenda = agenda }
+
+  -- what is at rest
+  pub record RestsDown (node : TableNode D) : Type 0 where
+    pub up : AreUp node.devs
+    pub synced : AreSynced st node.devs
+    pub sound : AreSound st node.devs
+    pub idle : writes_of node.devs ≡ []
+
+  pub rests_down : (node : TableNode D) (disk : StoreDisk) (agenda : Option (List StoreTask)) → IsTable state node (at disk agenda) → node.is_declared ≡ true → node.is_up ≡ false → RestsDown node
+  rests_down node disk None t declared down = let r = t.at.1 in record { up = r.up; synced = r.synced declared; sound = r.sound declared; idle = r.idle }
+  rests_down node disk (Some tasks) t declared down = let up = t.at.0 in absurd cc
+
+  -- its rows are whole
+  pub whole_down : (node : TableNode D) (disk : StoreDisk) (agenda : Option (List StoreTask)) → IsTable state node (at disk agenda) → node.is_declared ≡ true → node.is_up ≡ false
+      → (meaning : ChunkName → List ℕ) × NamedChunks meaning (devs st node.devs) × WholeRows meaning (devs st node.devs).held
+  whole_down node disk None t declared down = let r = t.at.1 in whole_stands node.schema (devs st node.devs) disk t.size (r.stands declared) r.fit
+  whole_down node disk (Some tasks) t declared down = let up = t.at.0 in absurd cc
+
+  -- other facts of a node that is down
+  pub facts_at : (node : TableNode D) (facts : Gathered StoreFact) (disk : StoreDisk) → IsTable state node (at disk None) → IsTable state (record node { facts = facts }) (at disk None)
+  facts_at node facts disk t =
+      let r = t.at.1 in
+      record {
+        size = t.size;
+        scheme = t.scheme;
+        spelled = t.spelled;
+        short = t.short;
+        at = (t.at.0, record { up = r.up; unset = r.unset; idle = r.idle; synced = r.synced; sound = r.sound; stands = r.stands; fit = r.fit; nothing = r.nothing });
+      }
+
+  still : (node : TableNode D) (facts : Gathered StoreFact) (disk : StoreDisk) → facts.items.items ≡ node.facts.items.items → IsTable state node (at disk None) → Stays state node (record node { facts = facts }) (at disk None)
+  still node facts disk same t = record { table = facts_at node facts disk t; told = ap (map fact_of) same; sent = refl; same = record { store = refl; table = refl; schema = refl } }
+
+  pub recover_short : (node : TableNode D) (facts : Gathered StoreFact) (disk : StoreDisk) (agenda : Option (List StoreTask)) → facts.items.items ≡ node.facts.items.items → IsTable state node (at disk agenda) → node.is_up ≡ false
+      → Recovers state (at disk agenda) node (record node { facts = facts }) (Err node_faults.Memory)
+  recover_short node facts disk None same t down = record { started = tt; refused = still node facts disk same t; counted = λ _. refl; cause = λ is. absurd cc; only = inr refl }
+  recover_short node facts disk (Some tasks) same t down = let up = t.at.0 in absurd cc
+
+  pub recover_done : (old : TableNode D) (reserved facts : Gathered StoreFact) (disk : StoreDisk) (agenda : Option (List StoreTask)) → IsTable state old (at disk agenda) → old.is_declared ≡ true → old.is_up ≡ false
+      → (table : TableDevs (FuseDisk D)) (recovery : Recovery) → BeginsStart st im old.devs table (Ok recovery) → HasRoom facts 1 → map fact_of facts.items.items ≡ told_by old ++ facts_found old.table recovery
+      → Recovers state (at disk agenda) old (record old { is_up = true; devs = table; owed = owed.Start; facts = facts }) (Ok tt)
+  recover_done old reserved facts disk None t declared down table recovery k room told = recovered_at state images old disk t declared table recovery k facts room told
+  recover_done old reserved facts disk (Some tasks) t declared down table recovery k room told = let up = t.at.0 in absurd cc
+
+  pub recover_failed : (old : TableNode D) (disk : StoreDisk) (agenda : Option (List StoreTask)) → IsTable state old (at disk agenda) → old.is_declared ≡ true → old.is_up ≡ false → (mid new : TableNode D) (e : CommitFault)
+      → BeginsStart st im old.devs mid.devs (Err e) → Falls state images mid new → IsKept old new → new.is_up ≡ false → Recovers state (at disk agenda) old new (Err (fault_of e))
+  recover_failed old disk None t declared down mid new e k falls kept down_now = unrecovered_at state images old disk t declared mid new e k falls kept down_now
+  recover_failed old disk (Some tasks) t declared down mid new e k falls kept down_now = let up = t.at.0 in absurd cc
+
+  -- ---- declared late
+
+  pub late_short : (node : TableNode D) (facts : Gathered StoreFact) (disk : StoreDisk) (agenda : Option (List StoreTask)) → facts.items.items ≡ node.facts.items.items → IsTable state node (at disk agenda) → node.is_declared ≡ false
+      → DeclaresLate state (at disk agenda) node (record node { facts = facts }) (Err node_faults.Memory)
+  late_short node facts disk None same t isnt = record { declared = tt; refused = still node facts disk same t; counted = λ _. refl; cause = λ is. absurd cc; only = inr refl }
+  late_short node facts disk (Some tasks) same t isnt = let is = t.at.1.declared in absurd cc
+
+  pub late_node : (node : TableNode D) (facts : Gathered StoreFact) (disk : StoreDisk) (agenda : Option (List StoreTask)) → IsTable state node (at disk agenda) → node.is_declared ≡ false → IsTable state (record node { facts = facts }) (at disk agenda)
+  late_node node facts disk None t isnt = facts_at node facts disk t
+  late_node node facts disk (Some tasks) t isnt = let is = t.at.1.declared in absurd cc
+
+  -- more facts of a node with nothing to be done
+  more_facts : (node : TableNode D) (facts : Gathered StoreFact) (disk : StoreDisk) → HasRoom facts 0 → IsTable state node (at disk (Some [])) → IsTable state (record node { facts = facts }) (at disk (Some []))
+  more_facts node facts disk room t =
+      let h = t.at.1 in
+      record {
+        size = t.size;
+        scheme = t.scheme;
+        spelled = t.spelled;
+        short = t.short;
+        at = (
+          t.at.0,
+          record {
+            declared = h.declared;
+            up = h.up;
+            unset = h.unset;
+            hidden = h.hidden;
+            ready = h.ready;
+            follows = h.follows;
+            well = h.well;
+            owed = h.owed;
+            fact_room = room;
+            message_room = h.message_room;
+            few_facts = h.few_facts;
+            few_messages = h.few_messages;
+          },
+        );
+      }
+
+  pub late_done : (node : TableNode D) (reserved facts : Gathered StoreFact) (made : TableNode D) (s : TableStore) → reserved.items.items ≡ node.facts.items.items
+      → Declares state s (record node { facts = reserved }) made (Ok tt) → made.facts ≡ reserved → facts.items.items ≡ made.facts.items.items ++ told.Recovered made.store made.table ∷ [] → HasRoom facts 0
+      → DeclaresLate state s node (record made { facts = facts }) (Ok tt)
+  late_done node reserved facts made s same d kept added room = record {
+    declared = record {
+      table = more_facts made facts nothing_stored room d.declared.table;
+      told = ap (map fact_of) (added ∙ ap (λ l. l ++ told.Recovered made.store made.table ∷ []) (ap (λ (g : Gathered StoreFact). g.items.items) kept ∙ same)) ∙ facts_told;
+      sent = d.declared.sent ∙ sym (append-nil (sent_by node));
+      same = record { store = d.declared.same.store; table = d.declared.same.table; schema = d.declared.same.schema };
+    };
+    refused = tt;
+    counted = λ is. d.counted (λ was. cc);
+    cause = λ is. absurd cc;
+    only = tt;
+  }
+    where
+      facts_told : map fact_of (node.facts.items.items ++ told.Recovered made.store made.table ∷ []) ≡ told_by node ++ facts_of.StoreRecovered node.store node.table ∷ []
+      facts_told = map-append fact_of node.facts.items.items (told.Recovered made.store made.table ∷ []) ∙ rw (d.declared.same.store, d.declared.same.table) refl
+
+  pub late_failed : (node : TableNode D) (reserved : Gathered StoreFact) (made : TableNode D) (s : TableStore) (e : NodeFault) → reserved.items.items ≡ node.facts.items.items
+      → Declares state s (record node { facts = reserved }) made (Err e) → DeclaresLate state s node made (Err e)
+  late_failed node reserved made s e same d = record {
+    declared = tt;
+    refused = record { table = d.refused.table; told = d.refused.told ∙ ap (map fact_of) same; sent = d.refused.sent; same = record { store = d.refused.same.store; table = d.refused.same.table; schema = d.refused.same.schema } };
+    counted = λ is. d.counted (λ was. is was);
+    cause = λ is. d.cause is;
+    only = d.only;
+  }
+
+  -- ---- a start
+
+  pub start_up : (node : TableNode D) (disk : StoreDisk) (agenda : Option (List StoreTask)) → IsTable state node (at disk agenda) → node.is_up ≡ true → Starts state (at disk agenda) node node (Ok tt)
+  start_up node disk None t up = let no = t.at.0 in absurd cc
+  start_up node disk (Some tasks) t up = record {
+    started = λ _. record { table = t; told = sym (append-nil (told_by node)); sent = sym (append-nil (sent_by node)); same = record { store = refl; table = refl; schema = refl } };
+    declared = λ isnt. let is = t.at.1.declared in absurd cc;
+    refused = tt;
+    counted = λ _. refl;
+    cause = λ is. absurd cc;
+    only = tt;
+  }
+
+  pub start_recovers : (old new : TableNode D) (s : TableStore) (r : Result (Unit {0}) NodeFault) → old.is_declared ≡ true → Recovers state s old new r → Starts state s old new r
+  start_recovers old new s r is k = record { started = λ _. k.started; declared = λ isnt. absurd cc; refused = k.refused; counted = k.counted; cause = k.cause; only = k.only }
+
+  pub start_declares : (old new : TableNode D) (s : TableStore) (r : Result (Unit {0}) NodeFault) → old.is_declared ≡ false → DeclaresLate state s old new r → Starts state s old new r
+  start_declares old new s r isnt k = record { started = λ is. absurd cc; declared = λ _. k.declared; refused = k.refused; counted = k.counted; cause = k.cause; only = k.only }

@@ -1,0 +1,5 @@
+use Rattle.store_node.proofs.Onlys.{only_none}
+use Rattle.store_node.proofs.reading.read_content.Goals as goal
+
+pub returns-in-Gone-clause-reads : goal.returns-in-Gone-clause-reads
+returns-in-Gone-clause-reads g c = only_none g.D.Disk.state g.D.Disk.images g.met.D.Disk.only_now c.args.table.now c.new.result c.requires.up c.requires.looked

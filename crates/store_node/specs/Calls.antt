@@ -1,0 +1,216 @@
+-- What the calls of a table's node promise, in the moves of the Store's step table.
+use Rattle.std.specs.Prelude.{◌≡◌, ◌⊎◌, ◌↔◌, ℕ, ◌<◌, ◌++◌, List, [], ◌∷◌, length, Option, Some, None, Result, OnOk}
+use Rattle.std.specs.Prelude.{option_map, OnErr, IfOk, IfErr, IsErrOf, true, false}
+use Rattle.disk_trait.specs.Calls.{DiskState}
+use Rattle.disk_trait.specs.Fuse.{behind, inner_of}
+use Rattle.disk_trait.specs.declared.fuse.FuseDisk.{FuseDisk}
+use Rattle.vault.specs.Calls.{IsEither}
+use Rattle.stab_base.specs.declared.limits.TheConstants.{NUMBER_MAX}
+use Rattle.stab_base.specs.declared.node.Node.{Node}
+use Rattle.stab_base.specs.declared.step.Step.{Step}
+use Rattle.stab_base.specs.declared.step.Step.TheVariants as steps
+use Rattle.row_value.specs.declared.schema.Scheme.TheVariants.{Eventual}
+use Rattle.store_commit.specs.declared.devs.TableDevs.{TableDevs}
+use Rattle.store_commit.specs.Devs.{Devs}
+use Rattle.store_commit.specs.Standing.{devs, writes_of, AreUp, AreSound, AreSynced, DevsLeave}
+use Rattle.store_commit.specs.Unset.{AreUnset}
+use Rattle.step_tables.specs.StoreMoves.{StoreDisk, StoreChange, StoreTask, TableStore, StoreStep, StoreMove, Take}
+use Rattle.step_tables.specs.StoreMoves.{Work, Crash, Start, store_step}
+use Rattle.step_tables.specs.StoreMoves as moves
+use Rattle.step_tables.specs.Facts as facts
+use Rattle.step_tables.specs.Messages.{Done, FailedBefore, FailedAfter}
+use Rattle.step_tables.specs.Store.{Stored, current_of}
+use Rattle.step_tables.specs.Travels.{message_of}
+use Rattle.step_tables.specs.declared.message.Message.{Message}
+use Rattle.step_tables.specs.declared.message.Message.TheVariants as kinds
+use Rattle.store_node.specs.declared.fault.NodeFault.{NodeFault}
+use Rattle.store_node.specs.declared.fault.NodeFault.TheVariants.{Busy, Spent, Disk, Memory}
+use Rattle.store_node.specs.declared.node.TableNode.{TableNode}
+use Rattle.store_node.specs.declared.showing.ShownRow.{ShownRow}
+use Rattle.store_node.specs.Reading.{shown_of}
+use Rattle.store_node.specs.Node.{IsTable, IsSame, told_by, sent_by, own_faults, behind_next, LeavesEither}
+use Rattle.store_node.specs.Node.{nothing_stored, Fits}
+use Rattle.store_node.specs.Messages.{IsFor}
+use Rattle.store_node.specs.Taking.{refused_by}
+
+-- what a move makes of the node's table
+abbrev pub step_at : {D : Type 0} → TableNode D → TableStore → StoreMove → StoreStep
+step_at node s move = store_step node.store Eventual node.schema.chunk node.table s move
+
+-- The node is where this step leads to, and has gathered what it tells and sends.
+pub record IsBehind {D : Type 0} (state : D → DiskState) (old new : TableNode D) (step : StoreStep) : Type 0 where
+  pub table : IsTable state new step.store
+  pub told : told_by new ≡ told_by old ++ step.facts
+  pub sent : sent_by new ≡ sent_by old ++ step.sends
+  pub same : IsSame old new
+
+-- Nothing has changed.
+pub record Stays {D : Type 0} (state : D → DiskState) (old new : TableNode D) (s : TableStore) : Type 0 where
+  pub table : IsTable state new s
+  pub told : told_by new ≡ told_by old
+  pub sent : sent_by new ≡ sent_by old
+  pub same : IsSame old new
+
+-- the name of the next write
+abbrev pub named : Option (List StoreTask) → Step
+named None = steps.Idle
+named (Some []) = steps.Idle
+named (Some (task ∷ tasks)) = moves.step_of task.change
+
+-- One write was done, if one was to be done; or a disk failed, and the write is undone or done.
+pub record Works {D : Type 0} (state : D → DiskState) (images : D → ℕ → List ℕ → Type 0) (s : TableStore)
+    (old new : TableNode D) (result : Result Step NodeFault) : Type 0 where
+  pub done : IfOk result (λ step. IsBehind state old new (step_at old s (Work Done)) × (step ≡ named s.agenda))
+  pub failed : OnErr result (IsBehind state old new (step_at old s (Work FailedBefore))
+      ⊎ IsBehind state old new (step_at old s (Work FailedAfter)))
+  pub counted : OnOk result (own_faults state new ≡ own_faults state old)
+  pub cause : OnErr result (own_faults state old < own_faults state new)
+  pub only : IfErr result (λ e. e ≡ Disk)
+  pub any_moment : LeavesEither state images old new s.disk (behind_next s.disk s.agenda)
+
+-- The write at work is undone, or done.
+pub record Crashes {D : Type 0} (state : D → DiskState) (images : D → ℕ → List ℕ → Type 0) (s : TableStore)
+    (old new : TableNode D) : Type 0 where
+  pub crashed : IsBehind state old new (step_at old s (Crash FailedBefore))
+      ⊎ IsBehind state old new (step_at old s (Crash FailedAfter))
+  pub any_moment : LeavesEither state images old new s.disk (behind_next s.disk s.agenda)
+
+-- A table that wasn't declared is, and holds nothing; else it isn't yet.
+pub record Declares {D : Type 0} (state : D → DiskState) (s : TableStore) (old new : TableNode D)
+    (result : Result (Unit {0}) NodeFault) : Type 0 where
+  pub declared : OnOk result (Stays state old new (record { disk = nothing_stored; agenda = Some [] }))
+  pub refused : OnErr result (Stays state old new s)
+  pub counted : (IsErrOf result Disk → ⊥) → own_faults state new ≡ own_faults state old
+  pub cause : IsErrOf result Disk → own_faults state old < own_faults state new
+  pub only : IfErr result (λ e. (e ≡ Disk) ⊎ (e ≡ Memory))
+
+-- The table is started; else it is still down.
+pub record Recovers {D : Type 0} (state : D → DiskState) (s : TableStore) (old new : TableNode D)
+    (result : Result (Unit {0}) NodeFault) : Type 0 where
+  pub started : OnOk result (IsBehind state old new (step_at old s Start))
+  pub refused : OnErr result (Stays state old new s)
+  pub counted : (IsErrOf result Disk → ⊥) → own_faults state new ≡ own_faults state old
+  pub cause : IsErrOf result Disk → own_faults state old < own_faults state new
+  pub only : IfErr result (λ e. (e ≡ Disk) ⊎ (e ≡ Memory))
+
+-- A table that is declared late has recovered, since it holds nothing.
+abbrev pub late : {D : Type 0} → TableNode D → StoreStep
+late node = record {
+  store = record { disk = nothing_stored; agenda = Some [] };
+  answer = facts.Done;
+  facts = facts.StoreRecovered node.store node.table ∷ [];
+  sends = [];
+}
+
+pub record DeclaresLate {D : Type 0} (state : D → DiskState) (s : TableStore) (old new : TableNode D)
+    (result : Result (Unit {0}) NodeFault) : Type 0 where
+  pub declared : OnOk result (IsBehind state old new (late old))
+  pub refused : OnErr result (Stays state old new s)
+  pub counted : (IsErrOf result Disk → ⊥) → own_faults state new ≡ own_faults state old
+  pub cause : IsErrOf result Disk → own_faults state old < own_faults state new
+  pub only : IfErr result (λ e. (e ≡ Disk) ⊎ (e ≡ Memory))
+
+-- The table is started, or was up; a table that was never declared is; else it is still down.
+pub record Starts {D : Type 0} (state : D → DiskState) (s : TableStore) (old new : TableNode D)
+    (result : Result (Unit {0}) NodeFault) : Type 0 where
+  pub started : old.is_declared ≡ true → OnOk result (IsBehind state old new (step_at old s Start))
+  pub declared : old.is_declared ≡ false → OnOk result (IsBehind state old new (late old))
+  pub refused : OnErr result (Stays state old new s)
+  pub counted : (IsErrOf result Disk → ⊥) → own_faults state new ≡ own_faults state old
+  pub cause : IsErrOf result Disk → own_faults state old < own_faults state new
+  pub only : IfErr result (λ e. (e ≡ Disk) ⊎ (e ≡ Memory))
+
+-- The node is down, and its disks were restarted: they hold what a crash since an earlier moment might have left.
+pub record Falls {D : Type 0} (state : D → DiskState) (images : D → ℕ → List ℕ → Type 0)
+    (old new : TableNode D) : Type 0 where
+  pub left : (start : TableDevs (FuseDisk D)) (a b : Devs)
+      → DevsLeave (behind state) (λ f. images (inner_of f)) start old.devs (IsEither a b)
+      → IsEither a b (devs (behind state) new.devs) × AreSound (behind state) new.devs
+      × DevsLeave (behind state) (λ f. images (inner_of f)) start new.devs (IsEither a b)
+  pub up : AreUp new.devs
+  pub unset : AreUnset (behind state) new.devs
+  pub synced : AreSynced (behind state) new.devs
+  pub idle : writes_of new.devs ≡ []
+  pub counted : own_faults state new ≡ own_faults state old
+
+-- A disk has failed: the node is down, its disks were restarted, and what it has gathered stays.
+pub record Fell {D : Type 0} (state : D → DiskState) (images : D → ℕ → List ℕ → Type 0)
+    (old new : TableNode D) : Type 0 where
+  pub falls : Falls state images old new
+  pub down : new.is_up ≡ false
+  pub declared : new.is_declared ≡ old.is_declared
+  pub same : IsSame old new
+  pub facts : new.facts ≡ old.facts
+  pub messages : new.messages ≡ old.messages
+
+-- What is shown is the row's last write, if it has one. Nothing has changed; or a disk has failed, and the node is down
+-- with the disk as it was.
+pub record Shows {D : Type 0} (state : D → DiskState) (images : D → ℕ → List ℕ → Type 0) (s : TableStore) (row : List ℕ)
+    (old new : TableNode D) (result : Result (Option ShownRow) NodeFault) : Type 0 where
+  pub shown : IfOk result (λ shown. shown ≡ option_map shown_of (current_of s.disk.items row))
+  pub stays : (IsErrOf result Disk → ⊥) → Stays state old new s
+  pub fallen : IsErrOf result Disk → Stays state old new (record { disk = s.disk; agenda = None })
+  pub counted : (IsErrOf result Disk → ⊥) → own_faults state new ≡ own_faults state old
+  pub cause : IsErrOf result Disk → own_faults state old < own_faults state new
+  pub only : IfErr result (λ e. (e ≡ Disk) ⊎ (e ≡ Memory))
+  pub any_moment : LeavesEither state images old new s.disk s.disk
+
+-- ---- messages
+
+-- a message that the node takes
+abbrev pub IsTaken : {D : Type 0} → TableNode D → Message → Type 0
+IsTaken node message = IsFor node.table message × Fits node.schema message
+
+-- the version of an item, 0 where there is none
+abbrev pub version_in : Option Stored → ℕ
+version_in None = 0
+version_in (Some item) = item.entry.version
+
+-- the version at work, where this write is the next: that of the entry which it opens, or of the pending one, or 0
+abbrev pub version_at : StoreDisk → StoreChange → ℕ
+version_at disk (moves.Open item) = item.entry.version
+version_at disk other = version_in disk.pending
+
+abbrev pub IsAtWork : StoreDisk → Option (List StoreTask) → ℕ → Type 0
+IsAtWork disk None version = ⊥
+IsAtWork disk (Some []) version = ⊥
+IsAtWork disk (Some (task ∷ tasks)) version = version ≡ version_at disk task.change
+
+-- a write that is new where no version is left
+abbrev pub IsSpent : StoreDisk → Message → Type 0
+IsSpent disk (kinds.SyncRequest request) = (refused_by disk request ≡ None) × (length disk.items ≡ NUMBER_MAX)
+IsSpent disk other = ⊥
+
+-- What a node with nothing to be done makes of a message: this step; or nothing, where it was refused; or it is down,
+-- with the disk as it was.
+pub record Answers {D : Type 0} (state : D → DiskState) (images : D → ℕ → List ℕ → Type 0) (s : TableStore)
+    (step : StoreStep) (is_spent : Type 0) (old new : TableNode D) (result : Result (Unit {0}) NodeFault) : Type 0 where
+  pub done : OnOk result (IsBehind state old new step)
+  pub given : is_spent → OnOk result ⊥
+  pub spent : IsErrOf result (Spent NUMBER_MAX) → is_spent
+  pub refused : (IsErrOf result Disk → ⊥) → OnErr result (Stays state old new s)
+  pub fallen : IsErrOf result Disk → Stays state old new (record { disk = s.disk; agenda = None })
+  pub counted : (IsErrOf result Disk → ⊥) → own_faults state new ≡ own_faults state old
+  pub cause : IsErrOf result Disk → own_faults state old < own_faults state new
+  pub only : IfErr result (λ e. (e ≡ Spent NUMBER_MAX) ⊎ ((e ≡ Disk) ⊎ (e ≡ Memory)))
+  pub any_moment : LeavesEither state images old new s.disk s.disk
+
+-- A message that is taken makes the table's step, and any other is dropped. Each refusal has its cause, and leaves all
+-- as it was; where a disk has failed the node is down, with the disk as it was. That no version is left is told before
+-- chunks are read, but behind the read of the row.
+pub record Delivers {D : Type 0} (state : D → DiskState) (images : D → ℕ → List ℕ → Type 0) (s : TableStore)
+    (from : Node) (message : Message) (old new : TableNode D) (result : Result (Unit {0}) NodeFault) : Type 0 where
+  pub taken : IsTaken old message
+      → OnOk result (IsBehind state old new (step_at old s (Take from (message_of message))))
+  pub dropped : (IsTaken old message → ⊥) → OnOk result (Stays state old new s)
+  pub busy : (version : ℕ) → IsErrOf result (Busy version) ↔ IsAtWork s.disk s.agenda version
+  pub given : IsTaken old message → IsSpent s.disk message → OnOk result ⊥
+  pub spent : (last : ℕ) → IsErrOf result (Spent last)
+      → IsTaken old message × IsSpent s.disk message × (s.agenda ≡ Some []) × (last ≡ NUMBER_MAX)
+  pub refused : (IsErrOf result Disk → ⊥) → OnErr result (Stays state old new s)
+  pub fallen : IsErrOf result Disk → Stays state old new (record { disk = s.disk; agenda = None })
+  pub counted : (IsErrOf result Disk → ⊥) → own_faults state new ≡ own_faults state old
+  pub cause : IsErrOf result Disk → own_faults state old < own_faults state new
+  pub only : IfErr result (λ e. ((version : ℕ) × (e ≡ Busy version)) ⊎ ((e ≡ Spent NUMBER_MAX)
+      ⊎ ((e ≡ Disk) ⊎ (e ≡ Memory))))
+  pub any_moment : LeavesEither state images old new s.disk s.disk

@@ -1,0 +1,42 @@
+-- What a declaration and a start do to a table's devices.
+use Rattle.std.specs.Prelude.{◌≡◌, ℕ, List, [], None, Result, OnOk, IfOk}
+use Rattle.disk_trait.specs.Calls.{DiskState}
+use Rattle.row_value.specs.declared.schema.Schema.{Schema}
+use Rattle.row_store.specs.Data.{nothing_held, with_table}
+use Rattle.store_commit.specs.declared.devs.TableDevs.{TableDevs}
+use Rattle.store_commit.specs.declared.recovery.Recovery.{Recovery}
+use Rattle.store_commit.specs.declared.fault.CommitFault.{CommitFault}
+use Rattle.store_commit.specs.Devs.{Devs}
+use Rattle.store_commit.specs.Recover.{IsRecovery}
+use Rattle.store_commit.specs.Rising.{AreRisingWrites}
+use Rattle.store_commit.specs.Standing.{devs, writes_of, AreUp, IsReady, DevsLeave}
+use Rattle.store_commit.specs.Standing.{NothingHidden}
+use Rattle.store_commit.specs.Unset.{KeepsUnset, HasCause}
+
+-- what the devices of a live table hold that has no rows
+abbrev pub no_rows : Schema → Devs
+no_rows schema = record { chunks = []; held = with_table nothing_held schema 2; pending = None }
+
+-- The devices are those of a live table with no rows, and at rest.
+pub record MakesTable {D : Type 0} (state : D → DiskState) (schema : Schema) (old new : TableDevs D)
+    (result : Result (Unit {0}) CommitFault) : Type 0 where
+  pub held : OnOk result (devs state new ≡ no_rows schema)
+  pub ready : OnOk result (IsReady state new [])
+  pub idle : OnOk result (writes_of new ≡ [])
+  pub up : OnOk result (AreUp new)
+  pub hidden : OnOk result (NothingHidden new)
+  pub fuse : KeepsUnset state old new
+  pub cause : HasCause state old new result
+
+-- The writes of a start are taken on; else a crash since some moment leaves what was held.
+pub record BeginsStart {D : Type 0} (state : D → DiskState) (images : D → ℕ → List ℕ → Type 0) (old new : TableDevs D)
+    (result : Result Recovery CommitFault) : Type 0 where
+  pub answer : IfOk result (IsRecovery (devs state old))
+  pub writes : OnOk result (AreRisingWrites (devs state old) (writes_of new))
+  pub ready : OnOk result (IsReady state new (writes_of new))
+  pub up : OnOk result (AreUp new)
+  pub same : OnOk result (devs state new ≡ devs state old)
+  pub hidden : OnOk result (NothingHidden new)
+  pub fuse : KeepsUnset state old new
+  pub cause : HasCause state old new result
+  pub left : (start : TableDevs D) × DevsLeave state images start new (λ d. d ≡ devs state old)

@@ -1,0 +1,12 @@
+pub mod Fault
+pub mod Gathered
+pub mod Due
+pub mod Devices
+pub mod Messages
+pub mod Update
+pub mod Reading
+pub mod Taking
+pub mod Kept
+pub mod Node
+pub mod Calls
+pub mod Halts

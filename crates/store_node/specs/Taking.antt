@@ -1,0 +1,119 @@
+-- What a request and a pull make of a table's devices.
+use Rattle.std.specs.Prelude.{◌≡◌, ◌⊎◌, ℕ, ◌+◌, ◌<◌, ◌^◌, List, [], ◌∷◌, length, Option, Some, None, option_map, Result}
+use Rattle.std.specs.Prelude.{OnErr, IfErr, IsErrOf, ◌==◌, nat_lt, if◌then◌else◌}
+use Rattle.disk_trait.specs.Calls.{DiskState}
+use Rattle.stab_base.specs.declared.limits.TheConstants.{NUMBER_MAX}
+use Rattle.stab_base.specs.declared.row_version.RowVersion.{RowVersion}
+use Rattle.row_store.specs.declared.stored.StoredRow.{StoredRow}
+use Rattle.row_store.specs.Data.{IsTableVersion, IsNextChanged}
+use Rattle.store_commit.specs.declared.devs.TableDevs.{TableDevs}
+use Rattle.store_commit.specs.declared.fault.CommitFault.{CommitFault}
+use Rattle.store_commit.specs.declared.fault.CommitFault.TheVariants.{Disk, Spent, Memory}
+use Rattle.store_commit.specs.Devs.{Devs, Write}
+use Rattle.store_commit.specs.Agenda.{update_writes}
+use Rattle.store_commit.specs.Standing.{devs, writes_of, all_faults, IsReady}
+use Rattle.store_commit.specs.TakesOn.{IsNotDisk, AllLeave}
+use Rattle.store_commit.specs.Unset.{KeepsUnset}
+use Rattle.store_commit.specs.Update.{entry_for, stored_for}
+use Rattle.stab_base.specs.declared.node.Node.{Node}
+use Rattle.step_tables.specs.Facts as facts_of
+use Rattle.step_tables.specs.Chunks.{Named}
+use Rattle.step_tables.specs.Messages.{Pair, Header, Outcome, Again, Late, Request}
+use Rattle.step_tables.specs.Travels.{outcome_of, header_of}
+use Rattle.step_tables.specs.StoreMoves.{StoreDisk, StoreStep, yours_in, accepting, item_for, quiet, sending, responded}
+use Rattle.step_tables.specs.declared.message.SyncRequest.{SyncRequest}
+use Rattle.step_tables.specs.declared.message.PullRequest.{PullRequest}
+use Rattle.step_tables.specs.declared.message.PullResponse.{PullResponse}
+use Rattle.step_tables.specs.declared.message.Yours.{Yours}
+use Rattle.device_laws.specs.Stands.{pair_in, update_for}
+use Rattle.store_node.specs.Reading.{held_in, whole_at}
+use Rattle.store_node.specs.Update.{request_of}
+use Rattle.store_node.specs.declared.taking.Taken.{Taken}
+use Rattle.store_node.specs.declared.taking.Taken.TheVariants.{Answered, Begun}
+use Rattle.store_node.specs.declared.showing.WholeRow.{WholeRow}
+
+-- A call on devices with no write to be done, which are ready behind it; or a disk has failed. A crash at any moment
+-- leaves of each device what it held.
+pub record Serves {D T : Type 0} (state : D → DiskState) (images : D → ℕ → List ℕ → Type 0) (old new : TableDevs D)
+    (result : Result T CommitFault) : Type 0 where
+  pub same : IsNotDisk result → devs state new ≡ devs state old
+  pub ready : IsNotDisk result → IsReady state new (writes_of new)
+  pub refused : OnErr result (writes_of new ≡ writes_of old)
+  pub scanned : new.scanned ≡ old.scanned
+  pub counted : IsNotDisk result → all_faults state new ≡ all_faults state old
+  pub disk : IsErrOf result Disk → all_faults state old < all_faults state new
+  pub only : IfErr result (λ e. (e ≡ Disk) ⊎ ((e ≡ Spent) ⊎ (e ≡ Memory)))
+  pub leave : AllLeave state images old new
+  pub fuse : KeepsUnset state old new
+
+-- ---- a request
+
+-- the chunks of the row that stands, if one does
+abbrev pub held_if : Devs → Option StoredRow → List (List Named)
+held_if d None = []
+held_if d (Some stored) = held_in d stored.content
+
+-- what is answered to a write that isn't new, where this was the client's last one
+abbrev pub refusal_of : Pair → ℕ → Option Outcome
+refusal_of yours number =
+    if yours.number == number then Some (Again yours.version)
+    else (if nat_lt number yours.number then Some (Late yours.number) else None)
+
+abbrev pub pair_of : Yours → Pair
+pair_of yours = record { number = yours.number; version = yours.version }
+
+-- These writes are those of a request's update, at the next version, where one is left.
+pub record IsBegunBy (size : ℕ) (d : Devs) (disk : StoreDisk) (request : SyncRequest) (writes : List Write)
+    (version : ℕ) : Type 0 where
+  pub version_is : version ≡ length disk.items + 1
+  pub few : version < 2 ^ 64
+  pub number : request.number < 2 ^ 64
+  pub left : length disk.items ≡ NUMBER_MAX → ⊥
+  pub writes_are : writes ≡ update_writes (entry_for d version (update_for size disk.items (request_of request)))
+      (update_for size disk.items (request_of request)).fresh
+      (stored_for d version (update_for size disk.items (request_of request)))
+
+abbrev pub refused_by : StoreDisk → SyncRequest → Option Outcome
+refused_by disk request = refusal_of (yours_in disk.items request.client request.row) request.number
+
+-- A write that isn't new was answered, and no write is to be done; or a new one is taken on.
+abbrev pub IsTaking : ℕ → Devs → StoreDisk → SyncRequest → List Write → Taken → Type 0
+IsTaking size d disk request writes (Answered outcome) =
+    (refused_by disk request ≡ Some (outcome_of outcome)) × (writes ≡ [])
+IsTaking size d disk request writes (Begun version) =
+    (refused_by disk request ≡ None) × IsBegunBy size d disk request writes version
+
+-- what an eventual table makes of a request, by what is answered to it
+abbrev pub step_for : ℕ → ℕ → StoreDisk → Node → Request → Option Outcome → StoreStep
+step_for size table d from request None =
+    quiet d (Some (accepting size table d.items from request (item_for d.items request))) facts_of.Done
+step_for size table d from request (Some outcome) = sending d (responded from request outcome ∷ [])
+
+-- ---- a row, and a pull
+
+abbrev pub header_by : ℕ → WholeRow → Header
+header_by client found = record {
+  row = found.row;
+  version = found.version;
+  yours = pair_in found.pairs client;
+  content = found.content;
+}
+
+abbrev pub header_at : Devs → ℕ → Option RowVersion → Option Header
+header_at d client None = None
+header_at d client (Some next) = option_map (header_by client) (whole_at d next.row)
+
+abbrev pub version_or : ℕ → Option RowVersion → ℕ
+version_or position None = position
+version_or position (Some next) = next.version
+
+-- the answer to a pull: the next row above its position, and the last version of the table
+pub record IsPulled (d : Devs) (request : PullRequest) (response : PullResponse) : Type 0 where
+  pub next : Option RowVersion
+  pub is_next : IsNextChanged d.held request.position next
+  pub client : response.client ≡ request.client
+  pub table : response.table ≡ request.table
+  pub from : response.from ≡ request.position
+  pub to : response.to ≡ version_or request.position next
+  pub latest : IsTableVersion d.held response.latest
+  pub header : option_map header_of response.header ≡ header_at d request.client next

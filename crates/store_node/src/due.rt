@@ -1,0 +1,87 @@
+//! What a write tells and sends once it is done.
+ghost use Rattle.std.specs.Prelude.{◌≡◌, map, option_to_list};
+ghost use Rattle.store_node.specs.Due.{fact_of, told_at, send_of, sent_at, facts_found};
+
+use crate::owed::Owed;
+use crate::told::StoreFact;
+use stab_base::{Step, StoreNo, TableNo};
+use step_tables::{Addressed, Message, Outcome, SyncResponse};
+use store_commit::Recovery;
+use table_model::Entry;
+
+/// What a write tells: the put of a row that its entry was accepted, the last write of a start that the table has
+/// recovered.
+pub(crate) fn fact_due(
+    store: StoreNo,
+    table: TableNo,
+    owed: &Owed,
+    step: Step,
+    is_last: bool,
+) -> Option<StoreFact>
+    ensures { map fact_of (option_to_list result) ≡ told_at store table owed.now step is_last }
+{
+    match owed {
+        Owed::Nothing => None,
+        Owed::Update { entry, .. } => match step {
+            Step::RowPut => Some(StoreFact::Accepted {
+                table,
+                entry: *entry,
+            }),
+            _ => None,
+        },
+        Owed::Start => {
+            if is_last {
+                Some(StoreFact::Recovered { store, table })
+            } else {
+                None
+            }
+        }
+    }
+}
+
+/// What it sends: the close of an entry answers its request.
+pub(crate) fn answer_due(table: TableNo, owed: &Owed, step: Step) -> Option<Addressed>
+    ensures { map send_of (option_to_list result) ≡ sent_at table owed.now step }
+{
+    match owed {
+        Owed::Update { to, entry } => match step {
+            Step::LogClose => Some((
+                Some(*to),
+                Message::SyncResponse(SyncResponse {
+                    client: entry.client,
+                    table,
+                    row: entry.row,
+                    number: entry.number,
+                    outcome: Outcome::Accepted {
+                        version: entry.version,
+                    },
+                }),
+            )),
+            _ => None,
+        },
+        _ => None,
+    }
+}
+
+/// What a start tells of the write that was at work, if one was.
+pub(crate) fn found(table: TableNo, recovery: &Recovery) -> Option<StoreFact>
+    ensures { map fact_of (option_to_list result) ≡ facts_found table recovery.now }
+{
+    match recovery {
+        Recovery::Nothing => None,
+        Recovery::Forward(entry) => Some(StoreFact::Forward {
+            table,
+            entry: Entry {
+                row: entry.row,
+                version: entry.version,
+                client: entry.client,
+                number: entry.number,
+                base: entry.base,
+            },
+        }),
+        Recovery::Back(version) => Some(StoreFact::Back {
+            table,
+            version: *version,
+        }),
+    }
+}

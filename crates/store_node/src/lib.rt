@@ -1,0 +1,22 @@
+//! A table at the Store on its three devices.
+#![tactic(auto)]
+
+mod devices;
+mod due;
+mod fault;
+mod gathered;
+mod gathering;
+mod messages;
+mod node;
+mod owed;
+mod pulling;
+mod reading;
+mod showing;
+mod taking;
+mod told;
+mod update;
+
+pub use fault::NodeFault;
+pub use node::{StoreOut, TableNode};
+pub use showing::ShownRow;
+pub use told::StoreFact;

@@ -1,0 +1,12 @@
+use stab_base::Node;
+use table_model::Entry;
+
+/// What the writes that are to be done tell and send.
+#[derive(Debug, Clone, Copy, PartialEq, Eq)]
+pub(crate) enum Owed {
+    Nothing,
+    /// A client's write is accepted, and answered to the party that it came from.
+    Update { to: Node, entry: Entry },
+    /// The table has recovered.
+    Start,
+}

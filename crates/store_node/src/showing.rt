@@ -1,0 +1,79 @@
+//! A row as a node reads it whole from its devices, and shows it.
+ghost use Rattle.std.specs.Prelude.{◌≡◌, option_map, IfOk};
+ghost use Rattle.store_commit.specs.Standing.{devs, AreUp, AreLookedAt, NothingHidden};
+ghost use Rattle.store_node.specs.Reading.{Only, whole_row, whole_at, shown_row};
+
+use crate::reading::{read_content, whole};
+use disk_trait::Disk;
+use row_store::{LastWrites, StoredRow};
+use row_value::Content;
+use stab_base::{RowId, Version};
+use std::alloc::Global;
+use store_commit::{CommitFault, TableDevs};
+
+/// A row with its content whole, and the last write of each client on it.
+#[derive(Debug, Drop)]
+pub(crate) struct WholeRow {
+    pub(crate) row: RowId,
+    pub(crate) version: Version,
+    pub(crate) content: Content,
+    pub(crate) pairs: LastWrites,
+}
+
+/// What a table at the Store shows of a row.
+#[derive(Debug, Drop)]
+pub struct ShownRow {
+    pub version: Version,
+    pub content: Content,
+}
+
+// A row with its content whole.
+fn read_whole<D: Disk + Drop>(
+    alloc: Global,
+    table: &mut TableDevs<D>,
+    stored: StoredRow,
+) -> Result<WholeRow, CommitFault>
+    requires up { AreUp table.old }
+    requires looked { AreLookedAt D.state table.old }
+    ensures reads { Only D.state D.images table.old table.new result }
+    ensures row { IfOk result (λ found. found ≡ whole_row (devs D.state table.old) stored) }
+{
+    let held = read_content(alloc, table, &stored.content)?;
+    Ok(WholeRow {
+        row: stored.row,
+        version: stored.version,
+        content: whole(alloc, stored.content, &held)?,
+        pairs: stored.pairs,
+    })
+}
+
+/// The row of an id with its content whole, if it is there.
+pub(crate) fn read_row<D: Disk + Drop>(
+    alloc: Global,
+    table: &mut TableDevs<D>,
+    row: &RowId,
+) -> Result<Option<WholeRow>, CommitFault>
+    requires up { AreUp table.old }
+    requires looked { AreLookedAt D.state table.old }
+    requires hidden { NothingHidden table.old }
+    ensures reads { Only D.state D.images table.old table.new result }
+    ensures row { IfOk result (λ found. found ≡ whole_at (devs D.state table.old) row.now) }
+{
+    match table.row(row)? {
+        Some(stored) => Ok(Some(read_whole(alloc, table, stored)?)),
+        None => Ok(None),
+    }
+}
+
+/// What is shown of a row that was read.
+pub(crate) fn shown(found: Option<WholeRow>) -> Option<ShownRow>
+    ensures { result ≡ option_map shown_row found }
+{
+    match found {
+        Some(found) => Some(ShownRow {
+            version: found.version,
+            content: found.content,
+        }),
+        None => None,
+    }
+}

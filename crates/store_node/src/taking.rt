@@ -1,0 +1,178 @@
+//! How a table's devices take a request.
+ghost use Rattle.std.specs.Prelude.{◌≡◌, ◌<◌, ◌^◌, ◌==◌, List, [], ◌∷◌, length, Some, None, Ok};
+ghost use Rattle.std.specs.Prelude.{option_copied, option_map, IfOk, IfSome, IsErrOf};
+ghost use Rattle.std.specs.List.{find};
+ghost use Rattle.stab_base.specs.declared.limits.TheConstants.{NUMBER_MAX};
+ghost use Rattle.row_value.specs.Fit.{fit_of};
+ghost use Rattle.value_codec.specs.SchemaSpelling.{HasSchemaSpelling};
+ghost use Rattle.row_store.specs.declared.stored.LastWrite.{LastWrite};
+ghost use Rattle.row_store.specs.Data.{row_of};
+ghost use Rattle.row_store.specs.Spelling.{IsClient, HasStoredSpelling};
+ghost use Rattle.store_commit.specs.Standing.{devs, writes_of, AreUp, AreLookedAt, IsReady, NothingHidden};
+ghost use Rattle.store_commit.specs.Update.{lasts_if};
+ghost use Rattle.step_tables.specs.StoreMoves.{StoreDisk};
+ghost use Rattle.step_tables.specs.Travels.{outcome_of};
+ghost use Rattle.device_laws.specs.Stands.{Stands, pair_in};
+ghost use Rattle.store_node.specs.Reading.{Only};
+ghost use Rattle.store_node.specs.Taking.{held_if, refusal_of, Serves, pair_of, IsBegunBy, IsTaking, refused_by};
+
+use crate::reading::{HeldChunks, read_content};
+use crate::update::{of_64_bits, update_of};
+use disk_trait::Disk;
+use row_store::{LastWrite, LastWrites, StoredRow};
+use row_value::Schema;
+use stab_base::{ClientNo, NUMBER_MAX, Version, WriteNo};
+use std::alloc::Global;
+use step_tables::{Outcome, SyncRequest, Yours};
+use store_commit::{CommitFault, TableDevs};
+
+/// What a request came to: it was answered at once, or its writes are taken on under a version.
+#[derive(Debug, Clone, Copy, PartialEq, Eq)]
+pub(crate) enum Taken {
+    Answered(Outcome),
+    Begun(Version),
+}
+
+fn last_of(lasts: &[LastWrite], client: ClientNo) -> Option<&LastWrite>
+    ensures { option_copied result ≡ find (λ (last : LastWrite). last.client == client) lasts.now }
+{
+    lasts.iter().find(|last| last.client == client)
+}
+
+/// A client's last write among these; zeros where there is none.
+pub(crate) fn yours_in(lasts: &LastWrites, client: ClientNo) -> Yours
+    ensures { pair_of result ≡ pair_in lasts.now client }
+{
+    match last_of(lasts.as_slice(), client) {
+        Some(last) => Yours {
+            number: last.number,
+            version: last.version,
+        },
+        None => Yours {
+            number: 0,
+            version: 0,
+        },
+    }
+}
+
+fn yours_if(standing: &Option<StoredRow>, client: ClientNo) -> Yours
+    ensures { pair_of result ≡ pair_in (lasts_if standing.now) client }
+{
+    match standing {
+        Some(stored) => yours_in(&stored.pairs, client),
+        None => Yours {
+            number: 0,
+            version: 0,
+        },
+    }
+}
+
+// What is answered to a write that isn't new, where this was the client's last one.
+fn refusal_of(yours: Yours, number: WriteNo) -> Option<Outcome>
+    ensures { option_map outcome_of result ≡ refusal_of (pair_of yours) number }
+{
+    if yours.number == number {
+        return Some(Outcome::Again {
+            version: yours.version,
+        });
+    }
+    if number < yours.number {
+        return Some(Outcome::Late { last: yours.number });
+    }
+    None
+}
+
+// The chunks of the row that stands, if one does.
+fn read_standing<D: Disk + Drop>(
+    alloc: Global,
+    table: &mut TableDevs<D>,
+    standing: &Option<StoredRow>,
+) -> Result<HeldChunks, CommitFault>
+    requires up { AreUp table.old }
+    requires looked { AreLookedAt D.state table.old }
+    ensures reads { Only D.state D.images table.old table.new result }
+    ensures held { IfOk result (λ held. held ≡ held_if (devs D.state table.old) standing.now) }
+{
+    match standing {
+        Some(stored) => read_content(alloc, table, &stored.content),
+        None => Ok(HeldChunks::new(alloc)),
+    }
+}
+
+// An answer whose version is known to have 64 bits.
+fn known(answer: Result<Version, CommitFault>) -> Result<Version, CommitFault>
+    ensures same { result ≡ answer }
+    ensures few { IfOk result (λ version. version < 2 ^ 64) }
+{
+    match answer {
+        Ok(version) => Ok(of_64_bits(version)),
+        Err(fault) => Err(fault),
+    }
+}
+
+// Takes a new write on, over the row that stands.
+fn accept<D: Disk + Drop>(
+    alloc: Global,
+    table: &mut TableDevs<D>,
+    schema: &Schema,
+    request: &SyncRequest,
+    standing: &Option<StoredRow>,
+) -> Result<Version, CommitFault>
+    requires up { AreUp table.old }
+    requires ready { IsReady D.state table.old [] }
+    requires idle { writes_of table.old ≡ [] }
+    requires hidden { NothingHidden table.old }
+    requires size { 0 < schema.now.chunk }
+    requires spelled { HasSchemaSpelling schema.now }
+    requires client { IsClient request.now.client }
+    requires fits { fit_of schema.now request.now.content ≡ Ok tt }
+    requires stands { (disk : StoreDisk) × Stands schema.now (devs D.state table.old) disk × (disk.pending ≡ None) }
+    requires standing { row_of (devs D.state table.old).held request.now.row ≡ standing.now }
+    requires standing_spelled { IfSome standing.now HasStoredSpelling }
+    ensures serves { Serves D.state D.images table.old table.new result }
+    ensures begun { (disk : StoreDisk) → Stands schema.now (devs D.state table.old) disk → disk.pending ≡ None
+        → IfOk result (IsBegunBy schema.now.chunk (devs D.state table.old) disk request.now (writes_of table.new)) }
+    ensures spent { (disk : StoreDisk) → Stands schema.now (devs D.state table.old) disk
+        → IsErrOf result CommitFault.Spent → length disk.items ≡ NUMBER_MAX }
+{
+    if table.table_version()? == NUMBER_MAX {
+        return Err(CommitFault::Spent);
+    }
+    let held = read_standing(alloc, table, standing)?;
+    let update = update_of(alloc, schema.chunk, &held, request)?;
+    known(table.begin(update))
+}
+
+/// Takes a request: reads the row that stands, and answers a write that isn't new, or takes a new one on.
+pub(crate) fn take_write<D: Disk + Drop>(
+    alloc: Global,
+    table: &mut TableDevs<D>,
+    schema: &Schema,
+    request: &SyncRequest,
+) -> Result<Taken, CommitFault>
+    requires up { AreUp table.old }
+    requires ready { IsReady D.state table.old [] }
+    requires idle { writes_of table.old ≡ [] }
+    requires hidden { NothingHidden table.old }
+    requires size { 0 < schema.now.chunk }
+    requires spelled { HasSchemaSpelling schema.now }
+    requires client { IsClient request.now.client }
+    requires fits { fit_of schema.now request.now.content ≡ Ok tt }
+    requires stands { (disk : StoreDisk) × Stands schema.now (devs D.state table.old) disk × (disk.pending ≡ None) }
+    ensures serves { Serves D.state D.images table.old table.new result }
+    ensures taken { (disk : StoreDisk) → Stands schema.now (devs D.state table.old) disk → disk.pending ≡ None
+        → IfOk result (IsTaking schema.now.chunk (devs D.state table.old) disk request.now (writes_of table.new)) }
+    ensures spent { (disk : StoreDisk) → Stands schema.now (devs D.state table.old) disk
+        → IsErrOf result CommitFault.Spent
+        → (refused_by disk request.now ≡ None) × (length disk.items ≡ NUMBER_MAX) }
+{
+    let standing = table.row(&request.row)?;
+    let yours = yours_if(&standing, request.client);
+    match refusal_of(yours, request.number) {
+        Some(outcome) => Ok(Taken::Answered(outcome)),
+        None => {
+            let version = accept(alloc, table, schema, request, &standing)?;
+            Ok(Taken::Begun(version))
+        }
+    }
+}

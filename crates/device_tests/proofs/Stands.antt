@@ -1,5 +1,5 @@
 -- Devices that a test goes on with.
-use Rattle.std.proofs.Common.{◌≡◌, ℕ, false, List, [], ◌∷◌, Option, Some, None, is_some, option_map, Result, Ok, Err, sym, subst}
+use Rattle.std.proofs.Common.{◌≡◌, ℕ, false, List, [], ◌∷◌, Option, Some, None, is_some, option_map, Result, Ok, Err, refl, sym, ◌∙◌, ap, subst, arith}
 use Rattle.std.specs.Prelude.{OnOk}
 use Rattle.disk_trait.specs.Calls.{DiskState}
 use Rattle.disk_trait.specs.Image.{settled}
@@ -11,6 +11,7 @@ use Rattle.vault.proofs.Uppers.{opened_sound}
 use Rattle.chunk_store.specs.declared.device.ChunkDev.{ChunkDev}
 use Rattle.chunk_store.specs.declared.fault.ChunkFault.{ChunkFault}
 use Rattle.chunk_store.specs.Standing as chunks
+use Rattle.chunk_store.specs.Standing.{chunk_in}
 use Rattle.row_store.specs.declared.device.RowDev.{RowDev}
 use Rattle.row_store.specs.declared.fault.RowFault.{RowFault}
 use Rattle.row_store.specs.Standing as rows
@@ -20,9 +21,16 @@ use Rattle.status_log.specs.Standing as logs
 use Rattle.stab_base.specs.declared.step.Step.{Step}
 use Rattle.store_commit.specs.declared.devs.TableDevs.{TableDevs}
 use Rattle.store_commit.specs.declared.fault.CommitFault.{CommitFault}
-use Rattle.store_commit.specs.Devs.{Devs, Write, changed_by}
-use Rattle.store_commit.specs.Standing.{devs, writes_of, AreUp, AreSynced, AreSound, IsReady, DevsLeave, WorksOn}
-use Rattle.device_tests.specs.Standing.{ChunksStand, RowsStand, LogStands, AreWhole, AreWorking}
+use Rattle.row_value.specs.declared.schema.Schema.{Schema}
+use Rattle.row_value.specs.declared.pieces.PieceContent.TheVariants.{Gone}
+use Rattle.row_value.specs.Fit as fit
+use Rattle.store_commit.specs.Devs.{Devs, Write, PutTable, changed_by}
+use Rattle.store_commit.specs.There.{misfits, lacks}
+use Rattle.store_commit.specs.Scan.{Asks}
+use Rattle.store_commit.specs.TakesOn.{TakesOn}
+use Rattle.store_commit.specs.Update.{IsUpdate, brought}
+use Rattle.store_commit.specs.Standing.{devs, seen, nothing, writes_of, AreUp, AreSynced, AreSound, AreLookedAt, IsReady, DevsLeave, WorksOn}
+use Rattle.device_tests.specs.Standing.{ChunksStand, RowsStand, LogStands, AreWhole, AreWorking, AreKnown, HasTable}
 
 pub none_open : {A B : Type 0} (f : A → B) (found : Option A) (entry : Option B) → option_map f found ≡ entry → false ≡ is_some found → entry ≡ None
 none_open f None entry is none = sym is
@@ -92,3 +100,48 @@ module _ {D : Type 0} (state : D → DiskState) (images : D → ℕ → List ℕ
         };
         idle = idle;
       }
+
+  -- ---- a table of which everything is known
+
+  pub known_stays : {T : Type 0} (old new : TableDevs D) (r : Result T CommitFault) → Asks state images old new r → AreKnown state old → OnOk r (AreKnown state new)
+  known_stays old new (Err e) k known = tt
+  known_stays old new (Ok x) k known =
+      let s = k.stay (λ is. cc) in
+      record {
+        up = record { chunks = s.chunks.down ∙ known.up.chunks; rows = s.rows.down ∙ known.up.rows; log = s.log.down ∙ known.up.log };
+        looked = record { chunks = s.chunks.looked known.looked.chunks; rows = s.rows.looked known.looked.rows; log = s.log.looked known.looked.log };
+      }
+
+  pub known : (table : TableDevs D) → AreLookedAt state table → AreKnown state table
+  known table looked = record { up = record { chunks = looked.chunks.vault.up; rows = looked.rows.vault.up; log = looked.log.vault.up }; looked = looked }
+
+  -- ---- a table, and a deletion
+
+  pub table_there : (old mid new : TableDevs D) (r : Result Step CommitFault) (schema : Schema) (n : ℕ) → devs state old ≡ nothing → devs state mid ≡ devs state old → writes_of mid ≡ PutTable schema n ∷ []
+      → WorksOn state images mid new r (writes_of mid) → OnOk r (HasTable state new)
+  table_there old mid new (Err e) schema n empty same ws k = tt
+  table_there old mid new (Ok step) schema n empty same ws k =
+      let w : WorksOn state images mid new (Ok step) (PutTable schema n ∷ []) = subst (λ (l : List Write). WorksOn state images mid new (Ok step) l) ws k in
+      let are : devs state new ≡ changed_by nothing (PutTable schema n) = w.0.devs_are ∙ ap (λ (d : Devs). changed_by d (PutTable schema n)) (same ∙ empty) in
+      record { ready = w.0.ready; idle = w.1; closed = ap (λ (d : Devs). d.pending) are; schema = schema; said = n; there = ap (λ (d : Devs). d.held.table) are }
+
+  pub gone_is_update : (table : TableDevs D) → HasTable state table → (row : List ℕ) (number base : ℕ) (fresh : List (List ℕ)) → fresh ≡ []
+      → IsUpdate (seen state table) (record { row = row; client = 3; number = number; base = base; content = Gone; fresh = fresh })
+  unfolding fit.fit_of
+  gone_is_update table h row number base fresh none =
+      let t : Option (Schema × ℕ) = (devs state table).held.table in
+      subst (λ (l : List (List ℕ)). IsUpdate (seen state table) (record { row = row; client = 3; number = number; base = base; content = Gone; fresh = l })) (sym none) (record {
+        client = record { least = omega arith; most = omega arith };
+        content = tt;
+        short = omega arith;
+        different = tt;
+        kept = λ name among. absurd among;
+        fresh = refl;
+        chunks = tt;
+        fits = ap (λ (x : Option (Schema × ℕ)). misfits x Gone) h.there;
+        lens = ap (λ (x : Option (Schema × ℕ)). lacks (brought (chunk_in (devs state table).chunks) []) x Gone) h.there;
+      })
+
+  pub taken_works : {T : Type 0} (is_spent : Type 0) (writes : T → List Write) (old new : TableDevs D) (r : Result T CommitFault) → TakesOn state images is_spent writes old new r → OnOk r (AreWorking state new)
+  taken_works is_spent writes old new (Err e) k = tt
+  taken_works is_spent writes old new (Ok x) k = record { up = k.up; ready = k.ready }

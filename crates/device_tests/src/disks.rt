@@ -37,6 +37,18 @@ pub(crate) fn disk_of_two(
     disk_with(alloc, &bytes)
 }
 
+/// A disk whose vault holds these payloads.
+pub(crate) fn disk_of(alloc: Global, payloads: &[&[u8]]) -> Result<MemDisk, Fail>
+    ensures { IfOk result (λ disk. (memory_state disk).pending ≡ settled (memory_state disk).seen) }
+{
+    let mut bytes = Vec::new(alloc);
+    for payload in payloads {
+        put_record(&mut bytes, payload)?;
+    }
+    bytes.push(0)?;
+    disk_with(alloc, &bytes)
+}
+
 // A record of a vault: an open gate, the payload's length in four bytes, and the payload.
 fn put_record(bytes: &mut Vec<u8>, payload: &[u8]) -> Result<(), Fail> {
     let len = u32::try_from(payload.len())?;

@@ -4,11 +4,17 @@
 #[cfg(test)]
 mod chunks;
 #[cfg(test)]
+mod commits;
+#[cfg(test)]
 mod disks;
+#[cfg(test)]
+mod hostile;
 #[cfg(test)]
 mod logs;
 #[cfg(test)]
 mod rows;
+#[cfg(test)]
+mod slots;
 #[cfg(test)]
 mod tables;
 #[cfg(test)]

@@ -12,6 +12,7 @@ use chunk_store::{ChunkDev, ChunkFault, ChunkName, NUMBER_MAX};
 use disk_kit::MemDisk;
 use disk_trait::{Disk, FuseDisk};
 use row_store::{Piece, PieceContent, RowDev, RowFault, RowId, StoredRow, Version, row_size};
+use stab_base::Step;
 use status_log::{LogEntry, LogFault, StatusLog};
 use std::alloc::{AllocError, Global};
 use std::process::Abort;
@@ -53,7 +54,7 @@ fn bytes_of(name: ChunkName) -> [u8; 3] {
     [(name.version % 256) as u8, (name.ordinal % 256) as u8, 0xc4]
 }
 
-fn name_of(pair: (Version, u32)) -> ChunkName {
+pub(crate) fn name_of(pair: (Version, u32)) -> ChunkName {
     ChunkName {
         version: pair.0,
         ordinal: pair.1,
@@ -94,7 +95,7 @@ fn entry_of_update(alloc: Global) -> Result<LogEntry, AllocError>
 }
 
 // Each of these does one write, where a fuse stops it after so many calls of the disk; then crashes and looks.
-fn stop_put<D: Disk + Drop>(
+pub(crate) fn stop_put<D: Disk + Drop>(
     dev: &mut ChunkDev<FuseDisk<D>>,
     name: ChunkName,
     bytes: &[u8],
@@ -134,7 +135,7 @@ fn stop_drop<D: Disk + Drop>(
     dev.look()
 }
 
-fn stop_row<D: Disk + Drop>(
+pub(crate) fn stop_row<D: Disk + Drop>(
     dev: &mut RowDev<FuseDisk<D>>,
     stored: StoredRow,
     calls: u32,
@@ -155,7 +156,7 @@ fn stop_row<D: Disk + Drop>(
     dev.look()
 }
 
-fn stop_open<D: Disk + Drop>(
+pub(crate) fn stop_open<D: Disk + Drop>(
     log: &mut StatusLog<FuseDisk<D>>,
     entry: &LogEntry,
     calls: u32,
@@ -306,7 +307,7 @@ fn update<D: Disk + Drop>(
 }
 
 // The three devices as one, still to be looked at.
-fn joined<D: Disk + Drop>(
+pub(crate) fn joined<D: Disk + Drop>(
     alloc: Global,
     chunks: ChunkDev<FuseDisk<D>>,
     rows: RowDev<FuseDisk<D>>,
@@ -355,16 +356,15 @@ fn start_recovery<D: Disk + Drop>(devs: &mut TableDevs<D>) -> Result<(), CommitF
     Ok(())
 }
 
-fn work_once<D: Disk + Drop>(devs: &mut TableDevs<D>) -> Result<(), CommitFault>
+pub(crate) fn work_once<D: Disk + Drop>(devs: &mut TableDevs<D>) -> Result<Step, CommitFault>
     requires { AreWorking D.state devs.old }
     ensures { OnOk result (AreWorking D.state devs.new) }
 {
-    devs.work()?;
-    Ok(())
+    devs.work()
 }
 
 // Does the next write, where a fuse stops it after so many calls of the disk; then crashes.
-fn work_stopped<D: Disk + Drop>(devs: &mut TableDevs<FuseDisk<D>>, calls: u32, pick: u64)
+pub(crate) fn work_stopped<D: Disk + Drop>(devs: &mut TableDevs<FuseDisk<D>>, calls: u32, pick: u64)
     requires { AreWorking (behind D.state) devs.old }
     ensures { AreWhole (behind D.state) devs.new }
 {
@@ -430,7 +430,7 @@ fn holds_chunks(
 }
 
 // Whether a row's content is one object of these chunks.
-fn names_chunks(content: &PieceContent, names: &[(Version, u32)]) -> bool {
+pub(crate) fn names_chunks(content: &PieceContent, names: &[(Version, u32)]) -> bool {
     let PieceContent::Row { objects, .. } = content else {
         return false;
     };
@@ -478,7 +478,7 @@ fn holds(alloc: Global, devs: TableDevs<FuseDisk<MemDisk>>, is_behind: bool) -> 
 }
 
 // The third call of a write opens its payload's gate, where it lands its one byte.
-fn lands(calls: u32, pick: u64) -> bool {
+pub(crate) fn lands(calls: u32, pick: u64) -> bool {
     calls > 2 || (calls == 2 && pick > 0)
 }
 

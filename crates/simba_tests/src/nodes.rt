@@ -1,8 +1,8 @@
 //! Scripts of clients and a Store, whose answers are compared with what the lines before them say. Their transcripts
 //! stand in examples/.
+use memory_runs::{plain_content, plain_history, plain_shown};
 use row_sum::{clean_sum, mine_sum};
 use row_value::Sequence;
-use run_laws::{plain_content, plain_history, plain_shown};
 use script_text::{Declared, line_text, parse_line};
 use std::alloc::Global;
 use std::process::Abort;

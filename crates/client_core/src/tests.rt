@@ -92,7 +92,11 @@ fn told_by(fact: &Fact) -> Told {
         Fact::Position { position, .. } => Told::Position {
             position: *position,
         },
-        Fact::Sent { .. } | Fact::Accepted { .. } => Told::Other,
+        Fact::Sent { .. }
+        | Fact::Accepted { .. }
+        | Fact::Forward { .. }
+        | Fact::Back { .. }
+        | Fact::Recovered { .. } => Told::Other,
     }
 }
 

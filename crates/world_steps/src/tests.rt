@@ -26,6 +26,8 @@ enum Seen {
     New(Version),
     Position(Version),
     Accepted(Version),
+    /// What comes of devices.
+    Other,
 }
 
 /// An event of one row of one table.
@@ -44,7 +46,7 @@ enum Step {
 }
 
 use Seen::{
-    Accepted, Acked, Clean, Done, Entry, Mine, New, Number, Position, Refused, Sent, Stored,
+    Accepted, Acked, Clean, Done, Entry, Mine, New, Number, Other, Position, Refused, Sent, Stored,
     Summed, Wrote,
 };
 use Step::{Client, Deliver, History, Pull, Show, StoreShow, Sum, Sync, Table, Write};
@@ -76,6 +78,7 @@ fn seen_answer(answer: &Answer) -> Seen {
             version: *version,
             cell: cell_in(content),
         },
+        Answer::Did(_) | Answer::Names(_) => Other,
         Answer::Refused(refusal) => Refused(*refusal),
     }
 }
@@ -88,6 +91,7 @@ fn seen_fact(fact: &Fact) -> Seen {
         Fact::New { version, .. } => New(*version),
         Fact::Position { position, .. } => Position(*position),
         Fact::Accepted { entry, .. } => Accepted(entry.version),
+        Fact::Forward { .. } | Fact::Back { .. } | Fact::Recovered { .. } => Other,
     }
 }
 

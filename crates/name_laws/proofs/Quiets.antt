@@ -18,15 +18,15 @@ use Rattle.step_tables.specs.StoreMoves.{StoreTask}
 use Rattle.step_tables.specs.ClientMoves as client
 use Rattle.step_tables.specs.ClientMoves.{Client, ClientTask, ClientMove, client_step}
 use Rattle.step_tables.proofs.Lists.{among_get}
-use Rattle.world_tables.specs.Quiet.{Quiet, sent_in, comes_to, if_done, held_after, loud_by, loud_after, after, at_first}
+use Rattle.world_tables.specs.Quiet.{Quiet, sent_in, comes_to, if_done, held_after, loud_after, after, at_first}
 use Rattle.world_tables.specs.World.{World, Packet, Hosted, Moved, WorldStep, start, owner, the_store, hosted_at, client_at, tables_of, same_node, has_node, without_node, is_down, still}
 use Rattle.world_tables.specs.World.{and_then, lines_of, tasks_in, hosted_tasks}
 use Rattle.world_tables.specs.World.{move_hosted, move_client, move_there, first_luck, other_lucks, client_works, client_tasks, client_follows, gets_tasks, client_follows_from}
 use Rattle.world_tables.specs.World.{is_at_work, busy_table, write_next, tasks_of, tables_fall, tables_start, with_down, without_down, store_falls, store_works, store_until_idle}
 use Rattle.world_tables.specs.World.{store_follows, table_crashes, crash_luck, store_crashes, store_starts}
-use Rattle.world_tables.specs.World.{Deed, Does, Hold, Free, Work, WorkAll, Crash, Start, Chunks, answering, answered, refused, unless_down, agenda_of, with_table, declared, joined}
+use Rattle.world_tables.specs.World.{answering, answered, refused, unless_down, agenda_of, with_table, declared, joined}
 use Rattle.world_tables.specs.World.{call_there, call, take_read, take_at, to_hosted, to_there, carried, delivered, row_read, store_shows, chunk_names, history_lines, worked, all_worked}
-use Rattle.world_tables.specs.World.{crashed, started, event_step, step}
+use Rattle.world_tables.specs.World.{crashed, started, step}
 use Rattle.world_laws.proofs.Looks.{look_cases}
 use Rattle.name_laws.proofs.Plain.{IsPlace}
 use Rattle.name_laws.proofs.Moves.{IsFine, packets_in}
@@ -140,7 +140,7 @@ other_node number = go (number == owner) refl
 no_tables : (w : World) (number : ℕ) → (number == owner) ≡ false → tables_of w number ≡ []
 no_tables w number is = ap (λ (b : Bool). if b then keys_of w.tables else []) is
 
--- ---- deeds
+-- ---- events
 
 module _ (w : World) (f : IsFine w) where
   -- a message to a table
@@ -236,20 +236,6 @@ module _ (w : World) (f : IsFine w) where
   call_idle : (c : ℕ) (move : ClientMove) (lucks : List Luck) → Idle w → Idle (call w c move lucks).world
   call_idle c move lucks idle = same_idle w (call w c move lucks).world (call_tables w c move lucks (client_at w c)) idle
 
-  event_idle : (q : Quiet) → q.held ≡ w.holds → q.sent ≡ map (λ (p : Packet). p.to) w.packets → (event : Event) (lucks : List Luck) → (IsLoud q.loud ≡ false → Idle w)
-      → IsLoud (loud_by q event) ≡ false → Idle (event_step w event lucks).world
-  event_idle q held sent (events.Store number) lucks idle quiet = idle quiet
-  event_idle q held sent (events.Table table schema) lucks idle quiet = declared_idle table schema (first_luck lucks) (idle quiet) (hosted_at w table)
-  event_idle q held sent (events.Client c gate tables) lucks idle quiet = joined_idle c tables (idle quiet) (client_at w c)
-  event_idle q held sent (events.Write c table row x) lucks idle quiet = call_idle c (client.Write table row x) lucks (idle quiet)
-  event_idle q held sent (events.Show c table row) lucks idle quiet = call_idle c (client.Show table row) lucks (idle quiet)
-  event_idle q held sent (events.Sum c table row) lucks idle quiet = call_idle c (client.Sum table row) lucks (idle quiet)
-  event_idle q held sent (events.Sync c table) lucks idle quiet = call_idle c (client.Sync table) lucks (idle quiet)
-  event_idle q held sent (events.Pull c table) lucks idle quiet = call_idle c (client.Next table) lucks (idle quiet)
-  event_idle q held sent (events.Deliver n) lucks idle quiet = delivered_idle q held sent n lucks idle quiet
-  event_idle q held sent (events.StoreShow table row) lucks idle quiet = shows_idle row lucks (idle quiet) (hosted_at w table)
-  event_idle q held sent (events.History table) lucks idle quiet = history_idle table (idle quiet) (hosted_at w table)
-
   -- ---- what is done to a node
 
   worked_idle : (lucks : List Luck) → Idle w → (node : Node) → Idle (worked w lucks node).world
@@ -338,16 +324,26 @@ module _ (w : World) (f : IsFine w) where
       go true = ⊎_elim here (λ e. elsewhere e.0) (other_node number)
       go false = rest
 
-  step_idle : (q : Quiet) → q.held ≡ w.holds → q.sent ≡ map (λ (p : Packet). p.to) w.packets → (deed : Deed) (lucks : List Luck) → (IsLoud q.loud ≡ false → Idle w)
-      → IsLoud (loud_after q deed (step w deed lucks).answer) ≡ false → Idle (step w deed lucks).world
-  step_idle q held sent (Does event) lucks idle quiet = event_idle q held sent event lucks idle quiet
-  step_idle q held sent (Hold node) lucks idle quiet = down_idle_step w node _ (idle quiet) (idle quiet)
-  step_idle q held sent (Free node) lucks idle quiet = down_idle_step w node _ (idle quiet) (idle quiet)
-  step_idle q held sent (Work node) lucks idle quiet = down_idle_step w node _ (idle quiet) (worked_idle lucks (idle quiet) node)
-  step_idle q held sent (WorkAll node) lucks idle quiet = all_idle_by q.loud node lucks idle quiet
-  step_idle q held sent (Crash node calls pick) lucks idle quiet = down_idle_step w node _ (idle quiet) (crashed_idle calls lucks (idle quiet) node)
-  step_idle q held sent (Start node) lucks idle quiet = started_idle q held lucks idle node quiet
-  step_idle q held sent (Chunks table) lucks idle quiet = chunks_idle table (idle quiet) (hosted_at w table)
+  step_idle : (q : Quiet) → q.held ≡ w.holds → q.sent ≡ map (λ (p : Packet). p.to) w.packets → (event : Event) (lucks : List Luck) → (IsLoud q.loud ≡ false → Idle w)
+      → IsLoud (loud_after q event (step w event lucks).answer) ≡ false → Idle (step w event lucks).world
+  step_idle q held sent (events.Store number) lucks idle quiet = idle quiet
+  step_idle q held sent (events.Table table schema) lucks idle quiet = declared_idle table schema (first_luck lucks) (idle quiet) (hosted_at w table)
+  step_idle q held sent (events.Client c gate tables) lucks idle quiet = joined_idle c tables (idle quiet) (client_at w c)
+  step_idle q held sent (events.Write c table row x) lucks idle quiet = call_idle c (client.Write table row x) lucks (idle quiet)
+  step_idle q held sent (events.Show c table row) lucks idle quiet = call_idle c (client.Show table row) lucks (idle quiet)
+  step_idle q held sent (events.Sum c table row) lucks idle quiet = call_idle c (client.Sum table row) lucks (idle quiet)
+  step_idle q held sent (events.Sync c table) lucks idle quiet = call_idle c (client.Sync table) lucks (idle quiet)
+  step_idle q held sent (events.Pull c table) lucks idle quiet = call_idle c (client.Next table) lucks (idle quiet)
+  step_idle q held sent (events.Deliver n) lucks idle quiet = delivered_idle q held sent n lucks idle quiet
+  step_idle q held sent (events.StoreShow table row) lucks idle quiet = shows_idle row lucks (idle quiet) (hosted_at w table)
+  step_idle q held sent (events.History table) lucks idle quiet = history_idle table (idle quiet) (hosted_at w table)
+  step_idle q held sent (events.Hold node) lucks idle quiet = down_idle_step w node _ (idle quiet) (idle quiet)
+  step_idle q held sent (events.Free node) lucks idle quiet = down_idle_step w node _ (idle quiet) (idle quiet)
+  step_idle q held sent (events.Work node) lucks idle quiet = down_idle_step w node _ (idle quiet) (worked_idle lucks (idle quiet) node)
+  step_idle q held sent (events.WorkAll node) lucks idle quiet = all_idle_by q.loud node lucks idle quiet
+  step_idle q held sent (events.Crash node calls pick) lucks idle quiet = down_idle_step w node _ (idle quiet) (crashed_idle calls lucks (idle quiet) node)
+  step_idle q held sent (events.Start node) lucks idle quiet = started_idle q held lucks idle node quiet
+  step_idle q held sent (events.Chunks table) lucks idle quiet = chunks_idle table (idle quiet) (hosted_at w table)
 
 -- ---- what is followed along the lines
 
@@ -360,27 +356,22 @@ pub record Follows (w : World) (q : Quiet) : Type 0 where
 pub start_follows : Follows start at_first
 start_follows = record { fine = start_fine; held = refl; sent = refl; idle = λ quiet table hosted at. absurd cc }
 
-held_same : (q : Quiet) (w : World) (deed : Deed) (answer : Option Answer) → q.held ≡ w.holds → held_after q deed answer ≡ held_after (holding w) deed answer
-held_same q w (Hold node) answer same = ap (λ (held : List Node). if_done answer (node ∷ held) held) same
-held_same q w (Free node) answer same = ap (λ (held : List Node). if_done answer (without_node held node) held) same
-held_same q w (Does event) answer same = same
-held_same q w (Work node) answer same = same
-held_same q w (WorkAll node) answer same = same
-held_same q w (Crash node calls pick) answer same = same
-held_same q w (Start node) answer same = same
-held_same q w (Chunks table) answer same = same
+held_same : (q : Quiet) (w : World) (event : Event) (answer : Option Answer) → q.held ≡ w.holds → held_after q event answer ≡ held_after (holding w) event answer
+held_same q w (events.Hold node) answer same = ap (λ (held : List Node). if_done answer (node ∷ held) held) same
+held_same q w (events.Free node) answer same = ap (λ (held : List Node). if_done answer (without_node held node) held) same
+held_same q w other answer same = same
 
-pub step_follows : (w : World) (q : Quiet) (deed : Deed) (lucks : List Luck) → Follows w q
-    → Follows (step w deed lucks).world (after q (record { deed = deed; lines = lines_of w (step w deed lucks) }))
-step_follows w q deed lucks k =
-    let s : WorldStep = step w deed lucks in
-    let x : Stepped w (holds_by w deed lucks) (schemas_by w deed lucks) s = step_stepped w deed lucks k.fine in
-    let answer = lines_answer w (holds_by w deed lucks) (schemas_by w deed lucks) s x in
+pub step_follows : (w : World) (q : Quiet) (event : Event) (lucks : List Luck) → Follows w q
+    → Follows (step w event lucks).world (after q (record { event = event; lines = lines_of w (step w event lucks) }))
+step_follows w q event lucks k =
+    let s : WorldStep = step w event lucks in
+    let x : Stepped w (holds_by w event lucks) (schemas_by w event lucks) s = step_stepped w event lucks k.fine in
+    let answer = lines_answer w (holds_by w event lucks) (schemas_by w event lucks) s x in
     record {
       fine = x.fine;
-      held = ap (held_after q deed) answer ∙ (held_same q w deed s.answer k.held ∙ sym x.holds_are);
+      held = ap (held_after q event) answer ∙ (held_same q w event s.answer k.held ∙ sym x.holds_are);
       sent = ap (λ (ns : List Node). ns ++ sent_in (lines_of w s)) k.sent
-          ∙ (ap (λ (ns : List Node). map (λ (p : Packet). p.to) w.packets ++ ns) (lines_sent w (holds_by w deed lucks) (schemas_by w deed lucks) s x)
+          ∙ (ap (λ (ns : List Node). map (λ (p : Packet). p.to) w.packets ++ ns) (lines_sent w (holds_by w event lucks) (schemas_by w event lucks) s x)
           ∙ (sym (to_join w.packets (packets_in s.outs)) ∙ ap (λ (ps : List Packet). map (λ (p : Packet). p.to) ps) (sym x.packets)));
-      idle = λ quiet. step_idle w k.fine q k.held k.sent deed lucks k.idle (ap (λ (a : Option Answer). IsLoud (loud_after q deed a)) (sym answer) ∙ quiet);
+      idle = λ quiet. step_idle w k.fine q k.held k.sent event lucks k.idle (ap (λ (a : Option Answer). IsLoud (loud_after q event a)) (sym answer) ∙ quiet);
     }

@@ -5,6 +5,7 @@ use Rattle.std.proofs.lemmas.Bool.Decides.{nat_tests}
 use Rattle.stab_base.specs.declared.chunk_name.ChunkName.{ChunkName}
 use Rattle.row_value.specs.declared.schema.Schema.{Schema}
 use Rattle.row_value.specs.declared.schema.Scheme.{Scheme}
+use Rattle.table_model.specs.declared.event.Event.{Event}
 use Rattle.table_model.specs.declared.event.Event.TheVariants as events
 use Rattle.step_tables.specs.Facts.{Answer, Line}
 use Rattle.step_tables.specs.Facts as facts
@@ -20,13 +21,13 @@ use Rattle.world_tables.specs.Quiet.{Quiet, at_first, names_in, AreTheChunks, si
 use Rattle.world_tables.specs.Sound.{scheme_for}
 use Rattle.world_tables.specs.Turns.{Happening, Turn, turns_from, turns}
 use Rattle.world_tables.specs.World.{World, Hosted, WorldStep, start, owner, the_store, hosted_at, schema_at, chunk_in, has_node, is_down, tasks_in, lines_of, first_luck, store_falls}
-use Rattle.world_tables.specs.World.{Deed, Does, Hold, Free, Work, WorkAll, Crash, Start, Chunks, answered, refused, agenda_of, with_table, made_with, declared, names_on, names_answer}
+use Rattle.world_tables.specs.World.{answered, refused, agenda_of, with_table, made_with, declared, names_on, names_answer}
 use Rattle.world_tables.specs.World.{chunk_names, step}
 use Rattle.world_laws.proofs.Kept.{KnownIn, Kept}
 use Rattle.world_laws.proofs.Looks.{look_cases}
 use Rattle.world_laws.proofs.StoreWorks.{store_falls_there}
 use Rattle.world_laws.proofs.Ups.{IsUp, start_up, step_up}
-use Rattle.world_laws.proofs.Runs.{step_sound, first_is, scheme_on, start_kept, deeds_in, deeds_are}
+use Rattle.world_laws.proofs.Runs.{step_sound, first_is, scheme_on, start_kept, events_are}
 use Rattle.world_laws.proofs.Runs as runs
 use Rattle.world_laws.proofs.Fresh.{fresh_part}
 use Rattle.name_laws.proofs.Left.{IsClean}
@@ -37,7 +38,7 @@ use Rattle.name_laws.proofs.Quiets.{Follows, start_follows, step_follows}
 
 -- ---- the sizes of chunks: a declared table has its schema's, and another that of what is to come
 
-pub record IsSized (sizes : ℕ → ℕ) (w : World) (es : List Deed) : Type 0 where
+pub record IsSized (sizes : ℕ → ℕ) (w : World) (es : List Event) : Type 0 where
   pub here : (table : ℕ) (schema : Schema) → schema_at w table ≡ Some schema → sizes table ≡ schema.chunk
   pub later : (table : ℕ) → hosted_at w table ≡ None → sizes table ≡ size_for es table
 
@@ -56,33 +57,17 @@ declared_there : (w : World) (table : ℕ) (schema : Schema) (luck : Luck) (o : 
 declared_there w table schema luck (Some hosted) at none = absurd (let both : Some hosted ≡ None = sym at ∙ none in cc)
 declared_there w table schema luck None at none = new_there w table schema luck none
 
--- a table that isn't there behind a deed wasn't declared by it
-size_on : (w : World) (deed : Deed) (lucks : List Luck) (es : List Deed) (table : ℕ) → hosted_at (step w deed lucks).world table ≡ None → size_for (deed ∷ es) table ≡ size_for es table
-size_on w (Does (events.Table number schema)) lucks es table none = go (number == table) refl
+-- a table that isn't there behind an event wasn't declared by it
+size_on : (w : World) (event : Event) (lucks : List Luck) (es : List Event) (table : ℕ) → hosted_at (step w event lucks).world table ≡ None → size_for (event ∷ es) table ≡ size_for es table
+size_on w (events.Table number schema) lucks es table none = go (number == table) refl
   where
     go : (b : Bool) → (number == table) ≡ b → (if b then schema.chunk else size_for es table) ≡ size_for es table
     go false e = refl
     go true e =
         let same : number ≡ table = grind (arith, nat_tests, e) in
         absurd (declared_there w number schema (first_luck lucks) (hosted_at w number) refl
-        (subst (λ (n : ℕ). hosted_at (step w (Does (events.Table number schema)) lucks).world n ≡ None) (sym same) none))
-size_on w (Does (events.Store number)) lucks es table none = refl
-size_on w (Does (events.Client c gate tables)) lucks es table none = refl
-size_on w (Does (events.Write c t row x)) lucks es table none = refl
-size_on w (Does (events.Show c t row)) lucks es table none = refl
-size_on w (Does (events.Sum c t row)) lucks es table none = refl
-size_on w (Does (events.Sync c t)) lucks es table none = refl
-size_on w (Does (events.Pull c t)) lucks es table none = refl
-size_on w (Does (events.Deliver n)) lucks es table none = refl
-size_on w (Does (events.StoreShow t row)) lucks es table none = refl
-size_on w (Does (events.History t)) lucks es table none = refl
-size_on w (Hold node) lucks es table none = refl
-size_on w (Free node) lucks es table none = refl
-size_on w (Work node) lucks es table none = refl
-size_on w (WorkAll node) lucks es table none = refl
-size_on w (Crash node calls pick) lucks es table none = refl
-size_on w (Start node) lucks es table none = refl
-size_on w (Chunks t) lucks es table none = refl
+        (subst (λ (n : ℕ). hosted_at (step w (events.Table number schema) lucks).world n ≡ None) (sym same) none))
+size_on w other lucks es table none = refl
 
 abbrev ArePut : (ℕ → ℕ) → List (ℕ × Schema) → Type 0
 ArePut sizes schemas = (table : ℕ) (schema : Schema) → schema_at (record start { schemas = schemas }) table ≡ Some schema → sizes table ≡ schema.chunk
@@ -109,38 +94,22 @@ module _ (sizes : ℕ → ℕ) (w : World) (fine : IsFine w) where
   declared_put table schema luck None is put = made_put table schema luck (is refl) put
 
   -- the first declaration gives the size
-  first_size : (table : ℕ) (schema : Schema) (es : List Deed) → size_for (Does (events.Table table schema) ∷ es) table ≡ schema.chunk
+  first_size : (table : ℕ) (schema : Schema) (es : List Event) → size_for (events.Table table schema ∷ es) table ≡ schema.chunk
   first_size table schema es = go (table == table) refl
     where
       go : (b : Bool) → (table == table) ≡ b → (if b then schema.chunk else size_for es table) ≡ schema.chunk
       go true e = refl
       go false e = absurd (grind (arith, nat_tests, e))
 
-  deed_put : (deed : Deed) (lucks : List Luck) (es : List Deed) → IsSized sizes w (deed ∷ es) → ArePut sizes (schemas_by w deed lucks)
-  deed_put (Does (events.Table table schema)) lucks es s = declared_put table schema (first_luck lucks) (hosted_at w table) (λ none. s.later table none ∙ first_size table schema es) s.here
-  deed_put (Does (events.Store number)) lucks es s = s.here
-  deed_put (Does (events.Client c gate tables)) lucks es s = s.here
-  deed_put (Does (events.Write c t row x)) lucks es s = s.here
-  deed_put (Does (events.Show c t row)) lucks es s = s.here
-  deed_put (Does (events.Sum c t row)) lucks es s = s.here
-  deed_put (Does (events.Sync c t)) lucks es s = s.here
-  deed_put (Does (events.Pull c t)) lucks es s = s.here
-  deed_put (Does (events.Deliver n)) lucks es s = s.here
-  deed_put (Does (events.StoreShow t row)) lucks es s = s.here
-  deed_put (Does (events.History t)) lucks es s = s.here
-  deed_put (Hold node) lucks es s = s.here
-  deed_put (Free node) lucks es s = s.here
-  deed_put (Work node) lucks es s = s.here
-  deed_put (WorkAll node) lucks es s = s.here
-  deed_put (Crash node calls pick) lucks es s = s.here
-  deed_put (Start node) lucks es s = s.here
-  deed_put (Chunks t) lucks es s = s.here
+  event_put : (event : Event) (lucks : List Luck) (es : List Event) → IsSized sizes w (event ∷ es) → ArePut sizes (schemas_by w event lucks)
+  event_put (events.Table table schema) lucks es s = declared_put table schema (first_luck lucks) (hosted_at w table) (λ none. s.later table none ∙ first_size table schema es) s.here
+  event_put other lucks es s = s.here
 
-  step_sized : (deed : Deed) (lucks : List Luck) (es : List Deed) → ((table : ℕ) → hosted_at (step w deed lucks).world table ≡ None → hosted_at w table ≡ None) → IsSized sizes w (deed ∷ es)
-      → IsSized sizes (step w deed lucks).world es
-  step_sized deed lucks es there s = record {
-    here = subst (ArePut sizes) (sym (step_stepped w deed lucks fine).schemas_are) (deed_put deed lucks es s);
-    later = λ table none. s.later table (there table none) ∙ size_on w deed lucks es table none;
+  step_sized : (event : Event) (lucks : List Luck) (es : List Event) → ((table : ℕ) → hosted_at (step w event lucks).world table ≡ None → hosted_at w table ≡ None) → IsSized sizes w (event ∷ es)
+      → IsSized sizes (step w event lucks).world es
+  step_sized event lucks es there s = record {
+    here = subst (ArePut sizes) (sym (step_stepped w event lucks fine).schemas_are) (event_put event lucks es s);
+    later = λ table none. s.later table (there table none) ∙ size_on w event lucks es table none;
   }
 
 -- ---- a list of chunks
@@ -162,52 +131,46 @@ module _ (g : ℕ → Scheme) (sizes : ℕ → ℕ) (w : World) (s : Said) (q : 
       let size : sizes table ≡ chunk_in (schema_at w table) = sized table schema.0 schema.1 ∙ sym (ap chunk_in schema.1) in
       subst (λ (n : ℕ). AreChunks s table (sizes table) (names_on n hosted.store.disk)) size (listed g w s k table (sizes table) some hosted.store.disk state.0.items clean)
 
-  chunks_listed : (table : ℕ) (o : Option Hosted) → hosted_at w table ≡ o → IsListed sizes s q (Chunks table) (chunk_names w table o).answer
+  chunks_listed : (table : ℕ) (o : Option Hosted) → hosted_at w table ≡ o → IsListed sizes s q (events.Chunks table) (chunk_names w table o).answer
   chunks_listed table None at = λ some quiet. tt
   chunks_listed table (Some hosted) at = go (is_down w the_store) refl
     where
       names : List ChunkName
       names = names_on (chunk_in (schema_at w table)) hosted.store.disk
 
-      go : (b : Bool) → is_down w the_store ≡ b → IsListed sizes s q (Chunks table) (if b then refused w (facts.NodeDown the_store) else answered w (names_answer names)).answer
+      go : (b : Bool) → is_down w the_store ≡ b → IsListed sizes s q (events.Chunks table) (if b then refused w (facts.NodeDown the_store) else answered w (names_answer names)).answer
       go true down = λ some quiet. tt
       go false is_up = λ some quiet. subst (λ (o : Option (List ChunkName)). AreTheChunks s table (sizes table) o) (sym (names_listed names)) (on_devices table hosted at is_up some quiet)
 
-  deed_listed : (deed : Deed) (lucks : List Luck) → IsListed sizes s q deed (step w deed lucks).answer
-  deed_listed (Chunks table) lucks = chunks_listed table (hosted_at w table) refl
-  deed_listed (Does event) lucks = tt
-  deed_listed (Hold node) lucks = tt
-  deed_listed (Free node) lucks = tt
-  deed_listed (Work node) lucks = tt
-  deed_listed (WorkAll node) lucks = tt
-  deed_listed (Crash node calls pick) lucks = tt
-  deed_listed (Start node) lucks = tt
+  event_listed : (event : Event) (lucks : List Luck) → IsListed sizes s q event (step w event lucks).answer
+  event_listed (events.Chunks table) lucks = chunks_listed table (hosted_at w table) refl
+  event_listed other lucks = tt
 
 -- ---- runs
 
 module _ (g : ℕ → Scheme) (sizes : ℕ → ℕ) where
-  abbrev AwaitsSchemes : World → List Deed → Type 0
+  abbrev AwaitsSchemes : World → List Event → Type 0
   AwaitsSchemes w es = runs.Awaits client_law client_grows lapsed_grows fresh_part g w es
 
-  run_listed : (hs : List Happening) (w : World) (s : Said) (q : Quiet) → Kept g w s → IsUp w → Follows w q → AwaitsSchemes w (map (λ (h : Happening). h.deed) hs)
-      → IsSized sizes w (map (λ (h : Happening). h.deed) hs)
+  run_listed : (hs : List Happening) (w : World) (s : Said) (q : Quiet) → Kept g w s → IsUp w → Follows w q → AwaitsSchemes w (map (λ (h : Happening). h.event) hs)
+      → IsSized sizes w (map (λ (h : Happening). h.event) hs)
       → AreListedFrom sizes s q (turns_from w hs)
   run_listed [] w s q k up f awaits sized = tt
   run_listed (h ∷ hs) w s q k up f awaits sized =
-      let es : List Deed = map (λ (x : Happening). x.deed) hs in
-      let first = step_sound client_law client_grows lapsed_grows fresh_part g w s k up h.deed h.lucks (first_is client_law client_grows lapsed_grows fresh_part g w s k h.deed es awaits) in
-      let x : WorldStep = step w h.deed h.lucks in
-      let answer = lines_answer w (holds_by w h.deed h.lucks) (schemas_by w h.deed h.lucks) x (step_stepped w h.deed h.lucks f.fine) in (
-        subst (λ (a : Option Answer). IsListed sizes s q h.deed a) (sym answer) (deed_listed g sizes w s q k up f sized.here h.deed h.lucks),
-        run_listed hs x.world (hear_lines s (lines_of w x)) (after q (record { deed = h.deed; lines = lines_of w x })) first.kept (step_up w h.deed h.lucks up) (step_follows w q h.deed h.lucks f)
-            (λ table none. awaits table (first.there table none) ∙ scheme_on client_law client_grows lapsed_grows fresh_part g w h.deed h.lucks es table none)
-            (step_sized sizes w f.fine h.deed h.lucks es first.there sized),
+      let es : List Event = map (λ (x : Happening). x.event) hs in
+      let first = step_sound client_law client_grows lapsed_grows fresh_part g w s k up h.event h.lucks (first_is client_law client_grows lapsed_grows fresh_part g w s k h.event es awaits) in
+      let x : WorldStep = step w h.event h.lucks in
+      let answer = lines_answer w (holds_by w h.event h.lucks) (schemas_by w h.event h.lucks) x (step_stepped w h.event h.lucks f.fine) in (
+        subst (λ (a : Option Answer). IsListed sizes s q h.event a) (sym answer) (event_listed g sizes w s q k up f sized.here h.event h.lucks),
+        run_listed hs x.world (hear_lines s (lines_of w x)) (after q (record { event = h.event; lines = lines_of w x })) first.kept (step_up w h.event h.lucks up) (step_follows w q h.event h.lucks f)
+            (λ table none. awaits table (first.there table none) ∙ scheme_on client_law client_grows lapsed_grows fresh_part g w h.event h.lucks es table none)
+            (step_sized sizes w f.fine h.event h.lucks es first.there sized),
       )
 
 pub all_listed : (hs : List Happening) → AreListed (turns hs)
 all_listed hs =
-    let es : List Deed = map (λ (turn : Turn). turn.deed) (turns_from start hs) in
+    let es : List Event = map (λ (turn : Turn). turn.event) (turns_from start hs) in
     let g : ℕ → Scheme = scheme_for es in
     run_listed g (size_for es) hs start nothing_said at_first (start_kept client_law client_grows lapsed_grows fresh_part g) start_up start_follows
-    (λ table none. ap (λ (ds : List Deed). scheme_for ds table) (deeds_are hs start))
-    (record { here = λ table schema at. absurd cc; later = λ table none. ap (λ (ds : List Deed). size_for ds table) (deeds_are hs start) })
+    (λ table none. ap (λ (ds : List Event). scheme_for ds table) (events_are hs start))
+    (record { here = λ table schema at. absurd cc; later = λ table none. ap (λ (ds : List Event). size_for ds table) (events_are hs start) })

@@ -1,4 +1,4 @@
--- What each deed keeps of the tables, the packets and the nodes on hold.
+-- What each event keeps of the tables, the packets and the nodes on hold.
 use Rattle.std.proofs.Common.{◌≡◌, ⊎_elim, ℕ, ◌+◌, Bool, true, false, List, [], ◌∷◌, ◌++◌, length, Option, Some, None, refl, sym, ◌∙◌, ap, subst, append-nil}
 use Rattle.std.specs.Prelude.{map, not, slice_get, option_to_list, if◌then◌else◌}
 use Rattle.stab_base.specs.declared.node.Node.{Node}
@@ -21,10 +21,10 @@ use Rattle.world_tables.specs.World.{World, Packet, Hosted, Outbox, Moved, World
 use Rattle.world_tables.specs.World.{lines_from, sent_lines}
 use Rattle.world_tables.specs.World.{move_table, move_client, table_step, other_lucks, first_luck, busy_table, busy_step, write_next, tasks_of, store_falls, table_follows, store_until_idle}
 use Rattle.world_tables.specs.World.{store_crashes, store_starts}
-use Rattle.world_tables.specs.World.{Deed, Does, Hold, Free, Work, WorkAll, Crash, Start, Chunks, answering, answered, refused, silent, unless_down, agenda_of, with_table, made_with, declared}
+use Rattle.world_tables.specs.World.{answering, answered, refused, silent, unless_down, agenda_of, with_table, made_with, declared}
 use Rattle.world_tables.specs.World.{joined, client_follows_from}
 use Rattle.world_tables.specs.World.{call_there, take_read, take_at, to_hosted, to_there, carried, delivered, row_read, row_shown, store_shows, names_on, names_answer, chunk_names}
-use Rattle.world_tables.specs.World.{entry_lines, history_lines, worked, all_worked, crashed, started, event_step, step}
+use Rattle.world_tables.specs.World.{entry_lines, history_lines, worked, all_worked, crashed, started, step}
 use Rattle.step_tables.specs.Store.{current_of}
 use Rattle.world_tables.specs.World.{new_client, open_all, schema_at, chunk_in}
 use Rattle.world_laws.proofs.Looks.{look_cases}
@@ -258,24 +258,6 @@ joined_stepped w c tables f None = silent_stepped w (joined w c tables None) (re
     new : Client
     new = new_client (open_all w [] tables)
 
--- the schemas behind an event
-abbrev pub schemas_of : World → Event → List Luck → List (ℕ × Schema)
-schemas_of w (events.Table table schema) lucks = (declared w table schema (first_luck lucks) (hosted_at w table)).schemas
-schemas_of w other lucks = w.schemas
-
-event_stepped : (w : World) (event : Event) (lucks : List Luck) → IsFine w → Stepped w w.holds (schemas_of w event lucks) (event_step w event lucks)
-event_stepped w (events.Store number) lucks f = silent_stepped w w f refl refl
-event_stepped w (events.Table table schema) lucks f = declared_stepped w table schema (first_luck lucks) f (hosted_at w table)
-event_stepped w (events.Client c gate tables) lucks f = joined_stepped w c tables f (client_at w c)
-event_stepped w (events.Write c table row x) lucks f = call_stepped w c (client.Write table row x) lucks tt f (client_at w c)
-event_stepped w (events.Show c table row) lucks f = call_stepped w c (client.Show table row) lucks tt f (client_at w c)
-event_stepped w (events.Sum c table row) lucks f = call_stepped w c (client.Sum table row) lucks tt f (client_at w c)
-event_stepped w (events.Sync c table) lucks f = call_stepped w c (client.Sync table) lucks tt f (client_at w c)
-event_stepped w (events.Pull c table) lucks f = call_stepped w c (client.Next table) lucks tt f (client_at w c)
-event_stepped w (events.Deliver n) lucks f = delivered_stepped w n lucks f (slice_get w.packets n) refl
-event_stepped w (events.StoreShow table row) lucks f = shows_stepped w row lucks f (hosted_at w table)
-event_stepped w (events.History table) lucks f = history_stepped w table f (hosted_at w table)
-
 -- ---- what is done to a node
 
 worked_stepped : (w : World) (lucks : List Luck) → IsFine w → (node : Node) → Stepped w w.holds w.schemas (worked w lucks node)
@@ -328,41 +310,52 @@ holds_stepped w holds f = record {
 abbrev pub holding : World → Quiet
 holding w = record { held = w.holds; loud = []; sent = [] }
 
--- the nodes on hold behind a deed
-abbrev pub holds_by : World → Deed → List Luck → List Node
-holds_by w deed lucks = held_after (holding w) deed (step w deed lucks).answer
+-- the nodes on hold behind an event
+abbrev pub holds_by : World → Event → List Luck → List Node
+holds_by w event lucks = held_after (holding w) event (step w event lucks).answer
 
-held_stepped : (w : World) (node : Node) (lucks : List Luck) → IsFine w → Stepped w (holds_by w (Hold node) lucks) w.schemas (step w (Hold node) lucks)
+held_stepped : (w : World) (node : Node) (lucks : List Luck) → IsFine w → Stepped w (holds_by w (events.Hold node) lucks) w.schemas (step w (events.Hold node) lucks)
 held_stepped w node lucks f = go (is_down w node)
   where
     go : (b : Bool)
-        → Stepped w (held_after (holding w) (Hold node) (if b then refused w (facts.NodeDown node) else answered (with_holds w (node ∷ w.holds)) facts.Done).answer) w.schemas
+        → Stepped w (held_after (holding w) (events.Hold node) (if b then refused w (facts.NodeDown node) else answered (with_holds w (node ∷ w.holds)) facts.Done).answer) w.schemas
         (if b then refused w (facts.NodeDown node) else answered (with_holds w (node ∷ w.holds)) facts.Done)
     go true = answered_stepped w (facts.Refuses (facts.NodeDown node)) f
     go false = holds_stepped w (node ∷ w.holds) f
 
-freed_stepped : (w : World) (node : Node) (lucks : List Luck) → IsFine w → Stepped w (holds_by w (Free node) lucks) w.schemas (step w (Free node) lucks)
+freed_stepped : (w : World) (node : Node) (lucks : List Luck) → IsFine w → Stepped w (holds_by w (events.Free node) lucks) w.schemas (step w (events.Free node) lucks)
 freed_stepped w node lucks f = go (is_down w node)
   where
     go : (b : Bool)
-        → Stepped w (held_after (holding w) (Free node) (if b then refused w (facts.NodeDown node) else answered (with_holds w (without_node w.holds node)) facts.Done).answer) w.schemas
+        → Stepped w (held_after (holding w) (events.Free node) (if b then refused w (facts.NodeDown node) else answered (with_holds w (without_node w.holds node)) facts.Done).answer) w.schemas
         (if b then refused w (facts.NodeDown node) else answered (with_holds w (without_node w.holds node)) facts.Done)
     go true = answered_stepped w (facts.Refuses (facts.NodeDown node)) f
     go false = holds_stepped w (without_node w.holds node) f
 
-abbrev pub schemas_by : World → Deed → List Luck → List (ℕ × Schema)
-schemas_by w (Does event) lucks = schemas_of w event lucks
+-- the schemas behind an event
+abbrev pub schemas_by : World → Event → List Luck → List (ℕ × Schema)
+schemas_by w (events.Table table schema) lucks = (declared w table schema (first_luck lucks) (hosted_at w table)).schemas
 schemas_by w other lucks = w.schemas
 
-pub step_stepped : (w : World) (deed : Deed) (lucks : List Luck) → IsFine w → Stepped w (holds_by w deed lucks) (schemas_by w deed lucks) (step w deed lucks)
-step_stepped w (Does event) lucks f = event_stepped w event lucks f
-step_stepped w (Hold node) lucks f = held_stepped w node lucks f
-step_stepped w (Free node) lucks f = freed_stepped w node lucks f
-step_stepped w (Work node) lucks f = down_stepped w node _ f (worked_stepped w lucks f node)
-step_stepped w (WorkAll node) lucks f = down_stepped w node _ f (all_worked_stepped w lucks f node)
-step_stepped w (Crash node calls pick) lucks f = down_stepped w node _ f (crashed_stepped w calls lucks f node)
-step_stepped w (Start node) lucks f = started_stepped w lucks f node
-step_stepped w (Chunks table) lucks f = chunks_stepped w table f (hosted_at w table)
+pub step_stepped : (w : World) (event : Event) (lucks : List Luck) → IsFine w → Stepped w (holds_by w event lucks) (schemas_by w event lucks) (step w event lucks)
+step_stepped w (events.Store number) lucks f = silent_stepped w w f refl refl
+step_stepped w (events.Table table schema) lucks f = declared_stepped w table schema (first_luck lucks) f (hosted_at w table)
+step_stepped w (events.Client c gate tables) lucks f = joined_stepped w c tables f (client_at w c)
+step_stepped w (events.Write c table row x) lucks f = call_stepped w c (client.Write table row x) lucks tt f (client_at w c)
+step_stepped w (events.Show c table row) lucks f = call_stepped w c (client.Show table row) lucks tt f (client_at w c)
+step_stepped w (events.Sum c table row) lucks f = call_stepped w c (client.Sum table row) lucks tt f (client_at w c)
+step_stepped w (events.Sync c table) lucks f = call_stepped w c (client.Sync table) lucks tt f (client_at w c)
+step_stepped w (events.Pull c table) lucks f = call_stepped w c (client.Next table) lucks tt f (client_at w c)
+step_stepped w (events.Deliver n) lucks f = delivered_stepped w n lucks f (slice_get w.packets n) refl
+step_stepped w (events.StoreShow table row) lucks f = shows_stepped w row lucks f (hosted_at w table)
+step_stepped w (events.History table) lucks f = history_stepped w table f (hosted_at w table)
+step_stepped w (events.Hold node) lucks f = held_stepped w node lucks f
+step_stepped w (events.Free node) lucks f = freed_stepped w node lucks f
+step_stepped w (events.Work node) lucks f = down_stepped w node _ f (worked_stepped w lucks f node)
+step_stepped w (events.WorkAll node) lucks f = down_stepped w node _ f (all_worked_stepped w lucks f node)
+step_stepped w (events.Crash node calls pick) lucks f = down_stepped w node _ f (crashed_stepped w calls lucks f node)
+step_stepped w (events.Start node) lucks f = started_stepped w lucks f node
+step_stepped w (events.Chunks table) lucks f = chunks_stepped w table f (hosted_at w table)
 
 pub start_fine : IsFine start
 start_fine = record { keys = tt; tables = λ q x at. absurd cc; clients = λ q x at. absurd cc; places = λ p a. absurd (among_none p a) }

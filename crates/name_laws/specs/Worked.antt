@@ -8,11 +8,11 @@ use Rattle.table_model.specs.declared.message_name.MessageName.TheVariants as na
 use Rattle.step_tables.specs.Facts.{AnswerLine}
 use Rattle.step_tables.specs.Facts as facts
 use Rattle.step_tables.specs.Messages as lucks
-use Rattle.world_tables.specs.World.{the_store, Does, Hold, Work, WorkAll, Crash, Start, Chunks}
+use Rattle.world_tables.specs.World.{the_store}
 use Rattle.world_tables.specs.Turns.{Turn, Happening}
 use Rattle.world_laws.specs.Worked.{the_row, happens, turn, told, wrote_content, accepted, sent, pictures}
 use Rattle.world_laws.specs.Worked.{object, named}
-use Rattle.world_laws.specs.WorkedCrashes.{done, done_so, turn_of, did, forward, recovered, sends, sends_written}
+use Rattle.world_laws.specs.WorkedCrashes.{done_so, did, forward, recovered, sends, sends_written}
 
 -- a second object that has the first one's first chunk is asked for
 abbrev pub replaces : List Happening
@@ -39,34 +39,34 @@ replaces_written =
 abbrev pub replaced : List Happening
 replaced =
     replaces
-    ++ done (Hold the_store)
+    ++ happens (events.Hold the_store)
     ∷ happens (events.Deliver 2)
-    ∷ done (Work the_store)
-    ∷ done (Work the_store)
-    ∷ done (Work the_store)
-    ∷ done (Work the_store)
-    ∷ done (Crash the_store 1 0)
-    ∷ done (Start the_store)
-    ∷ done (Chunks 1)
-    ∷ done (WorkAll the_store)
-    ∷ done (Chunks 1)
+    ∷ happens (events.Work the_store)
+    ∷ happens (events.Work the_store)
+    ∷ happens (events.Work the_store)
+    ∷ happens (events.Work the_store)
+    ∷ happens (events.Crash the_store 1 0)
+    ∷ happens (events.Start the_store)
+    ∷ happens (events.Chunks 1)
+    ∷ happens (events.WorkAll the_store)
+    ∷ happens (events.Chunks 1)
     ∷ []
 
 -- behind the start, where the Store isn't quiet, the chunk that was to be dropped is there; these are listed at the end
 abbrev pub replaced_written : List ChunkName → List Turn
 replaced_written listed =
     replaces_written
-    ++ turn_of (Hold the_store) (AnswerLine facts.Done ∷ [])
+    ++ turn (events.Hold the_store) (AnswerLine facts.Done ∷ [])
     ∷ turn (events.Deliver 2) (AnswerLine facts.Done ∷ [])
     ∷ did steps.LogOpen
     ∷ did steps.ChunkPut
     ∷ did steps.ChunkPut
-    ∷ turn_of (Work the_store) (AnswerLine (facts.Did steps.RowPut) ∷ accepted 2 1 2 1 ∷ [])
-    ∷ turn_of (Crash the_store 1 0) (AnswerLine facts.Done ∷ [])
-    ∷ turn_of (Start the_store) (AnswerLine facts.Done ∷ forward 2 1 2 1 ∷ [])
-    ∷ turn_of (Chunks 1) (AnswerLine (facts.Names (named 1 0 ∷ named 1 1 ∷ named 2 0 ∷ named 2 1 ∷ [])) ∷ [])
-    ∷ turn_of (WorkAll the_store) (AnswerLine (facts.Number 5) ∷ recovered ∷ [])
-    ∷ turn_of (Chunks 1) (AnswerLine (facts.Names listed) ∷ [])
+    ∷ turn (events.Work the_store) (AnswerLine (facts.Did steps.RowPut) ∷ accepted 2 1 2 1 ∷ [])
+    ∷ turn (events.Crash the_store 1 0) (AnswerLine facts.Done ∷ [])
+    ∷ turn (events.Start the_store) (AnswerLine facts.Done ∷ forward 2 1 2 1 ∷ [])
+    ∷ turn (events.Chunks 1) (AnswerLine (facts.Names (named 1 0 ∷ named 1 1 ∷ named 2 0 ∷ named 2 1 ∷ [])) ∷ [])
+    ∷ turn (events.WorkAll the_store) (AnswerLine (facts.Number 5) ∷ recovered ∷ [])
+    ∷ turn (events.Chunks 1) (AnswerLine (facts.Names listed) ∷ [])
     ∷ []
 
 -- the Store isn't on hold, and the drop fails: behind what it reads, four writes are done
@@ -74,17 +74,17 @@ abbrev pub failed_drop : List Happening
 failed_drop =
     replaces
     ++ done_so (lucks.Done ∷ lucks.Done ∷ lucks.Done ∷ lucks.Done ∷ lucks.Done ∷ lucks.FailedBefore ∷ [])
-    (Does (events.Deliver 2))
-    ∷ done (Chunks 1)
-    ∷ done (Start the_store)
-    ∷ done (Chunks 1)
+    (events.Deliver 2)
+    ∷ happens (events.Chunks 1)
+    ∷ happens (events.Start the_store)
+    ∷ happens (events.Chunks 1)
     ∷ []
 
 abbrev pub failed_drop_written : List ChunkName → List Turn
 failed_drop_written listed =
     replaces_written
     ++ turn (events.Deliver 2) (AnswerLine (facts.Refuses facts.NoDevice) ∷ accepted 2 1 2 1 ∷ [])
-    ∷ turn_of (Chunks 1) (AnswerLine (facts.Refuses (facts.NodeDown the_store)) ∷ [])
-    ∷ turn_of (Start the_store) (AnswerLine facts.Done ∷ forward 2 1 2 1 ∷ recovered ∷ [])
-    ∷ turn_of (Chunks 1) (AnswerLine (facts.Names listed) ∷ [])
+    ∷ turn (events.Chunks 1) (AnswerLine (facts.Refuses (facts.NodeDown the_store)) ∷ [])
+    ∷ turn (events.Start the_store) (AnswerLine facts.Done ∷ forward 2 1 2 1 ∷ recovered ∷ [])
+    ∷ turn (events.Chunks 1) (AnswerLine (facts.Names listed) ∷ [])
     ∷ []

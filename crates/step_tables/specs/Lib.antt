@@ -9,5 +9,6 @@ pub mod Messages
 pub mod Sayings
 pub mod StoreMoves
 pub mod Travels
+pub mod Lines
 pub mod Items
 pub mod ClientMoves

@@ -1,11 +1,13 @@
 -- The messages of the program as those of the tables by moves.
-use Rattle.std.specs.Prelude.{option_map}
+use Rattle.std.specs.Prelude.{Option, option_map}
+use Rattle.stab_base.specs.declared.node.Node.{Node}
 use Rattle.step_tables.specs.declared.message.Message.{Message}
 use Rattle.step_tables.specs.declared.message.Message.TheVariants as kinds
 use Rattle.step_tables.specs.declared.message.Outcome.{Outcome}
 use Rattle.step_tables.specs.declared.message.Outcome.TheVariants as outcomes
 use Rattle.step_tables.specs.declared.message.PullResponse.{PullResponse}
 use Rattle.step_tables.specs.declared.message.RowHeader.{RowHeader}
+use Rattle.step_tables.specs.Messages.{Send}
 use Rattle.step_tables.specs.Messages as messages
 
 abbrev pub outcome_of : Outcome → messages.Outcome
@@ -50,3 +52,6 @@ message_of (kinds.SyncResponse r) = messages.SyncResponse (record {
 message_of (kinds.PullRequest q) =
     messages.PullRequest (record { client = q.client; table = q.table; position = q.position })
 message_of (kinds.PullResponse q) = messages.PullResponse (pulled_of q)
+
+abbrev pub send_of : Option Node × Message → Send
+send_of p = record { to = p.0; message = message_of p.1 }

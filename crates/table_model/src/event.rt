@@ -1,4 +1,5 @@
 use row_value::{ClientNo, Content, GateNo, RowId, Schema, Sequence, StoreNo, TableNo};
+use stab_base::Node;
 
 /// The tables that a client opens, in the order in which it names them.
 pub type Tables = Sequence<TableNo>;
@@ -62,5 +63,36 @@ pub enum Event {
     /// The history of a table.
     History {
         table: TableNo,
+    },
+    /// The names of the chunks that a table's Store keeps for it.
+    Chunks {
+        table: TableNo,
+    },
+    /// From now on the node does its device writes only one by one, or all at once, when a line says so.
+    Hold {
+        node: Node,
+    },
+    /// From now on the node does its device writes by itself.
+    Free {
+        node: Node,
+    },
+    /// The node does its next device write.
+    Work {
+        node: Node,
+    },
+    /// The node does all its device writes.
+    WorkAll {
+        node: Node,
+    },
+    /// The node stops inside its next device write: so many of the calls of its disk pass, at most 4, and of what the
+    /// next one writes so many bytes land.
+    Crash {
+        node: Node,
+        calls: u32,
+        pick: u64,
+    },
+    /// A node that is down is started.
+    Start {
+        node: Node,
     },
 }

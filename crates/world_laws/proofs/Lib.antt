@@ -14,3 +14,4 @@ pub mod Forms
 pub mod Runs
 pub mod Fresh
 pub mod Whole
+pub mod Counts

@@ -37,7 +37,6 @@ use Rattle.client_laws.specs.Part.{Items, Sending, Ours, ClientPart, ClientLaw}
 use Rattle.client_laws.specs.Part as part
 use Rattle.world_tables.specs.World.{World, Packet, Hosted, Outbox, Moved, WorldStep, start, chunk_in, schema_at, hosted_at, client_at, scheme_in, owner, the_store, is_down, still, and_then, failing, after_table, table_step, move_hosted}
 use Rattle.world_tables.specs.World.{move_table, after_client, move_there, move_client, first_luck, other_lucks, client_works, client_tasks, client_follows, table_follows, store_falls, declared_late, start_hosted}
-use Rattle.world_tables.specs.World.{Deed, Does, Hold, Free, Work, WorkAll, Crash, Start, Chunks}
 use Rattle.world_tables.specs.World.{answering, answered, refused, silent, unless_down, agenda_of, with_table, made_with, declared, opened, with_opened, open_all, new_client, joined, gets_tasks, client_follows_from}
 use Rattle.world_tables.specs.World.{call_there, call, take_read, take_at, to_hosted, to_there, carried, delivered}
 use Rattle.world_tables.specs.World.{without_node, busy_table, write_next, tasks_of, store_until_idle, store_crashes, store_starts, busy_step, worked, all_worked, crashed, started, names_on, names_answer, chunk_names}
@@ -183,10 +182,10 @@ module _ (client_law : ClientLaws) (client_grows : ClientGrows) (lapsed_grows : 
       go true = client_works_sound c (client_tasks (client_at w c)) lucks w s number k
       go false = still_sound g w s number k
 
-  -- ---- deeds
+  -- ---- events
 
-  pub record StepSound (s : Said) (w : World) (deed : Deed) (x : WorldStep) : Type 0 where
-    pub turn : IsTurn g s (record { deed = deed; lines = lines_of w x })
+  pub record StepSound (s : Said) (w : World) (event : Event) (x : WorldStep) : Type 0 where
+    pub turn : IsTurn g s (record { event = event; lines = lines_of w x })
     pub lines : AreSaid g s (lines_of w x)
     pub kept : Kept g x.world (hear_lines s (lines_of w x))
     pub there : (table : ℕ) → hosted_at x.world table ≡ None → hosted_at w table ≡ None
@@ -216,21 +215,21 @@ module _ (client_law : ClientLaws) (client_grows : ClientGrows) (lapsed_grows : 
   unfolding facts_in
   none_told number = refl
 
-  pub record IsGoodAnswer (s : Said) (deed : Deed) (answer : Answer) : Type 0 where
-    pub form : IsForm deed answer
-    pub counts : IsCounted deed answer []
-    pub is : IsAnswer g s deed answer []
+  pub record IsGoodAnswer (s : Said) (event : Event) (answer : Answer) : Type 0 where
+    pub form : IsForm event answer
+    pub counts : IsCounted event answer []
+    pub is : IsAnswer g s event answer []
 
-  abbrev CanTurn : Said → Deed → Type 0
-  CanTurn s deed = (lines : List Line) → IsAnswered g s deed lines → IsTurn g s (record { deed = deed; lines = lines })
+  abbrev CanTurn : Said → Event → Type 0
+  CanTurn s event = (lines : List Line) → IsAnswered g s event lines → IsTurn g s (record { event = event; lines = lines })
 
-  -- a deed's answer, and what its moves told
-  telling_sound : (s : Said) (w : World) (deed : Deed) (answer : Answer) (m : Moved) → CanTurn s deed → (told : List Fact)
-      → lines_from (length w.packets) m.outs ≡ map FactLine told → IsQuiet deed told
-      → IsGoodAnswer s deed answer → IsGoodAnswer s deed (facts.Refuses facts.NoDevice) → MoveSound g s w (length w.packets) m → StepSound s w deed (answering answer m)
-  telling_sound s w deed answer m turn told are quiet good fault sound = go m.failed
+  -- an event's answer, and what its moves told
+  telling_sound : (s : Said) (w : World) (event : Event) (answer : Answer) (m : Moved) → CanTurn s event → (told : List Fact)
+      → lines_from (length w.packets) m.outs ≡ map FactLine told → IsQuiet event told
+      → IsGoodAnswer s event answer → IsGoodAnswer s event (facts.Refuses facts.NoDevice) → MoveSound g s w (length w.packets) m → StepSound s w event (answering answer m)
+  telling_sound s w event answer m turn told are quiet good fault sound = go m.failed
     where
-      one : (a : Answer) → IsGoodAnswer s deed a → StepSound s w deed (record { world = m.world; answer = Some a; counted = []; outs = m.outs })
+      one : (a : Answer) → IsGoodAnswer s event a → StepSound s w event (record { world = m.world; answer = Some a; counted = []; outs = m.outs })
       one a f = record {
         turn = turn _ (record { answer = a; counted = []; told = told; lines_are = ap (λ (ls : List Line). AnswerLine a ∷ ls) are; form = f.form; counts = f.counts; quiet = quiet; is = f.is });
         lines = (tt, sound.lines);
@@ -238,50 +237,50 @@ module _ (client_law : ClientLaws) (client_grows : ClientGrows) (lapsed_grows : 
         there = sound.there;
       }
 
-      go : (b : Bool) → StepSound s w deed (record { world = m.world; answer = Some (if b then facts.Refuses facts.NoDevice else answer); counted = []; outs = m.outs })
+      go : (b : Bool) → StepSound s w event (record { world = m.world; answer = Some (if b then facts.Refuses facts.NoDevice else answer); counted = []; outs = m.outs })
       go true = one (facts.Refuses facts.NoDevice) fault
       go false = one answer good
 
-  answering_sound : (s : Said) (w : World) (deed : Deed) (answer : Answer) (m : Moved) → CanTurn s deed → IsQuiet deed (facts_in (length w.packets) m.outs).0
-      → IsGoodAnswer s deed answer → IsGoodAnswer s deed (facts.Refuses facts.NoDevice) → MoveSound g s w (length w.packets) m → StepSound s w deed (answering answer m)
-  answering_sound s w deed answer m turn quiet good fault sound =
-      let told = facts_in (length w.packets) m.outs in telling_sound s w deed answer m turn told.0 told.1 quiet good fault sound
+  answering_sound : (s : Said) (w : World) (event : Event) (answer : Answer) (m : Moved) → CanTurn s event → IsQuiet event (facts_in (length w.packets) m.outs).0
+      → IsGoodAnswer s event answer → IsGoodAnswer s event (facts.Refuses facts.NoDevice) → MoveSound g s w (length w.packets) m → StepSound s w event (answering answer m)
+  answering_sound s w event answer m turn quiet good fault sound =
+      let told = facts_in (length w.packets) m.outs in telling_sound s w event answer m turn told.0 told.1 quiet good fault sound
 
   -- where nothing is done, an answer alone
-  answered_sound : (w : World) (s : Said) → Kept g w s → (deed : Deed) (answer : Answer) → CanTurn s deed → IsQuiet deed []
-      → IsGoodAnswer s deed answer → IsGoodAnswer s deed (facts.Refuses facts.NoDevice) → StepSound s w deed (answered w answer)
-  answered_sound w s k deed answer turn quiet good fault = telling_sound s w deed answer (still w) turn [] refl quiet good fault (still_sound g w s (length w.packets) k)
+  answered_sound : (w : World) (s : Said) → Kept g w s → (event : Event) (answer : Answer) → CanTurn s event → IsQuiet event []
+      → IsGoodAnswer s event answer → IsGoodAnswer s event (facts.Refuses facts.NoDevice) → StepSound s w event (answered w answer)
+  answered_sound w s k event answer turn quiet good fault = telling_sound s w event answer (still w) turn [] refl quiet good fault (still_sound g w s (length w.packets) k)
 
   -- where the node isn't down
-  unless_down_sound : (w : World) (s : Said) → Kept g w s → (deed : Deed) (node : Node) (x : WorldStep) → CanTurn s deed → IsQuiet deed [] → IsGoodAnswer s deed (facts.Refuses (facts.NodeDown node))
-      → IsGoodAnswer s deed (facts.Refuses facts.NoDevice) → (is_down w node ≡ false → StepSound s w deed x) → StepSound s w deed (unless_down w node x)
-  unless_down_sound w s k deed node x turn quiet good fault up = go (is_down w node) refl
+  unless_down_sound : (w : World) (s : Said) → Kept g w s → (event : Event) (node : Node) (x : WorldStep) → CanTurn s event → IsQuiet event []
+      → IsGoodAnswer s event (facts.Refuses (facts.NodeDown node)) → IsGoodAnswer s event (facts.Refuses facts.NoDevice) → (is_down w node ≡ false → StepSound s w event x) → StepSound s w event (unless_down w node x)
+  unless_down_sound w s k event node x turn quiet good fault up = go (is_down w node) refl
     where
-      go : (b : Bool) → is_down w node ≡ b → StepSound s w deed (if b then refused w (facts.NodeDown node) else x)
-      go true is = answered_sound w s k deed (facts.Refuses (facts.NodeDown node)) turn quiet good fault
+      go : (b : Bool) → is_down w node ≡ b → StepSound s w event (if b then refused w (facts.NodeDown node) else x)
+      go true is = answered_sound w s k event (facts.Refuses (facts.NodeDown node)) turn quiet good fault
       go false is = up is
 
   module _ (w : World) (s : Said) (k : Kept g w s) where
     -- a client's move with the work that follows
-    there_sound : (deed : Deed) (c : ℕ) (move : ClientMove) (lucks : List Luck) → CanTurn s deed → ((told : List Fact) → IsQuiet deed told)
-        → IsGoodAnswer s deed (facts.Refuses facts.NoDevice) → IsGoodAnswer s deed (facts.Refuses facts.NoTable) → IsGoodAnswer s deed (facts.Refuses (facts.NodeDown (nodes.Client c)))
+    there_sound : (event : Event) (c : ℕ) (move : ClientMove) (lucks : List Luck) → CanTurn s event → ((told : List Fact) → IsQuiet event told)
+        → IsGoodAnswer s event (facts.Refuses facts.NoDevice) → IsGoodAnswer s event (facts.Refuses facts.NoTable) → IsGoodAnswer s event (facts.Refuses (facts.NodeDown (nodes.Client c)))
         → part.IsFair g c k.items (k.sent c) move
-        → ((node : Client) → client_at w c ≡ Some node → IsGoodAnswer s deed (client_step c node move).answer)
-        → (o : Option Client) → client_at w c ≡ o → StepSound s w deed (call_there w c move lucks o)
-    there_sound deed c move lucks turn quiet fault missing down fair good None at = answered_sound w s k deed (facts.Refuses facts.NoTable) turn (quiet []) missing fault
-    there_sound deed c move lucks turn quiet fault missing down fair good (Some node) at =
-        unless_down_sound w s k deed (nodes.Client c) _ turn (quiet []) down fault
-        (λ up. answering_sound s w deed (client_step c node move).answer (and_then (move_client c move w) (client_follows_from node.agenda c lucks)) turn (quiet _) (good node at) fault
+        → ((node : Client) → client_at w c ≡ Some node → IsGoodAnswer s event (client_step c node move).answer)
+        → (o : Option Client) → client_at w c ≡ o → StepSound s w event (call_there w c move lucks o)
+    there_sound event c move lucks turn quiet fault missing down fair good None at = answered_sound w s k event (facts.Refuses facts.NoTable) turn (quiet []) missing fault
+    there_sound event c move lucks turn quiet fault missing down fair good (Some node) at =
+        unless_down_sound w s k event (nodes.Client c) _ turn (quiet []) down fault
+        (λ up. answering_sound s w event (client_step c node move).answer (and_then (move_client c move w) (client_follows_from node.agenda c lucks)) turn (quiet _) (good node at) fault
         (both_sound g w s (length w.packets) (move_client c move w) (client_follows_from node.agenda c lucks) (client_move w s k c move (length w.packets) fair)
         (λ x now. client_follows_sound node.agenda c lucks (move_client c move w).world x _ now)))
 
-    write_sound : (c table : ℕ) (row : List ℕ) (x : Content) (lucks : List Luck) → StepSound s w (Does (events.Write c table row x)) (call w c (client.Write table row x) lucks)
+    write_sound : (c table : ℕ) (row : List ℕ) (x : Content) (lucks : List Luck) → StepSound s w (events.Write c table row x) (call w c (client.Write table row x) lucks)
     write_sound c table row x lucks =
-        there_sound (Does (events.Write c table row x)) c (client.Write table row x) lucks (λ lines a. a) (λ told. tt)
+        there_sound (events.Write c table row x) c (client.Write table row x) lucks (λ lines a. a) (λ told. tt)
         (record { form = tt; counts = refl; is = tt }) (record { form = tt; counts = refl; is = tt }) (record { form = tt; counts = refl; is = tt }) tt
         (λ node at. good (client_step c node (client.Write table row x)).answer (write_form c node.disk node.agenda table row x)) (client_at w c) refl
       where
-        good : (a : Answer) → IsNumber a → IsGoodAnswer s (Does (events.Write c table row x)) a
+        good : (a : Answer) → IsNumber a → IsGoodAnswer s (events.Write c table row x) a
         good (facts.Number n) f = record { form = tt; counts = refl; is = tt }
         good (facts.Refuses r) f = record { form = tt; counts = refl; is = tt }
         good facts.Done f = absurd f
@@ -291,14 +290,14 @@ module _ (client_law : ClientLaws) (client_grows : ClientGrows) (lapsed_grows : 
         good (facts.Did y) f = absurd f
         good (facts.Names y) f = absurd f
 
-    show_sound : (c table : ℕ) (row : List ℕ) (lucks : List Luck) → StepSound s w (Does (events.Show c table row)) (call w c (client.Show table row) lucks)
+    show_sound : (c table : ℕ) (row : List ℕ) (lucks : List Luck) → StepSound s w (events.Show c table row) (call w c (client.Show table row) lucks)
     show_sound c table row lucks =
-        there_sound (Does (events.Show c table row)) c (client.Show table row) lucks (λ lines a. a) (λ told. tt)
+        there_sound (events.Show c table row) c (client.Show table row) lucks (λ lines a. a) (λ told. tt)
         (record { form = tt; counts = refl; is = tt }) (record { form = tt; counts = refl; is = tt }) (record { form = tt; counts = refl; is = tt }) tt
         (λ node at. good (client_step c node (client.Show table row)).answer (show_form c node.disk node.agenda table row)
         (answer_shows g w s k c table row (client_step c node (client.Show table row)).answer (law_of w s k c node at (client.Show table row) tt).answer)) (client_at w c) refl
       where
-        good : (a : Answer) → IsShow a → IsAnswer g s (Does (events.Show c table row)) a [] → IsGoodAnswer s (Does (events.Show c table row)) a
+        good : (a : Answer) → IsShow a → IsAnswer g s (events.Show c table row) a [] → IsGoodAnswer s (events.Show c table row) a
         good (facts.Shows y) f is = record { form = tt; counts = refl; is = is }
         good (facts.Refuses r) f is = record { form = tt; counts = refl; is = is }
         good (facts.Sums y) f is = absurd f
@@ -308,9 +307,9 @@ module _ (client_law : ClientLaws) (client_grows : ClientGrows) (lapsed_grows : 
         good (facts.Did y) f is = absurd f
         good (facts.Names y) f is = absurd f
 
-    sum_sound : (c table : ℕ) (row : List ℕ) (lucks : List Luck) → StepSound s w (Does (events.Sum c table row)) (call w c (client.Sum table row) lucks)
+    sum_sound : (c table : ℕ) (row : List ℕ) (lucks : List Luck) → StepSound s w (events.Sum c table row) (call w c (client.Sum table row) lucks)
     sum_sound c table row lucks =
-        there_sound (Does (events.Sum c table row)) c (client.Sum table row) lucks (λ lines a. a) (λ told. tt)
+        there_sound (events.Sum c table row) c (client.Sum table row) lucks (λ lines a. a) (λ told. tt)
         (record { form = tt; counts = refl; is = tt }) (record { form = tt; counts = refl; is = tt }) (record { form = tt; counts = refl; is = tt }) tt
         (λ node at.
         let shown : Answer = (client_step c node (client.Show table row)).answer in
@@ -318,7 +317,7 @@ module _ (client_law : ClientLaws) (client_grows : ClientGrows) (lapsed_grows : 
         good (by_digests shown) (sum_form shown form)
         (show_sum (shown_of g s c table row) shown form (answer_shows g w s k c table row shown (law_of w s k c node at (client.Show table row) tt).answer))) (client_at w c) refl
       where
-        good : (a : Answer) → IsShowOrSum a → IsAnswer g s (Does (events.Sum c table row)) a [] → IsGoodAnswer s (Does (events.Sum c table row)) a
+        good : (a : Answer) → IsShowOrSum a → IsAnswer g s (events.Sum c table row) a [] → IsGoodAnswer s (events.Sum c table row) a
         good (facts.Shows y) f is = record { form = tt; counts = refl; is = is }
         good (facts.Sums y) f is = record { form = tt; counts = refl; is = is }
         good (facts.Refuses r) f is = record { form = tt; counts = refl; is = is }
@@ -328,13 +327,13 @@ module _ (client_law : ClientLaws) (client_grows : ClientGrows) (lapsed_grows : 
         good (facts.Did y) f is = absurd f
         good (facts.Names y) f is = absurd f
 
-    sync_sound : (c table : ℕ) (lucks : List Luck) → StepSound s w (Does (events.Sync c table)) (call w c (client.Sync table) lucks)
+    sync_sound : (c table : ℕ) (lucks : List Luck) → StepSound s w (events.Sync c table) (call w c (client.Sync table) lucks)
     sync_sound c table lucks =
-        there_sound (Does (events.Sync c table)) c (client.Sync table) lucks (λ lines a. a) (λ told. tt)
+        there_sound (events.Sync c table) c (client.Sync table) lucks (λ lines a. a) (λ told. tt)
         (record { form = tt; counts = refl; is = tt }) (record { form = tt; counts = refl; is = tt }) (record { form = tt; counts = refl; is = tt }) tt
         (λ node at. good (client_step c node (client.Sync table)).answer (sync_form c node.disk node.agenda table)) (client_at w c) refl
       where
-        good : (a : Answer) → IsNumber a → IsGoodAnswer s (Does (events.Sync c table)) a
+        good : (a : Answer) → IsNumber a → IsGoodAnswer s (events.Sync c table) a
         good (facts.Number n) f = record { form = tt; counts = refl; is = tt }
         good (facts.Refuses r) f = record { form = tt; counts = refl; is = tt }
         good facts.Done f = absurd f
@@ -344,13 +343,13 @@ module _ (client_law : ClientLaws) (client_grows : ClientGrows) (lapsed_grows : 
         good (facts.Did y) f = absurd f
         good (facts.Names y) f = absurd f
 
-    pull_sound : (c table : ℕ) (lucks : List Luck) → StepSound s w (Does (events.Pull c table)) (call w c (client.Next table) lucks)
+    pull_sound : (c table : ℕ) (lucks : List Luck) → StepSound s w (events.Pull c table) (call w c (client.Next table) lucks)
     pull_sound c table lucks =
-        there_sound (Does (events.Pull c table)) c (client.Next table) lucks (λ lines a. a) (λ told. tt)
+        there_sound (events.Pull c table) c (client.Next table) lucks (λ lines a. a) (λ told. tt)
         (record { form = tt; counts = refl; is = tt }) (record { form = tt; counts = refl; is = tt }) (record { form = tt; counts = refl; is = tt }) tt
         (λ node at. good (client_step c node (client.Next table)).answer (next_form c node.disk node.agenda table)) (client_at w c) refl
       where
-        good : (a : Answer) → IsDone a → IsGoodAnswer s (Does (events.Pull c table)) a
+        good : (a : Answer) → IsDone a → IsGoodAnswer s (events.Pull c table) a
         good facts.Done f = record { form = tt; counts = refl; is = tt }
         good (facts.Refuses r) f = record { form = tt; counts = refl; is = tt }
         good (facts.Number n) f = absurd f
@@ -362,7 +361,7 @@ module _ (client_law : ClientLaws) (client_grows : ClientGrows) (lapsed_grows : 
 
     -- ---- deliveries
 
-    delivered_good : (n : ℕ) (a : Answer) → IsDone a → IsGoodAnswer s (Does (events.Deliver n)) a
+    delivered_good : (n : ℕ) (a : Answer) → IsDone a → IsGoodAnswer s (events.Deliver n) a
     delivered_good n facts.Done f = record { form = tt; counts = refl; is = tt }
     delivered_good n (facts.Refuses r) f = record { form = tt; counts = refl; is = tt }
     delivered_good n (facts.Number m) f = absurd f
@@ -392,16 +391,17 @@ module _ (client_law : ClientLaws) (client_grows : ClientGrows) (lapsed_grows : 
     client_fair c from (PullResponse q) f = subst (λ (x : ℕ). part.IsHeader x k.items q q.header) (sym f.0) f.1
 
     -- a device call that fails takes the Store down
-    failed_sound : (deed : Deed) → CanTurn s deed → IsQuiet deed [] → IsGoodAnswer s deed (facts.Refuses facts.NoDevice) → StepSound s w deed (answering facts.Done (failing (store_falls owner w)))
-    failed_sound deed turn quiet fault =
-        telling_sound s w deed (facts.Refuses facts.NoDevice) (failing (store_falls owner w)) turn []
+    failed_sound : (event : Event) → CanTurn s event → IsQuiet event [] → IsGoodAnswer s event (facts.Refuses facts.NoDevice)
+        → StepSound s w event (answering facts.Done (failing (store_falls owner w)))
+    failed_sound event turn quiet fault =
+        telling_sound s w event (facts.Refuses facts.NoDevice) (failing (store_falls owner w)) turn []
         (silent_lines (length w.packets) (store_falls owner w).outs (store_falls_silent owner w)) quiet fault fault
         (failing_sound g w s (length w.packets) (store_falls owner w) (works.store_falls_sound g table_work owner w s (length w.packets) k))
 
     hosted_sound : (n : ℕ) (table : ℕ) (from : Node) (m : Message) (lucks : List Luck) → store_part.IsFair table (KnownIn s.heard k.sent table) (k.items table) (store.Take from m)
-        → (o : Option Hosted) → hosted_at w table ≡ o → StepSound s w (Does (events.Deliver n)) (to_hosted w table (store.Take from m) lucks o)
+        → (o : Option Hosted) → hosted_at w table ≡ o → StepSound s w (events.Deliver n) (to_hosted w table (store.Take from m) lucks o)
     hosted_sound n table from m lucks fair None at =
-        answered_sound w s k (Does (events.Deliver n)) facts.Done (λ lines a. a) tt (delivered_good n facts.Done tt) (delivered_good n (facts.Refuses facts.NoDevice) tt)
+        answered_sound w s k (events.Deliver n) facts.Done (λ lines a. a) tt (delivered_good n facts.Done tt) (delivered_good n (facts.Refuses facts.NoDevice) tt)
     hosted_sound n table from m lucks fair (Some hosted) at = go hosted.store.agenda
       where
         first : MoveSound g s w (length w.packets) (move_table table (store.Take from m) w)
@@ -410,64 +410,64 @@ module _ (client_law : ClientLaws) (client_grows : ClientGrows) (lapsed_grows : 
         form : IsDone (table_step w table hosted (store.Take from m)).answer
         form = taken_form (scheme_in (schema_at w table)) (chunk_in (schema_at w table)) table hosted.store.disk hosted.store.agenda from m
 
-        alone : StepSound s w (Does (events.Deliver n)) (answering (table_step w table hosted (store.Take from m)).answer (move_table table (store.Take from m) w))
-        alone = answering_sound s w (Does (events.Deliver n)) (table_step w table hosted (store.Take from m)).answer (move_table table (store.Take from m) w) (λ lines a. a) tt
+        alone : StepSound s w (events.Deliver n) (answering (table_step w table hosted (store.Take from m)).answer (move_table table (store.Take from m) w))
+        alone = answering_sound s w (events.Deliver n) (table_step w table hosted (store.Take from m)).answer (move_table table (store.Take from m) w) (λ lines a. a) tt
             (delivered_good n _ form) (delivered_good n (facts.Refuses facts.NoDevice) tt) first
 
-        failed : StepSound s w (Does (events.Deliver n)) (answering facts.Done (failing (store_falls owner w)))
-        failed = failed_sound (Does (events.Deliver n)) (λ lines a. a) tt (delivered_good n (facts.Refuses facts.NoDevice) tt)
+        failed : StepSound s w (events.Deliver n) (answering facts.Done (failing (store_falls owner w)))
+        failed = failed_sound (events.Deliver n) (λ lines a. a) tt (delivered_good n (facts.Refuses facts.NoDevice) tt)
 
-        reads : (luck : Luck) → StepSound s w (Does (events.Deliver n)) (take_read w table hosted (store.Take from m) (other_lucks lucks) luck)
+        reads : (luck : Luck) → StepSound s w (events.Deliver n) (take_read w table hosted (store.Take from m) (other_lucks lucks) luck)
         reads messages.FailedBefore = failed
         reads messages.FailedAfter = failed
         reads messages.Done =
-            answering_sound s w (Does (events.Deliver n)) (table_step w table hosted (store.Take from m)).answer
+            answering_sound s w (events.Deliver n) (table_step w table hosted (store.Take from m)).answer
             (and_then (move_table table (store.Take from m) w) (table_follows table (other_lucks lucks)))
             (λ lines a. a) tt (delivered_good n _ form) (delivered_good n (facts.Refuses facts.NoDevice) tt)
             (both_sound g w s (length w.packets) (move_table table (store.Take from m) w) (table_follows table (other_lucks lucks)) first
             (λ x now. works.table_follows_sound g table_work table (other_lucks lucks) (move_table table (store.Take from m) w).world x _ now))
 
-        go : (o : Option (List StoreTask)) → StepSound s w (Does (events.Deliver n)) (take_at w table hosted (store.Take from m) lucks o)
+        go : (o : Option (List StoreTask)) → StepSound s w (events.Deliver n) (take_at w table hosted (store.Take from m) lucks o)
         go None = alone
         go (Some (task ∷ more)) = alone
         go (Some []) = reads (first_luck lucks)
 
     taken_sound : (n : ℕ) (c : ℕ) (m : Message) (lucks : List Luck) → part.IsFair g c k.items (k.sent c) (client.Take m) → (o : Option Client) → client_at w c ≡ o
-        → StepSound s w (Does (events.Deliver n)) (to_there w c m lucks o)
+        → StepSound s w (events.Deliver n) (to_there w c m lucks o)
     taken_sound n c m lucks fair None at =
-        answering_sound s w (Does (events.Deliver n)) facts.Done (still w) (λ lines a. a) tt
+        answering_sound s w (events.Deliver n) facts.Done (still w) (λ lines a. a) tt
         (delivered_good n facts.Done tt) (delivered_good n (facts.Refuses facts.NoDevice) tt) (still_sound g w s (length w.packets) k)
     taken_sound n c m lucks fair (Some node) at =
-        there_sound (Does (events.Deliver n)) c (client.Take m) lucks (λ lines a. a) (λ told. tt)
+        there_sound (events.Deliver n) c (client.Take m) lucks (λ lines a. a) (λ told. tt)
         (delivered_good n (facts.Refuses facts.NoDevice) tt) (delivered_good n (facts.Refuses facts.NoTable) tt) (delivered_good n (facts.Refuses (facts.NodeDown (nodes.Client c))) tt) fair
         (λ x is. delivered_good n _ (take_form c x.disk x.agenda m)) (Some node) at
 
-    carried_sound : (n : ℕ) (p : Packet) (lucks : List Luck) → IsFairPacket g s.heard k.items k.sent p → (to : Node) → p.to ≡ to → StepSound s w (Does (events.Deliver n)) (carried w p lucks to)
+    carried_sound : (n : ℕ) (p : Packet) (lucks : List Luck) → IsFairPacket g s.heard k.items k.sent p → (to : Node) → p.to ≡ to → StepSound s w (events.Deliver n) (carried w p lucks to)
     carried_sound n p lucks fair (nodes.Store number) is =
-        unless_down_sound w s k (Does (events.Deliver n)) (nodes.Store number) _ (λ lines a. a) tt
+        unless_down_sound w s k (events.Deliver n) (nodes.Store number) _ (λ lines a. a) tt
         (delivered_good n (facts.Refuses (facts.NodeDown (nodes.Store number))) tt) (delivered_good n (facts.Refuses facts.NoDevice) tt)
         (λ up. hosted_sound n (table_of p.message) p.from p.message lucks (store_fair p.from p.to p.message fair) (hosted_at w (table_of p.message)) refl)
     carried_sound n p lucks fair (nodes.Client c) is =
         taken_sound n c p.message lucks (client_fair c p.from p.message (subst (λ (x : Node). kept.IsFairMessage g s.heard k.items k.sent p.from x p.message) is fair)) (client_at w c) refl
     carried_sound n p lucks fair (nodes.Gate gate) is =
-        answering_sound s w (Does (events.Deliver n)) facts.Done (still w) (λ lines a. a) tt
+        answering_sound s w (events.Deliver n) facts.Done (still w) (λ lines a. a) tt
         (delivered_good n facts.Done tt) (delivered_good n (facts.Refuses facts.NoDevice) tt) (still_sound g w s (length w.packets) k)
 
-    delivered_sound : (n : ℕ) (lucks : List Luck) (o : Option Packet) → slice_get w.packets n ≡ o → StepSound s w (Does (events.Deliver n)) (delivered w lucks o)
+    delivered_sound : (n : ℕ) (lucks : List Luck) (o : Option Packet) → slice_get w.packets n ≡ o → StepSound s w (events.Deliver n) (delivered w lucks o)
     delivered_sound n lucks None at =
-        answering_sound s w (Does (events.Deliver n)) (facts.Refuses (facts.NoPacket (length w.packets))) (still w) (λ lines a. a) tt
+        answering_sound s w (events.Deliver n) (facts.Refuses (facts.NoPacket (length w.packets))) (still w) (λ lines a. a) tt
         (delivered_good n (facts.Refuses (facts.NoPacket (length w.packets))) tt)
         (delivered_good n (facts.Refuses facts.NoDevice) tt) (still_sound g w s (length w.packets) k)
     delivered_sound n lucks (Some p) at = carried_sound n p lucks (k.packets p (among_get w.packets n p at)) p.to refl
 
     -- ---- what the Store has
 
-    stored_sound : (table : ℕ) (row : List ℕ) (a : Answer) → IsForm (Does (events.StoreShow table row)) a → IsStored s table row a → StepSound s w (Does (events.StoreShow table row)) (answered w a)
+    stored_sound : (table : ℕ) (row : List ℕ) (a : Answer) → IsForm (events.StoreShow table row) a → IsStored s table row a → StepSound s w (events.StoreShow table row) (answered w a)
     stored_sound table row a form is =
-        answering_sound s w (Does (events.StoreShow table row)) a (still w) (λ lines x. x) (none_told (length w.packets))
+        answering_sound s w (events.StoreShow table row) a (still w) (λ lines x. x) (none_told (length w.packets))
         (good a form is) (record { form = tt; counts = refl; is = tt }) (still_sound g w s (length w.packets) k)
       where
-        good : (x : Answer) → IsForm (Does (events.StoreShow table row)) x → IsStored s table row x → IsGoodAnswer s (Does (events.StoreShow table row)) x
+        good : (x : Answer) → IsForm (events.StoreShow table row) x → IsStored s table row x → IsGoodAnswer s (events.StoreShow table row) x
         good (facts.Stores v y) f z = record { form = tt; counts = refl; is = z }
         good (facts.Refuses r) f z = record { form = tt; counts = refl; is = z }
         good facts.Done f z = absurd f
@@ -477,10 +477,10 @@ module _ (client_law : ClientLaws) (client_grows : ClientGrows) (lapsed_grows : 
         good (facts.Did y) f z = absurd f
         good (facts.Names y) f z = absurd f
 
-    failed_show : (table : ℕ) (row : List ℕ) → StepSound s w (Does (events.StoreShow table row)) (answering facts.Done (failing (store_falls owner w)))
-    failed_show table row = failed_sound (Does (events.StoreShow table row)) (λ lines x. x) refl (record { form = tt; counts = refl; is = tt })
+    failed_show : (table : ℕ) (row : List ℕ) → StepSound s w (events.StoreShow table row) (answering facts.Done (failing (store_falls owner w)))
+    failed_show table row = failed_sound (events.StoreShow table row) (λ lines x. x) refl (record { form = tt; counts = refl; is = tt })
 
-    row_form : (table : ℕ) (row : List ℕ) (o : Option Stored) → IsForm (Does (events.StoreShow table row)) (row_shown o)
+    row_form : (table : ℕ) (row : List ℕ) (o : Option Stored) → IsForm (events.StoreShow table row) (row_shown o)
     row_form table row None = tt
     row_form table row (Some i) = tt
 
@@ -492,27 +492,30 @@ module _ (client_law : ClientLaws) (client_grows : ClientGrows) (lapsed_grows : 
         items (task ∷ more) r = r.0.items
 
     read_sound : (table : ℕ) (row : List ℕ) (hosted : Hosted) → hosted_at w table ≡ Some hosted → (agenda : List StoreTask) → hosted.store.agenda ≡ Some agenda → (luck : Luck)
-        → StepSound s w (Does (events.StoreShow table row)) (row_read w hosted row luck)
+        → StepSound s w (events.StoreShow table row) (row_read w hosted row luck)
     read_sound table row hosted at agenda up messages.Done = stored_sound table row (row_shown (current_of hosted.store.disk.items row)) (row_form table row (current_of hosted.store.disk.items row))
         (row_stored g w s k table row (current_of hosted.store.disk.items row) (ap (λ (xs : List Stored). current_of xs row) (sym (up_items table hosted at agenda up))))
     read_sound table row hosted at agenda up messages.FailedBefore = failed_show table row
     read_sound table row hosted at agenda up messages.FailedAfter = failed_show table row
 
-    shows_sound : IsUp w → (table : ℕ) (row : List ℕ) (lucks : List Luck) (o : Option Hosted) → hosted_at w table ≡ o → StepSound s w (Does (events.StoreShow table row)) (store_shows w row lucks o)
+    shows_sound : IsUp w → (table : ℕ) (row : List ℕ) (lucks : List Luck) (o : Option Hosted) → hosted_at w table ≡ o → StepSound s w (events.StoreShow table row) (store_shows w row lucks o)
     shows_sound is_up table row lucks None at = stored_sound table row (facts.Refuses facts.NoTable) tt tt
     shows_sound is_up table row lucks (Some hosted) at =
-        unless_down_sound w s k (Does (events.StoreShow table row)) the_store _ (λ lines x. x) refl (record { form = tt; counts = refl; is = tt }) (record { form = tt; counts = refl; is = tt })
+        unless_down_sound w s k (events.StoreShow table row) the_store _ (λ lines x. x) refl (record { form = tt; counts = refl; is = tt }) (record { form = tt; counts = refl; is = tt })
         (λ up. let agenda = is_up up table hosted at in read_sound table row hosted at agenda.0 agenda.1 (first_luck lucks))
 
-    names_sound : (table : ℕ) (names : List ChunkName) → StepSound s w (Chunks table) (answered w (names_answer names))
-    names_sound table [] = answered_sound w s k (Chunks table) (facts.Number 0) (λ lines x. x) refl (record { form = refl; counts = refl; is = tt }) (record { form = tt; counts = refl; is = tt })
-    names_sound table (name ∷ names) = answered_sound w s k (Chunks table) (facts.Names (name ∷ names)) (λ lines x. x) refl (record { form = tt; counts = refl; is = tt }) (record { form = tt; counts = refl; is = tt })
+    names_sound : (table : ℕ) (names : List ChunkName) → StepSound s w (events.Chunks table) (answered w (names_answer names))
+    names_sound table [] =
+        answered_sound w s k (events.Chunks table) (facts.Number 0) (λ lines x. x) refl (record { form = refl; counts = refl; is = tt }) (record { form = tt; counts = refl; is = tt })
+    names_sound table (name ∷ names) =
+        answered_sound w s k (events.Chunks table) (facts.Names (name ∷ names)) (λ lines x. x) refl
+        (record { form = tt; counts = refl; is = tt }) (record { form = tt; counts = refl; is = tt })
 
-    chunks_sound : (table : ℕ) (o : Option Hosted) → StepSound s w (Chunks table) (chunk_names w table o)
+    chunks_sound : (table : ℕ) (o : Option Hosted) → StepSound s w (events.Chunks table) (chunk_names w table o)
     chunks_sound table None =
-        answered_sound w s k (Chunks table) (facts.Refuses facts.NoTable) (λ lines x. x) refl (record { form = tt; counts = refl; is = tt }) (record { form = tt; counts = refl; is = tt })
+        answered_sound w s k (events.Chunks table) (facts.Refuses facts.NoTable) (λ lines x. x) refl (record { form = tt; counts = refl; is = tt }) (record { form = tt; counts = refl; is = tt })
     chunks_sound table (Some hosted) =
-        unless_down_sound w s k (Chunks table) the_store _ (λ lines x. x) refl (record { form = tt; counts = refl; is = tt }) (record { form = tt; counts = refl; is = tt })
+        unless_down_sound w s k (events.Chunks table) the_store _ (λ lines x. x) refl (record { form = tt; counts = refl; is = tt }) (record { form = tt; counts = refl; is = tt })
         (λ up. names_sound table (names_on (chunk_in (schema_at w table)) hosted.store.disk))
 
     entries_say : (table : ℕ) (x : Said) (es : List Entry) → hear_lines x (entry_lines table es) ≡ x
@@ -523,9 +526,9 @@ module _ (client_law : ClientLaws) (client_grows : ClientGrows) (lapsed_grows : 
     entries_said table x [] = tt
     entries_said table x (e ∷ es) = (tt, entries_said table x es)
 
-    history_sound : (table : ℕ) (o : Option Hosted) → hosted_at w table ≡ o → StepSound s w (Does (events.History table)) (history_lines w table o)
+    history_sound : (table : ℕ) (o : Option Hosted) → hosted_at w table ≡ o → StepSound s w (events.History table) (history_lines w table o)
     history_sound table None at =
-        answering_sound s w (Does (events.History table)) (facts.Refuses facts.NoTable) (still w) (λ lines x. x) (none_told (length w.packets))
+        answering_sound s w (events.History table) (facts.Refuses facts.NoTable) (still w) (λ lines x. x) (none_told (length w.packets))
         (record { form = tt; counts = refl; is = tt }) (record { form = tt; counts = refl; is = tt })
         (still_sound g w s (length w.packets) k)
     history_sound table (Some hosted) at =
@@ -652,71 +655,71 @@ module _ (client_law : ClientLaws) (client_grows : ClientGrows) (lapsed_grows : 
             (subst (λ (t : Heard). ClientPart g q k.items [] t new) (sym f.0) (fresh_part g q k.items (open_all w [] tables) (fresh_all tables [] (λ table x at. absurd cc))))
 
     declare_sound : (table : ℕ) (schema : Schema) (luck : Luck) → (hosted_at w table ≡ None → schema.scheme ≡ g table) → (o : Option Hosted) → hosted_at w table ≡ o
-        → StepSound s w (Does (events.Table table schema)) (silent (declared w table schema luck o))
+        → StepSound s w (events.Table table schema) (silent (declared w table schema luck o))
     declare_sound table schema luck scheme (Some hosted) at = record { turn = refl; lines = tt; kept = k; there = λ q none. none }
     declare_sound table schema luck scheme None at =
         record { turn = refl; lines = tt; kept = declared_kept table schema luck at (scheme at); there = λ q none. declared_there table schema luck at q none }
 
-    join_sound : (c : ℕ) (gate : Option ℕ) (tables : List ℕ) (o : Option Client) → client_at w c ≡ o → StepSound s w (Does (events.Client c gate tables)) (silent (joined w c tables o))
+    join_sound : (c : ℕ) (gate : Option ℕ) (tables : List ℕ) (o : Option Client) → client_at w c ≡ o → StepSound s w (events.Client c gate tables) (silent (joined w c tables o))
     join_sound c gate tables (Some node) at = record { turn = refl; lines = tt; kept = k; there = λ q none. none }
     join_sound c gate tables None at = record { turn = refl; lines = tt; kept = joined_kept c tables at; there = λ q none. none }
 
     -- ---- what is done to a node
 
-    held_sound : (node : Node) → StepSound s w (Hold node) (unless_down w node (answered (record w { holds = node ∷ w.holds }) facts.Done))
+    held_sound : (node : Node) → StepSound s w (events.Hold node) (unless_down w node (answered (record w { holds = node ∷ w.holds }) facts.Done))
     held_sound node =
-        unless_down_sound w s k (Hold node) node _ (λ lines a. a) refl (record { form = tt; counts = refl; is = tt }) (record { form = tt; counts = refl; is = tt })
-        (λ up. telling_sound s w (Hold node) facts.Done (still (record w { holds = node ∷ w.holds })) (λ lines a. a) [] refl refl (record { form = tt; counts = refl; is = tt })
+        unless_down_sound w s k (events.Hold node) node _ (λ lines a. a) refl (record { form = tt; counts = refl; is = tt }) (record { form = tt; counts = refl; is = tt })
+        (λ up. telling_sound s w (events.Hold node) facts.Done (still (record w { holds = node ∷ w.holds })) (λ lines a. a) [] refl refl (record { form = tt; counts = refl; is = tt })
         (record { form = tt; counts = refl; is = tt }) (nodes_sound g w s (length w.packets) (node ∷ w.holds) w.downs k))
 
-    freed_sound : (node : Node) → StepSound s w (Free node) (unless_down w node (answered (record w { holds = without_node w.holds node }) facts.Done))
+    freed_sound : (node : Node) → StepSound s w (events.Free node) (unless_down w node (answered (record w { holds = without_node w.holds node }) facts.Done))
     freed_sound node =
-        unless_down_sound w s k (Free node) node _ (λ lines a. a) refl (record { form = tt; counts = refl; is = tt }) (record { form = tt; counts = refl; is = tt })
-        (λ up. telling_sound s w (Free node) facts.Done (still (record w { holds = without_node w.holds node })) (λ lines a. a) [] refl refl (record { form = tt; counts = refl; is = tt })
+        unless_down_sound w s k (events.Free node) node _ (λ lines a. a) refl (record { form = tt; counts = refl; is = tt }) (record { form = tt; counts = refl; is = tt })
+        (λ up. telling_sound s w (events.Free node) facts.Done (still (record w { holds = without_node w.holds node })) (λ lines a. a) [] refl refl (record { form = tt; counts = refl; is = tt })
         (record { form = tt; counts = refl; is = tt }) (nodes_sound g w s (length w.packets) (without_node w.holds node) w.downs k))
 
-    idle_sound : (node : Node) → StepSound s w (Work node) (answered w (facts.Did steps.Idle))
-    idle_sound node = answered_sound w s k (Work node) (facts.Did steps.Idle) (λ lines a. a) tt (record { form = tt; counts = refl; is = tt }) (record { form = tt; counts = refl; is = tt })
+    idle_sound : (node : Node) → StepSound s w (events.Work node) (answered w (facts.Did steps.Idle))
+    idle_sound node = answered_sound w s k (events.Work node) (facts.Did steps.Idle) (λ lines a. a) tt (record { form = tt; counts = refl; is = tt }) (record { form = tt; counts = refl; is = tt })
 
-    worked_sound : (lucks : List Luck) (node : Node) → StepSound s w (Work node) (worked w lucks node)
+    worked_sound : (lucks : List Luck) (node : Node) → StepSound s w (events.Work node) (worked w lucks node)
     worked_sound lucks (nodes.Store number) =
-        answering_sound s w (Work (nodes.Store number)) (facts.Did (busy_step w (busy_table w number))) (write_next number (first_luck lucks) (busy_table w number) w) (λ lines a. a) tt
+        answering_sound s w (events.Work (nodes.Store number)) (facts.Did (busy_step w (busy_table w number))) (write_next number (first_luck lucks) (busy_table w number) w) (λ lines a. a) tt
         (record { form = tt; counts = refl; is = tt }) (record { form = tt; counts = refl; is = tt })
         (works.write_sound g table_work number (first_luck lucks) (busy_table w number) w s (length w.packets) k)
     worked_sound lucks (nodes.Client c) = idle_sound (nodes.Client c)
     worked_sound lucks (nodes.Gate gate) = idle_sound (nodes.Gate gate)
 
-    none_sound : (node : Node) → StepSound s w (WorkAll node) (answered w (facts.Number 0))
-    none_sound node = answered_sound w s k (WorkAll node) (facts.Number 0) (λ lines a. a) tt (record { form = tt; counts = refl; is = tt }) (record { form = tt; counts = refl; is = tt })
+    none_sound : (node : Node) → StepSound s w (events.WorkAll node) (answered w (facts.Number 0))
+    none_sound node = answered_sound w s k (events.WorkAll node) (facts.Number 0) (λ lines a. a) tt (record { form = tt; counts = refl; is = tt }) (record { form = tt; counts = refl; is = tt })
 
-    all_worked_sound : (lucks : List Luck) (node : Node) → StepSound s w (WorkAll node) (all_worked w lucks node)
+    all_worked_sound : (lucks : List Luck) (node : Node) → StepSound s w (events.WorkAll node) (all_worked w lucks node)
     all_worked_sound lucks (nodes.Store number) =
-        answering_sound s w (WorkAll (nodes.Store number)) (facts.Number (length (tasks_of w number))) (store_until_idle number lucks w) (λ lines a. a) tt
+        answering_sound s w (events.WorkAll (nodes.Store number)) (facts.Number (length (tasks_of w number))) (store_until_idle number lucks w) (λ lines a. a) tt
         (record { form = tt; counts = refl; is = tt }) (record { form = tt; counts = refl; is = tt }) (works.until_idle_sound g table_work number lucks w s (length w.packets) k)
     all_worked_sound lucks (nodes.Client c) = none_sound (nodes.Client c)
     all_worked_sound lucks (nodes.Gate gate) = none_sound (nodes.Gate gate)
 
-    nothing_crashes : (calls pick : ℕ) (node : Node) → StepSound s w (Crash node calls pick) (answered w facts.Done)
+    nothing_crashes : (calls pick : ℕ) (node : Node) → StepSound s w (events.Crash node calls pick) (answered w facts.Done)
     nothing_crashes calls pick node =
-        answered_sound w s k (Crash node calls pick) facts.Done (λ lines a. a) refl (record { form = tt; counts = refl; is = tt }) (record { form = tt; counts = refl; is = tt })
+        answered_sound w s k (events.Crash node calls pick) facts.Done (λ lines a. a) refl (record { form = tt; counts = refl; is = tt }) (record { form = tt; counts = refl; is = tt })
 
-    crashed_sound : (calls pick : ℕ) (lucks : List Luck) (node : Node) → StepSound s w (Crash node calls pick) (crashed w calls lucks node)
+    crashed_sound : (calls pick : ℕ) (lucks : List Luck) (node : Node) → StepSound s w (events.Crash node calls pick) (crashed w calls lucks node)
     crashed_sound calls pick lucks (nodes.Store number) =
-        telling_sound s w (Crash (nodes.Store number) calls pick) facts.Done (store_crashes number calls lucks w) (λ lines a. a) []
+        telling_sound s w (events.Crash (nodes.Store number) calls pick) facts.Done (store_crashes number calls lucks w) (λ lines a. a) []
         (silent_lines (length w.packets) (store_crashes number calls lucks w).outs (crashes_silent number calls lucks w)) refl
         (record { form = tt; counts = refl; is = tt }) (record { form = tt; counts = refl; is = tt }) (works.crashes_sound g table_work number calls lucks w s (length w.packets) k)
     crashed_sound calls pick lucks (nodes.Client c) = nothing_crashes calls pick (nodes.Client c)
     crashed_sound calls pick lucks (nodes.Gate gate) = nothing_crashes calls pick (nodes.Gate gate)
 
-    goes_on_sound : (node : Node) → StepSound s w (Start node) (answered w facts.Done)
-    goes_on_sound node = answered_sound w s k (Start node) facts.Done (λ lines a. a) tt (record { form = tt; counts = refl; is = tt }) (record { form = tt; counts = refl; is = tt })
+    goes_on_sound : (node : Node) → StepSound s w (events.Start node) (answered w facts.Done)
+    goes_on_sound node = answered_sound w s k (events.Start node) facts.Done (λ lines a. a) tt (record { form = tt; counts = refl; is = tt }) (record { form = tt; counts = refl; is = tt })
 
-    started_sound : (lucks : List Luck) (node : Node) → StepSound s w (Start node) (started w lucks node)
+    started_sound : (lucks : List Luck) (node : Node) → StepSound s w (events.Start node) (started w lucks node)
     started_sound lucks (nodes.Store number) = go (is_down w (nodes.Store number))
       where
-        go : (down : Bool) → StepSound s w (Start (nodes.Store number)) (if down then answering facts.Done (store_starts number lucks w) else answered w facts.Done)
+        go : (down : Bool) → StepSound s w (events.Start (nodes.Store number)) (if down then answering facts.Done (store_starts number lucks w) else answered w facts.Done)
         go true =
-            answering_sound s w (Start (nodes.Store number)) facts.Done (store_starts number lucks w) (λ lines a. a) tt
+            answering_sound s w (events.Start (nodes.Store number)) facts.Done (store_starts number lucks w) (λ lines a. a) tt
             (record { form = tt; counts = refl; is = tt }) (record { form = tt; counts = refl; is = tt })
             (works.starts_sound g table_work table_start number lucks w s (length w.packets) k)
         go false = goes_on_sound (nodes.Store number)
@@ -724,67 +727,52 @@ module _ (client_law : ClientLaws) (client_grows : ClientGrows) (lapsed_grows : 
     started_sound lucks (nodes.Gate gate) = goes_on_sound (nodes.Gate gate)
 
     -- where a table is declared first, it is of its scheme
-    abbrev pub IsFirst : Deed → Type 0
-    IsFirst (Does (events.Table table schema)) = hosted_at w table ≡ None → schema.scheme ≡ g table
+    abbrev pub IsFirst : Event → Type 0
+    IsFirst (events.Table table schema) = hosted_at w table ≡ None → schema.scheme ≡ g table
     IsFirst other = Unit {0}
 
-    pub step_sound : IsUp w → (deed : Deed) (lucks : List Luck) → IsFirst deed → StepSound s w deed (step w deed lucks)
-    step_sound up (Does (events.Store number)) lucks first = record { turn = refl; lines = tt; kept = k; there = λ q none. none }
-    step_sound up (Does (events.Table table schema)) lucks first = declare_sound table schema (first_luck lucks) first (hosted_at w table) refl
-    step_sound up (Does (events.Client c gate tables)) lucks first = join_sound c gate tables (client_at w c) refl
-    step_sound up (Does (events.Write c table row x)) lucks first = write_sound c table row x lucks
-    step_sound up (Does (events.Show c table row)) lucks first = show_sound c table row lucks
-    step_sound up (Does (events.Sum c table row)) lucks first = sum_sound c table row lucks
-    step_sound up (Does (events.Sync c table)) lucks first = sync_sound c table lucks
-    step_sound up (Does (events.Pull c table)) lucks first = pull_sound c table lucks
-    step_sound up (Does (events.Deliver n)) lucks first = delivered_sound n lucks (slice_get w.packets n) refl
-    step_sound up (Does (events.StoreShow table row)) lucks first = shows_sound up table row lucks (hosted_at w table) refl
-    step_sound up (Does (events.History table)) lucks first = history_sound table (hosted_at w table) refl
-    step_sound up (Hold node) lucks first = held_sound node
-    step_sound up (Free node) lucks first = freed_sound node
-    step_sound up (Work node) lucks first =
-        unless_down_sound w s k (Work node) node _ (λ lines a. a) tt (record { form = tt; counts = refl; is = tt }) (record { form = tt; counts = refl; is = tt }) (λ is. worked_sound lucks node)
-    step_sound up (WorkAll node) lucks first =
-        unless_down_sound w s k (WorkAll node) node _ (λ lines a. a) tt
+    pub step_sound : IsUp w → (event : Event) (lucks : List Luck) → IsFirst event → StepSound s w event (step w event lucks)
+    step_sound up (events.Store number) lucks first = record { turn = refl; lines = tt; kept = k; there = λ q none. none }
+    step_sound up (events.Table table schema) lucks first = declare_sound table schema (first_luck lucks) first (hosted_at w table) refl
+    step_sound up (events.Client c gate tables) lucks first = join_sound c gate tables (client_at w c) refl
+    step_sound up (events.Write c table row x) lucks first = write_sound c table row x lucks
+    step_sound up (events.Show c table row) lucks first = show_sound c table row lucks
+    step_sound up (events.Sum c table row) lucks first = sum_sound c table row lucks
+    step_sound up (events.Sync c table) lucks first = sync_sound c table lucks
+    step_sound up (events.Pull c table) lucks first = pull_sound c table lucks
+    step_sound up (events.Deliver n) lucks first = delivered_sound n lucks (slice_get w.packets n) refl
+    step_sound up (events.StoreShow table row) lucks first = shows_sound up table row lucks (hosted_at w table) refl
+    step_sound up (events.History table) lucks first = history_sound table (hosted_at w table) refl
+    step_sound up (events.Hold node) lucks first = held_sound node
+    step_sound up (events.Free node) lucks first = freed_sound node
+    step_sound up (events.Work node) lucks first =
+        unless_down_sound w s k (events.Work node) node _ (λ lines a. a) tt (record { form = tt; counts = refl; is = tt }) (record { form = tt; counts = refl; is = tt })
+        (λ is. worked_sound lucks node)
+    step_sound up (events.WorkAll node) lucks first =
+        unless_down_sound w s k (events.WorkAll node) node _ (λ lines a. a) tt
         (record { form = tt; counts = refl; is = tt }) (record { form = tt; counts = refl; is = tt }) (λ is. all_worked_sound lucks node)
-    step_sound up (Crash node calls pick) lucks first =
-        unless_down_sound w s k (Crash node calls pick) node _ (λ lines a. a) refl (record { form = tt; counts = refl; is = tt }) (record { form = tt; counts = refl; is = tt })
+    step_sound up (events.Crash node calls pick) lucks first =
+        unless_down_sound w s k (events.Crash node calls pick) node _ (λ lines a. a) refl (record { form = tt; counts = refl; is = tt }) (record { form = tt; counts = refl; is = tt })
         (λ is. crashed_sound calls pick lucks node)
-    step_sound up (Start node) lucks first = started_sound lucks node
-    step_sound up (Chunks table) lucks first = chunks_sound table (hosted_at w table)
+    step_sound up (events.Start node) lucks first = started_sound lucks node
+    step_sound up (events.Chunks table) lucks first = chunks_sound table (hosted_at w table)
 
   -- ---- runs
 
-  abbrev pub deeds_in : List Happening → List Deed
-  deeds_in hs = map (λ (h : Happening). h.deed) hs
+  abbrev pub events_in : List Happening → List Event
+  events_in hs = map (λ (h : Happening). h.event) hs
 
   -- tables that aren't declared yet have the schemes of what is to come
-  abbrev pub Awaits : World → List Deed → Type 0
+  abbrev pub Awaits : World → List Event → Type 0
   Awaits w es = (table : ℕ) → hosted_at w table ≡ None → g table ≡ scheme_for es table
 
-  pub first_is : (w : World) (s : Said) (k : Kept g w s) (deed : Deed) (es : List Deed) → Awaits w (deed ∷ es) → IsFirst w s k deed
-  first_is w s k (Does (events.Table table schema)) es f = λ none. sym (f table none ∙ go (table == table) (grind (arith, nat_tests)))
+  pub first_is : (w : World) (s : Said) (k : Kept g w s) (event : Event) (es : List Event) → Awaits w (event ∷ es) → IsFirst w s k event
+  first_is w s k (events.Table table schema) es f = λ none. sym (f table none ∙ go (table == table) (grind (arith, nat_tests)))
     where
       go : (b : Bool) → b ≡ true → (if b then schema.scheme else scheme_for es table) ≡ schema.scheme
       go true e = refl
       go false e = absurd cc
-  first_is w s k (Does (events.Store number)) es f = tt
-  first_is w s k (Does (events.Client c gate tables)) es f = tt
-  first_is w s k (Does (events.Write c table row x)) es f = tt
-  first_is w s k (Does (events.Show c table row)) es f = tt
-  first_is w s k (Does (events.Sum c table row)) es f = tt
-  first_is w s k (Does (events.Sync c table)) es f = tt
-  first_is w s k (Does (events.Pull c table)) es f = tt
-  first_is w s k (Does (events.Deliver n)) es f = tt
-  first_is w s k (Does (events.StoreShow table row)) es f = tt
-  first_is w s k (Does (events.History table)) es f = tt
-  first_is w s k (Hold node) es f = tt
-  first_is w s k (Free node) es f = tt
-  first_is w s k (Work node) es f = tt
-  first_is w s k (WorkAll node) es f = tt
-  first_is w s k (Crash node calls pick) es f = tt
-  first_is w s k (Start node) es f = tt
-  first_is w s k (Chunks table) es f = tt
+  first_is w s k other es f = tt
 
   -- a table that is declared is there
   with_new_there : (w : World) (number : ℕ) (schema : Schema) (made up : Bool) (table : ℕ) → table ≡ number → hosted_at (with_table w number schema made up) table ≡ None → ⊥
@@ -796,8 +784,9 @@ module _ (client_law : ClientLaws) (client_grows : ClientGrows) (lapsed_grows : 
   new_there w number schema messages.FailedBefore table same none = with_new_there w number schema false false table same (store_falls_there owner (with_table w number schema false false) table none)
   new_there w number schema messages.FailedAfter table same none = with_new_there w number schema false false table same (store_falls_there owner (with_table w number schema false false) table none)
 
-  pub scheme_on : (w : World) (deed : Deed) (lucks : List Luck) (es : List Deed) (table : ℕ) → hosted_at (step w deed lucks).world table ≡ None → scheme_for (deed ∷ es) table ≡ scheme_for es table
-  scheme_on w (Does (events.Table number schema)) lucks es table none = go (number == table) refl
+  pub scheme_on : (w : World) (event : Event) (lucks : List Luck) (es : List Event) (table : ℕ) → hosted_at (step w event lucks).world table ≡ None
+      → scheme_for (event ∷ es) table ≡ scheme_for es table
+  scheme_on w (events.Table number schema) lucks es table none = go (number == table) refl
     where
       there : number ≡ table → (o : Option Hosted) → hosted_at w number ≡ o → hosted_at (declared w number schema (first_luck lucks) o) table ≡ None → ⊥
       there same (Some x) at none_2 = absurd (let both : Some x ≡ None = sym at ∙ (ap (hosted_at w) same ∙ none_2) in cc)
@@ -806,34 +795,18 @@ module _ (client_law : ClientLaws) (client_grows : ClientGrows) (lapsed_grows : 
       go : (b : Bool) → (number == table) ≡ b → (if b then schema.scheme else scheme_for es table) ≡ scheme_for es table
       go false e = refl
       go true e = absurd (there (grind (arith, nat_tests, e)) (hosted_at w number) refl none)
-  scheme_on w (Does (events.Store number)) lucks es table none = refl
-  scheme_on w (Does (events.Client c gate tables)) lucks es table none = refl
-  scheme_on w (Does (events.Write c t row x)) lucks es table none = refl
-  scheme_on w (Does (events.Show c t row)) lucks es table none = refl
-  scheme_on w (Does (events.Sum c t row)) lucks es table none = refl
-  scheme_on w (Does (events.Sync c t)) lucks es table none = refl
-  scheme_on w (Does (events.Pull c t)) lucks es table none = refl
-  scheme_on w (Does (events.Deliver n)) lucks es table none = refl
-  scheme_on w (Does (events.StoreShow t row)) lucks es table none = refl
-  scheme_on w (Does (events.History t)) lucks es table none = refl
-  scheme_on w (Hold node) lucks es table none = refl
-  scheme_on w (Free node) lucks es table none = refl
-  scheme_on w (Work node) lucks es table none = refl
-  scheme_on w (WorkAll node) lucks es table none = refl
-  scheme_on w (Crash node calls pick) lucks es table none = refl
-  scheme_on w (Start node) lucks es table none = refl
-  scheme_on w (Chunks t) lucks es table none = refl
+  scheme_on w other lucks es table none = refl
 
-  run_sound : (hs : List Happening) (w : World) (s : Said) → Kept g w s → IsUp w → Awaits w (deeds_in hs) → IsSoundFrom g s (turns_from w hs)
+  run_sound : (hs : List Happening) (w : World) (s : Said) → Kept g w s → IsUp w → Awaits w (events_in hs) → IsSoundFrom g s (turns_from w hs)
   run_sound [] w s k up f = in_sight g s k.told
   run_sound (h ∷ hs) w s k up f =
-      let first : StepSound s w h.deed (step w h.deed h.lucks) = step_sound w s k up h.deed h.lucks (first_is w s k h.deed (deeds_in hs) f) in
-      let then_awaits : Awaits (step w h.deed h.lucks).world (deeds_in hs) =
-      λ table none. f table (first.there table none) ∙ scheme_on w h.deed h.lucks (deeds_in hs) table none in (
+      let first : StepSound s w h.event (step w h.event h.lucks) = step_sound w s k up h.event h.lucks (first_is w s k h.event (events_in hs) f) in
+      let then_awaits : Awaits (step w h.event h.lucks).world (events_in hs) =
+      λ table none. f table (first.there table none) ∙ scheme_on w h.event h.lucks (events_in hs) table none in (
         in_sight g s k.told,
         first.turn,
         first.lines,
-        run_sound hs (step w h.deed h.lucks).world (hear_lines s (lines_of w (step w h.deed h.lucks))) first.kept (step_up w h.deed h.lucks up) then_awaits,
+        run_sound hs (step w h.event h.lucks).world (hear_lines s (lines_of w (step w h.event h.lucks))) first.kept (step_up w h.event h.lucks up) then_awaits,
       )
 
   pub start_kept : Kept g start nothing_said
@@ -860,13 +833,13 @@ module _ (client_law : ClientLaws) (client_grows : ClientGrows) (lapsed_grows : 
     packets = λ p a. absurd (among_none p a);
   }
 
-pub deeds_are : (hs : List Happening) (w : World) → map (λ (turn : Turn). turn.deed) (turns_from w hs) ≡ map (λ (h : Happening). h.deed) hs
-deeds_are [] w = refl
-deeds_are (h ∷ hs) w = ap (λ (es : List Deed). h.deed ∷ es) (deeds_are hs (step w h.deed h.lucks).world)
+pub events_are : (hs : List Happening) (w : World) → map (λ (turn : Turn). turn.event) (turns_from w hs) ≡ map (λ (h : Happening). h.event) hs
+events_are [] w = refl
+events_are (h ∷ hs) w = ap (λ (es : List Event). h.event ∷ es) (events_are hs (step w h.event h.lucks).world)
 
 -- every run is sound, whatever its lucks
 pub all_runs : ClientLaws → ClientGrows → LapsedGrows → FreshParts → (hs : List Happening) → IsSound (turns_from start hs)
 all_runs client_law client_grows lapsed_grows fresh_part hs =
-    let g : ℕ → Scheme = scheme_for (map (λ (turn : Turn). turn.deed) (turns_from start hs)) in
+    let g : ℕ → Scheme = scheme_for (map (λ (turn : Turn). turn.event) (turns_from start hs)) in
     run_sound client_law client_grows lapsed_grows fresh_part g hs start nothing_said (start_kept client_law client_grows lapsed_grows fresh_part g) start_up
-    (λ table none. ap (λ (es : List Deed). scheme_for es table) (deeds_are hs start))
+    (λ table none. ap (λ (es : List Event). scheme_for es table) (events_are hs start))

@@ -27,8 +27,9 @@ use Rattle.world_tables.specs.World.{World, Packet, Hosted, Moved, WorldStep, st
 use Rattle.world_tables.specs.World.{history_on, after_table, table_step, move_hosted, move_table, move_there, move_client, first_luck, other_lucks, client_works, client_tasks, client_follows}
 use Rattle.world_tables.specs.World.{tables_fall, with_down, without_down, store_falls, or_falls, is_at_work, busy_table, write_next, store_works, tasks_of, store_until_idle, store_follows, table_follows}
 use Rattle.world_tables.specs.World.{declared_late, start_hosted, table_starts, tables_start, store_starts, crash_luck, table_crashes, store_crashes}
-use Rattle.world_tables.specs.World.{Deed, Does, Hold, Free, Work, WorkAll, Crash, Start, Chunks, answering, answered, refused, unless_down, agenda_of, with_table, declared, joined, gets_tasks}
-use Rattle.world_tables.specs.World.{call_there, take_read, take_at, to_hosted, to_there, carried, delivered, row_read, store_shows, chunk_names, history_lines, worked, all_worked, crashed, started, event_step, step}
+use Rattle.world_tables.specs.World.{answering, answered, refused, unless_down, agenda_of, with_table, declared, joined, gets_tasks}
+use Rattle.world_tables.specs.World.{call_there, take_read, take_at, to_hosted, to_there, carried, delivered, row_read, store_shows, chunk_names, history_lines, worked, all_worked, crashed}
+use Rattle.world_tables.specs.World.{started, step}
 use Rattle.world_laws.proofs.Looks.{look_cases}
 
 abbrev pub IsUpAt : Option (List StoreTask) → Type 0
@@ -377,7 +378,7 @@ client_works_up c (task ∷ tasks) lucks w up =
     client_works_up c tasks (other_lucks lucks) (move_client c (client.Work (first_luck lucks)) w).world
     (same_up w (move_client c (client.Work (first_luck lucks)) w).world (client_same w c (client.Work (first_luck lucks))) up)
 
--- ---- deeds
+-- ---- events
 
 unless_down_up : (w : World) (node : Node) (s : WorldStep) → IsUp w → IsUp s.world → IsUp (unless_down w node s).world
 unless_down_up w node s up then_up = go (is_down w node)
@@ -463,19 +464,6 @@ joined_up : (w : World) (c : ℕ) (tables : List ℕ) → IsUp w → (o : Option
 joined_up w c tables up None = up
 joined_up w c tables up (Some node) = up
 
-event_up : (w : World) (event : Event) (lucks : List Luck) → IsUp w → IsUp (event_step w event lucks).world
-event_up w (events.Store number) lucks up = up
-event_up w (events.Table table schema) lucks up = declared_up w table schema (first_luck lucks) up (hosted_at w table)
-event_up w (events.Client c gate tables) lucks up = joined_up w c tables up (client_at w c)
-event_up w (events.Write c table row x) lucks up = call_up w c (client.Write table row x) lucks up (client_at w c)
-event_up w (events.Show c table row) lucks up = call_up w c (client.Show table row) lucks up (client_at w c)
-event_up w (events.Sum c table row) lucks up = call_up w c (client.Sum table row) lucks up (client_at w c)
-event_up w (events.Sync c table) lucks up = call_up w c (client.Sync table) lucks up (client_at w c)
-event_up w (events.Pull c table) lucks up = call_up w c (client.Next table) lucks up (client_at w c)
-event_up w (events.Deliver n) lucks up = delivered_up w lucks up (slice_get w.packets n)
-event_up w (events.StoreShow table row) lucks up = shows_up w row lucks up (hosted_at w table)
-event_up w (events.History table) lucks up = history_up w table up (hosted_at w table)
-
 worked_node_up : (w : World) (lucks : List Luck) → IsUp w → (node : Node) → IsUp (worked w lucks node).world
 worked_node_up w lucks up (nodes.Store number) = next_up number (first_luck lucks) w up
 worked_node_up w lucks up (nodes.Client c) = up
@@ -500,12 +488,22 @@ started_up w lucks up (nodes.Store number) = go (is_down w (nodes.Store number))
 started_up w lucks up (nodes.Client c) = up
 started_up w lucks up (nodes.Gate gate) = up
 
-pub step_up : (w : World) (deed : Deed) (lucks : List Luck) → IsUp w → IsUp (step w deed lucks).world
-step_up w (Does event) lucks up = event_up w event lucks up
-step_up w (Hold node) lucks up = unless_down_up w node _ up up
-step_up w (Free node) lucks up = unless_down_up w node _ up up
-step_up w (Work node) lucks up = unless_down_up w node _ up (worked_node_up w lucks up node)
-step_up w (WorkAll node) lucks up = unless_down_up w node _ up (all_worked_up w lucks up node)
-step_up w (Crash node calls pick) lucks up = unless_down_up w node _ up (crashed_up w calls lucks up node)
-step_up w (Start node) lucks up = started_up w lucks up node
-step_up w (Chunks table) lucks up = chunks_up w table up (hosted_at w table)
+pub step_up : (w : World) (event : Event) (lucks : List Luck) → IsUp w → IsUp (step w event lucks).world
+step_up w (events.Store number) lucks up = up
+step_up w (events.Table table schema) lucks up = declared_up w table schema (first_luck lucks) up (hosted_at w table)
+step_up w (events.Client c gate tables) lucks up = joined_up w c tables up (client_at w c)
+step_up w (events.Write c table row x) lucks up = call_up w c (client.Write table row x) lucks up (client_at w c)
+step_up w (events.Show c table row) lucks up = call_up w c (client.Show table row) lucks up (client_at w c)
+step_up w (events.Sum c table row) lucks up = call_up w c (client.Sum table row) lucks up (client_at w c)
+step_up w (events.Sync c table) lucks up = call_up w c (client.Sync table) lucks up (client_at w c)
+step_up w (events.Pull c table) lucks up = call_up w c (client.Next table) lucks up (client_at w c)
+step_up w (events.Deliver n) lucks up = delivered_up w lucks up (slice_get w.packets n)
+step_up w (events.StoreShow table row) lucks up = shows_up w row lucks up (hosted_at w table)
+step_up w (events.History table) lucks up = history_up w table up (hosted_at w table)
+step_up w (events.Hold node) lucks up = unless_down_up w node _ up up
+step_up w (events.Free node) lucks up = unless_down_up w node _ up up
+step_up w (events.Work node) lucks up = unless_down_up w node _ up (worked_node_up w lucks up node)
+step_up w (events.WorkAll node) lucks up = unless_down_up w node _ up (all_worked_up w lucks up node)
+step_up w (events.Crash node calls pick) lucks up = unless_down_up w node _ up (crashed_up w calls lucks up node)
+step_up w (events.Start node) lucks up = started_up w lucks up node
+step_up w (events.Chunks table) lucks up = chunks_up w table up (hosted_at w table)

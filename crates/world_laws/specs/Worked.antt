@@ -20,7 +20,7 @@ use Rattle.step_tables.specs.Facts.{ClientFact, Fact, Shown, Line, AnswerLine, F
 use Rattle.step_tables.specs.Facts as facts
 use Rattle.step_tables.specs.Messages.{Luck}
 use Rattle.step_tables.specs.Messages as lucks
-use Rattle.world_tables.specs.World.{the_store, Does}
+use Rattle.world_tables.specs.World.{the_store}
 use Rattle.step_tables.specs.Sayings.{Said, nothing_said, hear_lines}
 use Rattle.world_tables.specs.Turns.{Turn, Happening, transcript_of}
 use Rattle.world_tables.specs.Sound.{scheme_for}
@@ -41,10 +41,10 @@ abbrev pub the_row : List ℕ
 the_row = 0 ∷ 0 ∷ 0 ∷ 0 ∷ 0 ∷ 0 ∷ 64 ∷ 0 ∷ 128 ∷ 0 ∷ 0 ∷ 0 ∷ 0 ∷ 0 ∷ 0 ∷ 1 ∷ []
 
 abbrev pub happens : Event → Happening
-happens event = record { deed = Does event; lucks = [] }
+happens event = record { event = event; lucks = [] }
 
 abbrev pub turn : Event → List Line → Turn
-turn event lines = record { deed = Does event; lines = lines }
+turn event lines = record { event = event; lines = lines }
 
 abbrev pub told : ClientFact → Line
 told fact = FactLine (facts.Client fact)
@@ -327,4 +327,4 @@ abbrev pub said_by : List Turn → Said
 said_by some = hear_lines nothing_said (transcript_of some)
 
 abbrev pub schemes_of : List Turn → ℕ → Scheme
-schemes_of some = scheme_for (map (λ (t : Turn). t.deed) some)
+schemes_of some = scheme_for (map (λ (t : Turn). t.event) some)

@@ -7,28 +7,23 @@ use Rattle.stab_base.specs.declared.step.Step.TheVariants as steps
 use Rattle.row_value.specs.declared.content.Content.{Content}
 use Rattle.row_value.specs.declared.schema.Schema.{Schema}
 use Rattle.row_value.specs.declared.schema.Scheme.TheVariants.{Eventual}
+use Rattle.table_model.specs.declared.event.Event.{Event}
 use Rattle.table_model.specs.declared.event.Event.TheVariants as events
 use Rattle.table_model.specs.declared.message_name.MessageName.TheVariants as names
 use Rattle.step_tables.specs.Facts.{Line, AnswerLine, FactLine}
 use Rattle.step_tables.specs.Facts as facts
 use Rattle.step_tables.specs.Messages.{Luck}
 use Rattle.step_tables.specs.Messages as lucks
-use Rattle.world_tables.specs.World.{the_store, Deed, Does, Hold, Free, Work, WorkAll, Crash, Start, Chunks, names_answer}
+use Rattle.world_tables.specs.World.{the_store, names_answer}
 use Rattle.world_tables.specs.Turns.{Turn, Happening}
 use Rattle.world_laws.specs.Worked.{notes, int, the_row, happens, turn, told, wrote_content, wrote, accepted, sent}
 use Rattle.world_laws.specs.Worked.{pictures, object}
 
-abbrev pub done : Deed → Happening
-done deed = record { deed = deed; lucks = [] }
-
-abbrev pub done_so : List Luck → Deed → Happening
-done_so lucks deed = record { deed = deed; lucks = lucks }
-
-abbrev pub turn_of : Deed → List Line → Turn
-turn_of deed lines = record { deed = deed; lines = lines }
+abbrev pub done_so : List Luck → Event → Happening
+done_so lucks event = record { event = event; lucks = lucks }
 
 abbrev pub did : Step → Turn
-did step = turn_of (Work the_store) (AnswerLine (facts.Did step) ∷ [])
+did step = turn (events.Work the_store) (AnswerLine (facts.Did step) ∷ [])
 
 abbrev pub forward : ℕ → ℕ → ℕ → ℕ → Line
 forward version client number base = FactLine (facts.Forward 1 (record {
@@ -67,49 +62,51 @@ sends_written schema content =
 abbrev pub crash_in_put : ℕ → List Happening → List Happening
 crash_in_put calls more =
     sends (notes Eventual) (int 5)
-    ++ done (Hold the_store)
+    ++ happens (events.Hold the_store)
     ∷ happens (events.Deliver 0)
-    ∷ done (Work the_store)
-    ∷ done (Crash the_store calls 0)
+    ∷ happens (events.Work the_store)
+    ∷ happens (events.Crash the_store calls 0)
     ∷ happens (events.StoreShow 1 the_row)
-    ∷ done (Start the_store)
-    ∷ done (WorkAll the_store)
+    ∷ happens (events.Start the_store)
+    ∷ happens (events.WorkAll the_store)
     ∷ happens (events.StoreShow 1 the_row)
     ∷ more
 
 abbrev pub crash_in_put_written : ℕ → Line → Line → List Turn → List Turn
 crash_in_put_written calls start shown more =
     sends_written (notes Eventual) (int 5)
-    ++ turn_of (Hold the_store) (AnswerLine facts.Done ∷ [])
+    ++ turn (events.Hold the_store) (AnswerLine facts.Done ∷ [])
     ∷ turn (events.Deliver 0) (AnswerLine facts.Done ∷ [])
     ∷ did steps.LogOpen
-    ∷ turn_of (Crash the_store calls 0) (AnswerLine facts.Done ∷ [])
+    ∷ turn (events.Crash the_store calls 0) (AnswerLine facts.Done ∷ [])
     ∷ turn (events.StoreShow 1 the_row) (AnswerLine (facts.Refuses (facts.NodeDown the_store)) ∷ [])
-    ∷ turn_of (Start the_store) (AnswerLine facts.Done ∷ start ∷ [])
-    ∷ turn_of (WorkAll the_store) (AnswerLine (facts.Number 4) ∷ recovered ∷ [])
+    ∷ turn (events.Start the_store) (AnswerLine facts.Done ∷ start ∷ [])
+    ∷ turn (events.WorkAll the_store) (AnswerLine (facts.Number 4) ∷ recovered ∷ [])
     ∷ turn (events.StoreShow 1 the_row) (shown ∷ [])
     ∷ more
 
 -- the put had landed: the start goes forward, and the request that comes again is answered by its entry
 abbrev pub landed_put : List Happening
-landed_put = crash_in_put 4 (happens (events.Deliver 0) ∷ done (Free the_store) ∷ happens (events.Deliver 1) ∷ [])
+landed_put =
+    crash_in_put 4
+    (happens (events.Deliver 0) ∷ happens (events.Free the_store) ∷ happens (events.Deliver 1) ∷ [])
 
 abbrev pub landed_put_written : List Turn
 landed_put_written =
     crash_in_put_written 4 (forward 1 1 1 0) (AnswerLine (facts.Stores 1 (int 5)))
     (turn (events.Deliver 0) (AnswerLine facts.Done ∷ sent 1 the_store (nodes.Client 1) names.SyncResponse ∷ [])
-    ∷ turn_of (Free the_store) (AnswerLine facts.Done ∷ [])
+    ∷ turn (events.Free the_store) (AnswerLine facts.Done ∷ [])
     ∷ turn (events.Deliver 1) (AnswerLine facts.Done ∷ told (facts.Acked 1 1 1 the_row 1) ∷ [])
     ∷ [])
 
 -- it had not: the start takes the version back, and the request that comes again is accepted with it
 abbrev pub lost_put : List Happening
-lost_put = crash_in_put 0 (done (Free the_store) ∷ happens (events.Deliver 0) ∷ [])
+lost_put = crash_in_put 0 (happens (events.Free the_store) ∷ happens (events.Deliver 0) ∷ [])
 
 abbrev pub lost_put_written : List Turn
 lost_put_written =
     crash_in_put_written 0 (FactLine (facts.Back 1 1)) (AnswerLine (facts.Refuses facts.NoRow))
-    (turn_of (Free the_store) (AnswerLine facts.Done ∷ [])
+    (turn (events.Free the_store) (AnswerLine facts.Done ∷ [])
     ∷ turn (events.Deliver 0) (AnswerLine facts.Done ∷ accepted 1 1 1 0
     ∷ sent 1 the_store (nodes.Client 1) names.SyncResponse ∷ [])
     ∷ [])
@@ -137,15 +134,15 @@ two_tables =
     ∷ happens (events.Write 1 2 the_row (int 6))
     ∷ happens (events.Sync 1 1)
     ∷ happens (events.Sync 1 2)
-    ∷ done (Hold the_store)
+    ∷ happens (events.Hold the_store)
     ∷ happens (events.Deliver 1)
-    ∷ done (Work the_store)
+    ∷ happens (events.Work the_store)
     ∷ happens (events.Deliver 0)
     ∷ happens (events.Deliver 0)
-    ∷ done (Work the_store)
-    ∷ done (Free the_store)
-    ∷ done (Crash the_store 4 0)
-    ∷ done (Start the_store)
+    ∷ happens (events.Work the_store)
+    ∷ happens (events.Free the_store)
+    ∷ happens (events.Crash the_store 4 0)
+    ∷ happens (events.Start the_store)
     ∷ happens (events.StoreShow 1 the_row)
     ∷ happens (events.StoreShow 2 the_row)
     ∷ []
@@ -160,15 +157,15 @@ two_tables_written =
     ∷ turn (events.Write 1 2 the_row (int 6)) (AnswerLine (facts.Number 2) ∷ wrote_there ∷ [])
     ∷ turn (events.Sync 1 1) (AnswerLine (facts.Number 1) ∷ sent 0 (nodes.Client 1) the_store names.SyncRequest ∷ [])
     ∷ turn (events.Sync 1 2) (AnswerLine (facts.Number 1) ∷ sent 1 (nodes.Client 1) the_store names.SyncRequest ∷ [])
-    ∷ turn_of (Hold the_store) (AnswerLine facts.Done ∷ [])
+    ∷ turn (events.Hold the_store) (AnswerLine facts.Done ∷ [])
     ∷ turn (events.Deliver 1) (AnswerLine facts.Done ∷ [])
     ∷ did steps.LogOpen
     ∷ turn (events.Deliver 0) (AnswerLine facts.Done ∷ [])
     ∷ turn (events.Deliver 0) (AnswerLine (facts.Refuses facts.Busy) ∷ [])
     ∷ did steps.LogOpen
-    ∷ turn_of (Free the_store) (AnswerLine facts.Done ∷ [])
-    ∷ turn_of (Crash the_store 4 0) (AnswerLine facts.Done ∷ [])
-    ∷ turn_of (Start the_store) (AnswerLine facts.Done ∷ forward 1 1 1 0 ∷ FactLine (facts.Back 2 1) ∷ recovered
+    ∷ turn (events.Free the_store) (AnswerLine facts.Done ∷ [])
+    ∷ turn (events.Crash the_store 4 0) (AnswerLine facts.Done ∷ [])
+    ∷ turn (events.Start the_store) (AnswerLine facts.Done ∷ forward 1 1 1 0 ∷ FactLine (facts.Back 2 1) ∷ recovered
     ∷ FactLine (facts.StoreRecovered 1 2) ∷ [])
     ∷ turn (events.StoreShow 1 the_row) (AnswerLine (facts.Stores 1 (int 5)) ∷ [])
     ∷ turn (events.StoreShow 2 the_row) (AnswerLine (facts.Refuses facts.NoRow) ∷ [])
@@ -180,9 +177,9 @@ two_tables_written =
 abbrev pub failed_put : List Happening
 failed_put =
     sends (notes Eventual) (int 5)
-    ++ done_so (lucks.Done ∷ lucks.Done ∷ lucks.FailedBefore ∷ []) (Does (events.Deliver 0))
+    ++ done_so (lucks.Done ∷ lucks.Done ∷ lucks.FailedBefore ∷ []) (events.Deliver 0)
     ∷ happens (events.Deliver 0)
-    ∷ done (Start the_store)
+    ∷ happens (events.Start the_store)
     ∷ happens (events.Deliver 0)
     ∷ []
 
@@ -191,7 +188,7 @@ failed_put_written =
     sends_written (notes Eventual) (int 5)
     ++ turn (events.Deliver 0) (AnswerLine (facts.Refuses facts.NoDevice) ∷ [])
     ∷ turn (events.Deliver 0) (AnswerLine (facts.Refuses (facts.NodeDown the_store)) ∷ [])
-    ∷ turn_of (Start the_store) (AnswerLine facts.Done ∷ FactLine (facts.Back 1 1) ∷ recovered ∷ [])
+    ∷ turn (events.Start the_store) (AnswerLine facts.Done ∷ FactLine (facts.Back 1 1) ∷ recovered ∷ [])
     ∷ turn (events.Deliver 0) (AnswerLine facts.Done ∷ accepted 1 1 1 0
     ∷ sent 1 the_store (nodes.Client 1) names.SyncResponse ∷ [])
     ∷ []
@@ -200,12 +197,12 @@ failed_put_written =
 abbrev pub failed_declaration : List Happening
 failed_declaration =
     happens (events.Store 1)
-    ∷ done_so (lucks.FailedBefore ∷ []) (Does (events.Table 1 (notes Eventual)))
+    ∷ done_so (lucks.FailedBefore ∷ []) (events.Table 1 (notes Eventual))
     ∷ happens (events.Client 1 None (1 ∷ []))
     ∷ happens (events.Write 1 1 the_row (int 5))
     ∷ happens (events.Sync 1 1)
     ∷ happens (events.Deliver 0)
-    ∷ done (Start the_store)
+    ∷ happens (events.Start the_store)
     ∷ happens (events.Deliver 0)
     ∷ []
 
@@ -213,7 +210,7 @@ abbrev pub failed_declaration_written : List Turn
 failed_declaration_written =
     sends_written (notes Eventual) (int 5)
     ++ turn (events.Deliver 0) (AnswerLine (facts.Refuses (facts.NodeDown the_store)) ∷ [])
-    ∷ turn_of (Start the_store) (AnswerLine facts.Done ∷ recovered ∷ [])
+    ∷ turn (events.Start the_store) (AnswerLine facts.Done ∷ recovered ∷ [])
     ∷ turn (events.Deliver 0) (AnswerLine facts.Done ∷ accepted 1 1 1 0
     ∷ sent 1 the_store (nodes.Client 1) names.SyncResponse ∷ [])
     ∷ []
@@ -225,80 +222,80 @@ failed_declaration_written =
 abbrev pub crash_between_chunks : List Happening
 crash_between_chunks =
     sends pictures (object 192)
-    ++ done (Hold the_store)
+    ++ happens (events.Hold the_store)
     ∷ happens (events.Deliver 0)
-    ∷ done (Work the_store)
-    ∷ done (Work the_store)
-    ∷ done (Work the_store)
-    ∷ done (Crash the_store 0 0)
-    ∷ done (Start the_store)
-    ∷ done (Work the_store)
-    ∷ done (Work the_store)
-    ∷ done (Work the_store)
-    ∷ done (Work the_store)
-    ∷ done (Crash the_store 1 0)
-    ∷ done (Start the_store)
-    ∷ done (WorkAll the_store)
-    ∷ done (Chunks 1)
+    ∷ happens (events.Work the_store)
+    ∷ happens (events.Work the_store)
+    ∷ happens (events.Work the_store)
+    ∷ happens (events.Crash the_store 0 0)
+    ∷ happens (events.Start the_store)
+    ∷ happens (events.Work the_store)
+    ∷ happens (events.Work the_store)
+    ∷ happens (events.Work the_store)
+    ∷ happens (events.Work the_store)
+    ∷ happens (events.Crash the_store 1 0)
+    ∷ happens (events.Start the_store)
+    ∷ happens (events.WorkAll the_store)
+    ∷ happens (events.Chunks 1)
     ∷ []
 
 abbrev pub crash_between_chunks_written : List Turn
 crash_between_chunks_written =
     sends_written pictures (object 192)
-    ++ turn_of (Hold the_store) (AnswerLine facts.Done ∷ [])
+    ++ turn (events.Hold the_store) (AnswerLine facts.Done ∷ [])
     ∷ turn (events.Deliver 0) (AnswerLine facts.Done ∷ [])
     ∷ did steps.LogOpen
     ∷ did steps.ChunkPut
     ∷ did steps.ChunkPut
-    ∷ turn_of (Crash the_store 0 0) (AnswerLine facts.Done ∷ [])
-    ∷ turn_of (Start the_store) (AnswerLine facts.Done ∷ FactLine (facts.Back 1 1) ∷ [])
+    ∷ turn (events.Crash the_store 0 0) (AnswerLine facts.Done ∷ [])
+    ∷ turn (events.Start the_store) (AnswerLine facts.Done ∷ FactLine (facts.Back 1 1) ∷ [])
     ∷ did steps.OpenChunks
     ∷ did steps.OpenRows
     ∷ did steps.OpenLog
     ∷ did steps.ChunkDrop
-    ∷ turn_of (Crash the_store 1 0) (AnswerLine facts.Done ∷ [])
-    ∷ turn_of (Start the_store) (AnswerLine facts.Done ∷ FactLine (facts.Back 1 1) ∷ [])
-    ∷ turn_of (WorkAll the_store) (AnswerLine (facts.Number 5) ∷ recovered ∷ [])
-    ∷ turn_of (Chunks 1) (AnswerLine (facts.Number 0) ∷ [])
+    ∷ turn (events.Crash the_store 1 0) (AnswerLine facts.Done ∷ [])
+    ∷ turn (events.Start the_store) (AnswerLine facts.Done ∷ FactLine (facts.Back 1 1) ∷ [])
+    ∷ turn (events.WorkAll the_store) (AnswerLine (facts.Number 5) ∷ recovered ∷ [])
+    ∷ turn (events.Chunks 1) (AnswerLine (facts.Number 0) ∷ [])
     ∷ []
 
 -- all three chunks are put, and the row's put is at work: the luck of the disk decides
 abbrev pub crash_behind_chunks : Luck → List Happening
 crash_behind_chunks luck =
     sends pictures (object 192)
-    ++ done (Hold the_store)
+    ++ happens (events.Hold the_store)
     ∷ happens (events.Deliver 0)
-    ∷ done (Work the_store)
-    ∷ done (Work the_store)
-    ∷ done (Work the_store)
-    ∷ done (Work the_store)
-    ∷ done_so (lucks.Done ∷ luck ∷ []) (Crash the_store 2 1)
-    ∷ done (Start the_store)
-    ∷ done (WorkAll the_store)
-    ∷ done (Chunks 1)
+    ∷ happens (events.Work the_store)
+    ∷ happens (events.Work the_store)
+    ∷ happens (events.Work the_store)
+    ∷ happens (events.Work the_store)
+    ∷ done_so (lucks.Done ∷ luck ∷ []) (events.Crash the_store 2 1)
+    ∷ happens (events.Start the_store)
+    ∷ happens (events.WorkAll the_store)
+    ∷ happens (events.Chunks 1)
     ∷ []
 
 abbrev pub crash_behind_chunks_written : Line → ℕ → List ChunkName → List Turn
 crash_behind_chunks_written start count chunks =
     sends_written pictures (object 192)
-    ++ turn_of (Hold the_store) (AnswerLine facts.Done ∷ [])
+    ++ turn (events.Hold the_store) (AnswerLine facts.Done ∷ [])
     ∷ turn (events.Deliver 0) (AnswerLine facts.Done ∷ [])
     ∷ did steps.LogOpen
     ∷ did steps.ChunkPut
     ∷ did steps.ChunkPut
     ∷ did steps.ChunkPut
-    ∷ turn_of (Crash the_store 2 1) (AnswerLine facts.Done ∷ [])
-    ∷ turn_of (Start the_store) (AnswerLine facts.Done ∷ start ∷ [])
-    ∷ turn_of (WorkAll the_store) (AnswerLine (facts.Number count) ∷ recovered ∷ [])
-    ∷ turn_of (Chunks 1) (AnswerLine (names_answer chunks) ∷ [])
+    ∷ turn (events.Crash the_store 2 1) (AnswerLine facts.Done ∷ [])
+    ∷ turn (events.Start the_store) (AnswerLine facts.Done ∷ start ∷ [])
+    ∷ turn (events.WorkAll the_store) (AnswerLine (facts.Number count) ∷ recovered ∷ [])
+    ∷ turn (events.Chunks 1) (AnswerLine (names_answer chunks) ∷ [])
     ∷ []
 
 -- ---- transcripts that aren't sound
 
 -- a crash that tells a fact
 abbrev pub loud : List Turn
-loud = turn_of (Crash the_store 0 0) (AnswerLine facts.Done ∷ recovered ∷ []) ∷ []
+loud = turn (events.Crash the_store 0 0) (AnswerLine facts.Done ∷ recovered ∷ []) ∷ []
 
 -- a single write that is answered without its name
 abbrev pub nameless : List Turn
-nameless = turn_of (Work the_store) (AnswerLine facts.Done ∷ []) ∷ []
+nameless = turn (events.Work the_store) (AnswerLine facts.Done ∷ []) ∷ []

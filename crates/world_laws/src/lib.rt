@@ -1,7 +1,8 @@
 //! What every run of the world keeps, whatever is delivered, lost or repeated, and wherever device writes fail.
 #![tactic(auto)]
 
-ghost use Rattle.std.specs.Prelude.{◌≡◌, ℕ, List, [], ◌∷◌};
+ghost use Rattle.std.specs.Prelude.{◌≡◌, ◌≤◌, ◌<◌, ℕ, List, [], ◌∷◌, length, Some};
+ghost use Rattle.stab_base.specs.declared.limits.TheConstants.{NUMBER_MAX};
 ghost use Rattle.row_value.specs.declared.schema.Scheme.TheVariants.{Strong, Causal, Eventual};
 ghost use Rattle.step_tables.specs.Facts.{Line};
 ghost use Rattle.step_tables.specs.Facts as facts;
@@ -13,7 +14,9 @@ ghost use Rattle.world_tables.specs.Whole.{read_by, shadow_by, position_by, grea
 ghost use Rattle.world_laws.specs.Bad.{back, blind, doubled, early, fallen, groundless, lost, misplaced, noisy};
 ghost use Rattle.world_laws.specs.Bad.{outdated, over, past, renamed, revived, selfish, settled, silent, skipped_number};
 ghost use Rattle.world_laws.specs.Bad.{skipped_version, stale, strong_open, twice, unearned, unread, unseen, unwritten};
-ghost use Rattle.world_tables.specs.Turns.{Happening, turns};
+ghost use Rattle.world_tables.specs.Turns.{Happening, turns, world_from};
+ghost use Rattle.world_tables.specs.World.{Hosted, start, hosted_at, client_at};
+ghost use Rattle.step_tables.specs.ClientMoves.{Plan, Client};
 ghost use Rattle.world_laws.specs.Worked.{late_repeat, late_repeat_written, read_before_write_is_no_conflict};
 ghost use Rattle.world_laws.specs.Worked.{read_before_write_is_no_conflict_written, causal_conflict};
 ghost use Rattle.world_laws.specs.Worked.{causal_conflict_written, strong_write_refused, strong_write_refused_written};
@@ -47,16 +50,31 @@ pub fn the_fold_is_the_whole_list()
 {}
 
 /// Every run's transcript is sound, whatever is delivered, lost, repeated or overtaken, wherever a device call fails
-/// and takes its node down, and for tables of all three schemes. A run is a list of deeds: events, holds and freeings
-/// of a node, its device writes one by one or all at once, crashes of the Store inside any device write, undone or
-/// done, or beside any, starts of a Store that is down, also of one whose start failed or crashed, and the names of its
-/// chunks. Each deed has one answer in a form of its command, and a crash, a hold and a freeing tell nothing; the
+/// and takes its node down, and for tables of all three schemes. A run is a list of events: calls, deliveries,
+/// questions, holds and freeings of a node, its device writes one by one or all at once, crashes of the Store inside
+/// any device write, undone or done, or beside any, and starts of a Store that is down, also of one whose start failed
+/// or crashed. Each event has one answer in a form of its command, and a crash, a hold and a freeing tell nothing; the
 /// versions of each table's history are 1, 2, 3; the writes of each client are numbered 1, 2, 3, and each entry is one
 /// of them, accepted once, by the rule of its table's scheme; a write in a conflict or refused is never accepted; each
 /// `show` gives what the client's lines make it show, and each `sshow` and `history` what was accepted; what a client
 /// has read never falls, and what its position covers it has read; and no write is lost from sight.
 pub fn every_run_is_sound()
     ensures { (happenings : List Happening) → IsSound (turns happenings) }
+{}
+
+/// A table has no more versions than the run has events, and no client's last write, committed or done, has a number
+/// above them. So an event behind fewer events than `NUMBER_MAX` finds a version and a number that are still free.
+pub fn versions_and_numbers_are_few()
+    ensures versions { (run : List Happening) (table : ℕ) (hosted : Hosted)
+        → hosted_at (world_from start run) table ≡ Some hosted → length hosted.store.disk.items ≤ length run }
+    ensures numbers { (run : List Happening) (c : ℕ) (node : Client)
+        → client_at (world_from start run) c ≡ Some node → node.disk.last ≤ length run }
+    ensures planned { (run : List Happening) (c : ℕ) (node : Client) (p : Plan)
+        → client_at (world_from start run) c ≡ Some node → node.disk.plan ≡ Some p → p.last ≤ length run }
+    ensures free_version { (run : List Happening) (table : ℕ) (hosted : Hosted) → length run < NUMBER_MAX
+        → hosted_at (world_from start run) table ≡ Some hosted → length hosted.store.disk.items < NUMBER_MAX }
+    ensures free_number { (run : List Happening) (c : ℕ) (node : Client) → length run < NUMBER_MAX
+        → client_at (world_from start run) c ≡ Some node → node.disk.last < NUMBER_MAX }
 {}
 
 /// The tables, computed: an eventual table, whose first request comes again behind a later write.

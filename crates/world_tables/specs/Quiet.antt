@@ -10,7 +10,7 @@ use Rattle.step_tables.specs.Facts.{Answer, Line, AnswerLine, EntryLine, FactLin
 use Rattle.step_tables.specs.Facts as facts
 use Rattle.step_tables.specs.Sayings.{Said, nothing_said, hear_lines}
 use Rattle.world_tables.specs.Chunks.{AreChunks}
-use Rattle.world_tables.specs.World.{Deed, Does, Hold, Free, WorkAll, Start, Chunks, has_node, without_node, the_store}
+use Rattle.world_tables.specs.World.{has_node, without_node, the_store}
 use Rattle.world_tables.specs.Turns.{Turn}
 
 -- the nodes on hold; those to which something came while they were on hold; and to whom each packet was sent
@@ -43,27 +43,23 @@ abbrev pub comes_to : Quiet → Option Node → List Node
 comes_to q None = q.loud
 comes_to q (Some node) = if has_node q.held node then node ∷ q.loud else q.loud
 
-abbrev pub held_after : Quiet → Deed → Option Answer → List Node
-held_after q (Hold node) answer = if_done answer (node ∷ q.held) q.held
-held_after q (Free node) answer = if_done answer (without_node q.held node) q.held
+abbrev pub held_after : Quiet → Event → Option Answer → List Node
+held_after q (events.Hold node) answer = if_done answer (node ∷ q.held) q.held
+held_after q (events.Free node) answer = if_done answer (without_node q.held node) q.held
 held_after q other answer = q.held
 
-abbrev pub loud_by : Quiet → Event → List Node
-loud_by q (events.Deliver packet) = comes_to q (slice_get q.sent packet)
-loud_by q other = q.loud
-
-abbrev pub loud_after : Quiet → Deed → Option Answer → List Node
-loud_after q (Does event) answer = loud_by q event
-loud_after q (Start node) answer = comes_to q (Some node)
-loud_after q (WorkAll node) answer = if_done answer (without_node q.loud node) q.loud
+abbrev pub loud_after : Quiet → Event → Option Answer → List Node
+loud_after q (events.Deliver packet) answer = comes_to q (slice_get q.sent packet)
+loud_after q (events.Start node) answer = comes_to q (Some node)
+loud_after q (events.WorkAll node) answer = if_done answer (without_node q.loud node) q.loud
 loud_after q other answer = q.loud
 
 abbrev pub after : Quiet → Turn → Quiet
 after q turn =
     let answer : Option Answer = answer_in turn.lines in
     record {
-      held = held_after q turn.deed answer;
-      loud = loud_after q turn.deed answer;
+      held = held_after q turn.event answer;
+      loud = loud_after q turn.event answer;
       sent = q.sent ++ sent_in turn.lines;
     }
 
@@ -82,23 +78,22 @@ abbrev pub size_by : Event → ℕ → ℕ → ℕ
 size_by (events.Table number schema) table rest = if number == table then schema.chunk else rest
 size_by other table rest = rest
 
-abbrev pub size_for : List Deed → ℕ → ℕ
+abbrev pub size_for : List Event → ℕ → ℕ
 size_for [] table = 0
-size_for (Does event ∷ more) table = size_by event table (size_for more table)
-size_for (other ∷ more) table = size_for more table
+size_for (event ∷ more) table = size_by event table (size_for more table)
 
 -- a list of a table's chunks, at a quiet Store, has exactly those that its rows name; chunks have a size from 1
-abbrev pub IsListed : (ℕ → ℕ) → Said → Quiet → Deed → Option Answer → Type 0
-IsListed sizes s q (Chunks table) (Some answer) =
+abbrev pub IsListed : (ℕ → ℕ) → Said → Quiet → Event → Option Answer → Type 0
+IsListed sizes s q (events.Chunks table) (Some answer) =
     0 < sizes table → has_node q.loud the_store ≡ false → AreTheChunks s table (sizes table) (names_in answer)
-IsListed sizes s q deed answer = Unit {0}
+IsListed sizes s q event answer = Unit {0}
 
 abbrev pub AreListedFrom : (ℕ → ℕ) → Said → Quiet → List Turn → Type 0
 AreListedFrom sizes s q [] = Unit {0}
 AreListedFrom sizes s q (turn ∷ turns) =
-    IsListed sizes s q turn.deed (answer_in turn.lines)
+    IsListed sizes s q turn.event (answer_in turn.lines)
     × AreListedFrom sizes (hear_lines s turn.lines) (after q turn) turns
 
 abbrev pub AreListed : List Turn → Type 0
 AreListed turns =
-    AreListedFrom (size_for (map (λ (turn : Turn). turn.deed) turns)) nothing_said at_first turns
+    AreListedFrom (size_for (map (λ (turn : Turn). turn.event) turns)) nothing_said at_first turns

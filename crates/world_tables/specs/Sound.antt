@@ -18,7 +18,7 @@ use Rattle.step_tables.specs.Sayings.{Saying, SaysNothing, SaysWrite, SaysEntry,
 use Rattle.step_tables.specs.Sayings.{SaysConflict, SaysResolved, SaysRead, SaysPosition, says, RowHeard, Heard, Said}
 use Rattle.step_tables.specs.Sayings.{nothing_said, hear, hear_lines, write_of, open_of, open_in}
 use Rattle.world_tables.specs.Again.{is_again, IsUp}
-use Rattle.world_tables.specs.World.{entry_lines, Deed, Does, Hold, Free, Work, WorkAll, Crash, Start, Chunks}
+use Rattle.world_tables.specs.World.{entry_lines}
 use Rattle.world_tables.specs.Turns.{Turn}
 
 -- ---- the scheme of a table: that of its first declaration
@@ -27,10 +27,9 @@ abbrev pub declared_by : Event → ℕ → Scheme → Scheme
 declared_by (events.Table number schema) table rest = if number == table then schema.scheme else rest
 declared_by other table rest = rest
 
-abbrev pub scheme_for : List Deed → ℕ → Scheme
+abbrev pub scheme_for : List Event → ℕ → Scheme
 scheme_for [] table = Eventual
-scheme_for (Does event ∷ more) table = declared_by event table (scheme_for more table)
-scheme_for (other ∷ more) table = scheme_for more table
+scheme_for (event ∷ more) table = declared_by event table (scheme_for more table)
 
 -- ---- entries and writes in what was said
 
@@ -197,93 +196,72 @@ IsStored s table row other = Unit {0}
 
 -- an answer with the lines that it counts: a `show` gives what the client's lines make it show, a `sum` gives it by
 -- digests, the Store gives its rows and histories as its lines make them
-abbrev pub IsEventAnswer : (ℕ → Scheme) → Said → Event → Answer → List Line → Type 0
-IsEventAnswer g s (events.Show client table row) answer counted = IsShown (shown_of g s client table row) answer
-IsEventAnswer g s (events.Sum client table row) answer counted = IsSum (shown_of g s client table row) answer
-IsEventAnswer g s (events.StoreShow table row) answer counted = IsStored s table row answer
-IsEventAnswer g s (events.History table) (facts.Number number) counted =
+abbrev pub IsAnswer : (ℕ → Scheme) → Said → Event → Answer → List Line → Type 0
+IsAnswer g s (events.Show client table row) answer counted = IsShown (shown_of g s client table row) answer
+IsAnswer g s (events.Sum client table row) answer counted = IsSum (shown_of g s client table row) answer
+IsAnswer g s (events.StoreShow table row) answer counted = IsStored s table row answer
+IsAnswer g s (events.History table) (facts.Number number) counted =
     (number ≡ length (s.history table)) × (counted ≡ entry_lines table (s.history table))
-IsEventAnswer g s event answer counted = Unit {0}
+IsAnswer g s event answer counted = Unit {0}
 
-abbrev pub IsAnswer : (ℕ → Scheme) → Said → Deed → Answer → List Line → Type 0
-IsAnswer g s (Does event) answer counted = IsEventAnswer g s event answer counted
-IsAnswer g s other answer counted = Unit {0}
-
--- ---- Shape: a declaration writes nothing; every other deed has one answer, in a form of its command, the lines that
+-- ---- Shape: a declaration writes nothing; every other event has one answer, in a form of its command, the lines that
 -- it counts, and facts
 
-abbrev pub declares : Event → Bool
-declares (events.Store store) = true
-declares (events.Table table schema) = true
-declares (events.Client client gate tables) = true
-declares other = false
-
-abbrev pub is_declaration : Deed → Bool
-is_declaration (Does event) = declares event
+abbrev pub is_declaration : Event → Bool
+is_declaration (events.Store store) = true
+is_declaration (events.Table table schema) = true
+is_declaration (events.Client client gate tables) = true
 is_declaration other = false
 
-abbrev pub IsEventForm : Event → Answer → Type 0
-IsEventForm event (facts.Refuses refusal) = Unit {0}
-IsEventForm (events.Write client table row content) (facts.Number number) = Unit {0}
-IsEventForm (events.Show client table row) (facts.Shows what) = Unit {0}
-IsEventForm (events.Sum client table row) (facts.Shows what) = Unit {0}
-IsEventForm (events.Sum client table row) (facts.Sums sum) = Unit {0}
-IsEventForm (events.Sync client table) (facts.Number number) = Unit {0}
-IsEventForm (events.Pull client table) facts.Done = Unit {0}
-IsEventForm (events.Deliver packet) facts.Done = Unit {0}
-IsEventForm (events.StoreShow table row) (facts.Stores version content) = Unit {0}
-IsEventForm (events.History table) (facts.Number number) = Unit {0}
-IsEventForm event answer = ⊥
+abbrev pub IsForm : Event → Answer → Type 0
+IsForm event (facts.Refuses refusal) = Unit {0}
+IsForm (events.Write client table row content) (facts.Number number) = Unit {0}
+IsForm (events.Show client table row) (facts.Shows what) = Unit {0}
+IsForm (events.Sum client table row) (facts.Shows what) = Unit {0}
+IsForm (events.Sum client table row) (facts.Sums sum) = Unit {0}
+IsForm (events.Sync client table) (facts.Number number) = Unit {0}
+IsForm (events.Pull client table) facts.Done = Unit {0}
+IsForm (events.Deliver packet) facts.Done = Unit {0}
+IsForm (events.StoreShow table row) (facts.Stores version content) = Unit {0}
+IsForm (events.History table) (facts.Number number) = Unit {0}
+IsForm (events.Chunks table) (facts.Names names) = Unit {0}
+IsForm (events.Chunks table) (facts.Number number) = number ≡ 0
+IsForm (events.Hold node) facts.Done = Unit {0}
+IsForm (events.Free node) facts.Done = Unit {0}
+IsForm (events.Work node) (facts.Did step) = Unit {0}
+IsForm (events.WorkAll node) (facts.Number number) = Unit {0}
+IsForm (events.Crash node calls pick) facts.Done = Unit {0}
+IsForm (events.Start node) facts.Done = Unit {0}
+IsForm event answer = ⊥
 
-abbrev pub IsForm : Deed → Answer → Type 0
-IsForm (Does event) answer = IsEventForm event answer
-IsForm deed (facts.Refuses refusal) = Unit {0}
-IsForm (Hold node) facts.Done = Unit {0}
-IsForm (Free node) facts.Done = Unit {0}
-IsForm (Work node) (facts.Did step) = Unit {0}
-IsForm (WorkAll node) (facts.Number number) = Unit {0}
-IsForm (Crash node calls pick) facts.Done = Unit {0}
-IsForm (Start node) facts.Done = Unit {0}
-IsForm (Chunks table) (facts.Names names) = Unit {0}
-IsForm (Chunks table) (facts.Number number) = number ≡ 0
-IsForm deed answer = ⊥
-
-abbrev pub IsEventCounted : Event → Answer → List Line → Type 0
-IsEventCounted (events.History table) (facts.Number number) counted =
+abbrev pub IsCounted : Event → Answer → List Line → Type 0
+IsCounted (events.History table) (facts.Number number) counted =
     (history : List Entry) × (counted ≡ entry_lines table history) × (length history ≡ number)
-IsEventCounted event answer counted = counted ≡ []
-
-abbrev pub IsCounted : Deed → Answer → List Line → Type 0
-IsCounted (Does event) answer counted = IsEventCounted event answer counted
-IsCounted other answer counted = counted ≡ []
-
-abbrev pub IsEventQuiet : Event → List Fact → Type 0
-IsEventQuiet (events.StoreShow table row) told = told ≡ []
-IsEventQuiet (events.History table) told = told ≡ []
-IsEventQuiet event told = Unit {0}
+IsCounted event answer counted = counted ≡ []
 
 -- where the Store is asked, nothing is told, and neither where a node is held or freed, or crashes
-abbrev pub IsQuiet : Deed → List Fact → Type 0
-IsQuiet (Does event) told = IsEventQuiet event told
-IsQuiet (Hold node) told = told ≡ []
-IsQuiet (Free node) told = told ≡ []
-IsQuiet (Crash node calls pick) told = told ≡ []
-IsQuiet (Chunks table) told = told ≡ []
-IsQuiet other told = Unit {0}
+abbrev pub IsQuiet : Event → List Fact → Type 0
+IsQuiet (events.StoreShow table row) told = told ≡ []
+IsQuiet (events.History table) told = told ≡ []
+IsQuiet (events.Chunks table) told = told ≡ []
+IsQuiet (events.Hold node) told = told ≡ []
+IsQuiet (events.Free node) told = told ≡ []
+IsQuiet (events.Crash node calls pick) told = told ≡ []
+IsQuiet event told = Unit {0}
 
--- a deed's lines: its answer, the lines counted, and facts; behind what was said
-pub record IsAnswered (g : ℕ → Scheme) (s : Said) (deed : Deed) (lines : List Line) : Type 0 where
+-- an event's lines: its answer, the lines counted, and facts; behind what was said
+pub record IsAnswered (g : ℕ → Scheme) (s : Said) (event : Event) (lines : List Line) : Type 0 where
   pub answer : Answer
   pub counted : List Line
   pub told : List Fact
   pub lines_are : lines ≡ AnswerLine answer ∷ counted ++ map FactLine told
-  pub form : IsForm deed answer
-  pub counts : IsCounted deed answer counted
-  pub quiet : IsQuiet deed told
-  pub is : IsAnswer g s deed answer counted
+  pub form : IsForm event answer
+  pub counts : IsCounted event answer counted
+  pub quiet : IsQuiet event told
+  pub is : IsAnswer g s event answer counted
 
 abbrev pub IsTurn : (ℕ → Scheme) → Said → Turn → Type 0
-IsTurn g s turn = MatchBool (is_declaration turn.deed) (turn.lines ≡ []) (IsAnswered g s turn.deed turn.lines)
+IsTurn g s turn = MatchBool (is_declaration turn.event) (turn.lines ≡ []) (IsAnswered g s turn.event turn.lines)
 
 -- ---- In sight: no write is lost from sight. It is an entry, or its client shows it, or it is an open write of a
 -- strong table, or a later write of its client on the row stands in the lines, or a line names it as refused or
@@ -316,4 +294,4 @@ IsSoundFrom g s (turn ∷ turns) =
     InSight g s × IsTurn g s turn × AreSaid g s turn.lines × IsSoundFrom g (hear_lines s turn.lines) turns
 
 abbrev pub IsSound : List Turn → Type 0
-IsSound turns = IsSoundFrom (scheme_for (map (λ (turn : Turn). turn.deed) turns)) nothing_said turns
+IsSound turns = IsSoundFrom (scheme_for (map (λ (turn : Turn). turn.event) turns)) nothing_said turns

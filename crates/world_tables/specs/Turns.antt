@@ -1,25 +1,26 @@
--- The runs of a world: what each deed of a script writes.
+-- The runs of a world: what each event of a script writes.
 use Rattle.std.specs.Prelude.{List, [], ◌∷◌}
 use Rattle.std.specs.List.{flat_map}
+use Rattle.table_model.specs.declared.event.Event.{Event}
 use Rattle.step_tables.specs.Facts.{Line}
 use Rattle.step_tables.specs.Messages.{Luck}
-use Rattle.world_tables.specs.World.{World, Deed, start, step, lines_of}
+use Rattle.world_tables.specs.World.{World, start, step, lines_of}
 
--- a deed, and how the device calls go that it does
+-- an event, and how the device calls go that it does
 pub record Happening : Type 0 where
-  pub deed : Deed
+  pub event : Event
   pub lucks : List Luck
 
--- a deed with the lines that it wrote
+-- an event with the lines that it wrote
 pub record Turn : Type 0 where
-  pub deed : Deed
+  pub event : Event
   pub lines : List Line
 
 abbrev pub turns_from : World → List Happening → List Turn
 turns_from w [] = []
 turns_from w (h ∷ more) =
-    record { deed = h.deed; lines = lines_of w (step w h.deed h.lucks) }
-    ∷ turns_from (step w h.deed h.lucks).world more
+    record { event = h.event; lines = lines_of w (step w h.event h.lucks) }
+    ∷ turns_from (step w h.event h.lucks).world more
 
 -- what happens from the start writes
 abbrev pub turns : List Happening → List Turn
@@ -27,7 +28,7 @@ turns happenings = turns_from start happenings
 
 abbrev pub world_from : World → List Happening → World
 world_from w [] = w
-world_from w (h ∷ more) = world_from (step w h.deed h.lucks).world more
+world_from w (h ∷ more) = world_from (step w h.event h.lucks).world more
 
 -- the transcript of some turns
 abbrev pub transcript_of : List Turn → List Line

@@ -1,4 +1,4 @@
--- The world: what a deed makes of all nodes and of the network, with the lucks of the device calls that it does.
+-- The world: what an event makes of all nodes and of the network, with the lucks of the device calls that it does.
 use Rattle.std.specs.Prelude.{ℕ, zero, suc, ◌+◌, ◌==◌, nat_le, nat_lt, Bool, true, false, ◌||◌, not, List, []}
 use Rattle.std.specs.Prelude.{◌∷◌, ◌++◌, length, map, filter, drop, slice_get, Option, Some, None, option_to_list}
 use Rattle.std.specs.Prelude.{if◌then◌else◌}
@@ -140,7 +140,7 @@ pub record WorldStep : Type 0 where
 abbrev pub lines_of : World → WorldStep → List Line
 lines_of w s = map AnswerLine (option_to_list s.answer) ++ (s.counted ++ lines_from (length w.packets) s.outs)
 
--- behind some moves of a deed: what they told and sent, and whether a device call failed
+-- behind some moves of an event: what they told and sent, and whether a device call failed
 pub record Moved : Type 0 where
   pub world : World
   pub outs : List Outbox
@@ -385,21 +385,9 @@ store_crashes number calls lucks w =
     (table_crashes (crash_luck calls (other_lucks lucks) (first_luck lucks)) (busy_table w number) w)
     (store_falls number)
 
--- ---- deeds
+-- ---- events
 
--- what a line of a script does: an event, or something that is done to a node. A held node does its device writes only
--- one by one, or all at once, when a line says so
-pub data Deed : Type 0 where
-  Does : (event : Event) → Deed
-  Hold : (node : Node) → Deed
-  Free : (node : Node) → Deed
-  Work : (node : Node) → Deed
-  WorkAll : (node : Node) → Deed
-  Crash : (node : Node) → (calls pick : ℕ) → Deed
-  Start : (node : Node) → Deed
-  Chunks : (table : ℕ) → Deed
-
--- a deed whose device call failed is answered so
+-- an event whose device call failed is answered so
 abbrev pub answering : Answer → Moved → WorldStep
 answering answer m = record {
   world = m.world;
@@ -570,21 +558,6 @@ history_lines w table (Some hosted) = record {
   outs = [];
 }
 
--- what an event makes of the world, where its device calls go so
-abbrev pub event_step : World → Event → List Luck → WorldStep
-event_step w (events.Store number) lucks = silent w
-event_step w (events.Table table schema) lucks =
-    silent (declared w table schema (first_luck lucks) (hosted_at w table))
-event_step w (events.Client c gate tables) lucks = silent (joined w c tables (client_at w c))
-event_step w (events.Write c table row content) lucks = call w c (client.Write table row content) lucks
-event_step w (events.Show c table row) lucks = call w c (client.Show table row) lucks
-event_step w (events.Sum c table row) lucks = call w c (client.Sum table row) lucks
-event_step w (events.Sync c table) lucks = call w c (client.Sync table) lucks
-event_step w (events.Pull c table) lucks = call w c (client.Next table) lucks
-event_step w (events.Deliver packet) lucks = delivered w lucks (slice_get w.packets packet)
-event_step w (events.StoreShow table row) lucks = store_shows w row lucks (hosted_at w table)
-event_step w (events.History table) lucks = history_lines w table (hosted_at w table)
-
 -- ---- what is done to a node; only a Store has devices so far
 
 abbrev pub next_step : List StoreTask → Step
@@ -617,14 +590,26 @@ started w lucks (nodes.Store number) = if is_down w (nodes.Store number)
     else answered w facts.Done
 started w lucks other = answered w facts.Done
 
--- what a deed makes of the world, where its device calls go so
-abbrev pub step : World → Deed → List Luck → WorldStep
-step w (Does event) lucks = event_step w event lucks
-step w (Hold node) lucks = unless_down w node (answered (record w { holds = node ∷ w.holds }) facts.Done)
-step w (Free node) lucks =
+-- what an event makes of the world, where its device calls go so
+abbrev pub step : World → Event → List Luck → WorldStep
+step w (events.Store number) lucks = silent w
+step w (events.Table table schema) lucks =
+    silent (declared w table schema (first_luck lucks) (hosted_at w table))
+step w (events.Client c gate tables) lucks = silent (joined w c tables (client_at w c))
+step w (events.Write c table row content) lucks = call w c (client.Write table row content) lucks
+step w (events.Show c table row) lucks = call w c (client.Show table row) lucks
+step w (events.Sum c table row) lucks = call w c (client.Sum table row) lucks
+step w (events.Sync c table) lucks = call w c (client.Sync table) lucks
+step w (events.Pull c table) lucks = call w c (client.Next table) lucks
+step w (events.Deliver packet) lucks = delivered w lucks (slice_get w.packets packet)
+step w (events.StoreShow table row) lucks = store_shows w row lucks (hosted_at w table)
+step w (events.History table) lucks = history_lines w table (hosted_at w table)
+step w (events.Chunks table) lucks = chunk_names w table (hosted_at w table)
+step w (events.Hold node) lucks =
+    unless_down w node (answered (record w { holds = node ∷ w.holds }) facts.Done)
+step w (events.Free node) lucks =
     unless_down w node (answered (record w { holds = without_node w.holds node }) facts.Done)
-step w (Work node) lucks = unless_down w node (worked w lucks node)
-step w (WorkAll node) lucks = unless_down w node (all_worked w lucks node)
-step w (Crash node calls pick) lucks = unless_down w node (crashed w calls lucks node)
-step w (Start node) lucks = started w lucks node
-step w (Chunks table) lucks = chunk_names w table (hosted_at w table)
+step w (events.Work node) lucks = unless_down w node (worked w lucks node)
+step w (events.WorkAll node) lucks = unless_down w node (all_worked w lucks node)
+step w (events.Crash node calls pick) lucks = unless_down w node (crashed w calls lucks node)
+step w (events.Start node) lucks = started w lucks node

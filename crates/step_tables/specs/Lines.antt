@@ -1,0 +1,61 @@
+-- The lines of the program as lines of the tables by moves.
+use Rattle.row_value.specs.declared.fit.FitFault.TheVariants as faults
+use Rattle.table_model.specs.declared.line.Answer.{Answer}
+use Rattle.table_model.specs.declared.line.Answer.TheVariants as answers
+use Rattle.table_model.specs.declared.line.Fact.{Fact}
+use Rattle.table_model.specs.declared.line.Fact.TheVariants as told
+use Rattle.table_model.specs.declared.line.Refusal.{Refusal}
+use Rattle.table_model.specs.declared.line.Refusal.TheVariants as refusals
+use Rattle.table_model.specs.declared.line.Shown.{Shown}
+use Rattle.table_model.specs.declared.line.Shown.TheVariants as shown
+use Rattle.table_model.specs.declared.sum.ShownSum.{ShownSum}
+use Rattle.table_model.specs.declared.sum.ShownSum.TheVariants as sums
+use Rattle.table_model.specs.declared.line.TextLine.{TextLine}
+use Rattle.table_model.specs.declared.line.TextLine.TheVariants as lines
+use Rattle.step_tables.specs.Facts as facts
+
+abbrev pub refusal_of : Refusal → facts.Refusal
+refusal_of refusals.NoDevice = facts.NoDevice
+refusal_of (refusals.Busy with) = facts.Busy
+refusal_of (refusals.Down node) = facts.NodeDown node
+refusal_of (refusals.BadCell column) = facts.Unfit (faults.BadCell column)
+refusal_of (refusals.BadObject column len) = facts.Unfit (faults.BadObject column len)
+refusal_of (refusals.RowTooLarge len) = facts.Unfit (faults.RowTooLarge len)
+refusal_of (refusals.TooManyChunks count) = facts.Unfit (faults.TooManyChunks count)
+refusal_of refusals.NoTable = facts.NoTable
+refusal_of refusals.NoRow = facts.NoRow
+refusal_of (refusals.NoPacket sent) = facts.NoPacket sent
+
+abbrev pub shown_of : Shown → facts.Shown
+shown_of (shown.Clean version content) = facts.Clean version content
+shown_of (shown.Mine number content) = facts.Mine number content
+
+abbrev pub sum_of : ShownSum → facts.ShownSum
+sum_of (sums.Clean version row) = facts.CleanSum version row
+sum_of (sums.Mine number row) = facts.MineSum number row
+
+abbrev pub answer_of : Answer → facts.Answer
+answer_of answers.Done = facts.Done
+answer_of (answers.Number number) = facts.Number number
+answer_of (answers.Shown what) = facts.Shows (shown_of what)
+answer_of (answers.Sums sum) = facts.Sums (sum_of sum)
+answer_of (answers.Stored version content) = facts.Stores version content
+answer_of (answers.Did step) = facts.Did step
+answer_of (answers.Names names) = facts.Names names
+answer_of (answers.Refused refusal) = facts.Refuses (refusal_of refusal)
+
+abbrev pub fact_of : Fact → facts.Fact
+fact_of (told.Sent packet from to name) = facts.Sent packet from to name
+fact_of (told.Wrote write) = facts.Client (facts.Wrote write)
+fact_of (told.Acked c number table row version) = facts.Client (facts.Acked c number table row version)
+fact_of (told.New c table row version) = facts.Client (facts.New c table row version)
+fact_of (told.Position c table position) = facts.Client (facts.Position c table position)
+fact_of (told.Accepted table entry) = facts.Accepted table entry
+fact_of (told.Forward table entry) = facts.Forward table entry
+fact_of (told.Back table version) = facts.Back table version
+fact_of (told.Recovered store table) = facts.StoreRecovered store table
+
+abbrev pub line_of : TextLine → facts.Line
+line_of (lines.Answer answer) = facts.AnswerLine (answer_of answer)
+line_of (lines.Entry table entry) = facts.EntryLine table entry
+line_of (lines.Fact fact) = facts.FactLine (fact_of fact)

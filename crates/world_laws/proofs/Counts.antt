@@ -1,0 +1,724 @@
+-- The versions of a table, and the numbers of a client's writes, are no more than the events of a run.
+use Rattle.std.proofs.Common.{◌≡◌, ⊎_elim, ℕ, zero, suc, ◌+◌, ◌≤◌, Bool, true, false, List, [], ◌∷◌, ◌++◌, length, Option, Some, None, Result, Ok, Err, refl, sym, ◌∙◌, subst, arith, length-append}
+use Rattle.std.specs.Prelude.{◌==◌, not, nat_le, nat_lt, drop, slice_get, if◌then◌else◌}
+use Rattle.std.specs.Ordering.{nat_cmp}
+use Rattle.std.specs.Map.{lookup}
+use Rattle.std.specs.BTreeMap.{is_at, insert_entry}
+use Rattle.stab_base.specs.declared.chunk_name.ChunkName.{ChunkName}
+use Rattle.stab_base.specs.declared.node.Node.{Node}
+use Rattle.stab_base.specs.declared.node.Node.TheVariants as nodes
+use Rattle.row_value.specs.declared.content.Content.{Content}
+use Rattle.row_value.specs.declared.fit.FitFault.{FitFault}
+use Rattle.row_value.specs.declared.schema.Schema.{Schema}
+use Rattle.row_value.specs.declared.schema.Scheme.{Scheme}
+use Rattle.row_value.specs.declared.schema.Scheme.TheVariants.{Strong, Causal, Eventual}
+use Rattle.row_value.specs.Fit.{fit_of}
+use Rattle.table_model.specs.declared.event.Event.{Event}
+use Rattle.table_model.specs.declared.event.Event.TheVariants as events
+use Rattle.step_tables.specs.declared.slots.InFlight.{InFlight}
+use Rattle.step_tables.specs.declared.slots.Shadow.{Shadow}
+use Rattle.step_tables.specs.Store.{Stored, current_of}
+use Rattle.step_tables.specs.Chunks.{rising, names_with, new_names, old_names}
+use Rattle.step_tables.specs.Facts.{Fact, Answer}
+use Rattle.step_tables.specs.Facts as facts
+use Rattle.step_tables.specs.Messages.{Request, Response, Pulled, Header, Pair, Outcome, Message, Send, Luck, SyncRequest, SyncResponse, PullRequest, PullResponse, table_of}
+use Rattle.step_tables.specs.Messages as messages
+use Rattle.step_tables.specs.StoreMoves as store
+use Rattle.step_tables.specs.StoreMoves.{StoreDisk, StoreChange, StoreTask, TableStore, StoreMove, store_step}
+use Rattle.step_tables.specs.ClientMoves as client
+use Rattle.step_tables.specs.ClientMoves.{Slots, TableDisk, RowPut, Plan, ClientDisk, ClientChange, ClientTask, Client, ClientMove, RowOut, slots_at, table_at, seen, client_step}
+use Rattle.world_tables.specs.World.{World, Packet, Hosted, Moved, WorldStep, start, hosted_at, client_at, schema_at, scheme_in, chunk_in, owner, the_store, is_down, has_node, tables_of}
+use Rattle.world_tables.specs.World.{still, and_then, and_unless, tasks_in, after_table, move_hosted, move_table, move_there, move_client, first_luck, other_lucks, client_works}
+use Rattle.world_tables.specs.World.{client_tasks, client_follows, tables_fall, without_down, store_falls, or_falls, is_at_work, busy_table, write_next, store_works, tasks_of}
+use Rattle.world_tables.specs.World.{store_until_idle, store_follows, table_follows, declared_late, start_hosted, table_starts, tables_start, store_starts, crash_luck, table_crashes}
+use Rattle.world_tables.specs.World.{store_crashes, answering, answered, refused, unless_down, agenda_of, with_table, declared, open_all, new_client, joined, gets_tasks, call_there, call}
+use Rattle.world_tables.specs.World.{take_read, take_at, to_hosted, to_there, carried, delivered, row_read, store_shows, chunk_names, history_lines, worked, all_worked, crashed, started}
+use Rattle.world_tables.specs.World.{step}
+use Rattle.world_tables.specs.Turns.{Happening, world_from}
+use Rattle.world_laws.proofs.Looks.{look_cases}
+
+-- ---- a table: the versions that it has, and those that it is about to put
+
+abbrev puts_by : StoreChange → ℕ
+puts_by (store.Put item named old) = 1
+puts_by other = 0
+
+abbrev puts_in : List StoreTask → ℕ
+puts_in [] = 0
+puts_in (task ∷ more) = puts_by task.change + puts_in more
+
+abbrev versions_of : TableStore → ℕ
+versions_of s = length s.disk.items + puts_in (tasks_in s.agenda)
+
+puts_join : (xs ys : List StoreTask) → puts_in (xs ++ ys) ≡ puts_in xs + puts_in ys
+puts_join [] ys = omega arith
+puts_join (x ∷ xs) ys = let rest = puts_join xs ys in omega (arith, rest)
+
+puts_drops : (names : List ChunkName) → puts_in (store.drops names) ≡ 0
+puts_drops [] = refl
+puts_drops (name ∷ names) = let rest = puts_drops names in omega (arith, rest)
+
+puts_chunks : (names : List ChunkName) → puts_in (store.puts names) ≡ 0
+puts_chunks [] = refl
+puts_chunks (name ∷ names) = let rest = puts_chunks names in omega (arith, rest)
+
+-- a request that is taken puts one version
+accepting_puts : (size table : ℕ) (items : List Stored) (from : Node) (q : Request) (item : Stored) → puts_in (store.accepting size table items from q item) ≡ 1
+accepting_puts size table items from q item =
+    let close : StoreTask = record { change = store.Close; facts = []; sends = store.responded from q (messages.Accepted item.entry.version) ∷ [] } in
+    let put : StoreTask = store.ends_with (store.Put item (names_with size items item) (old_names size items item)) (facts.Accepted table item.entry) in
+    let a = puts_join (store.puts (new_names size items item)) (put ∷ (store.drops (old_names size items item) ++ close ∷ [])) in
+    let b = puts_join (store.drops (old_names size items item)) (close ∷ []) in
+    let c = puts_chunks (new_names size items item) in
+    let d = puts_drops (old_names size items item) in
+    omega (arith, a, b, c, d)
+
+recovering_puts : (table : ℕ) (d : StoreDisk) → puts_in (store.recovering owner table d) ≡ 0
+recovering_puts table d =
+    let close : StoreTask = store.ends_with store.Close (facts.StoreRecovered owner table) in
+    let a = puts_join (store.drops (rising d.left)) (close ∷ []) in
+    let b = puts_drops (rising d.left) in
+    omega (arith, a, b)
+
+changed_items : (d : StoreDisk) (change : StoreChange) → length (store.changed d change).items ≡ length d.items + puts_by change
+changed_items d (store.Put item named old) = length-append d.items (item ∷ [])
+changed_items d other = omega arith
+
+done_few : (d : StoreDisk) (agenda : Option (List StoreTask)) → versions_of (store.done d agenda).store ≤ length d.items + puts_in (tasks_in agenda)
+done_few d None = omega arith
+done_few d (Some []) = omega arith
+done_few d (Some (task ∷ more)) = let e = changed_items d task.change in omega (arith, e)
+
+crashed_few : (d : StoreDisk) (agenda : Option (List StoreTask)) (luck : Luck) → versions_of (store.crashed d agenda luck).store ≤ length d.items + puts_in (tasks_in agenda)
+crashed_few d None luck = omega arith
+crashed_few d (Some []) luck = omega arith
+crashed_few d (Some (task ∷ more)) messages.FailedBefore = omega arith
+crashed_few d (Some (task ∷ more)) messages.FailedAfter = let e = changed_items d task.change in omega (arith, e)
+crashed_few d (Some (task ∷ more)) messages.Done = let e = changed_items d task.change in omega (arith, e)
+
+worked_few : (d : StoreDisk) (agenda : Option (List StoreTask)) (luck : Luck) → versions_of (store.worked d agenda luck).store ≤ length d.items + puts_in (tasks_in agenda)
+worked_few d agenda messages.Done = done_few d agenda
+worked_few d agenda messages.FailedBefore = crashed_few d agenda messages.FailedBefore
+worked_few d agenda messages.FailedAfter = crashed_few d agenda messages.FailedAfter
+
+started_few : (table : ℕ) (d : StoreDisk) (agenda : Option (List StoreTask)) → versions_of (store.started owner table d agenda).store ≤ length d.items + puts_in (tasks_in agenda)
+started_few table d (Some agenda) = omega arith
+started_few table d None = recover d.pending
+  where
+    found : (pending : Stored) (i : Option Stored) → versions_of (store.recovered owner table d pending i).store ≤ length d.items + 0
+    found pending None = let e = recovering_puts table d in omega (arith, e)
+    found pending (Some i) = let e = recovering_puts table d in omega (arith, e)
+
+    recover : (o : Option Stored) → versions_of (store.recover owner table d o).store ≤ length d.items + 0
+    recover None = omega arith
+    recover (Some pending) = found pending (store.item_at pending.entry.version d.items)
+
+module _ (x : Scheme) (size table : ℕ) (d : StoreDisk) where
+  judged_few : (from : Node) (q : Request) (current : ℕ) → versions_of (store.judged x size table d from q current).store ≤ length d.items + 1
+  judged_few from q current = go (store.takes x q.base current)
+    where
+      go : (b : Bool) → versions_of (if b then store.quiet d (Some (store.accepting size table d.items from q (store.item_for d.items q))) facts.Done
+          else store.sending d (store.responded from q (store.outdated x current) ∷ [])).store ≤ length d.items + 1
+      go true = let e = accepting_puts size table d.items from q (store.item_for d.items q) in omega (arith, e)
+      go false = omega arith
+
+  decided_few : (from : Node) (q : Request) (yours : Pair) → versions_of (store.decided x size table d from q yours).store ≤ length d.items + 1
+  decided_few from q yours = go (yours.number == q.number) (nat_lt q.number yours.number)
+    where
+      go : (a b : Bool) → versions_of (if a then store.sending d (store.responded from q (messages.Again yours.version) ∷ [])
+          else (if b then store.sending d (store.responded from q (messages.Late yours.number) ∷ [])
+          else store.judged x size table d from q (store.version_of (current_of d.items q.row)))).store ≤ length d.items + 1
+      go true b = omega arith
+      go false true = omega arith
+      go false false = judged_few from q (store.version_of (current_of d.items q.row))
+
+  taken_few : (agenda : Option (List StoreTask)) (from : Node) (m : Message) → versions_of (store.taken x size table d agenda from m).store ≤ length d.items + puts_in (tasks_in agenda) + 1
+  taken_few None from m = omega arith
+  taken_few (Some (task ∷ more)) from m = omega arith
+  taken_few (Some []) from (SyncRequest q) = let e = decided_few from q (store.yours_in d.items q.client q.row) in omega (arith, e)
+  taken_few (Some []) from (PullRequest q) = omega arith
+  taken_few (Some []) from (SyncResponse q) = omega arith
+  taken_few (Some []) from (PullResponse q) = omega arith
+
+-- a message brings one version at most, and no other move brings any
+abbrev brings : StoreMove → ℕ
+brings (store.Take from message) = 1
+brings other = 0
+
+table_few : (x : Scheme) (size table : ℕ) (s : TableStore) (move : StoreMove) → versions_of (store_step owner x size table s move).store ≤ versions_of s + brings move
+table_few x size table s (store.Take from m) = taken_few x size table s.disk s.agenda from m
+table_few x size table s (store.Work luck) = let e = worked_few s.disk s.agenda luck in omega (arith, e)
+table_few x size table s (store.Crash luck) = let e = crashed_few s.disk s.agenda luck in omega (arith, e)
+table_few x size table s store.Start = let e = started_few table s.disk s.agenda in omega (arith, e)
+
+-- ---- a client: no number is above this one, in what its devices stand for and in what it is about to write
+
+abbrev ChangeUpTo : ℕ → ClientChange → Type 0
+ChangeUpTo n (client.Commit p) = p.last ≤ n
+ChangeUpTo n (client.PutRow p) = p.last ≤ n
+ChangeUpTo n other = Unit {0}
+
+abbrev TasksUpTo : ℕ → List ClientTask → Type 0
+TasksUpTo n [] = Unit {0}
+TasksUpTo n (task ∷ more) = ChangeUpTo n task.change × TasksUpTo n more
+
+abbrev PlanUpTo : ℕ → Option Plan → Type 0
+PlanUpTo n None = Unit {0}
+PlanUpTo n (Some p) = p.last ≤ n
+
+abbrev DiskUpTo : ℕ → ClientDisk → Type 0
+DiskUpTo n d = (d.last ≤ n) × PlanUpTo n d.plan
+
+abbrev IsUpTo : ℕ → Client → Type 0
+IsUpTo n s = DiskUpTo n s.disk × TasksUpTo n (tasks_in s.agenda)
+
+module _ (n m : ℕ) (less : n ≤ m) where
+  change_more : (change : ClientChange) → ChangeUpTo n change → ChangeUpTo m change
+  change_more (client.Commit p) few = omega (arith, few, less)
+  change_more (client.PutRow p) few = omega (arith, few, less)
+  change_more (client.PutTable p) few = tt
+  change_more client.Finish few = tt
+  change_more client.Keep few = tt
+
+  tasks_more : (tasks : List ClientTask) → TasksUpTo n tasks → TasksUpTo m tasks
+  tasks_more [] few = tt
+  tasks_more (task ∷ more) few = (change_more task.change few.0, tasks_more more few.1)
+
+  plan_more : (o : Option Plan) → PlanUpTo n o → PlanUpTo m o
+  plan_more None few = tt
+  plan_more (Some p) few = omega (arith, few, less)
+
+  disk_more : (d : ClientDisk) → DiskUpTo n d → DiskUpTo m d
+  disk_more d few = (let last = few.0 in omega (arith, last, less), plan_more d.plan few.1)
+
+  more_up_to : (s : Client) → IsUpTo n s → IsUpTo m s
+  more_up_to s few = (disk_more s.disk few.0, tasks_more (tasks_in s.agenda) few.1)
+
+module _ (n : ℕ) where
+  changed_up_to : (d : ClientDisk) (change : ClientChange) → DiskUpTo n d → ChangeUpTo n change → DiskUpTo n (client.changed d change)
+  changed_up_to d (client.Commit p) few here = (few.0, here)
+  changed_up_to d (client.PutRow p) few here = go p.row
+    where
+      there : (x : RowPut) (o : Option TableDisk) → DiskUpTo n (client.with_table (record d { last = p.last }) p.table o (client.put_row x))
+      there x None = (here, few.1)
+      there x (Some opened) = (here, few.1)
+
+      go : (o : Option RowPut) → DiskUpTo n (client.row_put d p.last p.table o)
+      go None = few
+      go (Some x) = there x (table_at d p.table)
+  changed_up_to d (client.PutTable p) few here = go p.position
+    where
+      there : (position : ℕ) (o : Option TableDisk) → DiskUpTo n (client.with_table d p.table o (client.put_position position))
+      there position None = few
+      there position (Some opened) = few
+
+      go : (o : Option ℕ) → DiskUpTo n (client.table_put d p.table o)
+      go None = few
+      go (Some position) = there position (table_at d p.table)
+  changed_up_to d client.Finish few here = (few.0, tt)
+  changed_up_to d client.Keep few here = few
+
+  done_up_to : (d : ClientDisk) (agenda : Option (List ClientTask)) → DiskUpTo n d → TasksUpTo n (tasks_in agenda) → IsUpTo n (client.done d agenda).client
+  done_up_to d None few tasks = (few, tt)
+  done_up_to d (Some []) few tasks = (few, tt)
+  done_up_to d (Some (task ∷ more)) few tasks = (changed_up_to d task.change few tasks.0, tasks.1)
+
+  crashed_up_to : (d : ClientDisk) (agenda : Option (List ClientTask)) (luck : Luck) → DiskUpTo n d → TasksUpTo n (tasks_in agenda) → IsUpTo n (client.crashed d agenda luck).client
+  crashed_up_to d None luck few tasks = (few, tt)
+  crashed_up_to d (Some []) luck few tasks = (few, tt)
+  crashed_up_to d (Some (task ∷ more)) messages.FailedBefore few tasks = (few, tt)
+  crashed_up_to d (Some (task ∷ more)) messages.FailedAfter few tasks = (changed_up_to d task.change few tasks.0, tt)
+  crashed_up_to d (Some (task ∷ more)) messages.Done few tasks = (changed_up_to d task.change few tasks.0, tt)
+
+  worked_up_to : (d : ClientDisk) (agenda : Option (List ClientTask)) (luck : Luck) → DiskUpTo n d → TasksUpTo n (tasks_in agenda) → IsUpTo n (client.worked d agenda luck).client
+  worked_up_to d agenda messages.Done few tasks = done_up_to d agenda few tasks
+  worked_up_to d agenda messages.FailedBefore few tasks = crashed_up_to d agenda messages.FailedBefore few tasks
+  worked_up_to d agenda messages.FailedAfter few tasks = crashed_up_to d agenda messages.FailedAfter few tasks
+
+  rest_up_to : (p : Plan) (some : List Fact) (sends : List Send) → p.last ≤ n → TasksUpTo n (client.rest_of p some sends)
+  rest_up_to p some sends few = go p.row p.position
+    where
+      last : ClientTask
+      last = record { change = client.Finish; facts = some; sends = sends }
+
+      table : (o : Option ℕ) → TasksUpTo n (client.table_task p o ++ last ∷ [])
+      table None = (tt, tt)
+      table (Some position) = (tt, (tt, tt))
+
+      go : (r : Option RowPut) (o : Option ℕ) → TasksUpTo n (client.row_task p r ++ (client.table_task p o ++ last ∷ []))
+      go None o = table o
+      go (Some x) o = (few, table o)
+
+  begun_up_to : (d : ClientDisk) (answer : Answer) (p : Plan) (sends : List Send) → DiskUpTo n d → p.last ≤ n → IsUpTo n (client.begun d answer p sends).client
+  begun_up_to d answer p sends few here = (few, (here, rest_up_to p [] sends here))
+
+-- a call draws one number at most, and nothing else draws any
+module _ (n c : ℕ) (d : ClientDisk) (few : DiskUpTo n d) where
+  later : DiskUpTo (n + 1) d
+  later = disk_more n (n + 1) (omega arith) d few
+
+  next : d.last + 1 ≤ n + 1
+  next = let last = few.0 in omega (arith, last)
+
+  same : d.last ≤ n + 1
+  same = later.0
+
+  strong_up_to : (table : ℕ) (row : List ℕ) (slots : Slots) (x : Content) (o : Option InFlight) → IsUpTo (n + 1) (client.write_strong c d table row slots x o).client
+  strong_up_to table row slots x (Some out) = (later, tt)
+  strong_up_to table row slots x None = (later, (next, (next, (tt, tt))))
+
+  by_up_to : (g : Scheme) (table : ℕ) (row : List ℕ) (opened : TableDisk) (slots : Slots) (x : Content) → IsUpTo (n + 1) (client.write_by g c d table row opened slots x).client
+  by_up_to Strong table row opened slots x = strong_up_to table row slots x (client.first_out opened.rows)
+  by_up_to Causal table row opened slots x = (later, (next, (next, (tt, tt))))
+  by_up_to Eventual table row opened slots x = (later, (next, (next, (tt, tt))))
+
+  free_up_to : (g : Scheme) (table : ℕ) (row : List ℕ) (opened : TableDisk) (slots : Slots) (x : Content) (y : Option Shadow)
+      → IsUpTo (n + 1) (client.write_free g c d table row opened slots x y).client
+  free_up_to g table row opened slots x None = by_up_to g table row opened slots x
+  free_up_to g table row opened slots x (Some y) = (later, tt)
+
+  outcome_up_to : (table : ℕ) (row : List ℕ) (opened : TableDisk) (slots : Slots) (out : InFlight) (outcome : Outcome)
+      → IsUpTo (n + 1) (client.outcome_taken c d table row opened slots out outcome).client
+  outcome_up_to table row opened slots out (messages.Accepted version) = (later, (same, (same, (tt, tt))))
+  outcome_up_to table row opened slots out (messages.Again version) = (later, (same, (same, (tt, tt))))
+  outcome_up_to table row opened slots out (messages.Late last) = (later, tt)
+  outcome_up_to table row opened slots out (messages.Stale latest) = (later, (same, (same, (tt, tt))))
+  outcome_up_to table row opened slots out (messages.Conflict latest) = (later, tt)
+
+  response_up_to : (r : Response) (o : Option TableDisk) → IsUpTo (n + 1) (client.response_in c d r o).client
+  response_up_to r None = (later, tt)
+  response_up_to r (Some opened) = taken (slots_at opened r.row).out
+    where
+      taken : (o : Option InFlight) → IsUpTo (n + 1) (client.response_taken c d r opened o).client
+      taken None = (later, tt)
+      taken (Some out) = go (out.number == r.number)
+        where
+          go : (b : Bool) → IsUpTo (n + 1) (if b then client.outcome_taken c d r.table r.row opened (slots_at opened r.row) out r.outcome else client.ignored d).client
+          go true = outcome_up_to r.table r.row opened (slots_at opened r.row) out r.outcome
+          go false = (later, tt)
+
+  row_up_to : (q : Pulled) (opened : TableDisk) (header : Header) (slots : Slots) → IsUpTo (n + 1) (client.row_taken c d q opened header slots).client
+  row_up_to q opened header slots = go (nat_le header.version (client.top slots.conflict slots.shadow))
+    where
+      go : (b : Bool) → IsUpTo (n + 1) (if b then client.begun d facts.Done (client.position_plan c d q.table q.to) (client.next_pull c q.table q)
+          else client.begun d facts.Done (client.row_plan c d q.table header.row q.to (client.row_placed opened.schema.scheme c q.table header slots slots.out)) (client.next_pull c q.table q)).client
+      go true = begun_up_to (n + 1) d facts.Done (client.position_plan c d q.table q.to) (client.next_pull c q.table q) later same
+      go false = begun_up_to (n + 1) d facts.Done (client.row_plan c d q.table header.row q.to (client.row_placed opened.schema.scheme c q.table header slots slots.out))
+          (client.next_pull c q.table q) later same
+
+  pulled_up_to : (q : Pulled) (o : Option TableDisk) → IsUpTo (n + 1) (client.pulled_in c d q o).client
+  pulled_up_to q None = (later, tt)
+  pulled_up_to q (Some opened) = taken q.header
+    where
+      taken : (o : Option Header) → IsUpTo (n + 1) (client.pulled_taken c d q opened o).client
+      taken None = (later, tt)
+      taken (Some header) = go (q.from == opened.position)
+        where
+          go : (b : Bool) → IsUpTo (n + 1) (if b then client.row_taken c d q opened header (slots_at opened header.row) else client.ignored d).client
+          go true = row_up_to q opened header (slots_at opened header.row)
+          go false = (later, tt)
+
+  first_up_to : (table : ℕ) (again : List Send) (o : Option RowOut) → IsUpTo (n + 1) (client.sync_first c d table again o).client
+  first_up_to table again None = (later, tt)
+  first_up_to table again (Some x) = (later, (same, (same, (tt, tt))))
+
+  later_tasks : (agenda : List ClientTask) → TasksUpTo n agenda → TasksUpTo (n + 1) agenda
+  later_tasks agenda tasks = tasks_more n (n + 1) (omega arith) agenda tasks
+
+  idle_up_to : (g : Scheme) (agenda : List ClientTask) → TasksUpTo n agenda → (table : ℕ) (row : List ℕ) (opened : TableDisk) (x : Content)
+      → IsUpTo (n + 1) (client.write_idle g c d agenda table row opened x).client
+  idle_up_to g (task ∷ more) tasks table row opened x = (later, later_tasks (task ∷ more) tasks)
+  idle_up_to g [] tasks table row opened x = free_up_to g table row opened (slots_at opened row) x (slots_at opened row).conflict
+
+  write_up_to : (agenda : Option (List ClientTask)) → TasksUpTo n (tasks_in agenda) → (table : ℕ) (row : List ℕ) (x : Content) → IsUpTo (n + 1) (client.write_step c d agenda table row x).client
+  write_up_to None tasks table row x = (later, tt)
+  write_up_to (Some agenda) tasks table row x = there (table_at (seen d) table)
+    where
+      fitting : (g : Scheme) (opened : TableDisk) (fit : Result (Unit {0}) FitFault) → IsUpTo (n + 1) (client.write_fitting g c d agenda table row opened x fit).client
+      fitting g opened (Ok fits) = idle_up_to g agenda tasks table row opened x
+      fitting g opened (Err fault) = (later, later_tasks agenda tasks)
+
+      there : (o : Option TableDisk) → IsUpTo (n + 1) (client.write_to c d agenda table row x o).client
+      there None = (later, later_tasks agenda tasks)
+      there (Some opened) = fitting opened.schema.scheme opened (fit_of opened.schema x)
+
+  show_up_to : (agenda : Option (List ClientTask)) → TasksUpTo n (tasks_in agenda) → (table : ℕ) (row : List ℕ) → IsUpTo (n + 1) (client.show_step d agenda table row).client
+  show_up_to None tasks table row = (later, tt)
+  show_up_to (Some agenda) tasks table row = (later, later_tasks agenda tasks)
+
+  sync_in_up_to : (agenda : List ClientTask) → TasksUpTo n agenda → (table : ℕ) (o : Option TableDisk) → IsUpTo (n + 1) (client.sync_in c d agenda table o).client
+  sync_in_up_to agenda tasks table None = (later, later_tasks agenda tasks)
+  sync_in_up_to (task ∷ more) tasks table (Some opened) = (later, later_tasks (task ∷ more) tasks)
+  sync_in_up_to [] tasks table (Some opened) = first_up_to table (client.resent c table opened.rows) (client.first_to_send opened.rows)
+
+  sync_up_to : (agenda : Option (List ClientTask)) → TasksUpTo n (tasks_in agenda) → (table : ℕ) → IsUpTo (n + 1) (client.sync_step c d agenda table).client
+  sync_up_to None tasks table = (later, tt)
+  sync_up_to (Some agenda) tasks table = sync_in_up_to agenda tasks table (table_at (seen d) table)
+
+  next_in_up_to : (agenda : List ClientTask) → TasksUpTo n agenda → (table : ℕ) (o : Option TableDisk) → IsUpTo (n + 1) (client.next_in c d agenda table o).client
+  next_in_up_to agenda tasks table None = (later, later_tasks agenda tasks)
+  next_in_up_to (task ∷ more) tasks table (Some opened) = (later, later_tasks (task ∷ more) tasks)
+  next_in_up_to [] tasks table (Some opened) = (later, tt)
+
+  next_up_to : (agenda : Option (List ClientTask)) → TasksUpTo n (tasks_in agenda) → (table : ℕ) → IsUpTo (n + 1) (client.next_step c d agenda table).client
+  next_up_to None tasks table = (later, tt)
+  next_up_to (Some agenda) tasks table = next_in_up_to agenda tasks table (table_at (seen d) table)
+
+  take_up_to : (agenda : Option (List ClientTask)) → TasksUpTo n (tasks_in agenda) → (m : Message) → IsUpTo (n + 1) (client.take_step c d agenda m).client
+  take_up_to None tasks m = (later, tt)
+  take_up_to (Some (task ∷ more)) tasks m = (later, later_tasks (task ∷ more) tasks)
+  take_up_to (Some []) tasks (SyncRequest q) = (later, tt)
+  take_up_to (Some []) tasks (PullRequest q) = (later, tt)
+  take_up_to (Some []) tasks (SyncResponse r) = response_up_to r (table_at (seen d) r.table)
+  take_up_to (Some []) tasks (PullResponse q) = pulled_up_to q (table_at (seen d) q.table)
+
+-- ---- a world whose tables have at most so many versions, and whose clients have drawn numbers up to this one
+
+abbrev TablesFew : ℕ → List (ℕ × Hosted) → Type 0
+TablesFew n tables = (q : ℕ) (hosted : Hosted) → lookup (is_at (nat_cmp q)) tables ≡ Some hosted → versions_of hosted.store ≤ n
+
+abbrev ClientsFew : ℕ → List (ℕ × Client) → Type 0
+ClientsFew n clients = (q : ℕ) (node : Client) → lookup (is_at (nat_cmp q)) clients ≡ Some node → IsUpTo n node
+
+abbrev AreFew : ℕ → World → Type 0
+AreFew n w = TablesFew n w.tables × ClientsFew n w.clients
+
+more_few : (n m : ℕ) → n ≤ m → (w : World) → AreFew n w → AreFew m w
+more_few n m less w few =
+    (λ q hosted at. let here = few.0 q hosted at in omega (arith, here, less), λ q node at. more_up_to n m less node (few.1 q node at))
+
+put_table : (n : ℕ) (tables : List (ℕ × Hosted)) (t : ℕ) (x : Hosted) → TablesFew n tables → versions_of x.store ≤ n → TablesFew n (insert_entry nat_cmp tables t x)
+put_table n tables t x few here q found at = ⊎_elim
+    (λ e. let both : Some x ≡ Some found = sym e.1 ∙ at in let same : x ≡ found = cc in subst (λ (y : Hosted). versions_of y.store ≤ n) same here)
+    (λ e. few q found (sym e.1 ∙ at)) (look_cases tables t x q)
+
+put_client : (n : ℕ) (clients : List (ℕ × Client)) (c : ℕ) (x : Client) → ClientsFew n clients → IsUpTo n x → ClientsFew n (insert_entry nat_cmp clients c x)
+put_client n clients c x few here q found at = ⊎_elim
+    (λ e. let both : Some x ≡ Some found = sym e.1 ∙ at in let same : x ≡ found = cc in subst (λ (y : Client). IsUpTo n y) same here)
+    (λ e. few q found (sym e.1 ∙ at)) (look_cases clients c x q)
+
+-- ---- moves
+
+move_few : (n m : ℕ) (w : World) (table : ℕ) (move : StoreMove) → n + brings move ≤ m → AreFew n w → AreFew m (move_table table move w).world
+move_few n m w table move less few = go (hosted_at w table) refl
+  where
+    all : AreFew m w
+    all = more_few n m (omega (arith, less)) w few
+
+    go : (o : Option Hosted) → hosted_at w table ≡ o → AreFew m (move_hosted w table move o).world
+    go None at = all
+    go (Some hosted) at = (
+      put_table m w.tables table _ all.0
+          (let old = few.0 table hosted at in
+          let now = table_few (scheme_in (schema_at w table)) (chunk_in (schema_at w table)) table hosted.store move in
+          omega (arith, less, old, now)),
+      all.1,
+    )
+
+module _ (n : ℕ) where
+  work_few : (w : World) (table : ℕ) (luck : Luck) → AreFew n w → AreFew n (move_table table (store.Work luck) w).world
+  work_few w table luck few = move_few n n w table (store.Work luck) (omega arith) few
+
+  crash_few : (w : World) (table : ℕ) (luck : Luck) → AreFew n w → AreFew n (move_table table (store.Crash luck) w).world
+  crash_few w table luck few = move_few n n w table (store.Crash luck) (omega arith) few
+
+  client_few : (w : World) (c : ℕ) (luck : Luck) → AreFew n w → AreFew n (move_client c (client.Work luck) w).world
+  client_few w c luck few = go (client_at w c) refl
+    where
+      go : (o : Option Client) → client_at w c ≡ o → AreFew n (move_there w c (client.Work luck) o).world
+      go None at = few
+      go (Some node) at =
+          let old : IsUpTo n node = few.1 c node at in
+          (few.0, put_client n w.clients c _ few.1 (worked_up_to n node.disk node.agenda luck old.0 old.1))
+
+  client_works_few : (c : ℕ) (tasks : List ClientTask) (lucks : List Luck) (w : World) → AreFew n w → AreFew n (client_works c tasks lucks w).world
+  client_works_few c [] lucks w few = few
+  client_works_few c (task ∷ tasks) lucks w few =
+      client_works_few c tasks (other_lucks lucks) (move_client c (client.Work (first_luck lucks)) w).world (client_few w c (first_luck lucks) few)
+
+  -- ---- a Store's tables
+
+  unless_few : (m : Moved) (f : World → Moved) → AreFew n m.world → (AreFew n m.world → AreFew n (f m.world).world) → AreFew n (and_unless m f).world
+  unless_few m f a b = go m.failed
+    where
+      go : (failed : Bool) → AreFew n (if failed then m else and_then m f).world
+      go true = a
+      go false = b a
+
+  falls_few : (tables : List ℕ) (w : World) → AreFew n w → AreFew n (tables_fall tables w).world
+  falls_few [] w few = few
+  falls_few (table ∷ tables) w few = falls_few tables (move_table table (store.Crash messages.FailedBefore) w).world (crash_few w table messages.FailedBefore few)
+
+  store_falls_few : (node : ℕ) (w : World) → AreFew n w → AreFew n (store_falls node w).world
+  store_falls_few node w few = falls_few (tables_of w node) w few
+
+  or_falls_few : (node : ℕ) (m : Moved) → AreFew n m.world → AreFew n (or_falls node m).world
+  or_falls_few node m a = go m.failed
+    where
+      go : (failed : Bool) → AreFew n (if failed then and_then m (store_falls node) else m).world
+      go true = store_falls_few node m.world a
+      go false = a
+
+  write_few : (node : ℕ) (luck : Luck) (o : Option ℕ) (w : World) → AreFew n w → AreFew n (write_next node luck o w).world
+  write_few node luck None w few = few
+  write_few node luck (Some table) w few = or_falls_few node (move_table table (store.Work luck) w) (work_few w table luck few)
+
+  works_few : (node count : ℕ) (lucks : List Luck) (w : World) → AreFew n w → AreFew n (store_works node count lucks w).world
+  works_few node zero lucks w few = few
+  works_few node (suc more) lucks w few =
+      let m : Moved = write_next node (first_luck lucks) (busy_table w node) w in
+      unless_few m (store_works node more (other_lucks lucks)) (write_few node (first_luck lucks) (busy_table w node) w few)
+      (λ there. works_few node more (other_lucks lucks) m.world there)
+
+  follows_few : (node : ℕ) (lucks : List Luck) (w : World) → AreFew n w → AreFew n (store_follows node lucks w).world
+  follows_few node lucks w few = go (has_node w.holds (nodes.Store node))
+    where
+      go : (held : Bool) → AreFew n (if held then still w else store_until_idle node lucks w).world
+      go true = few
+      go false = works_few node (length (tasks_of w node)) lucks w few
+
+  table_follows_few : (table : ℕ) (lucks : List Luck) (w : World) → AreFew n w → AreFew n (table_follows table lucks w).world
+  table_follows_few table lucks w few = go (is_at_work w table)
+    where
+      go : (busy : Bool) → AreFew n (if busy then store_follows owner lucks w else still w).world
+      go true = follows_few owner lucks w few
+      go false = few
+
+  start_few : (w : World) (table : ℕ) → AreFew n w → AreFew n (start_hosted w table (hosted_at w table)).world
+  start_few w table few = go (hosted_at w table)
+    where
+      go : (o : Option Hosted) → AreFew n (start_hosted w table o).world
+      go None = few
+      go (Some hosted) = made hosted.made
+        where
+          made : (b : Bool) → AreFew n (if b then move_table table store.Start w else after_table w table (record hosted { made = true }) (declared_late table)).world
+          made true = move_few n n w table store.Start (omega arith) few
+          made false = (put_table n w.tables table _ few.0 (omega arith), few.1)
+
+  starts_few : (tables : List ℕ) (lucks : List Luck) (w : World) → AreFew n w → AreFew n (tables_start tables lucks w).world
+  starts_few [] lucks w few = few
+  starts_few (table ∷ tables) lucks w few =
+      unless_few (table_starts table (first_luck lucks) w) (tables_start tables (other_lucks lucks)) (one (first_luck lucks))
+      (λ there. starts_few tables (other_lucks lucks) (table_starts table (first_luck lucks) w).world there)
+    where
+      one : (luck : Luck) → AreFew n (table_starts table luck w).world
+      one messages.Done = start_few w table few
+      one messages.FailedBefore = few
+      one messages.FailedAfter = few
+
+  store_starts_few : (node : ℕ) (lucks : List Luck) (w : World) → AreFew n w → AreFew n (store_starts node lucks w).world
+  store_starts_few node lucks w few = go m.failed
+    where
+      tables : List ℕ
+      tables = tables_of w node
+
+      m : Moved
+      m = tables_start tables lucks w
+
+      there : AreFew n m.world
+      there = starts_few tables lucks w few
+
+      go : (failed : Bool) → AreFew n (if failed then and_then m (tables_fall tables) else and_then m (λ x. store_follows node (drop (length tables) lucks) (without_down (nodes.Store node) x))).world
+      go true = falls_few tables m.world there
+      go false = follows_few node (drop (length tables) lucks) (without_down (nodes.Store node) m.world) there
+
+  crashes_few : (node calls : ℕ) (lucks : List Luck) (w : World) → AreFew n w → AreFew n (store_crashes node calls lucks w).world
+  crashes_few node calls lucks w few = store_falls_few node (table_crashes luck (busy_table w node) w).world (one (busy_table w node))
+    where
+      luck : Luck
+      luck = crash_luck calls (other_lucks lucks) (first_luck lucks)
+
+      one : (o : Option ℕ) → AreFew n (table_crashes luck o w).world
+      one None = few
+      one (Some table) = crash_few w table luck few
+
+-- ---- events
+
+module _ (n : ℕ) (w : World) (few : AreFew n w) where
+  after : AreFew (n + 1) w
+  after = more_few n (n + 1) (omega arith) w few
+
+  down_few : (node : Node) (s : WorldStep) → AreFew (n + 1) s.world → AreFew (n + 1) (unless_down w node s).world
+  down_few node s there = go (is_down w node)
+    where
+      go : (b : Bool) → AreFew (n + 1) (if b then refused w (facts.NodeDown node) else s).world
+      go true = after
+      go false = there
+
+  -- a move of a client that draws one number at most, and the work that follows
+  call_few : (c : ℕ) (move : ClientMove) (lucks : List Luck) → ((node : Client) → client_at w c ≡ Some node → IsUpTo (n + 1) (client_step c node move).client)
+      → (o : Option Client) → client_at w c ≡ o → AreFew (n + 1) (call_there w c move lucks o).world
+  call_few c move lucks most None at = after
+  call_few c move lucks most (Some node) at = down_few (nodes.Client c) _ (follows (gets_tasks node.agenda v c))
+    where
+      v : World
+      v = (move_client c move w).world
+
+      moved : (o : Option Client) → client_at w c ≡ o → AreFew (n + 1) (move_there w c move o).world
+      moved None is = after
+      moved (Some x) is = (after.0, put_client (n + 1) w.clients c _ after.1 (most x is))
+
+      follows : (b : Bool) → AreFew (n + 1) (if b then client_follows c lucks v else still v).world
+      follows true = client_works_few (n + 1) c (client_tasks (client_at v c)) lucks v (moved (client_at w c) refl)
+      follows false = moved (client_at w c) refl
+
+  write_event : (c table : ℕ) (row : List ℕ) (x : Content) (lucks : List Luck) → AreFew (n + 1) (call w c (client.Write table row x) lucks).world
+  write_event c table row x lucks = call_few c (client.Write table row x) lucks
+      (λ node at. let old : IsUpTo n node = few.1 c node at in write_up_to n c node.disk old.0 node.agenda old.1 table row x) (client_at w c) refl
+
+  show_event : (c table : ℕ) (row : List ℕ) (lucks : List Luck) → AreFew (n + 1) (call w c (client.Show table row) lucks).world
+  show_event c table row lucks = call_few c (client.Show table row) lucks
+      (λ node at. let old : IsUpTo n node = few.1 c node at in show_up_to n c node.disk old.0 node.agenda old.1 table row) (client_at w c) refl
+
+  sum_event : (c table : ℕ) (row : List ℕ) (lucks : List Luck) → AreFew (n + 1) (call w c (client.Sum table row) lucks).world
+  sum_event c table row lucks = call_few c (client.Sum table row) lucks
+      (λ node at. let old : IsUpTo n node = few.1 c node at in show_up_to n c node.disk old.0 node.agenda old.1 table row) (client_at w c) refl
+
+  sync_event : (c table : ℕ) (lucks : List Luck) → AreFew (n + 1) (call w c (client.Sync table) lucks).world
+  sync_event c table lucks = call_few c (client.Sync table) lucks
+      (λ node at. let old : IsUpTo n node = few.1 c node at in sync_up_to n c node.disk old.0 node.agenda old.1 table) (client_at w c) refl
+
+  next_event : (c table : ℕ) (lucks : List Luck) → AreFew (n + 1) (call w c (client.Next table) lucks).world
+  next_event c table lucks = call_few c (client.Next table) lucks
+      (λ node at. let old : IsUpTo n node = few.1 c node at in next_up_to n c node.disk old.0 node.agenda old.1 table) (client_at w c) refl
+
+  -- ---- deliveries
+
+  hosted_few : (table : ℕ) (from : Node) (m : Message) (lucks : List Luck) (o : Option Hosted) → AreFew (n + 1) (to_hosted w table (store.Take from m) lucks o).world
+  hosted_few table from m lucks None = after
+  hosted_few table from m lucks (Some hosted) = go hosted.store.agenda
+    where
+      first : AreFew (n + 1) (move_table table (store.Take from m) w).world
+      first = move_few n (n + 1) w table (store.Take from m) (omega arith) few
+
+      reads : (luck : Luck) → AreFew (n + 1) (take_read w table hosted (store.Take from m) (other_lucks lucks) luck).world
+      reads messages.FailedBefore = store_falls_few (n + 1) owner w after
+      reads messages.FailedAfter = store_falls_few (n + 1) owner w after
+      reads messages.Done = table_follows_few (n + 1) table (other_lucks lucks) (move_table table (store.Take from m) w).world first
+
+      go : (o : Option (List StoreTask)) → AreFew (n + 1) (take_at w table hosted (store.Take from m) lucks o).world
+      go None = first
+      go (Some (task ∷ more)) = first
+      go (Some []) = reads (first_luck lucks)
+
+  carried_few : (p : Packet) (lucks : List Luck) (to : Node) → AreFew (n + 1) (carried w p lucks to).world
+  carried_few p lucks (nodes.Store number) = down_few (nodes.Store number) _ (hosted_few (table_of p.message) p.from p.message lucks (hosted_at w (table_of p.message)))
+  carried_few p lucks (nodes.Gate gate) = after
+  carried_few p lucks (nodes.Client c) = go (client_at w c) refl
+    where
+      go : (o : Option Client) → client_at w c ≡ o → AreFew (n + 1) (to_there w c p.message lucks o).world
+      go None at = after
+      go (Some node) at = call_few c (client.Take p.message) lucks
+          (λ x is. let old : IsUpTo n x = few.1 c x is in take_up_to n c x.disk old.0 x.agenda old.1 p.message) (Some node) at
+
+  delivered_few : (lucks : List Luck) (o : Option Packet) → AreFew (n + 1) (delivered w lucks o).world
+  delivered_few lucks None = after
+  delivered_few lucks (Some p) = carried_few p lucks p.to
+
+  -- ---- declarations, and what the Store has
+
+  declared_few : (table : ℕ) (schema : Schema) (luck : Luck) (o : Option Hosted) → AreFew (n + 1) (declared w table schema luck o)
+  declared_few table schema luck (Some hosted) = after
+  declared_few table schema luck None = go luck
+    where
+      with_new : (made up : Bool) → AreFew (n + 1) (with_table w table schema made up)
+      with_new made up = (put_table (n + 1) w.tables table _ after.0 (none up), after.1)
+        where
+          none : (b : Bool) → versions_of (record { disk = record { items = []; pending = None; left = [] }; agenda = agenda_of b }) ≤ n + 1
+          none true = omega arith
+          none false = omega arith
+
+      go : (x : Luck) → AreFew (n + 1) (declared w table schema x None)
+      go messages.Done = with_new true (not (is_down w the_store))
+      go messages.FailedBefore = store_falls_few (n + 1) owner (with_table w table schema false false) (with_new false false)
+      go messages.FailedAfter = store_falls_few (n + 1) owner (with_table w table schema false false) (with_new false false)
+
+  joined_few : (c : ℕ) (tables : List ℕ) (o : Option Client) → AreFew (n + 1) (joined w c tables o)
+  joined_few c tables (Some node) = after
+  joined_few c tables None = (after.0, put_client (n + 1) w.clients c (new_client (open_all w [] tables)) after.1 ((omega arith, tt), tt))
+
+  shows_few : (row : List ℕ) (lucks : List Luck) (o : Option Hosted) → AreFew (n + 1) (store_shows w row lucks o).world
+  shows_few row lucks None = after
+  shows_few row lucks (Some hosted) = down_few the_store _ (read (first_luck lucks))
+    where
+      read : (luck : Luck) → AreFew (n + 1) (row_read w hosted row luck).world
+      read messages.Done = after
+      read messages.FailedBefore = store_falls_few (n + 1) owner w after
+      read messages.FailedAfter = store_falls_few (n + 1) owner w after
+
+  history_few : (table : ℕ) (o : Option Hosted) → AreFew (n + 1) (history_lines w table o).world
+  history_few table None = after
+  history_few table (Some hosted) = after
+
+  chunks_few : (table : ℕ) (o : Option Hosted) → AreFew (n + 1) (chunk_names w table o).world
+  chunks_few table None = after
+  chunks_few table (Some hosted) = down_few the_store _ after
+
+  -- ---- what is done to a node
+
+  worked_node_few : (lucks : List Luck) (node : Node) → AreFew (n + 1) (worked w lucks node).world
+  worked_node_few lucks (nodes.Store number) = write_few (n + 1) number (first_luck lucks) (busy_table w number) w after
+  worked_node_few lucks (nodes.Client c) = after
+  worked_node_few lucks (nodes.Gate gate) = after
+
+  all_worked_few : (lucks : List Luck) (node : Node) → AreFew (n + 1) (all_worked w lucks node).world
+  all_worked_few lucks (nodes.Store number) = works_few (n + 1) number (length (tasks_of w number)) lucks w after
+  all_worked_few lucks (nodes.Client c) = after
+  all_worked_few lucks (nodes.Gate gate) = after
+
+  crashed_node_few : (calls : ℕ) (lucks : List Luck) (node : Node) → AreFew (n + 1) (crashed w calls lucks node).world
+  crashed_node_few calls lucks (nodes.Store number) = crashes_few (n + 1) number calls lucks w after
+  crashed_node_few calls lucks (nodes.Client c) = after
+  crashed_node_few calls lucks (nodes.Gate gate) = after
+
+  started_node_few : (lucks : List Luck) (node : Node) → AreFew (n + 1) (started w lucks node).world
+  started_node_few lucks (nodes.Client c) = after
+  started_node_few lucks (nodes.Gate gate) = after
+  started_node_few lucks (nodes.Store number) = go (is_down w (nodes.Store number))
+    where
+      go : (b : Bool) → AreFew (n + 1) (if b then answering facts.Done (store_starts number lucks w) else answered w facts.Done).world
+      go true = store_starts_few (n + 1) number lucks w after
+      go false = after
+
+  step_few : (event : Event) (lucks : List Luck) → AreFew (n + 1) (step w event lucks).world
+  step_few (events.Store number) lucks = after
+  step_few (events.Table table schema) lucks = declared_few table schema (first_luck lucks) (hosted_at w table)
+  step_few (events.Client c gate tables) lucks = joined_few c tables (client_at w c)
+  step_few (events.Write c table row x) lucks = write_event c table row x lucks
+  step_few (events.Show c table row) lucks = show_event c table row lucks
+  step_few (events.Sum c table row) lucks = sum_event c table row lucks
+  step_few (events.Sync c table) lucks = sync_event c table lucks
+  step_few (events.Pull c table) lucks = next_event c table lucks
+  step_few (events.Deliver packet) lucks = delivered_few lucks (slice_get w.packets packet)
+  step_few (events.StoreShow table row) lucks = shows_few row lucks (hosted_at w table)
+  step_few (events.History table) lucks = history_few table (hosted_at w table)
+  step_few (events.Chunks table) lucks = chunks_few table (hosted_at w table)
+  step_few (events.Hold node) lucks = down_few node _ after
+  step_few (events.Free node) lucks = down_few node _ after
+  step_few (events.Work node) lucks = down_few node _ (worked_node_few lucks node)
+  step_few (events.WorkAll node) lucks = down_few node _ (all_worked_few lucks node)
+  step_few (events.Crash node calls pick) lucks = down_few node _ (crashed_node_few calls lucks node)
+  step_few (events.Start node) lucks = started_node_few lucks node
+
+-- ---- runs
+
+run_few : (n : ℕ) (w : World) (run : List Happening) → AreFew n w → AreFew (n + length run) (world_from w run)
+run_few n w [] few = subst (λ (m : ℕ). AreFew m w) (omega arith) few
+run_few n w (h ∷ more) few =
+    let rest : AreFew (n + 1 + length more) (world_from w (h ∷ more)) = run_few (n + 1) (step w h.event h.lucks).world more (step_few n w few h.event h.lucks) in
+    subst (λ (m : ℕ). AreFew m (world_from w (h ∷ more))) (omega arith) rest
+
+start_all_few : AreFew 0 start
+start_all_few = (λ q hosted at. absurd cc, λ q node at. absurd cc)
+
+behind_few : (run : List Happening) → AreFew (length run) (world_from start run)
+behind_few run = subst (λ (m : ℕ). AreFew m (world_from start run)) (omega arith) (run_few 0 start run start_all_few)
+
+pub items_few : (run : List Happening) (table : ℕ) (hosted : Hosted) → hosted_at (world_from start run) table ≡ Some hosted → length hosted.store.disk.items ≤ length run
+items_few run table hosted at = let few = (behind_few run).0 table hosted at in omega (arith, few)
+
+pub last_few : (run : List Happening) (c : ℕ) (node : Client) → client_at (world_from start run) c ≡ Some node → node.disk.last ≤ length run
+last_few run c node at = ((behind_few run).1 c node at).0.0
+
+pub plan_few : (run : List Happening) (c : ℕ) (node : Client) (p : Plan) → client_at (world_from start run) c ≡ Some node → node.disk.plan ≡ Some p → p.last ≤ length run
+plan_few run c node p at is = subst (PlanUpTo (length run)) is ((behind_few run).1 c node at).0.1

@@ -17,14 +17,15 @@ use Rattle.script_text.specs.Names.{Names, has_no_store}
 use Rattle.script_text.specs.Places.{◌>>=◌, names_of, new_store_at, new_table_at, new_client_at, tables_at, new_name_at, scheme_at, chunk_at}
 use Rattle.script_text.specs.Reading.{placed, made_store, made_table, made_client, store_in, table_in, client_in, content_in, some_columns_in, write_in, client_row_in, show_in}
 use Rattle.script_text.specs.Reading.{sum_in, client_table_in, sync_in, pull_in}
-use Rattle.script_text.specs.Reading.{deliver_in, store_show_in, history_in, next_in}
+use Rattle.script_text.specs.Reading.{deliver_in, store_show_in, history_in, chunks_in, node_in, hold_in, free_in, work_in, work_all_in, start_in, crash_in, next_in}
 use Rattle.stab_base.specs.Row.{row_of}
-use Rattle.script_text.specs.Grammar.{SpelledBy, AreColumns, client_word, table_word, tables_word, IsClient, IsTable, limit_of}
+use Rattle.stab_base.specs.declared.node.Node.{Node}
+use Rattle.script_text.specs.Grammar.{SpelledBy, AreColumns, client_word, table_word, tables_word, node_word, IsClient, IsTable, IsNode, limit_of}
 use Rattle.script_text.proofs.Steps.{ok_err, bind-ok, word_in-ok, end-ok}
-use Rattle.script_text.proofs.Numbers.{packet_at-ok}
+use Rattle.script_text.proofs.Numbers.{number_at-ok, calls_at-ok}
 use Rattle.script_text.proofs.Distinct.{new-distinct}
 use Rattle.script_text.proofs.ColumnLemmas.{some_columns-ok, same_count}
-use Rattle.script_text.proofs.PlaceLemmas.{client_at-ok, table_at-ok, new_store_at-ok, new_store_at-within, new_store_at-limit, new_table_at-ok, new_table_at-within, new_table_at-limit}
+use Rattle.script_text.proofs.PlaceLemmas.{client_at-ok, party_at-ok, table_at-ok, new_store_at-ok, new_store_at-within, new_store_at-limit, new_table_at-ok, new_table_at-within, new_table_at-limit}
 use Rattle.script_text.proofs.PlaceLemmas.{new_client_at-ok, new_client_at-within, new_client_at-limit, gate_at-ok, new_name_at-ok, scheme_at-ok, chunk_at-ok, row_at-ok}
 use Rattle.script_words.specs.Columns.{column_word}
 use Rattle.script_text.proofs.ContentLemmas.{content-ok}
@@ -172,7 +173,7 @@ module _ (names : Names) (ws : List (List ℕ)) where
     deliver-ok h =
         let a = word_in-ok _ _ _ ws e h in
         let r = end-ok 2 (events.Deliver a.2) a.1 e a.5 in
-        let u = packet_at-ok a.0 a.2 a.4 in
+        let u = number_at-ok a.0 a.2 a.4 in
         let is : ws ≡ decimal a.2 ∷ [] = cc (a.3, r.0, u.0) in
         subst (λ (x : Event). SpelledBy names (codes "deliver" ∷ ws) x) r.1 (ap (λ (t : List (List ℕ)). codes "deliver" ∷ t) is, u.1)
 
@@ -221,3 +222,66 @@ module _ (names : Names) (ws : List (List ℕ)) (e : Event) where
       let is : ws ≡ client_word a.2 ∷ table_word b.2 ∷ c.0 ∷ c.1 = cc (a.3, b.3, c.3, p.0, q.0) in
       subst (λ (x : Event). SpelledBy names (codes "write" ∷ ws) x) (event_told r.2)
       (c.0, c.1, ap (λ (t : List (List ℕ)). codes "write" ∷ t) is, p.1, q.1, row_at-ok c.0 c.2 c.4, v)
+
+module _ (names : Names) (ws : List (List ℕ)) where
+  node-ok : (node : Node) → node_in names ws ≡ Ok node → (ws ≡ node_word node ∷ []) × IsNode names node
+  unfolding node_in
+  node-ok node h =
+      let a = word_in-ok _ _ _ ws node h in
+      let r = end-ok 2 a.2 a.1 node a.5 in
+      let u = party_at-ok names a.0 a.2 a.4 in
+      let is : ws ≡ node_word a.2 ∷ [] = cc (a.3, r.0, u.0) in
+      subst (λ (x : Node). (ws ≡ node_word x ∷ []) × IsNode names x) r.1 (is, u.1)
+
+  module _ (e : Event) where
+    pub hold-ok : hold_in names ws ≡ Ok e → SpelledBy names (codes "hold" ∷ ws) e
+    hold-ok h =
+        let p = bind-ok (node_in names ws) (λ node. Ok (events.Hold node)) e h in
+        let q = node-ok p.0 p.1 in
+        subst (λ (x : Event). SpelledBy names (codes "hold" ∷ ws) x) (event_told p.2) (ap (λ (t : List (List ℕ)). codes "hold" ∷ t) q.0, q.1)
+
+    pub free-ok : free_in names ws ≡ Ok e → SpelledBy names (codes "free" ∷ ws) e
+    free-ok h =
+        let p = bind-ok (node_in names ws) (λ node. Ok (events.Free node)) e h in
+        let q = node-ok p.0 p.1 in
+        subst (λ (x : Event). SpelledBy names (codes "free" ∷ ws) x) (event_told p.2) (ap (λ (t : List (List ℕ)). codes "free" ∷ t) q.0, q.1)
+
+    pub work-ok : work_in names ws ≡ Ok e → SpelledBy names (codes "work" ∷ ws) e
+    work-ok h =
+        let p = bind-ok (node_in names ws) (λ node. Ok (events.Work node)) e h in
+        let q = node-ok p.0 p.1 in
+        subst (λ (x : Event). SpelledBy names (codes "work" ∷ ws) x) (event_told p.2) (ap (λ (t : List (List ℕ)). codes "work" ∷ t) q.0, q.1)
+
+    pub work_all-ok : work_all_in names ws ≡ Ok e → SpelledBy names (codes "do" ∷ ws) e
+    work_all-ok h =
+        let p = bind-ok (node_in names ws) (λ node. Ok (events.WorkAll node)) e h in
+        let q = node-ok p.0 p.1 in
+        subst (λ (x : Event). SpelledBy names (codes "do" ∷ ws) x) (event_told p.2) (ap (λ (t : List (List ℕ)). codes "do" ∷ t) q.0, q.1)
+
+    pub start-ok : start_in names ws ≡ Ok e → SpelledBy names (codes "start" ∷ ws) e
+    start-ok h =
+        let p = bind-ok (node_in names ws) (λ node. Ok (events.Start node)) e h in
+        let q = node-ok p.0 p.1 in
+        subst (λ (x : Event). SpelledBy names (codes "start" ∷ ws) x) (event_told p.2) (ap (λ (t : List (List ℕ)). codes "start" ∷ t) q.0, q.1)
+
+    pub chunks-ok : chunks_in names ws ≡ Ok e → SpelledBy names (codes "chunks" ∷ ws) e
+    unfolding chunks_in
+    chunks-ok h =
+        let a = word_in-ok _ _ _ ws e h in
+        let r = end-ok 2 (events.Chunks a.2) a.1 e a.5 in
+        let u = table_at-ok names a.0 a.2 a.4 in
+        let is : ws ≡ table_word a.2 ∷ [] = cc (a.3, r.0, u.0) in
+        subst (λ (x : Event). SpelledBy names (codes "chunks" ∷ ws) x) r.1 (ap (λ (t : List (List ℕ)). codes "chunks" ∷ t) is, u.1)
+
+    pub crash-ok : crash_in names ws ≡ Ok e → SpelledBy names (codes "crash" ∷ ws) e
+    unfolding crash_in
+    crash-ok h =
+        let a = word_in-ok _ _ _ ws e h in
+        let b = word_in-ok _ _ _ a.1 e a.5 in
+        let c = word_in-ok _ _ _ b.1 e b.5 in
+        let r = end-ok 4 (events.Crash a.2 b.2 c.2) c.1 e c.5 in
+        let u = party_at-ok names a.0 a.2 a.4 in
+        let v = calls_at-ok b.0 b.2 b.4 in
+        let w = number_at-ok c.0 c.2 c.4 in
+        let is : ws ≡ node_word a.2 ∷ decimal b.2 ∷ decimal c.2 ∷ [] = cc (a.3, b.3, c.3, r.0, u.0, v.0, w.0) in
+        subst (λ (x : Event). SpelledBy names (codes "crash" ∷ ws) x) r.1 (ap (λ (t : List (List ℕ)). codes "crash" ∷ t) is, u.1, v.1, w.1)

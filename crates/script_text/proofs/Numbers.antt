@@ -13,7 +13,7 @@ use Rattle.std.proofs.lemmas.Str.Parse.{parse_digits}
 use Rattle.script_words.specs.declared.code.Code.{Code}
 use Rattle.script_words.specs.declared.code.Code.TheVariants.{NoName, NoNumber}
 use Rattle.script_words.specs.Words.{is_number, is_length}
-use Rattle.script_text.specs.Places.{small, node_at, at_most, limited_at, packet_at}
+use Rattle.script_text.specs.Places.{small, node_at, at_most, limited_at, number_at, calls_at}
 use Rattle.script_words.proofs.WordLemmas.{own, both, either}
 use Rattle.script_words.proofs.Numerals.{number-text, number-some, number-right, value-right, length-text, length-right}
 use Rattle.script_text.proofs.Steps.{ok_err, bind-ok}
@@ -36,25 +36,25 @@ ok_same x y e = cc
 pub none_some : {X : Type 0} (x : X) → None ≡ Some x → ⊥
 none_some x e = cc
 
-pub packet_at-ok : (word : List ℕ) (n : ℕ) → packet_at word ≡ Ok n → (word ≡ decimal n) × (n < 2 ^ 64)
-unfolding packet_at
-packet_at-ok word n e =
+pub number_at-ok : (word : List ℕ) (n : ℕ) → number_at word ≡ Ok n → (word ≡ decimal n) × (n < 2 ^ 64)
+unfolding number_at
+number_at-ok word n e =
     let p = if-ok (is_length word && ltb (digits_value 10 word) (2 ^ 64)) (Ok (digits_value 10 word)) NoNumber n e in
     let q = both (is_length word) (ltb (digits_value 10 word) (2 ^ 64)) p.0 in
     let less : digits_value 10 word < 2 ^ 64 = ltb-true _ _ q.1 in
     let same : digits_value 10 word ≡ n = ok_same _ _ p.1 in
     (sym (length-text word q.0 less) ∙ ap decimal same, subst (λ (m : ℕ). m < 2 ^ 64) same less)
 
-pub packet-read : {E : Type 0} (ds : List ℕ) (r : Result ℕ E) (n : ℕ) → is_length ds ≡ true → ParsesUnsigned 64 10 ds r → r ≡ Ok n → Ok n ≡ packet_at ds
-unfolding packet_at
-packet-read ds r n is h e =
+pub number-read : {E : Type 0} (ds : List ℕ) (r : Result ℕ E) (n : ℕ) → is_length ds ≡ true → ParsesUnsigned 64 10 ds r → r ≡ Ok n → Ok n ≡ number_at ds
+unfolding number_at
+number-read ds r n is h e =
     let p = either ds is in
     let q = OkIff-at_ok r _ (digits_value 10 ds) n (parse_digits own 64 ds r h p.1) e in
     rw (is, lt-ltb (digits_value 10 ds) (2 ^ 64) q.0.1) (ap Ok q.1)
 
-pub packet-none : {E : Type 0} (ds : List ℕ) (r : Result ℕ E) (f : E) → is_length ds ≡ true → ParsesUnsigned 64 10 ds r → r ≡ Err f → Err NoNumber ≡ packet_at ds
-unfolding packet_at
-packet-none ds r f is h e =
+pub number-none : {E : Type 0} (ds : List ℕ) (r : Result ℕ E) (f : E) → is_length ds ≡ true → ParsesUnsigned 64 10 ds r → r ≡ Err f → Err NoNumber ≡ number_at ds
+unfolding number_at
+number-none ds r f is h e =
     let p = either ds is in
     let q = OkIff-at_err r ((0 < length ds) × (digits_value 10 ds < 2 ^ 64)) (digits_value 10 ds) f (parse_digits own 64 ds r h p.1) e in
     elim (cases_Bool (ltb (digits_value 10 ds) (2 ^ 64))) [
@@ -62,9 +62,9 @@ packet-none ds r f is h e =
       | inr more ↦ rw (is, more) refl
     ]
 
-pub packet_at-right : (n : ℕ) → n < 2 ^ 64 → packet_at (decimal n) ≡ Ok n
-unfolding packet_at
-packet_at-right n less = rw (length-right n less, value-right n less, lt-ltb n (2 ^ 64) less) refl
+pub number_at-right : (n : ℕ) → n < 2 ^ 64 → number_at (decimal n) ≡ Ok n
+unfolding number_at
+number_at-right n less = rw (length-right n less, value-right n less, lt-ltb n (2 ^ 64) less) refl
 
 -- the words of nodes and tables
 
@@ -119,3 +119,22 @@ limited-some letter most word n e =
 pub limited-right : (letter most n : ℕ) → 1 ≤ n → n ≤ most → most < 2 ^ 32 → limited_at letter most (letter ∷ decimal n) ≡ Ok (Some n)
 unfolding limited_at
 limited-right letter most n some within few = rw (node-right letter n some (omega arith), le-leb n most within) refl
+
+-- how many calls pass
+
+calls-few : (n m : ℕ) → cond (leb n 4) (Ok n) (Err NoNumber) ≡ Ok m → (n ≡ m) × (m ≤ 4)
+calls-few n m e =
+    let p = if-ok (leb n 4) (Ok n) NoNumber m e in
+    let same : n ≡ m = ok_same _ _ p.1 in
+    (same, subst (λ (k : ℕ). k ≤ 4) same (leb-true _ _ p.0))
+
+pub calls_at-ok : (word : List ℕ) (n : ℕ) → calls_at word ≡ Ok n → (word ≡ decimal n) × (n ≤ 4)
+unfolding calls_at
+calls_at-ok word n e =
+    let p = bind-ok (number_at word) (λ calls. cond (leb calls 4) (Ok calls) (Err NoNumber)) n e in
+    let q = calls-few p.0 n p.2 in
+    ((number_at-ok word p.0 p.1).0 ∙ ap decimal q.0, q.1)
+
+pub calls_at-right : (n : ℕ) → n ≤ 4 → calls_at (decimal n) ≡ Ok n
+unfolding calls_at
+calls_at-right n few = rw (number_at-right n (omega (arith, few)), le-leb n 4 few) refl

@@ -10,15 +10,17 @@ use Rattle.std.proofs.lemmas.Bool.{ltb-true, cases_Bool, eqb-true}
 use Rattle.std.proofs.lemmas.Fmt.{decimal_digit}
 use Rattle.std.proofs.lemmas.Slice.Eq.{bytes_eq-Decides}
 use Rattle.stab_base.specs.Row.{row_of}
+use Rattle.stab_base.specs.declared.node.Node.{Node}
+use Rattle.stab_base.specs.declared.node.Node.TheVariants as nodes
 use Rattle.row_value.specs.declared.schema.Scheme.{Scheme}
 use Rattle.row_value.specs.declared.schema.Scheme.TheVariants as schemes
 use Rattle.script_words.specs.declared.code.Code.{Code}
 use Rattle.script_words.specs.declared.code.Code.TheVariants.{NoNumber, NoName, NoRow, NoValue, NotDeclared, Twice, Unbuilt}
 use Rattle.script_text.specs.Names.{Names, has_store, has_table, has_name, has_client}
 use Rattle.script_words.specs.Words.{is_name}
-use Rattle.script_text.specs.Places.{◌>>=◌, node_at, built, known, limited_at, passed, fresh, opened, opened_at, client_at, table_at, store_number, table_number, client_number, new_store_at}
-use Rattle.script_text.specs.Places.{new_table_at, new_client_at, gate_at, new_name_at, scheme_at, chunk_at, row_at, found_row}
-use Rattle.script_text.specs.Grammar.{IsChunk, IsUpTo, client_word, table_word, IsClient, IsTable}
+use Rattle.script_text.specs.Places.{◌>>=◌, node_at, built, known, limited_at, passed, fresh, opened, opened_at, client_at, store_at, begins_with, party_at, table_at, store_number, table_number}
+use Rattle.script_text.specs.Places.{client_number, new_store_at, new_table_at, new_client_at, gate_at, new_name_at, scheme_at, chunk_at, row_at, found_row}
+use Rattle.script_text.specs.Grammar.{IsChunk, IsUpTo, client_word, table_word, node_word, IsClient, IsTable, IsNode}
 use Rattle.script_text.proofs.Steps.{ok_err, bind-ok}
 use Rattle.script_text.proofs.Numbers.{if-ok, unless-ok, some_same, ok_same, none_some, node-some, limited-some}
 
@@ -103,6 +105,39 @@ module _ (names : Names) (word : List ℕ) (n : ℕ) where
       (r.0, (r.1, r.2, q.1))
 
 module _ (names : Names) (word : List ℕ) where
+  store_at-ok : (n : ℕ) → store_at names word ≡ Ok n → (word ≡ node_word (nodes.Store n)) × IsNode names (nodes.Store n)
+  unfolding store_at
+  store_at-ok n e =
+      let p = bind-ok (node_at 83 word) (known (has_store names)) n e in
+      let q = known-ok (has_store names) p.0 n p.2 in
+      let r = node-some 83 word n (p.1 ∙ ap Ok q.0) in
+      (r.0, (r.1, r.2, q.1))
+
+  store-ok : (node : Node) → (store_at names word >>= λ number. Ok (nodes.Store number)) ≡ Ok node → (word ≡ node_word node) × IsNode names node
+  store-ok node e =
+      let p = bind-ok (store_at names word) (λ number. Ok (nodes.Store number)) node e in
+      subst (λ (x : Node). (word ≡ node_word x) × IsNode names x) (ok_same _ _ p.2) (store_at-ok p.0 p.1)
+
+  client-ok : (node : Node) → (client_at names word >>= λ number. Ok (nodes.Client number)) ≡ Ok node → (word ≡ node_word node) × IsNode names node
+  client-ok node e =
+      let p = bind-ok (client_at names word) (λ number. Ok (nodes.Client number)) node e in
+      subst (λ (x : Node). (word ≡ node_word x) × IsNode names x) (ok_same _ _ p.2) (client_at-ok names word p.0 p.1)
+
+  gate-ok : (node : Node) → (node_at 71 word >>= λ number. Err NotDeclared) ≡ Ok node → ⊥
+  gate-ok node e =
+      let p = bind-ok (node_at 71 word) (λ number. Err NotDeclared) node e in
+      ok_err node NotDeclared (sym p.2)
+
+  pub party_at-ok : (node : Node) → party_at names word ≡ Ok node → (word ≡ node_word node) × IsNode names node
+  unfolding party_at
+  party_at-ok node e = elim (cases_Bool (begins_with 83 word)) [
+    | inl store ↦ store-ok node (rw store at e)
+    | inr other ↦ elim (cases_Bool (begins_with 71 word)) [
+      | inl gate ↦ absurd (gate-ok node (rw (other, gate) at e))
+      | inr neither ↦ client-ok node (rw (other, neither) at e)
+    ]
+  ]
+
   pub new_store_at-ok : (n : ℕ) → new_store_at names word ≡ Ok (Some n) → (word ≡ codes "S1") × (n ≡ 1) × (has_store names 1 ≡ false)
   unfolding new_store_at
   new_store_at-ok n e =

@@ -9,14 +9,17 @@ use Rattle.script_text.specs.declared.verb.Verb.TheVariants as verbs
 use Rattle.script_text.specs.Faults.{bad}
 use Rattle.script_text.specs.Verbs.{verb_of, name_of, is_unbuilt}
 use Rattle.script_text.specs.Names.{Names, has_no_store}
-use Rattle.script_text.specs.Reading.{write_in, show_in, sum_in, sync_in, pull_in, deliver_in, store_show_in, history_in, unlimited, in_time, built_in, with_verb, event_in, found, words_in}
+use Rattle.script_text.specs.Reading.{write_in, show_in, sum_in, sync_in, pull_in, deliver_in, store_show_in, history_in, chunks_in, hold_in, free_in, work_in, work_all_in, crash_in, start_in}
+use Rattle.script_text.specs.Reading.{unlimited, in_time, built_in, with_verb, event_in, found, words_in}
 use Rattle.script_text.specs.Grammar.{SpelledBy, VerbFault, WordsFault, limit_of, WordsLimit}
 use Rattle.script_text.proofs.Steps.{ok_err, bind-ok, bind-err}
 use Rattle.script_text.proofs.Numbers.{some_same, none_some}
 use Rattle.script_text.proofs.VerbWords.{verb-some, verb-none, verb-again}
-use Rattle.script_text.proofs.Goods.{Told, store-ok, table-ok, client-ok, write-ok, show-ok, sum-ok, sync-ok, pull-ok, deliver-ok, store_show-ok, history-ok}
+use Rattle.script_text.proofs.Goods.{Told, store-ok, table-ok, client-ok, write-ok, show-ok, sum-ok, sync-ok, pull-ok, deliver-ok, store_show-ok, history-ok, chunks-ok}
+use Rattle.script_text.proofs.Goods.{hold-ok, free-ok, work-ok, work_all-ok, crash-ok, start-ok}
 use Rattle.script_text.proofs.Stops.{store-err, table-err, client-err, write-err, show-err, sum-err, sync-err, pull-err}
-use Rattle.script_text.proofs.Stops.{deliver-err, store_show-err, history-err, store-fault, table-fault, client-fault}
+use Rattle.script_text.proofs.Stops.{deliver-err, store_show-err, history-err, chunks-err, hold-err, free-err, work-err, work_all-err, crash-err, start-err}
+use Rattle.script_text.proofs.Stops.{store-fault, table-fault, client-fault, chunks-fault, hold-fault, free-fault, work-fault, work_all-fault, crash-fault, start-fault}
 use Rattle.script_text.proofs.Stops.{write-fault, show-fault, sum-fault, sync-fault, pull-fault, deliver-fault, store_show-fault, history-fault}
 
 unless : {X : Type 0} (b : Bool) (r : Result X BadLine) (f : BadLine) (x : X) → cond b (Err f) r ≡ Ok x → (b ≡ false) × (r ≡ Ok x)
@@ -91,6 +94,13 @@ module _ (names : Names) (first : List ℕ) (ws : List (List ℕ)) where
   event-built verbs.Deliver told h = plain-built verbs.Deliver (deliver_in ws) told refl (deliver-ok names ws) h
   event-built verbs.StoreShow told h = plain-built verbs.StoreShow (store_show_in names ws) told refl (store_show-ok names ws) h
   event-built verbs.History told h = plain-built verbs.History (history_in names ws) told refl (history-ok names ws) h
+  event-built verbs.Chunks told h = plain-built verbs.Chunks (chunks_in names ws) told refl (chunks-ok names ws) h
+  event-built verbs.Hold told h = plain-built verbs.Hold (hold_in names ws) told refl (hold-ok names ws) h
+  event-built verbs.Free told h = plain-built verbs.Free (free_in names ws) told refl (free-ok names ws) h
+  event-built verbs.Work told h = plain-built verbs.Work (work_in names ws) told refl (work-ok names ws) h
+  event-built verbs.WorkAll told h = plain-built verbs.WorkAll (work_all_in names ws) told refl (work_all-ok names ws) h
+  event-built verbs.Crash told h = plain-built verbs.Crash (crash_in names ws) told refl (crash-ok names ws) h
+  event-built verbs.Start told h = plain-built verbs.Start (start_in names ws) told refl (start-ok names ws) h
 
   event-found : (o : Option Verb) (told : Result Event ℕ) → verb_of first ≡ o → with_verb names first ws o ≡ Ok told → (verb : Verb) × (first ≡ name_of verb) × Told names verb ws told
   event-found None told is h = absurd (unknown (is_unbuilt first) told h)
@@ -112,6 +122,13 @@ module _ (names : Names) (first : List ℕ) (ws : List (List ℕ)) where
   fault-built verbs.Deliver f h = deliver-err names ws f (unlimited-err _ f h)
   fault-built verbs.StoreShow f h = store_show-err names ws f (unlimited-err _ f h)
   fault-built verbs.History f h = history-err names ws f (unlimited-err _ f h)
+  fault-built verbs.Chunks f h = chunks-err names ws f (unlimited-err _ f h)
+  fault-built verbs.Hold f h = hold-err names ws f (unlimited-err _ f h)
+  fault-built verbs.Free f h = free-err names ws f (unlimited-err _ f h)
+  fault-built verbs.Work f h = work-err names ws f (unlimited-err _ f h)
+  fault-built verbs.WorkAll f h = work_all-err names ws f (unlimited-err _ f h)
+  fault-built verbs.Crash f h = crash-err names ws f (unlimited-err _ f h)
+  fault-built verbs.Start f h = start-err names ws f (unlimited-err _ f h)
 
   fault-found : (o : Option Verb) (f : BadLine) → verb_of first ≡ o → with_verb names first ws o ≡ Err f → WordsFault names (first ∷ ws) f
   fault-found None f is h = inr (verb-none first is, unread (is_unbuilt first) f h)
@@ -133,6 +150,13 @@ module _ (names : Names) (first : List ℕ) (ws : List (List ℕ)) where
   built-fault verbs.Deliver f h = rw (deliver-fault names ws f h) refl
   built-fault verbs.StoreShow f h = rw (store_show-fault names ws f h) refl
   built-fault verbs.History f h = rw (history-fault names ws f h) refl
+  built-fault verbs.Chunks f h = rw (chunks-fault names ws f h) refl
+  built-fault verbs.Hold f h = rw (hold-fault names ws f h) refl
+  built-fault verbs.Free f h = rw (free-fault names ws f h) refl
+  built-fault verbs.Work f h = rw (work-fault names ws f h) refl
+  built-fault verbs.WorkAll f h = rw (work_all-fault names ws f h) refl
+  built-fault verbs.Crash f h = rw (crash-fault names ws f h) refl
+  built-fault verbs.Start f h = rw (start-fault names ws f h) refl
 
   found-fault : (o : Option Verb) (f : BadLine) → verb_of first ≡ o → WordsFault names (first ∷ ws) f → with_verb names first ws o ≡ Err f
   found-fault None f is h = elim h [

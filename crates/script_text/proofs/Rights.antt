@@ -14,12 +14,14 @@ use Rattle.std.proofs.lemmas.Fmt.{decimal_is_IsNumeral}
 use Rattle.std.proofs.lemmas.Str.Parse.{digit_at, digit_from_value}
 use Rattle.std.proofs.lemmas.Slice.Eq.{bytes_eq-Decides}
 use Rattle.stab_base.specs.Row.{row_of}
+use Rattle.stab_base.specs.declared.node.Node.{Node}
+use Rattle.stab_base.specs.declared.node.Node.TheVariants as nodes
 use Rattle.row_value.specs.declared.schema.Scheme.TheVariants as schemes
 use Rattle.script_text.specs.Names.{Names, has_store, has_table, has_name, has_client}
 use Rattle.script_words.specs.Words.{is_number, is_name, is_name_byte, is_lower, is_among}
-use Rattle.script_text.specs.Places.{small, node_at, limited_at, store_number, is_comma, parts_at, opened_at, tables_in, client_at, table_at, new_store_at, new_table_at, new_client_at, gate_at}
-use Rattle.script_text.specs.Places.{tables_at, new_name_at, scheme_at, chunk_at, row_at, found_row}
-use Rattle.script_text.specs.Grammar.{IsChunk, IsUpTo, client_word, table_word, tables_word, IsClient, IsTable}
+use Rattle.script_text.specs.Places.{small, node_at, limited_at, store_number, is_comma, parts_at, opened_at, tables_in, client_at, store_at, party_at, table_at, new_store_at, new_table_at}
+use Rattle.script_text.specs.Places.{new_client_at, gate_at, tables_at, new_name_at, scheme_at, chunk_at, row_at, found_row}
+use Rattle.script_text.specs.Grammar.{IsChunk, IsUpTo, client_word, table_word, tables_word, node_word, IsClient, IsTable, IsNode}
 use Rattle.script_words.proofs.WordLemmas.{both}
 use Rattle.script_text.proofs.Numbers.{node-right, limited-right}
 use Rattle.script_text.proofs.Distinct.{NewTo, distinct-new, distinct-words}
@@ -45,6 +47,16 @@ module _ (names : Names) (n : ℕ) where
   opened_at-right : IsUpTo 64 n → has_table names n ≡ true → opened_at names (table_word n) ≡ Ok (Some n)
   unfolding opened_at
   opened_at-right h has = rw (limited-right 84 64 n h.0 h.1 (omega arith), has) refl
+
+store_at-right : (names : Names) (n : ℕ) → IsNode names (nodes.Store n) → store_at names (node_word (nodes.Store n)) ≡ Ok n
+unfolding store_at
+store_at-right names n h = rw (node-right 83 n h.0 h.1, h.2) refl
+
+pub party_at-right : (names : Names) (node : Node) → IsNode names node → party_at names (node_word node) ≡ Ok node
+unfolding party_at
+party_at-right names (nodes.Store n) h = rw (store_at-right names n h) refl
+party_at-right names (nodes.Gate n) h = absurd h
+party_at-right names (nodes.Client n) h = rw (client_at-right names n h) refl
 
 store-number : store_number (codes "S1") ≡ Ok (Some 1)
 unfolding limited_at node_at is_number small

@@ -21,18 +21,21 @@ use Rattle.script_words.specs.Words.{is_name}
 use Rattle.script_text.specs.Places.{names_of}
 use Rattle.script_words.specs.Columns.{column_word}
 use Rattle.script_text.specs.Reading.{next_in, word_in, end_in, store_in, made_table, table_in, client_in, write_in, client_row_in, show_in}
-use Rattle.script_text.specs.Reading.{sum_in, client_table_in, sync_in, pull_in, deliver_in, store_show_in, history_in}
+use Rattle.script_text.specs.Reading.{sum_in, client_table_in, sync_in, pull_in, deliver_in, store_show_in, history_in, chunks_in}
+use Rattle.script_text.specs.Reading.{node_in, hold_in, free_in, work_in, work_all_in, start_in, crash_in}
 use Rattle.script_text.specs.Reading.{unlimited, in_time, built_in, event_in, words_in}
 use Rattle.stab_base.specs.Row.{row_of}
+use Rattle.stab_base.specs.declared.node.Node.{Node}
 use Rattle.script_text.specs.Grammar.{SpelledBy, SpellsStore, SpellsTable, SpellsClient, SpellsWrite, SpellsShow, SpellsSum, SpellsSync}
-use Rattle.script_text.specs.Grammar.{SpellsPull, SpellsDeliver, SpellsStoreShow, SpellsHistory, client_word}
-use Rattle.script_text.specs.Grammar.{table_word, tables_word, IsClient, IsTable}
-use Rattle.script_text.proofs.Numbers.{packet_at-right}
+use Rattle.script_text.specs.Grammar.{SpellsPull, SpellsDeliver, SpellsStoreShow, SpellsHistory, SpellsChunks, SpellsHold, SpellsFree, SpellsWork, SpellsWorkAll, SpellsStart, SpellsCrash, client_word}
+use Rattle.script_text.specs.Grammar.{table_word, tables_word, node_word, IsClient, IsTable, IsNode}
+use Rattle.script_text.proofs.Numbers.{number_at-right, calls_at-right}
 use Rattle.script_text.proofs.Distinct.{distinct-new}
 use Rattle.script_text.proofs.ColumnLemmas.{some_columns_in-right}
 use Rattle.script_text.proofs.ContentLemmas.{content-right}
 use Rattle.script_text.proofs.VerbWords.{verb-again}
-use Rattle.script_text.proofs.Rights.{client_at-right, table_at-right, new_store_at-right, new_table_at-right, new_client_at-right, tables_at-right, new_name_at-right, gate_at-right, scheme_at-right}
+use Rattle.script_text.proofs.Rights.{client_at-right, party_at-right, table_at-right, new_store_at-right, new_table_at-right, new_client_at-right, tables_at-right, new_name_at-right}
+use Rattle.script_text.proofs.Rights.{gate_at-right, scheme_at-right}
 use Rattle.script_text.proofs.Rights.{chunk_at-right, row_at-right}
 
 word_in-right : {X Y : Type 0} (at : ℕ) (place : List ℕ → Result X Code) (w : List ℕ) (ws : List (List ℕ)) (next : X → List (List ℕ) → Result Y BadLine) (x : X) → place w ≡ Ok x
@@ -83,7 +86,7 @@ module _ (names : Names) where
   unfolding deliver_in
   deliver-right ws packet h =
       let read : deliver_in (decimal packet ∷ []) ≡ Ok (events.Deliver packet) =
-      (word_in-right 1 _ (decimal packet) _ _ packet (packet_at-right packet h.1) ∙ rw (end_in-right 2) refl)
+      (word_in-right 1 _ (decimal packet) _ _ packet (number_at-right packet h.1) ∙ rw (end_in-right 2) refl)
       in
       rw h.0 (event_in-right names verbs.Deliver (decimal packet ∷ []) (events.Deliver packet) (ap unlimited read))
 
@@ -104,6 +107,54 @@ module _ (names : Names) where
       (word_in-right 1 _ (table_word table) _ _ table (table_at-right names table h.1) ∙ rw (end_in-right 2) refl)
       in
       rw h.0 (event_in-right names verbs.History (table_word table ∷ []) (events.History table) (ap unlimited read))
+
+  chunks-right : (ws : List (List ℕ)) (table : ℕ) → SpellsChunks names ws table → words_in names ws ≡ Ok (Ok (Some (events.Chunks table)))
+  unfolding chunks_in
+  chunks-right ws table h =
+      let read : chunks_in names (table_word table ∷ []) ≡ Ok (events.Chunks table) =
+      (word_in-right 1 _ (table_word table) _ _ table (table_at-right names table h.1) ∙ rw (end_in-right 2) refl)
+      in
+      rw h.0 (event_in-right names verbs.Chunks (table_word table ∷ []) (events.Chunks table) (ap unlimited read))
+
+  node-right : (node : Node) → IsNode names node → node_in names (node_word node ∷ []) ≡ Ok node
+  unfolding node_in
+  node-right node p = word_in-right 1 _ (node_word node) _ _ node (party_at-right names node p) ∙ rw (end_in-right 2) refl
+
+  hold-right : (ws : List (List ℕ)) (node : Node) → SpellsHold names ws node → words_in names ws ≡ Ok (Ok (Some (events.Hold node)))
+  hold-right ws node h =
+      let read : hold_in names (node_word node ∷ []) ≡ Ok (events.Hold node) = rw (node-right node h.1) refl in
+      rw h.0 (event_in-right names verbs.Hold (node_word node ∷ []) (events.Hold node) (ap unlimited read))
+
+  free-right : (ws : List (List ℕ)) (node : Node) → SpellsFree names ws node → words_in names ws ≡ Ok (Ok (Some (events.Free node)))
+  free-right ws node h =
+      let read : free_in names (node_word node ∷ []) ≡ Ok (events.Free node) = rw (node-right node h.1) refl in
+      rw h.0 (event_in-right names verbs.Free (node_word node ∷ []) (events.Free node) (ap unlimited read))
+
+  work-right : (ws : List (List ℕ)) (node : Node) → SpellsWork names ws node → words_in names ws ≡ Ok (Ok (Some (events.Work node)))
+  work-right ws node h =
+      let read : work_in names (node_word node ∷ []) ≡ Ok (events.Work node) = rw (node-right node h.1) refl in
+      rw h.0 (event_in-right names verbs.Work (node_word node ∷ []) (events.Work node) (ap unlimited read))
+
+  work_all-right : (ws : List (List ℕ)) (node : Node) → SpellsWorkAll names ws node → words_in names ws ≡ Ok (Ok (Some (events.WorkAll node)))
+  work_all-right ws node h =
+      let read : work_all_in names (node_word node ∷ []) ≡ Ok (events.WorkAll node) = rw (node-right node h.1) refl in
+      rw h.0 (event_in-right names verbs.WorkAll (node_word node ∷ []) (events.WorkAll node) (ap unlimited read))
+
+  start-right : (ws : List (List ℕ)) (node : Node) → SpellsStart names ws node → words_in names ws ≡ Ok (Ok (Some (events.Start node)))
+  start-right ws node h =
+      let read : start_in names (node_word node ∷ []) ≡ Ok (events.Start node) = rw (node-right node h.1) refl in
+      rw h.0 (event_in-right names verbs.Start (node_word node ∷ []) (events.Start node) (ap unlimited read))
+
+  crash-right : (ws : List (List ℕ)) (node : Node) (calls pick : ℕ) → SpellsCrash names ws node calls pick → words_in names ws ≡ Ok (Ok (Some (events.Crash node calls pick)))
+  unfolding crash_in
+  crash-right ws node calls pick h =
+      let read : crash_in names (node_word node ∷ decimal calls ∷ decimal pick ∷ []) ≡ Ok (events.Crash node calls pick) =
+      (word_in-right 1 _ (node_word node) _ _ node (party_at-right names node h.1)
+      ∙ word_in-right 2 _ (decimal calls) _ _ calls (calls_at-right calls h.2)
+      ∙ word_in-right 3 _ (decimal pick) _ _ pick (number_at-right pick h.3)
+      ∙ rw (end_in-right 4) refl)
+      in
+      rw h.0 (event_in-right names verbs.Crash (node_word node ∷ decimal calls ∷ decimal pick ∷ []) (events.Crash node calls pick) (ap unlimited read))
 
   client_row-right : (client table : ℕ) (place row : List ℕ) → IsClient names client → IsTable names table → row_of place ≡ Some row
       → client_row_in names (client_word client ∷ table_word table ∷ place ∷ []) ≡ Ok (client, table, row)
@@ -178,6 +229,13 @@ module _ (names : Names) where
   spelled ws (events.Deliver packet) h = deliver-right ws packet h
   spelled ws (events.StoreShow table row) h = store_show-right ws table row h
   spelled ws (events.History table) h = history-right ws table h
+  spelled ws (events.Chunks table) h = chunks-right ws table h
+  spelled ws (events.Hold node) h = hold-right ws node h
+  spelled ws (events.Free node) h = free-right ws node h
+  spelled ws (events.Work node) h = work-right ws node h
+  spelled ws (events.WorkAll node) h = work_all-right ws node h
+  spelled ws (events.Crash node calls pick) h = crash-right ws node calls pick h
+  spelled ws (events.Start node) h = start-right ws node h
 
   pub one_event : (ws : List (List ℕ)) (d e : Event) → SpelledBy names ws d → SpelledBy names ws e → d ≡ e
   one_event ws d e p q = let same : Ok (Ok (Some d)) ≡ Ok (Ok (Some e)) = sym (spelled ws d p) ∙ spelled ws e q in cc

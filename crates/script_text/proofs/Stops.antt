@@ -4,7 +4,8 @@ use Rattle.script_text.specs.declared.fault.BadLine.{BadLine}
 use Rattle.script_text.specs.declared.verb.Verb.TheVariants as verbs
 use Rattle.script_text.specs.Names.{Names}
 use Rattle.script_text.specs.Reading.{store_in, table_in, client_in, content_in, some_columns_in, write_in, client_row_in, show_in}
-use Rattle.script_text.specs.Reading.{sum_in, client_table_in, sync_in, pull_in, deliver_in, store_show_in, history_in}
+use Rattle.script_text.specs.Reading.{sum_in, client_table_in, sync_in, pull_in, deliver_in, store_show_in, history_in, chunks_in}
+use Rattle.script_text.specs.Reading.{node_in, hold_in, free_in, work_in, work_all_in, start_in, crash_in}
 use Rattle.script_text.specs.Grammar.{FirstFault, places_of, more_of}
 use Rattle.script_text.proofs.Steps.{bind-err, word_in-err, word_in-fault, end-err, end-fault, content-err, content-fault, some_columns-err, some_columns-fault}
 
@@ -86,6 +87,41 @@ module _ (names : Names) (ws : List (List ℕ)) (f : BadLine) where
   pub pull-err : pull_in names ws ≡ Err f → FirstFault 1 (places_of names verbs.Pull) (more_of verbs.Pull) ws f
   pull-err h = client_table-err (bind-err (client_table_in names ws) _ f h)
 
+  node-err : node_in names ws ≡ Err f → FirstFault 1 (places_of names verbs.Hold) (more_of verbs.Hold) ws f
+  unfolding node_in
+  node-err h =
+      word_in-err _ _ _ (drop 1 (places_of names verbs.Hold)) (more_of verbs.Hold) f ws h (λ va a xa ia oa ha.
+      end-err 2 _ a f ha)
+
+  pub hold-err : hold_in names ws ≡ Err f → FirstFault 1 (places_of names verbs.Hold) (more_of verbs.Hold) ws f
+  hold-err h = node-err (bind-err (node_in names ws) _ f h)
+
+  pub free-err : free_in names ws ≡ Err f → FirstFault 1 (places_of names verbs.Free) (more_of verbs.Free) ws f
+  free-err h = node-err (bind-err (node_in names ws) _ f h)
+
+  pub work-err : work_in names ws ≡ Err f → FirstFault 1 (places_of names verbs.Work) (more_of verbs.Work) ws f
+  work-err h = node-err (bind-err (node_in names ws) _ f h)
+
+  pub work_all-err : work_all_in names ws ≡ Err f → FirstFault 1 (places_of names verbs.WorkAll) (more_of verbs.WorkAll) ws f
+  work_all-err h = node-err (bind-err (node_in names ws) _ f h)
+
+  pub start-err : start_in names ws ≡ Err f → FirstFault 1 (places_of names verbs.Start) (more_of verbs.Start) ws f
+  start-err h = node-err (bind-err (node_in names ws) _ f h)
+
+  pub chunks-err : chunks_in names ws ≡ Err f → FirstFault 1 (places_of names verbs.Chunks) (more_of verbs.Chunks) ws f
+  unfolding chunks_in
+  chunks-err h =
+      word_in-err _ _ _ (drop 1 (places_of names verbs.Chunks)) (more_of verbs.Chunks) f ws h (λ va a xa ia oa ha.
+      end-err 2 _ a f ha)
+
+  pub crash-err : crash_in names ws ≡ Err f → FirstFault 1 (places_of names verbs.Crash) (more_of verbs.Crash) ws f
+  unfolding crash_in
+  crash-err h =
+      word_in-err _ _ _ (drop 1 (places_of names verbs.Crash)) (more_of verbs.Crash) f ws h (λ va a xa ia oa ha.
+      word_in-err _ _ _ (drop 2 (places_of names verbs.Crash)) (more_of verbs.Crash) f a ha (λ vb b xb ib ob hb.
+      word_in-err _ _ _ (drop 3 (places_of names verbs.Crash)) (more_of verbs.Crash) f b hb (λ vc c xc ic oc hc.
+      end-err 4 _ c f hc)))
+
 module _ (names : Names) (ws : List (List ℕ)) (f : BadLine) where
   pub store-fault : FirstFault 1 (places_of names verbs.Store) (more_of verbs.Store) ws f → store_in names ws ≡ Err f
   unfolding store_in
@@ -163,3 +199,38 @@ module _ (names : Names) (ws : List (List ℕ)) (f : BadLine) where
 
   pub pull-fault : FirstFault 1 (places_of names verbs.Pull) (more_of verbs.Pull) ws f → pull_in names ws ≡ Err f
   pull-fault h = rw (client_table-fault h) refl
+
+  node-fault : FirstFault 1 (places_of names verbs.Hold) (more_of verbs.Hold) ws f → node_in names ws ≡ Err f
+  unfolding node_in
+  node-fault h =
+      word_in-fault _ _ _ (drop 1 (places_of names verbs.Hold)) (more_of verbs.Hold) f ws h (λ va a xa ia oa ha.
+      end-fault 2 _ a f ha)
+
+  pub hold-fault : FirstFault 1 (places_of names verbs.Hold) (more_of verbs.Hold) ws f → hold_in names ws ≡ Err f
+  hold-fault h = rw (node-fault h) refl
+
+  pub free-fault : FirstFault 1 (places_of names verbs.Free) (more_of verbs.Free) ws f → free_in names ws ≡ Err f
+  free-fault h = rw (node-fault h) refl
+
+  pub work-fault : FirstFault 1 (places_of names verbs.Work) (more_of verbs.Work) ws f → work_in names ws ≡ Err f
+  work-fault h = rw (node-fault h) refl
+
+  pub work_all-fault : FirstFault 1 (places_of names verbs.WorkAll) (more_of verbs.WorkAll) ws f → work_all_in names ws ≡ Err f
+  work_all-fault h = rw (node-fault h) refl
+
+  pub start-fault : FirstFault 1 (places_of names verbs.Start) (more_of verbs.Start) ws f → start_in names ws ≡ Err f
+  start-fault h = rw (node-fault h) refl
+
+  pub chunks-fault : FirstFault 1 (places_of names verbs.Chunks) (more_of verbs.Chunks) ws f → chunks_in names ws ≡ Err f
+  unfolding chunks_in
+  chunks-fault h =
+      word_in-fault _ _ _ (drop 1 (places_of names verbs.Chunks)) (more_of verbs.Chunks) f ws h (λ va a xa ia oa ha.
+      end-fault 2 _ a f ha)
+
+  pub crash-fault : FirstFault 1 (places_of names verbs.Crash) (more_of verbs.Crash) ws f → crash_in names ws ≡ Err f
+  unfolding crash_in
+  crash-fault h =
+      word_in-fault _ _ _ (drop 1 (places_of names verbs.Crash)) (more_of verbs.Crash) f ws h (λ va a xa ia oa ha.
+      word_in-fault _ _ _ (drop 2 (places_of names verbs.Crash)) (more_of verbs.Crash) f a ha (λ vb b xb ib ob hb.
+      word_in-fault _ _ _ (drop 3 (places_of names verbs.Crash)) (more_of verbs.Crash) f b hb (λ vc c xc ic oc hc.
+      end-fault 4 _ c f hc)))

@@ -61,7 +61,35 @@ verb-some word verb h0 =
                                                                 elim (picked word (codes "history") verbs.History verb _ h10) [
                                                                   | inl a ↦ a.0 ∙ ap name_of a.1
                                                                   | inr h11 ↦
-                                                                      absurd cc
+                                                                      elim (picked word (codes "chunks") verbs.Chunks verb _ h11) [
+                                                                        | inl a ↦ a.0 ∙ ap name_of a.1
+                                                                        | inr h12 ↦
+                                                                            elim (picked word (codes "hold") verbs.Hold verb _ h12) [
+                                                                              | inl a ↦ a.0 ∙ ap name_of a.1
+                                                                              | inr h13 ↦
+                                                                                  elim (picked word (codes "free") verbs.Free verb _ h13) [
+                                                                                    | inl a ↦ a.0 ∙ ap name_of a.1
+                                                                                    | inr h14 ↦
+                                                                                        elim (picked word (codes "work") verbs.Work verb _ h14) [
+                                                                                          | inl a ↦ a.0 ∙ ap name_of a.1
+                                                                                          | inr h15 ↦
+                                                                                              elim (picked word (codes "do") verbs.WorkAll verb _ h15) [
+                                                                                                | inl a ↦ a.0 ∙ ap name_of a.1
+                                                                                                | inr h16 ↦
+                                                                                                    elim (picked word (codes "crash") verbs.Crash verb _ h16) [
+                                                                                                      | inl a ↦ a.0 ∙ ap name_of a.1
+                                                                                                      | inr h17 ↦
+                                                                                                          elim (picked word (codes "start") verbs.Start verb _ h17) [
+                                                                                                            | inl a ↦ a.0 ∙ ap name_of a.1
+                                                                                                            | inr h18 ↦
+                                                                                                                absurd cc
+                                                                                                          ]
+                                                                                                    ]
+                                                                                              ]
+                                                                                        ]
+                                                                                  ]
+                                                                            ]
+                                                                      ]
                                                                 ]
                                                           ]
                                                     ]
@@ -88,6 +116,13 @@ verb-none word h verb =
     let h8 = skipped word (codes "deliver") verbs.Deliver _ h7.1 in
     let h9 = skipped word (codes "sshow") verbs.StoreShow _ h8.1 in
     let h10 = skipped word (codes "history") verbs.History _ h9.1 in
+    let h11 = skipped word (codes "chunks") verbs.Chunks _ h10.1 in
+    let h12 = skipped word (codes "hold") verbs.Hold _ h11.1 in
+    let h13 = skipped word (codes "free") verbs.Free _ h12.1 in
+    let h14 = skipped word (codes "work") verbs.Work _ h13.1 in
+    let h15 = skipped word (codes "do") verbs.WorkAll _ h14.1 in
+    let h16 = skipped word (codes "crash") verbs.Crash _ h15.1 in
+    let h17 = skipped word (codes "start") verbs.Start _ h16.1 in
     elim verb as (λ (v : Verb). word ≢ name_of v) [
       | verbs.Store ↦ h0.0
       | verbs.Table ↦ h1.0
@@ -100,6 +135,13 @@ verb-none word h verb =
       | verbs.Deliver ↦ h8.0
       | verbs.StoreShow ↦ h9.0
       | verbs.History ↦ h10.0
+      | verbs.Chunks ↦ h11.0
+      | verbs.Hold ↦ h12.0
+      | verbs.Free ↦ h13.0
+      | verbs.Work ↦ h14.0
+      | verbs.WorkAll ↦ h15.0
+      | verbs.Crash ↦ h16.0
+      | verbs.Start ↦ h17.0
     ]
 
 pub verb-again : (verb : Verb) → verb_of (name_of verb) ≡ Some verb
@@ -115,3 +157,10 @@ verb-again verbs.Pull = refl
 verb-again verbs.Deliver = refl
 verb-again verbs.StoreShow = refl
 verb-again verbs.History = refl
+verb-again verbs.Chunks = refl
+verb-again verbs.Hold = refl
+verb-again verbs.Free = refl
+verb-again verbs.Work = refl
+verb-again verbs.WorkAll = refl
+verb-again verbs.Crash = refl
+verb-again verbs.Start = refl

@@ -6,6 +6,8 @@ use Rattle.std.specs.List.{AllByRecursion, IsDistinct, join_with_byte}
 use Rattle.std.specs.Fmt.{decimal}
 use Rattle.std.specs.Str.{IsUtf8, bytes_eq}
 use Rattle.stab_base.specs.Row.{row_of}
+use Rattle.stab_base.specs.declared.node.Node.{Node}
+use Rattle.stab_base.specs.declared.node.Node.TheVariants as nodes
 use Rattle.row_value.specs.declared.schema.Scheme.TheVariants as schemes
 use Rattle.row_value.specs.declared.schema.Schema.{Schema}
 use Rattle.row_value.specs.declared.schema.Column.{Column}
@@ -29,7 +31,8 @@ use Rattle.script_words.specs.Words.{words_of, is_name, is_comment}
 use Rattle.script_text.specs.Verbs.{name_of, is_unbuilt}
 use Rattle.script_text.specs.Places.{client_at, table_at, new_store_at, new_table_at, new_client_at, gate_at, tables_at}
 use Rattle.script_text.specs.Places.{new_name_at, scheme_at, chunk_at, names_of, new_column_at, with_column, row_at}
-use Rattle.script_text.specs.Places.{value_behind, with_value, packet_at, passed, or_else, store_number, table_number}
+use Rattle.script_text.specs.Places.{value_behind, with_value, number_at, party_at, calls_at, passed, or_else}
+use Rattle.script_text.specs.Places.{store_number, table_number}
 use Rattle.script_text.specs.Places.{client_number, tables_passed, parts_at}
 pub use Rattle.script_text.specs.Names.{Names, no_names, with_event, has_store, has_table, has_name, has_client}
 pub use Rattle.script_text.specs.Names.{has_no_store}
@@ -160,6 +163,51 @@ SpellsStoreShow names words table row =
 abbrev pub SpellsHistory : Names → List (List ℕ) → ℕ → Type 0
 SpellsHistory names words table = (words ≡ codes "history" ∷ table_word table ∷ []) × IsTable names table
 
+-- `chunks T`
+abbrev pub SpellsChunks : Names → List (List ℕ) → ℕ → Type 0
+SpellsChunks names words table = (words ≡ codes "chunks" ∷ table_word table ∷ []) × IsTable names table
+
+abbrev pub node_word : Node → List ℕ
+node_word (nodes.Store store) = codes "S" ++ decimal store
+node_word (nodes.Gate gate) = codes "G" ++ decimal gate
+node_word (nodes.Client client) = client_word client
+
+-- a node that is declared; no gateway can be yet
+abbrev pub IsNode : Names → Node → Type 0
+IsNode names (nodes.Store store) = (1 ≤ store) × (store < 2 ^ 32) × (has_store names store ≡ true)
+IsNode names (nodes.Gate gate) = ⊥
+IsNode names (nodes.Client client) = IsClient names client
+
+-- `VERB N`
+abbrev pub SpellsNode : List ℕ → Names → List (List ℕ) → Node → Type 0
+SpellsNode verb names words node = (words ≡ verb ∷ node_word node ∷ []) × IsNode names node
+
+-- `hold N`
+abbrev pub SpellsHold : Names → List (List ℕ) → Node → Type 0
+SpellsHold = SpellsNode (codes "hold")
+
+-- `free N`
+abbrev pub SpellsFree : Names → List (List ℕ) → Node → Type 0
+SpellsFree = SpellsNode (codes "free")
+
+-- `work N`
+abbrev pub SpellsWork : Names → List (List ℕ) → Node → Type 0
+SpellsWork = SpellsNode (codes "work")
+
+-- `do N`
+abbrev pub SpellsWorkAll : Names → List (List ℕ) → Node → Type 0
+SpellsWorkAll = SpellsNode (codes "do")
+
+-- `start N`
+abbrev pub SpellsStart : Names → List (List ℕ) → Node → Type 0
+SpellsStart = SpellsNode (codes "start")
+
+-- `crash N K PICK`
+abbrev pub SpellsCrash : Names → List (List ℕ) → Node → ℕ → ℕ → Type 0
+SpellsCrash names words node calls pick =
+    (words ≡ codes "crash" ∷ node_word node ∷ decimal calls ∷ decimal pick ∷ []) × IsNode names node
+    × (calls ≤ 4) × (pick < 2 ^ 64)
+
 abbrev pub SpelledBy : Names → List (List ℕ) → Event → Type 0
 SpelledBy names words (events.Store store) = SpellsStore names words store
 SpelledBy names words (events.Table table schema) = SpellsTable names words table schema
@@ -172,6 +220,13 @@ SpelledBy names words (events.Pull client table) = SpellsPull names words client
 SpelledBy names words (events.Deliver packet) = SpellsDeliver words packet
 SpelledBy names words (events.StoreShow table row) = SpellsStoreShow names words table row
 SpelledBy names words (events.History table) = SpellsHistory names words table
+SpelledBy names words (events.Chunks table) = SpellsChunks names words table
+SpelledBy names words (events.Hold node) = SpellsHold names words node
+SpelledBy names words (events.Free node) = SpellsFree names words node
+SpelledBy names words (events.Work node) = SpellsWork names words node
+SpelledBy names words (events.WorkAll node) = SpellsWorkAll names words node
+SpelledBy names words (events.Crash node calls pick) = SpellsCrash names words node calls pick
+SpelledBy names words (events.Start node) = SpellsStart names words node
 
 -- the line spells the event with these declarations
 abbrev pub Spells : Names → List ℕ → Event → Type 0
@@ -237,9 +292,18 @@ places_of names verbs.Sum =
     ∷ (λ word. fault_of (row_at word)) ∷ []
 places_of names verbs.Sync = (λ word. fault_of (client_at names word)) ∷ (λ word. fault_of (table_at names word)) ∷ []
 places_of names verbs.Pull = (λ word. fault_of (client_at names word)) ∷ (λ word. fault_of (table_at names word)) ∷ []
-places_of names verbs.Deliver = (λ word. fault_of (packet_at word)) ∷ []
+places_of names verbs.Deliver = (λ word. fault_of (number_at word)) ∷ []
 places_of names verbs.StoreShow = (λ word. fault_of (table_at names word)) ∷ (λ word. fault_of (row_at word)) ∷ []
 places_of names verbs.History = (λ word. fault_of (table_at names word)) ∷ []
+places_of names verbs.Chunks = (λ word. fault_of (table_at names word)) ∷ []
+places_of names verbs.Hold = (λ word. fault_of (party_at names word)) ∷ []
+places_of names verbs.Free = (λ word. fault_of (party_at names word)) ∷ []
+places_of names verbs.Work = (λ word. fault_of (party_at names word)) ∷ []
+places_of names verbs.WorkAll = (λ word. fault_of (party_at names word)) ∷ []
+places_of names verbs.Crash =
+    (λ word. fault_of (party_at names word)) ∷ (λ word. fault_of (calls_at word))
+    ∷ (λ word. fault_of (number_at word)) ∷ []
+places_of names verbs.Start = (λ word. fault_of (party_at names word)) ∷ []
 
 -- what stands behind them
 abbrev pub more_of : Verb → Rest
@@ -254,6 +318,13 @@ more_of verbs.Pull = NoMore
 more_of verbs.Deliver = NoMore
 more_of verbs.StoreShow = NoMore
 more_of verbs.History = NoMore
+more_of verbs.Chunks = NoMore
+more_of verbs.Hold = NoMore
+more_of verbs.Free = NoMore
+more_of verbs.Work = NoMore
+more_of verbs.WorkAll = NoMore
+more_of verbs.Crash = NoMore
+more_of verbs.Start = NoMore
 
 -- a fault of the verb at its place: a `table` without a Store, and a declaration behind an event
 abbrev pub verb_fault : Names → Verb → Option Code
@@ -269,6 +340,13 @@ verb_fault names verbs.Pull = None
 verb_fault names verbs.Deliver = None
 verb_fault names verbs.StoreShow = None
 verb_fault names verbs.History = None
+verb_fault names verbs.Chunks = None
+verb_fault names verbs.Hold = None
+verb_fault names verbs.Free = None
+verb_fault names verbs.Work = None
+verb_fault names verbs.WorkAll = None
+verb_fault names verbs.Crash = None
+verb_fault names verbs.Start = None
 
 abbrev pub VerbFault : Names → Verb → List (List ℕ) → BadLine → Type 0
 VerbFault names verb words fault =

@@ -47,6 +47,13 @@ with_event n (events.Pull client table) = record n { started = true }
 with_event n (events.Deliver packet) = record n { started = true }
 with_event n (events.StoreShow table row) = record n { started = true }
 with_event n (events.History table) = record n { started = true }
+with_event n (events.Chunks table) = record n { started = true }
+with_event n (events.Hold node) = record n { started = true }
+with_event n (events.Free node) = record n { started = true }
+with_event n (events.Work node) = record n { started = true }
+with_event n (events.WorkAll node) = record n { started = true }
+with_event n (events.Crash node calls pick) = record n { started = true }
+with_event n (events.Start node) = record n { started = true }
 
 abbrev pub has_store : Names → ℕ → Bool
 has_store n store = list_any (is_at (nat_cmp store)) n.stores

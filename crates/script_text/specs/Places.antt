@@ -6,6 +6,8 @@ use Rattle.std.specs.Borrow.{Bor}
 use Rattle.std.specs.Str.{bytes_eq}
 use Rattle.std.specs.Str.Parse.{digits_value}
 use Rattle.stab_base.specs.Row.{row_of}
+use Rattle.stab_base.specs.declared.node.Node.{Node}
+use Rattle.stab_base.specs.declared.node.Node.TheVariants as nodes
 use Rattle.row_value.specs.Fit.{is_object}
 use Rattle.row_value.specs.declared.content.Cell.{Cell}
 use Rattle.row_value.specs.declared.schema.ColumnKind.{ColumnKind}
@@ -83,6 +85,21 @@ opened has (Some n) = if has n then Ok (Some n) else Err NotDeclared
 
 unfoldable pub client_at : Names → List ℕ → Result ℕ Code
 client_at names word = node_at 67 word >>= known (has_client names)
+
+unfoldable pub store_at : Names → List ℕ → Result ℕ Code
+store_at names word = node_at 83 word >>= known (has_store names)
+
+-- the word's first byte is this letter
+abbrev pub begins_with : ℕ → List ℕ → Bool
+begins_with letter [] = false
+begins_with letter (b ∷ bytes) = b == letter
+
+-- a node that is declared; no gateway can be yet
+unfoldable pub party_at : Names → List ℕ → Result Node Code
+party_at names word =
+    if begins_with 83 word then (store_at names word >>= λ number. Ok (nodes.Store number))
+    else if begins_with 71 word then (node_at 71 word >>= λ number. Err NotDeclared)
+    else (client_at names word >>= λ number. Ok (nodes.Client number))
 
 unfoldable pub table_at : Names → List ℕ → Result ℕ Code
 table_at names word = node_at 84 word >>= known (has_table names)
@@ -219,7 +236,11 @@ found_row (Some row) = Ok row
 unfoldable pub row_at : List ℕ → Result (List ℕ) Code
 row_at word = found_row (row_of word)
 
--- the number of a packet, below 2 ^ 64
-unfoldable pub packet_at : List ℕ → Result ℕ Code
-packet_at word =
+-- a number below 2 ^ 64
+unfoldable pub number_at : List ℕ → Result ℕ Code
+number_at word =
     if is_length word && nat_lt (digits_value 10 word) (2 ^ 64) then Ok (digits_value 10 word) else Err NoNumber
+
+-- how many calls of a disk pass, up to 4
+unfoldable pub calls_at : List ℕ → Result ℕ Code
+calls_at word = number_at word >>= λ calls. if nat_le calls 4 then Ok calls else Err NoNumber

@@ -2,6 +2,7 @@
 use Rattle.std.specs.Prelude.{◌≡◌, ℕ, ◌+◌, nat_lt, List, [], ◌∷◌, ◌++◌, length, Option, Some, None, Result, Ok, Err}
 use Rattle.std.specs.Prelude.{if◌then◌else◌}
 use Rattle.std.specs.Str.{is_utf8}
+use Rattle.stab_base.specs.declared.node.Node.{Node}
 use Rattle.row_value.specs.declared.schema.Column.{Column}
 use Rattle.row_value.specs.declared.content.Content.{Content}
 use Rattle.row_value.specs.declared.content.Content.TheVariants.{Row}
@@ -23,7 +24,7 @@ use Rattle.std.specs.Borrow.{Bor}
 use Rattle.script_words.specs.Words.{texts, words_of, is_comment}
 use Rattle.script_text.specs.Places.{◌>>=◌, client_at, table_at, new_store_at, new_table_at, new_client_at, gate_at}
 use Rattle.script_text.specs.Places.{tables_at, new_name_at, scheme_at, chunk_at, new_column_at, with_column, row_at}
-use Rattle.script_text.specs.Places.{Values, value_behind, with_value, packet_at}
+use Rattle.script_text.specs.Places.{Values, value_behind, with_value, number_at, party_at, calls_at}
 
 -- the next word and the words behind it
 unfoldable pub next_in : ℕ → List (List ℕ) → Result (List ℕ × List (List ℕ)) BadLine
@@ -132,7 +133,7 @@ pull_in names words = client_table_in names words >>= λ p. Ok (events.Pull p.0 
 
 unfoldable pub deliver_in : List (List ℕ) → Result Event BadLine
 deliver_in words =
-    word_in 1 packet_at words (λ packet a.
+    word_in 1 number_at words (λ packet a.
     end_in 2 a >>= λ done. Ok (events.Deliver packet))
 
 unfoldable pub store_show_in : Names → List (List ℕ) → Result Event BadLine
@@ -145,6 +146,39 @@ unfoldable pub history_in : Names → List (List ℕ) → Result Event BadLine
 history_in names words =
     word_in 1 (table_at names) words (λ table a.
     end_in 2 a >>= λ done. Ok (events.History table))
+
+unfoldable pub chunks_in : Names → List (List ℕ) → Result Event BadLine
+chunks_in names words =
+    word_in 1 (table_at names) words (λ table a.
+    end_in 2 a >>= λ done. Ok (events.Chunks table))
+
+-- a node, and no more
+unfoldable pub node_in : Names → List (List ℕ) → Result Node BadLine
+node_in names words =
+    word_in 1 (party_at names) words (λ node a.
+    end_in 2 a >>= λ done. Ok node)
+
+abbrev pub hold_in : Names → List (List ℕ) → Result Event BadLine
+hold_in names words = node_in names words >>= λ node. Ok (events.Hold node)
+
+abbrev pub free_in : Names → List (List ℕ) → Result Event BadLine
+free_in names words = node_in names words >>= λ node. Ok (events.Free node)
+
+abbrev pub work_in : Names → List (List ℕ) → Result Event BadLine
+work_in names words = node_in names words >>= λ node. Ok (events.Work node)
+
+abbrev pub work_all_in : Names → List (List ℕ) → Result Event BadLine
+work_all_in names words = node_in names words >>= λ node. Ok (events.WorkAll node)
+
+abbrev pub start_in : Names → List (List ℕ) → Result Event BadLine
+start_in names words = node_in names words >>= λ node. Ok (events.Start node)
+
+unfoldable pub crash_in : Names → List (List ℕ) → Result Event BadLine
+crash_in names words =
+    word_in 1 (party_at names) words (λ node a.
+    word_in 2 calls_at a (λ calls b.
+    word_in 3 number_at b (λ pick c.
+    end_in 4 c >>= λ done. Ok (events.Crash node calls pick))))
 
 -- a client, a table and a row, and no more
 unfoldable pub client_row_in : Names → List (List ℕ) → Result (ℕ × ℕ × List ℕ) BadLine
@@ -203,6 +237,13 @@ built_in names verbs.Pull words = unlimited (pull_in names words)
 built_in names verbs.Deliver words = unlimited (deliver_in words)
 built_in names verbs.StoreShow words = unlimited (store_show_in names words)
 built_in names verbs.History words = unlimited (history_in names words)
+built_in names verbs.Chunks words = unlimited (chunks_in names words)
+built_in names verbs.Hold words = unlimited (hold_in names words)
+built_in names verbs.Free words = unlimited (free_in names words)
+built_in names verbs.Work words = unlimited (work_in names words)
+built_in names verbs.WorkAll words = unlimited (work_all_in names words)
+built_in names verbs.Crash words = unlimited (crash_in names words)
+built_in names verbs.Start words = unlimited (start_in names words)
 
 abbrev pub with_verb : Names → List ℕ → List (List ℕ) → Option Verb → Result (Result Event ℕ) BadLine
 with_verb names first words None = if is_unbuilt first then Err (bad Unbuilt 0) else Err (bad NoVerb 0)

@@ -18,6 +18,13 @@ name_of verbs.Pull = codes "pull"
 name_of verbs.Deliver = codes "deliver"
 name_of verbs.StoreShow = codes "sshow"
 name_of verbs.History = codes "history"
+name_of verbs.Chunks = codes "chunks"
+name_of verbs.Hold = codes "hold"
+name_of verbs.Free = codes "free"
+name_of verbs.Work = codes "work"
+name_of verbs.WorkAll = codes "do"
+name_of verbs.Crash = codes "crash"
+name_of verbs.Start = codes "start"
 
 unfoldable pub verb_of : List ℕ → Option Verb
 verb_of word =
@@ -32,6 +39,13 @@ verb_of word =
     else if bytes_eq word (codes "deliver") then Some verbs.Deliver
     else if bytes_eq word (codes "sshow") then Some verbs.StoreShow
     else if bytes_eq word (codes "history") then Some verbs.History
+    else if bytes_eq word (codes "chunks") then Some verbs.Chunks
+    else if bytes_eq word (codes "hold") then Some verbs.Hold
+    else if bytes_eq word (codes "free") then Some verbs.Free
+    else if bytes_eq word (codes "work") then Some verbs.Work
+    else if bytes_eq word (codes "do") then Some verbs.WorkAll
+    else if bytes_eq word (codes "crash") then Some verbs.Crash
+    else if bytes_eq word (codes "start") then Some verbs.Start
     else None
 
 -- lines that set things up that aren't built
@@ -52,8 +66,7 @@ is_conflict_verb word =
 -- lines of nodes that aren't built
 unfoldable pub is_node_verb : List ℕ → Bool
 is_node_verb word =
-    is_among word (codes "hold" ∷ codes "free" ∷ codes "work" ∷ codes "do" ∷ codes "crash" ∷ codes "start"
-    ∷ codes "tick" ∷ codes "settle" ∷ codes "chunks" ∷ [])
+    is_among word (codes "tick" ∷ codes "settle" ∷ [])
 
 unfoldable pub is_unbuilt : List ℕ → Bool
 is_unbuilt word = is_setting_verb word || is_row_verb word || is_conflict_verb word || is_node_verb word

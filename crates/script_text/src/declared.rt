@@ -159,7 +159,14 @@ impl Declared {
             | Event::Pull { .. }
             | Event::Deliver { .. }
             | Event::StoreShow { .. }
-            | Event::History { .. } => {
+            | Event::History { .. }
+            | Event::Chunks { .. }
+            | Event::Hold { .. }
+            | Event::Free { .. }
+            | Event::Work { .. }
+            | Event::WorkAll { .. }
+            | Event::Crash { .. }
+            | Event::Start { .. } => {
                 self.started = true;
                 Ok(())
             }

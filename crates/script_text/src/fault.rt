@@ -26,6 +26,9 @@ pub(crate) const COLUMNS: u32 = 8;
 
 pub(crate) const MOST_COLUMNS: usize = 32;
 
+/// Of how many calls a line may say that they pass in a crash.
+pub(crate) const MOST_CALLS: u64 = 4;
+
 /// The first word at fault, counted from 0, and the code of its fault, from 1 to 12.
 #[derive(Debug, Clone, Copy, PartialEq, Eq)]
 pub struct BadLine {

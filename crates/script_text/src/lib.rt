@@ -9,6 +9,7 @@ mod fault;
 mod laws;
 mod lines;
 mod next;
+mod nodes;
 mod parse;
 mod places;
 mod verb;

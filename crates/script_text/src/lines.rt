@@ -4,16 +4,17 @@ ghost use Rattle.script_text.specs.Places.{tables_at};
 ghost use Rattle.script_text.specs.Reading.{Reads, Makes, Tells, placed, made_table, made_client, store_in, table_in};
 ghost use Rattle.script_text.specs.Reading.{client_in, write_in, client_row_in, show_in, sum_in, client_table_in};
 ghost use Rattle.script_text.specs.Reading.{sync_in, pull_in};
-ghost use Rattle.script_text.specs.Reading.{deliver_in, store_show_in, history_in, built_in, event_in};
+ghost use Rattle.script_text.specs.Reading.{deliver_in, store_show_in, history_in, chunks_in, built_in, event_in};
 
 use crate::columns::some_columns;
 use crate::contents::some_content;
 use crate::declared::Declared;
 use crate::fault::{BadLine, CLIENTS, COLUMNS, MOST_COLUMNS, STORES, ScriptFault, TABLES, bad};
 use crate::next::{end, next_word, placed};
+use crate::nodes::{crash_line, free_line, hold_line, start_line, work_all_line, work_line};
 use crate::places::{
     chunk_at, client_at, gate_at, new_client_at, new_name_at, new_store_at, new_table_at,
-    packet_at, row_at, scheme_at, table_at, tables_at,
+    number_at, row_at, scheme_at, table_at, tables_at,
 };
 use crate::verb::{Verb, is_unbuilt, verb_of};
 use row_value::{Bytes, RowId, Schema};
@@ -52,7 +53,7 @@ fn deliver_line(words: &[&str]) -> Result<Event, BadLine>
     ensures { result ≡ deliver_in (texts words.now) }
 {
     let (word, rest) = next_word(words, 1)?;
-    let packet = placed(1, packet_at(word))?;
+    let packet = placed(1, number_at(word))?;
     end(rest, 2)?;
     Ok(Event::Deliver { packet })
 }
@@ -77,6 +78,16 @@ fn history_line(names: &Declared, words: &[&str]) -> Result<Event, BadLine>
     let table = placed(1, table_at(names, word))?;
     end(rest, 2)?;
     Ok(Event::History { table })
+}
+
+#[tactic(auto, unfolding(crate::specs::Reading::chunks_in, crate::specs::Reading::word_in))]
+fn chunks_line(names: &Declared, words: &[&str]) -> Result<Event, BadLine>
+    ensures { result ≡ chunks_in names.now (texts words.now) }
+{
+    let (word, rest) = next_word(words, 1)?;
+    let table = placed(1, table_at(names, word))?;
+    end(rest, 2)?;
+    Ok(Event::Chunks { table })
 }
 
 #[tactic(auto, unfolding(crate::specs::Reading::client_row_in, crate::specs::Reading::word_in))]
@@ -238,6 +249,13 @@ fn built_line(
         Verb::Deliver => Ok(deliver_line(words)?),
         Verb::StoreShow => Ok(store_show_line(names, words)?),
         Verb::History => Ok(history_line(names, words)?),
+        Verb::Chunks => Ok(chunks_line(names, words)?),
+        Verb::Hold => Ok(hold_line(names, words)?),
+        Verb::Free => Ok(free_line(names, words)?),
+        Verb::Work => Ok(work_line(names, words)?),
+        Verb::WorkAll => Ok(work_all_line(names, words)?),
+        Verb::Crash => Ok(crash_line(names, words)?),
+        Verb::Start => Ok(start_line(names, words)?),
         Verb::Table if names.has_no_store() => Err(bad(Code::NotDeclared, 0).into()),
         _ if names.has_started() => Err(bad(Code::Late, 0).into()),
         Verb::Store => store_line(names, words),

@@ -5,12 +5,13 @@ ghost use Rattle.script_words.specs.Codes.{Judges};
 ghost use Rattle.script_text.specs.Places.{small, node_at, limited_at, built, opened_at, joined, alone, client_at};
 ghost use Rattle.script_text.specs.Places.{table_at, new_store_at, new_table_at, new_client_at, gate_at, tables_in};
 ghost use Rattle.script_text.specs.Places.{tables_at, is_comma, seen, new_name_at, scheme_at, chunk_at, row_at};
-ghost use Rattle.script_text.specs.Places.{packet_at};
+ghost use Rattle.script_text.specs.Places.{number_at, calls_at, store_at, begins_with, party_at};
 
 use crate::declared::{Declared, put_name};
-use crate::fault::{MOST_CLIENTS, MOST_STORES, MOST_TABLES};
+use crate::fault::{MOST_CALLS, MOST_CLIENTS, MOST_STORES, MOST_TABLES};
 use row_value::{RowId, Scheme, Sequence};
 use script_words::{Code, ValueFault, is_length, is_name, is_number};
+use stab_base::Node;
 use std::alloc::{AllocError, Global};
 use std::collections::BTreeSet;
 use table_model::Tables;
@@ -53,6 +54,45 @@ pub(crate) fn client_at(names: &Declared, word: &str) -> Result<u32, Code>
         Some(number) if names.has_client(number) => Ok(number),
         _ => Err(Code::NotDeclared),
     }
+}
+
+#[tactic(auto, unfolding(crate::specs::Places::store_at))]
+fn store_at(names: &Declared, word: &str) -> Result<u32, Code>
+    ensures { result ≡ store_at names.now word.now }
+{
+    match node_at('S', word)? {
+        Some(number) if names.has_store(number) => Ok(number),
+        _ => Err(Code::NotDeclared),
+    }
+}
+
+fn names_a_store(word: &str) -> bool
+    ensures { result ≡ begins_with 83 word.now }
+{
+    matches!(word.as_bytes(), [b'S', ..])
+}
+
+fn names_a_gateway(word: &str) -> bool
+    ensures { result ≡ begins_with 71 word.now }
+{
+    matches!(word.as_bytes(), [b'G', ..])
+}
+
+// A node that is declared; no gateway can be yet.
+#[tactic(auto, unfolding(crate::specs::Places::party_at))]
+pub(crate) fn party_at(names: &Declared, word: &str) -> Result<Node, Code>
+    ensures { result ≡ party_at names.now word.now }
+{
+    if names_a_store(word) {
+        let store = store_at(names, word)?;
+        return Ok(Node::Store(store));
+    }
+    if names_a_gateway(word) {
+        let _number = node_at('G', word)?;
+        return Err(Code::NotDeclared);
+    }
+    let client = client_at(names, word)?;
+    Ok(Node::Client(client))
 }
 
 #[tactic(auto, unfolding(crate::specs::Places::table_at))]
@@ -221,15 +261,28 @@ pub(crate) fn row_at(word: &str) -> Result<RowId, Code>
     RowId::parse(word).ok_or(Code::NoRow)
 }
 
-#[tactic(auto, unfolding(crate::specs::Places::packet_at))]
-pub(crate) fn packet_at(word: &str) -> Result<u64, Code>
-    ensures { result ≡ packet_at word.now }
+#[tactic(auto, unfolding(crate::specs::Places::number_at))]
+pub(crate) fn number_at(word: &str) -> Result<u64, Code>
+    ensures { result ≡ number_at word.now }
 {
     if !is_length(word) {
         return Err(Code::NoNumber);
     }
     match word.parse::<u64>() {
-        Ok(packet) => Ok(packet),
+        Ok(number) => Ok(number),
         Err(_) => Err(Code::NoNumber),
+    }
+}
+
+// How many calls of a disk pass.
+#[tactic(auto, unfolding(crate::specs::Places::calls_at))]
+pub(crate) fn calls_at(word: &str) -> Result<u32, Code>
+    ensures { result ≡ calls_at word.now }
+{
+    let calls = number_at(word)?;
+    if calls <= MOST_CALLS {
+        Ok(calls as u32)
+    } else {
+        Err(Code::NoNumber)
     }
 }

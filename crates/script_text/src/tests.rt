@@ -1,5 +1,6 @@
 use crate::{Declared, ScriptFault, parse_line};
 use row_value::{Bytes, Cell, Column, ColumnKind, Content, Schema, Scheme, Sequence};
+use stab_base::Node;
 use std::alloc::Global;
 use std::process::Abort;
 use std::test::Fail;
@@ -75,7 +76,7 @@ const AT_THE_START: [(&str, u32, usize); 60] = [
     ("syncs C1 T1", 1, 0),
     ("gate G1", 12, 0),
     ("resolve_all C1 T1 mine", 12, 0),
-    ("chunks", 12, 0),
+    ("settle", 12, 0),
     ("  store   S1  ", 0, 0),
     ("store", 2, 1),
     ("store S1 S1", 3, 2),
@@ -354,6 +355,93 @@ fn a_table_has_up_to_32_columns(rt: HostRuntime) -> Result<(), Fail> {
     Ok(())
 }
 
+const OF_NODES_AT_THE_START: [(&str, u32, usize); 13] = [
+    ("chunks", 2, 1),
+    ("chunks T1", 8, 1),
+    ("hold", 2, 1),
+    ("hold S1", 8, 1),
+    ("hold G1", 8, 1),
+    ("hold C1", 8, 1),
+    ("hold T1", 5, 1),
+    ("free", 2, 1),
+    ("work", 2, 1),
+    ("do", 2, 1),
+    ("crash", 2, 1),
+    ("crash S1 5 x", 8, 1),
+    ("start", 2, 1),
+];
+
+#[test]
+fn refusals_of_nodes_at_the_start(rt: HostRuntime) -> Result<(), Fail> {
+    let names = behind(rt.alloc(), &[])?;
+    check(&rt, rt.alloc(), &names, &OF_NODES_AT_THE_START)
+}
+
+const OF_NODES: [(&str, u32, usize); 56] = [
+    ("chunks T1", 0, 0),
+    ("chunks T2", 0, 0),
+    ("chunks T3", 8, 1),
+    ("chunks T65", 8, 1),
+    ("chunks S1", 5, 1),
+    ("chunks T1 T2", 3, 2),
+    ("hold S1", 0, 0),
+    ("hold C1", 0, 0),
+    ("hold G1", 8, 1),
+    ("hold G17", 8, 1),
+    ("hold S2", 8, 1),
+    ("hold S17", 8, 1),
+    ("hold S4294967297", 8, 1),
+    ("hold C2", 8, 1),
+    ("hold C65", 8, 1),
+    ("hold S", 5, 1),
+    ("hold S0", 5, 1),
+    ("hold S01", 5, 1),
+    ("hold s1", 5, 1),
+    ("hold G", 5, 1),
+    ("hold G0", 5, 1),
+    ("hold C01", 5, 1),
+    ("hold 1", 5, 1),
+    ("hold T1", 5, 1),
+    ("hold -", 5, 1),
+    ("hold S1 C1", 3, 2),
+    ("hold G1 C1", 8, 1),
+    ("free C1", 0, 0),
+    ("free S1 x", 3, 2),
+    ("work S1", 0, 0),
+    ("work S1 1", 3, 2),
+    ("do S1", 0, 0),
+    ("do C2", 8, 1),
+    ("do S1 S1", 3, 2),
+    ("start C1", 0, 0),
+    ("start S1 0", 3, 2),
+    ("crash S1", 2, 2),
+    ("crash S1 0", 2, 3),
+    ("crash S1 0 0", 0, 0),
+    ("crash C1 4 18446744073709551615", 0, 0),
+    ("crash S1 5 0", 4, 2),
+    ("crash S1 04 0", 4, 2),
+    ("crash S1 00 0", 4, 2),
+    ("crash S1 -1 0", 4, 2),
+    ("crash S1 18446744073709551616 x", 4, 2),
+    ("crash S1 4 18446744073709551616", 4, 3),
+    ("crash S1 4 01", 4, 3),
+    ("crash S1 4 x y", 4, 3),
+    ("crash S1 4 0 0", 3, 4),
+    ("crash S1 5", 4, 2),
+    ("crash G1 5", 8, 1),
+    ("crash x 5", 5, 1),
+    ("crash S1 x", 4, 2),
+    ("Hold S1", 1, 0),
+    ("tick", 12, 0),
+    ("holds S1", 1, 0),
+];
+
+#[test]
+fn refusals_of_nodes(rt: HostRuntime) -> Result<(), Fail> {
+    let names = behind(rt.alloc(), &[STORE, TABLE, SECOND, CLIENT])?;
+    check(&rt, rt.alloc(), &names, &OF_NODES)
+}
+
 const BEHIND_AN_EVENT: [(&str, u32, usize); 7] = [
     ("store", 11, 0),
     ("table", 11, 0),
@@ -373,7 +461,20 @@ fn refusals_behind_an_event(rt: HostRuntime) -> Result<(), Fail> {
 #[test]
 fn each_event_ends_the_declarations(rt: HostRuntime) -> Result<(), Fail> {
     let alloc = rt.alloc();
-    for event in ["sync C1 T1", "pull C1 T1", "deliver 7", "history T1", SSHOW] {
+    for event in [
+        "sync C1 T1",
+        "pull C1 T1",
+        "deliver 7",
+        "history T1",
+        SSHOW,
+        "chunks T1",
+        "hold S1",
+        "free C1",
+        "work S1",
+        "do S1",
+        "crash S1 0 0",
+        "start S1",
+    ] {
         let names = behind(alloc, &[STORE, TABLE, CLIENT, event])?;
         assert_eq!(rt;
             judged(alloc, b"client C2 - -", &names)?,
@@ -522,6 +623,81 @@ fn lines_say_what_their_words_name(rt: HostRuntime) -> Result<(), Fail> {
     for (index, line) in lines.iter().enumerate() {
         let event = parse_line(alloc, line.as_bytes(), &names)?.ok_or("passed over")?;
         assert!(rt; is_due(index, &event), "{line}");
+    }
+    Ok(())
+}
+
+// Whether the event is the one that the line spells of a node, or of a table's chunks.
+fn is_done_to_a_node(index: usize, event: &Event) -> bool {
+    match (index, event) {
+        (
+            0,
+            Event::Hold {
+                node: Node::Store(1),
+            },
+        ) => true,
+        (
+            1,
+            Event::Free {
+                node: Node::Client(1),
+            },
+        ) => true,
+        (
+            2,
+            Event::Work {
+                node: Node::Store(1),
+            },
+        ) => true,
+        (
+            3,
+            Event::WorkAll {
+                node: Node::Client(1),
+            },
+        ) => true,
+        (
+            4,
+            Event::Crash {
+                node: Node::Client(1),
+                calls: 3,
+                pick: 7,
+            },
+        ) => true,
+        (
+            5,
+            Event::Crash {
+                node: Node::Store(1),
+                calls: 0,
+                pick: 18446744073709551615,
+            },
+        ) => true,
+        (
+            6,
+            Event::Start {
+                node: Node::Store(1),
+            },
+        ) => true,
+        (7, Event::Chunks { table: 2 }) => true,
+        _ => false,
+    }
+}
+
+#[test]
+fn lines_say_what_is_done_to_a_node(rt: HostRuntime) -> Result<(), Fail> {
+    let alloc = rt.alloc();
+    let names = behind(alloc, &[STORE, TABLE, SECOND, CLIENT])?;
+    let lines = [
+        "hold S1",
+        "free C1",
+        "work S1",
+        "do C1",
+        "crash C1 3 7",
+        "crash S1 0 18446744073709551615",
+        "start S1",
+        "chunks T2",
+    ];
+    for (index, line) in lines.iter().enumerate() {
+        let event = parse_line(alloc, line.as_bytes(), &names)?.ok_or("passed over")?;
+        assert!(rt; is_done_to_a_node(index, &event), "{line}");
     }
     Ok(())
 }

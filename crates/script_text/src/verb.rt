@@ -16,6 +16,13 @@ pub(crate) enum Verb {
     Deliver,
     StoreShow,
     History,
+    Chunks,
+    Hold,
+    Free,
+    Work,
+    WorkAll,
+    Crash,
+    Start,
 }
 
 #[tactic(auto, unfolding(crate::specs::Verbs::verb_of))]
@@ -34,6 +41,13 @@ pub(crate) fn verb_of(word: &str) -> Option<Verb>
         "deliver" => Some(Verb::Deliver),
         "sshow" => Some(Verb::StoreShow),
         "history" => Some(Verb::History),
+        "chunks" => Some(Verb::Chunks),
+        "hold" => Some(Verb::Hold),
+        "free" => Some(Verb::Free),
+        "work" => Some(Verb::Work),
+        "do" => Some(Verb::WorkAll),
+        "crash" => Some(Verb::Crash),
+        "start" => Some(Verb::Start),
         _ => None,
     }
 }
@@ -69,10 +83,7 @@ fn is_conflict_verb(word: &str) -> bool
 fn is_node_verb(word: &str) -> bool
     ensures { result ≡ is_node_verb word.now }
 {
-    matches!(
-        word,
-        "hold" | "free" | "work" | "do" | "crash" | "start" | "tick" | "settle" | "chunks"
-    )
+    matches!(word, "tick" | "settle")
 }
 
 /// Whether a word is the first of a line that isn't built yet.

@@ -158,6 +158,21 @@ pub record Drains {D : Type 0} (state : D → DiskState) (w : World) (old new : 
   pub left : length (tasks_of w owner) ≡ count + length (tasks_of here owner)
   pub goes : (lucks : List Luck) → (more : List Luck) × (store_until_idle owner more w ≡ put_before told (store_works owner (length (tasks_of here owner)) lucks here))
 
+there : (v : World) (table : ℕ) → find (is_at_work v) (keys_of v.tables) ≡ Some table → (hosted : world.Hosted) × (hosted_at v table ≡ Some hosted)
+there v table is = go (hosted_at v table) refl
+  where
+    go : (o : Option world.Hosted) → hosted_at v table ≡ o → (hosted : world.Hosted) × (hosted_at v table ≡ Some hosted)
+    go None e = absurd (true≢false (sym (find_is (is_at_work v) (keys_of v.tables) table is) ∙ none_works v table e))
+    go (Some hosted) e = (hosted, e)
+
+-- a write that fails
+pub fails_there : (v : World) (table : ℕ) (luck : Luck) → ((x : World) (hosted : world.Hosted) → (or_falls owner (move_hosted x table (Work luck) (Some hosted))).failed ≡ true)
+    → Some table ≡ busy_table v owner → (write_next owner luck (busy_table v owner) v).failed ≡ true
+fails_there v table luck fails busy =
+    let h = there v table (sym busy) in
+    subst (λ (o : Option ℕ). (write_next owner luck o v).failed ≡ true) busy
+    (subst (λ (o : Option world.Hosted). (or_falls owner (move_hosted v table (Work luck) o)).failed ≡ true) (sym h.1) (fails v h.0))
+
 module _ {D : Type 0} (state : D → DiskState) (w : World) (old : StoreHost D) where
   pub drains : HoldsStore state w old → Drains state w old old 0
   drains h = record { here = w; told = []; held = h; outs = sym (append-nil (outs_of old)); left = omega arith; goes = λ lucks. (lucks, refl) }
@@ -208,13 +223,6 @@ module _ {D : Type 0} (state : D → DiskState) (w : World) (old : StoreHost D) 
               (record { held = d.held; outs = d.outs ∙ ap (λ (l : List Outbox). outs_of old ++ filter says_something l) (sym (append-nil d.told)) }),
         )
 
-    there : (v : World) (table : ℕ) → find (is_at_work v) (keys_of v.tables) ≡ Some table → (hosted : world.Hosted) × (hosted_at v table ≡ Some hosted)
-    there v table is = go (hosted_at v table) refl
-      where
-        go : (o : Option world.Hosted) → hosted_at v table ≡ o → (hosted : world.Hosted) × (hosted_at v table ≡ Some hosted)
-        go None e = absurd (true≢false (sym (find_is (is_at_work v) (keys_of v.tables) table is) ∙ none_works v table e))
-        go (Some hosted) e = (hosted, e)
-
     -- one write that fails
     pub drained_badly : (new : StoreHost D) (table : ℕ) (luck : Luck) → ((v : World) (hosted : world.Hosted) → (or_falls owner (move_hosted v table (Work luck) (Some hosted))).failed ≡ true)
         → Some table ≡ busy_table d.here owner
@@ -222,10 +230,7 @@ module _ {D : Type 0} (state : D → DiskState) (w : World) (old : StoreHost D) 
         × IsMoved state old new (store_until_idle owner lucks w)
     drained_badly new table luck fails busy k =
         let m : Moved = write_next owner luck (busy_table d.here owner) d.here in
-        let h = there d.here table (sym busy) in
-        let bad : m.failed ≡ true =
-        subst (λ (o : Option ℕ). (write_next owner luck o d.here).failed ≡ true) busy
-        (subst (λ (o : Option world.Hosted). (or_falls owner (move_hosted d.here table (Work luck) o)).failed ≡ true) (sym h.1) (fails d.here h.0)) in
+        let bad : m.failed ≡ true = fails_there d.here table luck fails busy in
         let less = next_less d.here table sorted busy in
         let rest = length (tasks_of (write_next owner messages.Done (busy_table d.here owner) d.here).world owner) in
         let g = d.goes (luck ∷ []) in

@@ -1,17 +1,25 @@
 -- A table behind a step of its node, and what it tells put behind what was told.
-use Rattle.std.proofs.Common.{◌≡◌, inl, inr, ℕ, ◌<◌, ◌++◌, length, map, Bool, true, false, cond, List, [], ◌∷◌, Option, Some, None, Result, Ok, Err, refl, sym, ◌∙◌, ap, subst, append-nil}
-use Rattle.std.specs.Prelude.{filter, ◌==◌, IfErr}
+use Rattle.std.proofs.Common.{◌≡◌, ◌⊎◌, inl, inr, ℕ, ◌<◌, ◌++◌, length, map, Bool, true, false, cond, List, [], ◌∷◌, Option, Some, None, Result, Ok, Err, refl, sym, ◌∙◌, ap, subst, append-nil}
+use Rattle.std.specs.Prelude.{filter, ◌==◌, nat_lt, ◌↔◌, IfErr, IsErrOf, if◌then◌else◌}
 use Rattle.std.proofs.lemmas.List.{map-append}
 use Rattle.disk_trait.specs.Calls.{DiskState}
 use Rattle.row_value.specs.declared.schema.Schema.{Schema}
 use Rattle.table_model.specs.declared.entry.Entry.{Entry}
 use Rattle.step_tables.specs.Facts.{Fact}
-use Rattle.step_tables.specs.Messages.{Luck, Send}
+use Rattle.stab_base.specs.declared.node.Node.{Node}
+use Rattle.row_value.specs.declared.schema.Scheme.{Scheme}
+use Rattle.row_value.specs.declared.schema.Scheme.TheVariants.{Eventual}
+use Rattle.step_tables.specs.Messages.{Luck, Send, Request, Pair}
+use Rattle.step_tables.specs.Store.{current_of}
+use Rattle.step_tables.specs.Travels.{message_of}
+use Rattle.step_tables.specs.declared.message.Message.{Message}
 use Rattle.step_tables.specs.Messages as messages
-use Rattle.step_tables.specs.StoreMoves.{StoreDisk, StoreTask, TableStore, StoreStep, Start, crashed, worked}
+use Rattle.step_tables.specs.StoreMoves.{StoreDisk, StoreTask, TableStore, StoreStep, Take, Start, crashed, worked, store_step}
+use Rattle.step_tables.specs.StoreMoves.{takes, quiet, accepting, item_for, sending, responded, outdated, judged, decided, version_of, taken, yours_in}
 use Rattle.store_node.specs.declared.node.TableNode.{TableNode}
 use Rattle.store_node.specs.declared.node.StoreOut.{StoreOut}
-use Rattle.store_node.specs.Due.{fact_of, send_of}
+use Rattle.step_tables.specs.Travels.{send_of}
+use Rattle.store_node.specs.Due.{fact_of}
 use Rattle.store_node.specs.Node.{IsTable, IsNode, IsSame, told_by, sent_by}
 use Rattle.stab_base.specs.declared.step.Step.TheVariants as steps
 use Rattle.stab_base.specs.declared.step.Step.{Step}
@@ -20,14 +28,15 @@ use Rattle.step_tables.specs.Facts as facts
 use Rattle.disk_trait.specs.declared.fuse.FuseDisk.{FuseDisk}
 use Rattle.store_commit.specs.declared.devs.TableDevs.{TableDevs}
 use Rattle.store_node.specs.declared.fault.NodeFault.{NodeFault}
-use Rattle.store_node.specs.declared.fault.NodeFault.TheVariants.{Disk as DiskFailed, Memory}
-use Rattle.store_node.specs.Node.{nothing_stored, own_faults}
-use Rattle.store_node.specs.Calls.{IsBehind, Starts, Stays, named, late, step_at}
-use Rattle.world_tables.specs.World.{Outbox, Packet, history_on, owner, the_store, packets_from, next_step, tasks_in, declared_late}
+use Rattle.store_node.specs.declared.fault.NodeFault.TheVariants.{Busy, Disk as DiskFailed, Memory}
+use Rattle.store_node.specs.declared.showing.ShownRow.{ShownRow}
+use Rattle.store_node.specs.Node.{nothing_stored, own_faults, has_task}
+use Rattle.store_node.specs.Calls.{IsBehind, Starts, Stays, Shows, Delivers, IsAtWork, version_at, named, late, step_at}
+use Rattle.world_tables.specs.World.{Outbox, Packet, history_on, owner, the_store, packets_from, next_step, tasks_in, declared_late, scheme_in, chunk_in}
 use Rattle.world_tables.specs.World as world
 use Rattle.store_host.specs.declared.hosted.Hosted.{Hosted}
-use Rattle.store_host.specs.Holds.{IsHosted, behind_step, outs_in, outbox_of, says_something}
-use Rattle.store_host.specs.Steps.{IsTelling, HasTold, HasNodeCause, started_by, new_table, outbox_at}
+use Rattle.store_host.specs.Holds.{IsHosted, IsUpAt, behind_step, outs_in, outbox_of, says_something}
+use Rattle.store_host.specs.Steps.{IsTelling, HasTold, HasNodeCause, started_by, moved_at, new_table, outbox_at, IsBusy, HasTaken, HasNodeTakeCause, HasShown}
 
 -- ---- what says something
 
@@ -212,3 +221,193 @@ failing_with e = Err e
 pub done_cause : {D : Type 0} (state : D → DiskState) (old new : TableNode D) (e : NodeFault) → own_faults state old < own_faults state new → e ≡ DiskFailed
     → HasNodeCause state old new (failing_with e)
 done_cause state old new e rose is = record { counted = λ no. absurd (no (ap failing_with is)); cause = λ _. rose; only = inl is }
+
+-- ---- messages and rows
+
+pub node_up : {D : Type 0} (state : D → DiskState) (node : TableNode D) (disk : StoreDisk) (agenda : Option (List StoreTask)) → IsTable state node (record { disk = disk; agenda = agenda }) → node.is_up ≡ true → IsUpAt agenda
+node_up state node disk None t up = let no = t.at.0 in absurd cc
+node_up state node disk (Some tasks) t up = (tasks, refl)
+
+pub up_node : {D : Type 0} (state : D → DiskState) (node : TableNode D) (disk : StoreDisk) (agenda : Option (List StoreTask)) → IsTable state node (record { disk = disk; agenda = agenda }) → IsUpAt agenda → node.is_up ≡ true
+up_node state node disk None t up = absurd (let e = up.1 in cc)
+up_node state node disk (Some tasks) t up = t.at.0
+
+abbrev well : Unit {0} → Result (Unit {0}) NodeFault
+well x = Ok x
+
+-- nothing is to be done
+pub idle_is : (agenda : Option (List StoreTask)) → IsUpAt agenda → has_task agenda ≡ false → agenda ≡ Some []
+idle_is None up none = absurd (let e = up.1 in cc)
+idle_is (Some []) up none = refl
+idle_is (Some (task ∷ tasks)) up none = absurd cc
+
+idle_by : (disk : StoreDisk) (agenda : Option (List StoreTask)) (r : Result (Unit {0}) NodeFault) → IsUpAt agenda → ((version : ℕ) → IsErrOf r (Busy version) ↔ IsAtWork disk agenda version) → (IsBusy r → ⊥) → agenda ≡ Some []
+idle_by disk None r up busy free = absurd (let e = up.1 in cc)
+idle_by disk (Some []) r up busy free = refl
+idle_by disk (Some (task ∷ tasks)) r up busy free = absurd (free (version_at disk task.change, (busy (version_at disk task.change)).1 refl))
+
+none_at_work : (disk : StoreDisk) (agenda : Option (List StoreTask)) (version : ℕ) → agenda ≡ Some [] → IsAtWork disk agenda version → ⊥
+none_at_work disk None version e w = w
+none_at_work disk (Some []) version e w = w
+none_at_work disk (Some (task ∷ tasks)) version e w = cc
+
+-- a message tells no facts
+module _ (g : Scheme) (size table : ℕ) (d : StoreDisk) (from : Node) where
+  judged_facts : (q : Request) (current : ℕ) → (judged g size table d from q current).facts ≡ []
+  judged_facts q current = go (takes g q.base current)
+    where
+      go : (b : Bool) → (if b then quiet d (Some (accepting size table d.items from q (item_for d.items q))) facts.Done else sending d (responded from q (outdated g current) ∷ [])).facts ≡ []
+      go true = refl
+      go false = refl
+
+  decided_facts : (q : Request) (yours : Pair) → (decided g size table d from q yours).facts ≡ []
+  decided_facts q yours = go (yours.number == q.number) (nat_lt q.number yours.number)
+    where
+      go : (a b : Bool) → (if a then sending d (responded from q (messages.Again yours.version) ∷ [])
+          else (if b then sending d (responded from q (messages.Late yours.number) ∷ []) else judged g size table d from q (version_of (current_of d.items q.row)))).facts ≡ []
+      go true b = refl
+      go false true = refl
+      go false false = judged_facts q (version_of (current_of d.items q.row))
+
+  take_facts : (agenda : Option (List StoreTask)) (m : messages.Message) → (taken g size table d agenda from m).facts ≡ []
+  take_facts None m = refl
+  take_facts (Some (task ∷ more)) m = refl
+  take_facts (Some []) (messages.SyncRequest q) = decided_facts q (yours_in d.items q.client q.row)
+  take_facts (Some []) (messages.PullRequest q) = refl
+  take_facts (Some []) (messages.SyncResponse q) = refl
+  take_facts (Some []) (messages.PullResponse q) = refl
+
+module _ {D : Type 0} (state : D → DiskState) (images : D → ℕ → List ℕ → Type 0) (schema : Option Schema) (table : ℕ) where
+  abbrev at : StoreDisk → Option (List StoreTask) → List Entry → Bool → world.Hosted
+  at disk agenda history made = record { store = record { disk = disk; agenda = agenda }; history = history; made = made }
+
+  down_here : (disk : StoreDisk) (agenda : Option (List StoreTask)) (history : List Entry) (made : Bool) (old : Hosted D) (node : TableNode D)
+      → IsHosted state schema table (at disk agenda history made) old → Stays state old.node node (record { disk = disk; agenda = None }) → node.is_declared ≡ old.node.is_declared
+      → IsHosted state schema table (at disk None history made) (record { node = node; history = old.history })
+  down_here disk agenda history made old node h k declared = record {
+    schema = h.schema ∙ ap Some (sym k.same.schema);
+    number = k.same.table ∙ h.number;
+    store = k.same.store ∙ h.store;
+    node = k.table;
+    made = declared ∙ h.made;
+    history = h.history;
+    told = k.told ∙ h.told;
+    sent = k.sent ∙ h.sent;
+  }
+
+  -- a table of which a disk has failed is down
+  pub failed_down : (disk : StoreDisk) (agenda : Option (List StoreTask)) (history : List Entry) (made : Bool) (old : Hosted D) (node : TableNode D) → IsUpAt agenda
+      → IsHosted state schema table (at disk agenda history made) old → Stays state old.node node (record { disk = disk; agenda = None }) → node.is_declared ≡ old.node.is_declared
+      → HasTold state schema table (at disk agenda history made) (crashed disk agenda messages.FailedBefore) (record { node = node; history = old.history }) [] []
+  failed_down disk None history made old node up h k declared = absurd (let e = up.1 in cc)
+  failed_down disk (Some []) history made old node up h k declared = record { behind = down_here disk (Some []) history made old node h k declared; outs = refl }
+  failed_down disk (Some (task ∷ tasks)) history made old node up h k declared = record { behind = down_here disk (Some (task ∷ tasks)) history made old node h k declared; outs = refl }
+
+  module _ (hosted : world.Hosted) (old : Hosted D) (h : IsHosted state schema table hosted old) (up : old.node.is_up ≡ true) where
+    is_up : IsUpAt hosted.store.agenda
+    is_up = node_up state old.node hosted.store.disk hosted.store.agenda h.node up
+
+    pub shows_hosted : (row : List ℕ) (node : TableNode D) (r : Result (Option ShownRow) NodeFault) → Shows state images hosted.store row old.node node r → node.is_declared ≡ old.node.is_declared
+        → HasShown state schema table hosted row (record { node = node; history = old.history }) r
+    shows_hosted row node r k declared = record {
+      shown = k.shown;
+      stays = λ no. not_started state schema table hosted old node h (k.stays no) declared;
+      fallen = λ is. failed_down hosted.store.disk hosted.store.agenda hosted.history hosted.made old node is_up h (k.fallen is) declared;
+    }
+
+    module _ (from : Node) (message : Message) where
+      -- want of memory, where nothing is to be done
+      pub short_taken : (outs : List StoreOut) → has_task hosted.store.agenda ≡ false → (e : NodeFault) → e ≡ Memory → HasTaken state schema table hosted from message old old outs outs (Err e)
+      short_taken outs idle e is = record {
+        taken = λ _. tt;
+        dropped = λ _. tt;
+        idle = λ _. none;
+        busy = λ version. (λ b. absurd cc, λ w. absurd (none_at_work hosted.store.disk hosted.store.agenda version none w));
+        given = λ _ _. tt;
+        spent = λ last s. absurd cc;
+        refused = λ _. (h, refl);
+        fallen = λ f. absurd cc;
+      }
+        where
+          none : hosted.store.agenda ≡ Some []
+          none = idle_is hosted.store.agenda is_up idle
+
+      -- a message that the node refused
+      pub badly_taken : (outs : List StoreOut) (node : TableNode D) (e : NodeFault) → Delivers state images hosted.store from message old.node node (Err e) → node.is_declared ≡ old.node.is_declared
+          → HasTaken state schema table hosted from message old (record { node = node; history = old.history }) outs outs (Err e)
+      badly_taken outs node e k declared = record {
+        taken = λ _. tt;
+        dropped = λ _. tt;
+        idle = idle_by hosted.store.disk hosted.store.agenda (Err e) is_up k.busy;
+        busy = k.busy;
+        given = λ _ _. tt;
+        spent = λ last s. let x = k.spent last s in (x.2, x.1, x.3);
+        refused = λ no. (not_started state schema table hosted old node h (k.refused no) declared, refl);
+        fallen = λ f. (failed_down hosted.store.disk hosted.store.agenda hosted.history hosted.made old node is_up h (k.fallen f) declared, refl);
+      }
+
+      -- a busy node refuses each
+      pub busy_taken : (outs : List StoreOut) (node : TableNode D) (r : Result (Unit {0}) NodeFault) → has_task hosted.store.agenda ≡ true → Delivers state images hosted.store from message old.node node r
+          → node.is_declared ≡ old.node.is_declared → HasTaken state schema table hosted from message old (record { node = node; history = old.history }) outs outs r
+      busy_taken outs node (Err e) busy k declared = badly_taken outs node e k declared
+      busy_taken outs node (Ok x) busy k declared = absurd (go hosted.store.agenda busy k.busy)
+        where
+          go : (agenda : Option (List StoreTask)) → has_task agenda ≡ true → ((version : ℕ) → IsErrOf (well x) (Busy version) ↔ IsAtWork hosted.store.disk agenda version) → ⊥
+          go None some b = cc
+          go (Some []) some b = cc
+          go (Some (task ∷ tasks)) some b = let e = (b (version_at hosted.store.disk task.change)).1 refl in cc
+
+      step_is : step_at old.node hosted.store (Take from (message_of message)) ≡ moved_at schema table hosted (Take from (message_of message))
+      step_is =
+          let move = Take from (message_of message) in
+          ap (λ (n : ℕ). store_step n Eventual old.node.schema.chunk old.node.table hosted.store move) h.store
+          ∙ (ap (λ (t : ℕ). store_step owner Eventual old.node.schema.chunk t hosted.store move) h.number
+          ∙ (ap (λ (g : Scheme). store_step owner g old.node.schema.chunk table hosted.store move) (sym h.node.scheme)
+          ∙ ap (λ (o : Option Schema). store_step owner (scheme_in o) (chunk_in o) table hosted.store move) (sym h.schema)))
+
+      silent_out : (out : StoreOut) → map fact_of out.facts ≡ [] → map send_of out.messages ≡ [] → says_something (outbox_of out) ≡ false
+      silent_out out facts sends =
+          ap (λ (l : List Fact). says_something (record { facts = l; packets = packets_from the_store (map send_of out.messages) })) facts
+          ∙ ap (λ (l : List Send). says_something (record { facts = []; packets = packets_from the_store l })) sends
+
+      -- a message that the node took or dropped
+      pub well_taken : (mid new : TableNode D) (out : StoreOut) (before after : List StoreOut) → Delivers state images hosted.store from message old.node mid (Ok tt) → mid.is_declared ≡ old.node.is_declared
+          → map send_of out.messages ≡ sent_by mid → map fact_of out.facts ≡ told_by mid → told_by new ≡ [] → sent_by new ≡ [] → ((s : TableStore) → IsTable state mid s → IsTable state new s) → IsSame mid new
+          → new.is_declared ≡ mid.is_declared → outs_in after ≡ outs_in before ++ filter says_something (outbox_of out ∷ []) → (says_something (outbox_of out) ≡ false → after ≡ before)
+          → HasTaken state schema table hosted from message old (record { node = new; history = old.history }) before after (Ok tt)
+      well_taken mid new out before after k declared sends facts told sent kept same still put silent = record {
+        taken = λ is.
+            let s = moved_at schema table hosted (Take from (message_of message)) in
+            let behind : IsBehind state old.node mid s = subst (λ (x : StoreStep). IsBehind state old.node mid x) step_is (k.taken is) in
+            let t : IsTelling state schema table hosted s (record { node = mid; history = old.history }) =
+            telling state schema table hosted s old (record { node = mid; history = old.history }) h behind hosted.made (declared ∙ h.made) refl in
+            let none : s.facts ≡ [] = take_facts (scheme_in schema) (chunk_in schema) table hosted.store.disk from hosted.store.agenda (message_of message) in
+            record {
+              behind = tells state schema table hosted s (record { node = mid; history = old.history }) (record { node = new; history = old.history }) t kept same still told sent [] (sym (t.told ∙ none)) refl;
+              outs = put ∙ ap (λ (o : Outbox). outs_in before ++ filter says_something (o ∷ [])) (outbox_is state schema table hosted s (record { node = mid; history = old.history }) out t facts sends);
+            };
+        dropped = λ no.
+            let x = k.dropped no in (
+              record {
+                schema = h.schema ∙ ap Some (sym x.same.schema ∙ sym same.schema);
+                number = same.table ∙ (x.same.table ∙ h.number);
+                store = same.store ∙ (x.same.store ∙ h.store);
+                node = kept hosted.store x.table;
+                made = still ∙ (declared ∙ h.made);
+                history = h.history;
+                told = told;
+                sent = sent;
+              },
+              silent (silent_out out (facts ∙ (x.told ∙ h.told)) (sends ∙ (x.sent ∙ h.sent))),
+            );
+        idle = idle_by hosted.store.disk hosted.store.agenda (Ok tt) is_up k.busy;
+        busy = k.busy;
+        given = k.given;
+        spent = λ last s. absurd cc;
+        refused = λ _. tt;
+        fallen = λ f. absurd cc;
+      }
+
+pub take_cause : {D : Type 0} (state : D → DiskState) (images : D → ℕ → List ℕ → Type 0) (s : TableStore) (from : Node) (message : Message) (old new : TableNode D) (r : Result (Unit {0}) NodeFault)
+    → Delivers state images s from message old new r → HasNodeTakeCause state old new r
+take_cause state images s from message old new r k = record { counted = k.counted; cause = k.cause; only = k.only }

@@ -2,5 +2,9 @@ pub mod Lists
 pub mod Hosting
 pub mod Maps
 pub mod Moving
+pub mod Ups
 pub mod Stores
+pub mod Falls
+pub mod Serving
+pub mod Named
 pub mod Draining

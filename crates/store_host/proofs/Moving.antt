@@ -1,7 +1,8 @@
 -- What a move of one table makes of all, and what the moves of all make of them.
-use Rattle.std.proofs.Common.{◌≡◌, ℕ, zero, suc, ◌+◌, ◌<◌, ◌≤◌, ◌++◌, length, drop, Bool, true, false, cond, List, [], ◌∷◌, Option, Some, None, Result, Ok, Err, refl, sym, ap, ◌∙◌, subst, arith}
+use Rattle.std.proofs.Common.{◌≡◌, ℕ, zero, suc, ◌+◌, ◌<◌, ◌≤◌, ◌++◌, length, drop, Bool, true, false, cond, List, [], ◌∷◌, Option, Some, None, Result, Ok, Err, inl, inr, refl, sym, ap, ◌∙◌, subst, arith}
 use Rattle.std.proofs.Common.{◌≢◌, rules, append-nil, append_assoc}
-use Rattle.std.specs.Prelude.{filter, not, ◌||◌, IfOk, IsSome, slice_index_or, if◌then◌else◌}
+use Rattle.std.specs.Prelude.{filter, not, ◌||◌, ◌==◌, nat_lt, IfOk, IsErrOf, IsSome, option_map, slice_index_or, if◌then◌else◌}
+use Rattle.std.proofs.lemmas.Result.{on_ok_weaker, on_err_weaker}
 use Rattle.std.specs.List.{find}
 use Rattle.std.specs.declared.cmp.Ordering.{Ordering}
 use Rattle.std.specs.Ordering.{nat_cmp, is_eq}
@@ -14,23 +15,37 @@ use Rattle.std.proofs.lemmas.List.Elements.{filter-append}
 use Rattle.disk_trait.specs.Calls.{DiskState}
 use Rattle.stab_base.specs.declared.step.Step.{Step}
 use Rattle.table_model.specs.declared.entry.Entry.{Entry}
-use Rattle.step_tables.specs.Store.{Stored}
-use Rattle.step_tables.specs.Messages.{Luck}
+use Rattle.stab_base.specs.declared.node.Node.{Node}
+use Rattle.row_value.specs.declared.schema.Schema.{Schema}
+use Rattle.row_value.specs.declared.schema.Scheme.{Scheme}
+use Rattle.row_value.specs.Fit.{fit_of}
+use Rattle.step_tables.specs.Store.{Stored, current_of}
+use Rattle.step_tables.specs.Facts as facts
+use Rattle.step_tables.specs.Travels.{message_of}
+use Rattle.step_tables.specs.declared.message.Message.{Message}
+use Rattle.step_tables.specs.declared.message.Message.TheVariants as kinds
+use Rattle.step_tables.specs.Messages.{Luck, Request, Pair}
 use Rattle.step_tables.specs.Messages as messages
-use Rattle.step_tables.specs.StoreMoves.{StoreDisk, StoreTask, TableStore, StoreStep, StoreMove, Work, Crash, Start, crashed, worked, started, recover, recovered, item_at}
+use Rattle.step_tables.specs.StoreMoves.{StoreDisk, StoreTask, TableStore, StoreStep, StoreMove, Take, Work, Crash, Start, crashed, worked, started, recover, recovered, item_at}
+use Rattle.step_tables.specs.StoreMoves.{takes, quiet, accepting, item_for, sending, responded, outdated, judged, decided, version_of, taken, yours_in}
 use Rattle.store_node.specs.declared.fault.NodeFault.{NodeFault}
+use Rattle.store_node.specs.declared.fault.NodeFault.TheVariants.{Disk as DiskFailed}
 use Rattle.store_node.specs.declared.node.StoreOut.{StoreOut}
-use Rattle.store_node.specs.Node.{has_task}
+use Rattle.store_node.specs.declared.showing.ShownRow.{ShownRow}
+use Rattle.store_node.specs.Calls.{IsAtWork, IsSpent}
+use Rattle.store_node.specs.Reading.{shown_of}
+use Rattle.store_node.specs.Node.{IsNode, Fits, has_task}
 use Rattle.store_node.specs.Node.{own_faults}
 use Rattle.world_tables.specs.World.{World, Outbox, Moved, still, and_then, and_unless, failing, schema_at, hosted_at, is_fault, the_store, owner, packets_from, after_table, table_step}
-use Rattle.world_tables.specs.World.{move_hosted, move_table}
+use Rattle.world_tables.specs.World.{move_hosted, move_table, scheme_in, chunk_in}
 use Rattle.world_tables.specs.World.{table_falls, tables_fall, table_starts, tables_start, start_hosted, declared_late, is_at_work, busy_step, next_step, tasks_in, hosted_tasks}
 use Rattle.world_tables.specs.World as world
 use Rattle.store_host.specs.declared.hosted.Hosted.{Hosted}
-use Rattle.store_host.specs.Holds.{IsHosted, HostedThere, HoldsTables, behind_step, outs_in, says_something, said_by, faults_in, faults_at, SameFaults, RisenFaults}
-use Rattle.store_host.specs.Steps.{HasTold, HasNodeCause, moved_at, started_by}
-use Rattle.store_host.specs.Calls.{AreMoved, HasCause}
-use Rattle.store_host.proofs.Maps.{moved_tables, found, at_same}
+use Rattle.store_host.specs.Holds.{IsHosted, HostedThere, HoldsTables, AreUpTables, behind_step, outs_in, says_something, said_by, faults_in, faults_at, SameFaults, RisenFaults}
+use Rattle.store_host.specs.Steps.{HasTold, HasNodeCause, moved_at, started_by, HasTaken, HasNodeTakeCause, HasShown}
+use Rattle.store_host.specs.Calls.{AreMoved, HasCause, FitsIn, AreTaken, HasTakeCause, AreShown, table_in}
+use Rattle.store_host.proofs.Hosting.{up_node}
+use Rattle.store_host.proofs.Maps.{moved_tables, found, not_found, at_same}
 
 pub some_there : {X : Type 0} (o : Option X) (x : X) → Some x ≡ o → IsSome o
 some_there None x e = absurd cc
@@ -343,3 +358,158 @@ module _ {D : Type 0} (state : D → DiskState) (w : World) (numbers : List ℕ)
       subst (λ (o : Option world.Hosted). AreMoved state w numbers new before after false (start_hosted w table o)) (sym there)
       (told_after state w numbers old new table it was at wrote h (record { store = store; history = history; made = false }) (record { store = store; history = history; made = true })
       (declared_late table) before after there t)
+
+-- ---- messages and rows
+
+module _ (g : Scheme) (size table : ℕ) (d : StoreDisk) (from : Node) where
+  judged_answer : (q : Request) (current : ℕ) → is_fault (judged g size table d from q current).answer ≡ false
+  judged_answer q current = go (takes g q.base current)
+    where
+      go : (b : Bool) → is_fault (if b then quiet d (Some (accepting size table d.items from q (item_for d.items q))) facts.Done else sending d (responded from q (outdated g current) ∷ [])).answer ≡ false
+      go true = refl
+      go false = refl
+
+  decided_answer : (q : Request) (yours : Pair) → is_fault (decided g size table d from q yours).answer ≡ false
+  decided_answer q yours = go (yours.number == q.number) (nat_lt q.number yours.number)
+    where
+      go : (a b : Bool) → is_fault (if a then sending d (responded from q (messages.Again yours.version) ∷ [])
+          else (if b then sending d (responded from q (messages.Late yours.number) ∷ []) else judged g size table d from q (version_of (current_of d.items q.row)))).answer ≡ false
+      go true b = refl
+      go false true = refl
+      go false false = judged_answer q (version_of (current_of d.items q.row))
+
+  pub take_answer : (agenda : Option (List StoreTask)) (m : messages.Message) → is_fault (taken g size table d agenda from m).answer ≡ false
+  take_answer None m = refl
+  take_answer (Some (task ∷ more)) m = refl
+  take_answer (Some []) (messages.SyncRequest q) = decided_answer q (yours_in d.items q.client q.row)
+  take_answer (Some []) (messages.PullRequest q) = refl
+  take_answer (Some []) (messages.SyncResponse q) = refl
+  take_answer (Some []) (messages.PullResponse q) = refl
+
+fits_there : (w : World) (message : Message) (schema : Schema) → schema_at w (table_in message) ≡ Some schema → FitsIn w message → Fits schema message
+fits_there w (kinds.SyncRequest q) schema is f = (f.0 schema is, f.1)
+fits_there w (kinds.SyncResponse q) schema is f = tt
+fits_there w (kinds.PullRequest q) schema is f = tt
+fits_there w (kinds.PullResponse q) schema is f = tt
+
+there_fits : (w : World) (message : Message) (schema : Schema) → schema_at w (table_in message) ≡ Some schema → Fits schema message → FitsIn w message
+there_fits w (kinds.SyncRequest q) schema is f =
+    (λ other e. let both : Some schema ≡ Some other = sym is ∙ e in let same : schema ≡ other = cc in subst (λ (s : Schema). fit_of s q.content ≡ Ok tt) same f.0, f.1)
+there_fits w (kinds.SyncResponse q) schema is f = tt
+there_fits w (kinds.PullRequest q) schema is f = tt
+there_fits w (kinds.PullResponse q) schema is f = tt
+
+module _ {D : Type 0} (state : D → DiskState) (w : World) (numbers : List ℕ) (old new : tree.BTreeMap ℕ (Hosted D)) (it was : Hosted D) (h : HoldsTables state w numbers old) where
+  same_hosted : (o : Option world.Hosted) (a b : world.Hosted) → o ≡ Some a → o ≡ Some b → a ≡ b
+  same_hosted o a b there here = let both : Some a ≡ Some b = sym there ∙ here in cc
+
+  module _ (from : Node) (message : Message) where
+    taken_in : Some was ≡ tree.get nat_cmp old (table_in message) → WritesThrough nat_cmp (nat_cmp (table_in message)) old it new → (before after : List StoreOut) (r : Result (Unit {0}) NodeFault)
+        → ((hosted : world.Hosted) → IsHosted state (schema_at w (table_in message)) (table_in message) hosted was → HasTaken state (schema_at w (table_in message)) (table_in message) hosted from message was it before after r)
+        → AreTaken state w numbers from message new before after r
+    taken_in at wrote before after r take =
+        let table = table_in message in
+        let f = found state w numbers old table was h at in
+        let hosted = f.0 in
+        let k = take f.0 f.2 in
+        let agenda_is : (other : world.Hosted) → hosted_at w table ≡ Some other → hosted ≡ other = λ other here. same_hosted (hosted_at w table) hosted other f.1 here in
+        record {
+          done = λ fits.
+              on_ok_weaker r
+              (λ t. table_moved state w numbers old new table it was at wrote h (Take from (message_of message)) hosted before after false f.1 t
+              (take_answer (scheme_in (schema_at w table)) (chunk_in (schema_at w table)) table hosted.store.disk from hosted.store.agenda (message_of message)))
+              (k.taken (sym f.2.number, fits_there w message was.node.schema f.2.schema fits));
+          dropped = λ no. on_ok_weaker r (λ t. (same_tables state w numbers old new table it was at wrote h hosted f.1 t.0, t.1)) (k.dropped (λ is. no (there_fits w message was.node.schema f.2.schema is.1)));
+          idle = λ no other here. subst (λ (x : world.Hosted). x.store.agenda ≡ Some []) (agenda_is other here) (k.idle no);
+          busy = λ version. (
+            λ e. (hosted, f.1, (k.busy version).0 e),
+            λ b. (k.busy version).1 (subst (λ (x : world.Hosted). IsAtWork x.store.disk x.store.agenda version) (sym (agenda_is b.0 b.1)) b.2),
+          );
+          given = λ fits s.
+              k.given (sym f.2.number, fits_there w message was.node.schema f.2.schema fits) (subst (λ (x : world.Hosted). IsSpent x.store.disk message) (sym (agenda_is s.0 s.1)) s.3);
+          spent = λ last e. let s = k.spent last e in ((hosted, f.1, s.0, s.1), s.2);
+          refused = λ no. on_err_weaker r (λ t. (same_tables state w numbers old new table it was at wrote h hosted f.1 t.0, t.1)) (k.refused no);
+          fallen = λ is.
+              let t = k.fallen is in (
+                table_moved state w numbers old new table it was at wrote h (Crash messages.FailedBefore) hosted [] [] false f.1 t.0 (crash_answer hosted.store.disk hosted.store.agenda messages.FailedBefore),
+                t.1,
+              );
+        }
+
+    pub tables_taken : (table : ℕ) → table ≡ table_in message → Some was ≡ tree.get nat_cmp old table → WritesThrough nat_cmp (nat_cmp table) old it new → (before after : List StoreOut)
+        (r : Result (Unit {0}) NodeFault)
+        → ((hosted : world.Hosted) → IsHosted state (schema_at w (table_in message)) (table_in message) hosted was → HasTaken state (schema_at w (table_in message)) (table_in message) hosted from message was it before after r)
+        → AreTaken state w numbers from message new before after r
+    tables_taken table is at wrote =
+        taken_in (subst (λ (t : ℕ). Some was ≡ tree.get nat_cmp old t) is at) (subst (λ (t : ℕ). WritesThrough nat_cmp (nat_cmp t) old it new) is wrote)
+
+  pub tables_shown : (table : ℕ) → Some was ≡ tree.get nat_cmp old table → WritesThrough nat_cmp (nat_cmp table) old it new → (row : List ℕ) (r : Result (Option ShownRow) NodeFault)
+      → ((hosted : world.Hosted) → IsHosted state (schema_at w table) table hosted was → HasShown state (schema_at w table) table hosted row it r) → AreShown state w numbers table row new r
+  tables_shown table at wrote row r show =
+      let f = found state w numbers old table was h at in
+      let hosted = f.0 in
+      let k = show f.0 f.2 in
+      record {
+        shown = λ other here.
+            subst (λ (x : world.Hosted). IfOk r (λ shown. shown ≡ option_map shown_of (current_of x.store.disk.items row))) (same_hosted (hosted_at w table) hosted other f.1 here) k.shown;
+        stays = λ no. same_tables state w numbers old new table it was at wrote h hosted f.1 (k.stays no);
+        fallen = λ is.
+            table_moved state w numbers old new table it was at wrote h (Crash messages.FailedBefore) hosted [] [] false f.1 (k.fallen is) (crash_answer hosted.store.disk hosted.store.agenda messages.FailedBefore);
+      }
+
+  pub tables_take_cause : (table : ℕ) → Some was ≡ tree.get nat_cmp old table → WritesThrough nat_cmp (nat_cmp table) old it new → (r : Result (Unit {0}) NodeFault)
+      → HasNodeTakeCause state was.node it.node r → HasTakeCause state old new r
+  tables_take_cause table at wrote r k = record {
+    counted = λ no. faults_same state old new table it was at (wrote.3 (some_there _ was at)).0 (k.counted no);
+    cause = λ failed. faults_risen state old new table it was at (wrote.3 (some_there _ was at)).0 (k.cause failed);
+    only = k.only;
+  }
+
+-- a message of a table that isn't there
+lost_at : {D : Type 0} (state : D → DiskState) (w : World) (numbers : List ℕ) (tables : tree.BTreeMap ℕ (Hosted D)) (from : Node) (message : Message) (outs : List StoreOut) → HoldsTables state w numbers tables
+    → hosted_at w (table_in message) ≡ None → AreTaken state w numbers from message tables outs outs (Ok tt)
+lost_at state w numbers tables from message outs h none = record {
+  done = λ fits. subst (λ (o : Option world.Hosted). AreMoved state w numbers tables outs outs false (move_hosted w (table_in message) (Take from (message_of message)) o)) (sym none)
+      (nothing_moved state w numbers tables outs h);
+  dropped = λ no. (h, refl);
+  idle = λ no hosted here. absurd (gone hosted here);
+  busy = λ version. (λ e. absurd cc, λ b. absurd (gone b.0 b.1));
+  given = λ fits s. gone s.0 s.1;
+  spent = λ last e. absurd cc;
+  refused = λ no. tt;
+  fallen = λ is. absurd cc;
+}
+  where
+    gone : (hosted : world.Hosted) → hosted_at w (table_in message) ≡ Some hosted → ⊥
+    gone hosted here = let both : None ≡ Some hosted = sym none ∙ here in cc
+
+pub lost : {D : Type 0} (state : D → DiskState) (w : World) (numbers : List ℕ) (tables : tree.BTreeMap ℕ (Hosted D)) (from : Node) (message : Message) (outs : List StoreOut) (table : ℕ) → table ≡ table_in message
+    → HoldsTables state w numbers tables → None ≡ tree.get nat_cmp tables table → AreTaken state w numbers from message tables outs outs (Ok tt)
+lost state w numbers tables from message outs table is h none =
+    lost_at state w numbers tables from message outs h (subst (λ (t : ℕ). hosted_at w t ≡ None) is (not_found state w numbers tables table h none))
+
+pub no_take_cause : {D : Type 0} (state : D → DiskState) (tables : tree.BTreeMap ℕ (Hosted D)) → HasTakeCause state tables tables (Ok tt)
+no_take_cause state tables = record { counted = λ none q. refl; cause = λ failed. absurd cc; only = tt }
+
+-- a table that was found is up
+pub found_up : {D : Type 0} (state : D → DiskState) (tables : tree.BTreeMap ℕ (Hosted D)) (table : ℕ) (it : Hosted D) → AreUpTables state tables → Some it ≡ tree.get nat_cmp tables table → it.node.is_up ≡ true
+found_up state tables table it a is =
+    let f = found state a.0 a.1 tables table it a.2 is in
+    up_node state it.node f.0.store.disk f.0.store.agenda f.2.node (a.3 table f.0 f.1)
+
+pub found_is : {D : Type 0} (state : D → DiskState) (tables : tree.BTreeMap ℕ (Hosted D)) (table : ℕ) (it : Hosted D) → AreUpTables state tables → Some it ≡ tree.get nat_cmp tables table → IsNode state it.node
+found_is state tables table it a is = let f = found state a.0 a.1 tables table it a.2 is in (f.0.store, f.2.node)
+
+-- a disk failed, and the Store fell
+module _ {D : Type 0} (state : D → DiskState) (old mid new : tree.BTreeMap ℕ (Hosted D)) (same : SameFaults state mid new) (e : NodeFault) (is : e ≡ DiskFailed) where
+  rises_then : RisenFaults state old mid → RisenFaults state old new
+  rises_then x = record {
+    each = λ q. let a = same q in let b = x.each q in omega (arith, a, b);
+    one = (x.one.0, let a = same x.one.0 in let b = x.one.1 in omega (arith, a, b));
+  }
+
+  pub then_take_cause : HasTakeCause state old mid (Err e) → HasTakeCause state old new (Err DiskFailed)
+  then_take_cause k = record { counted = λ other. absurd (other refl); cause = λ failed. rises_then (k.cause (ap Err is)); only = inr (inr (inl refl)) }
+
+  pub then_show_cause : {T : Type 0} → HasCause {T = T} state old mid (Err e) → HasCause {T = T} state old new (Err DiskFailed)
+  then_show_cause k = record { counted = λ other. absurd (other refl); cause = λ failed. rises_then (k.cause (ap Err is)); only = inl refl }

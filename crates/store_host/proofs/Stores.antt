@@ -1,5 +1,5 @@
 -- What moves of its tables make of a Store.
-use Rattle.std.proofs.Common.{◌≡◌, ℕ, ◌++◌, Bool, true, false, cond, List, [], ◌∷◌, Option, Some, None, Ok, refl, sym, ap, ◌∙◌, subst, append-nil, append_assoc}
+use Rattle.std.proofs.Common.{◌≡◌, ℕ, ◌++◌, Bool, true, false, cond, List, [], ◌∷◌, Option, Some, None, Ok, true≢false, refl, sym, ap, ◌∙◌, subst, append-nil, append_assoc}
 use Rattle.std.specs.Prelude.{not, ◌||◌, if◌then◌else◌}
 use Rattle.std.specs.declared.cmp.Ordering.{Ordering}
 use Rattle.std.specs.Ordering.{nat_cmp, is_eq}
@@ -25,11 +25,12 @@ use Rattle.world_tables.specs.World.{tables_start, store_falls, or_falls, write_
 use Rattle.world_tables.specs.World as world
 use Rattle.store_host.specs.declared.hosted.Hosted.{Hosted}
 use Rattle.store_host.specs.declared.host.StoreHost.{StoreHost}
-use Rattle.store_host.specs.Holds.{IsHosted, HostedThere, HoldsTables, HoldsStore, AreTables, outs_of, says_something, said_by}
+use Rattle.store_host.specs.Holds.{IsHosted, HostedThere, HoldsTables, HoldsParts, HoldsStore, AllUp, AreTables, AreUpTables, AreParts, outs_of, says_something, said_by}
 use Rattle.store_host.specs.Calls.{AreMoved, IsMoved, HasCause}
 use Rattle.store_host.specs.Steps.{new_table}
 use Rattle.store_host.proofs.Maps.{put_there, not_found, keys_put, at_same}
 use Rattle.store_host.proofs.Moving.{falls_silent}
+use Rattle.store_host.proofs.Ups.{work_up, starts_up}
 
 -- ---- moves put together
 
@@ -39,7 +40,7 @@ falls_well m is = ap (λ (b : Bool). if b then and_then m (store_falls owner) el
 falls_badly : (m : Moved) → m.failed ≡ true → or_falls owner m ≡ and_then m (store_falls owner)
 falls_badly m is = ap (λ (b : Bool). if b then and_then m (store_falls owner) else m) is
 
-said_both : (m : Moved) (f : World → Moved) → said_by (and_then m f) ≡ said_by m ++ said_by (f m.world)
+pub said_both : (m : Moved) (f : World → Moved) → said_by (and_then m f) ≡ said_by m ++ said_by (f m.world)
 said_both m f = filter-append says_something m.outs (f m.world).outs
 
 still_gone : (downs : List Node) → has_node (without_node downs the_store) the_store ≡ false
@@ -54,33 +55,56 @@ still_gone (node ∷ downs) = go (same_node the_store node) refl (still_gone dow
 pub no_cause : {D T : Type 0} (state : D → DiskState) (tables : tree.BTreeMap ℕ (Hosted D)) (x : T) → HasCause state tables tables (Ok x)
 no_cause state tables x = record { counted = λ no q. refl; cause = λ failed. absurd cc; only = tt }
 
+-- a Store that is up isn't down
+not_down : (b : Bool) → true ≡ not b → b ≡ false
+not_down true e = absurd cc
+not_down false e = refl
+
+not_up : (b : Bool) → false ≡ not b → b ≡ true
+not_up true e = refl
+not_up false e = absurd cc
+
+-- ---- a fall
+
+pub fallen : {D : Type 0} (state : D → DiskState) (w : World) (old : StoreHost D) (h : HoldsParts state w old) (tables : tree.BTreeMap ℕ (Hosted D))
+    → HoldsTables state (tables_fall old.numbers w).world old.numbers tables → IsMoved state old (record old { tables = tables; is_up = false }) (store_falls owner w)
+fallen state w old h tables k =
+    let here : HoldsTables state (tables_fall (keys_of w.tables) w).world old.numbers tables = subst (λ (ns : List ℕ). HoldsTables state (tables_fall ns w).world old.numbers tables) h.tables.all
+    k in
+    record {
+      held = record { number = h.number; up = refl; tables = record { there = here.there; all = here.all; keys = here.keys; rising = here.rising }; ups = λ up. absurd cc };
+      outs = sym (ap (λ (l : List Outbox). outs_of old ++ l) (said_both (tables_fall (keys_of w.tables) w) (λ x. still (with_down the_store x))
+          ∙ ap (λ (l : List Outbox). l ++ []) (falls_silent (keys_of w.tables) w).said) ∙ append-nil (outs_of old));
+    }
+
 module _ {D : Type 0} (state : D → DiskState) (w : World) (old : StoreHost D) (h : HoldsStore state w old) where
   pub held_tables : AreTables state old.tables
   held_tables = (w, old.numbers, h.tables)
 
+  pub held_parts : AreParts state old
+  held_parts = (w, record { number = h.number; up = h.up; tables = h.tables })
+
+  pub all_up : old.is_up ≡ true → AllUp w
+  all_up is = h.ups (not_down (has_node w.downs the_store) (sym is ∙ h.up))
+
+  pub held_up : old.is_up ≡ true → AreUpTables state old.tables
+  held_up is = (w, old.numbers, h.tables, all_up is)
+
   pub moved_store : (tables : tree.BTreeMap ℕ (Hosted D)) (outs : List StoreOut) (fails : Bool) (m : Moved) → AreMoved state w old.numbers tables old.outs outs fails m
-      → HoldsStore state m.world (record old { tables = tables; outs = outs })
+      → HoldsParts state m.world (record old { tables = tables; outs = outs })
   moved_store tables outs fails m a = record { number = h.number; up = h.up ∙ ap (λ (ds : List Node). not (has_node ds the_store)) (sym a.downs); tables = a.held }
 
   pub moved_is : (tables : tree.BTreeMap ℕ (Hosted D)) (outs : List StoreOut) (fails : Bool) (m : Moved) → AreMoved state w old.numbers tables old.outs outs fails m
-      → IsMoved state old (record old { tables = tables; outs = outs }) m
-  moved_is tables outs fails m a = record { held = moved_store tables outs fails m a; outs = a.outs }
+      → (AllUp w → AllUp m.world) → IsMoved state old (record old { tables = tables; outs = outs }) m
+  moved_is tables outs fails m a ups = record {
+    held =
+        let k = moved_store tables outs fails m a in
+        record { number = k.number; up = k.up; tables = k.tables; ups = λ up. ups (h.ups (ap (λ (ds : List Node). has_node ds the_store) (sym a.downs) ∙ up)) };
+    outs = a.outs;
+  }
 
   pub stays : IsMoved state old old (still w)
   stays = record { held = h; outs = sym (append-nil (outs_of old)) }
-
-  -- ---- a fall
-
-  pub fallen : (tables : tree.BTreeMap ℕ (Hosted D)) → HoldsTables state (tables_fall old.numbers w).world old.numbers tables
-      → IsMoved state old (record old { tables = tables; is_up = false }) (store_falls owner w)
-  fallen tables k =
-      let here : HoldsTables state (tables_fall (keys_of w.tables) w).world old.numbers tables = subst (λ (ns : List ℕ). HoldsTables state (tables_fall ns w).world old.numbers tables) h.tables.all
-      k in
-      record {
-        held = record { number = h.number; up = refl; tables = record { there = here.there; all = here.all; keys = here.keys; rising = here.rising } };
-        outs = sym (ap (λ (l : List Outbox). outs_of old ++ l) (said_both (tables_fall (keys_of w.tables) w) (λ x. still (with_down the_store x))
-            ∙ ap (λ (l : List Outbox). l ++ []) (falls_silent (keys_of w.tables) w).said) ∙ append-nil (outs_of old));
-      }
 
   -- moves, and then others
   pub then_moved : (tables : tree.BTreeMap ℕ (Hosted D)) (outs : List StoreOut) (new : StoreHost D) (fails : Bool) (m : Moved) (f : World → Moved)
@@ -100,11 +124,11 @@ module _ {D : Type 0} (state : D → DiskState) (w : World) (old : StoreHost D) 
   write_done tables outs table busy a =
       subst (λ (o : Option ℕ). IsMoved state old (record old { tables = tables; outs = outs }) (write_next owner messages.Done o w)) busy
       (subst (λ (m : Moved). IsMoved state old (record old { tables = tables; outs = outs }) m) (sym (falls_well (move_table table (Work messages.Done) w) a.failed))
-      (moved_is tables outs false (move_table table (Work messages.Done) w) a))
+      (moved_is tables outs false (move_table table (Work messages.Done) w) a (work_up w table)))
 
   pub write_failed : (tables : tree.BTreeMap ℕ (Hosted D)) (outs : List StoreOut) (new : StoreHost D) (table : ℕ) (luck : Luck) → Some table ≡ busy_table w owner
       → AreMoved state w old.numbers tables old.outs outs true (move_table table (Work luck) w)
-      → ((x : World) → HoldsStore state x (record old { tables = tables; outs = outs }) → IsMoved state (record old { tables = tables; outs = outs }) new (store_falls owner x))
+      → ((x : World) → HoldsParts state x (record old { tables = tables; outs = outs }) → IsMoved state (record old { tables = tables; outs = outs }) new (store_falls owner x))
       → IsMoved state old new (write_next owner luck (busy_table w owner) w)
   write_failed tables outs new table luck busy a falls =
       let m = move_table table (Work luck) w in
@@ -125,7 +149,7 @@ module _ {D : Type 0} (state : D → DiskState) (w : World) (old : StoreHost D) 
   }
 
   pub crash_falls : (tables : tree.BTreeMap ℕ (Hosted D)) (new : StoreHost D) (luck : Luck) → AreMoved state w old.numbers tables [] [] false (table_crashes luck (busy_table w owner) w)
-      → ((x : World) → HoldsStore state x (record old { tables = tables }) → IsMoved state (record old { tables = tables }) new (store_falls owner x))
+      → ((x : World) → HoldsParts state x (record old { tables = tables }) → IsMoved state (record old { tables = tables }) new (store_falls owner x))
       → IsMoved state old new (and_then (table_crashes luck (busy_table w owner) w) (store_falls owner))
   crash_falls tables new luck a falls =
       let m = table_crashes luck (busy_table w owner) w in
@@ -148,16 +172,21 @@ module _ {D : Type 0} (state : D → DiskState) (w : World) (old : StoreHost D) 
       let b = by_keys tables outs false lucks a in (
         b.failed,
         record {
-          held = record { number = h.number; up = sym (ap not (still_gone m.world.downs)); tables = record { there = b.held.there; all = b.held.all; keys = b.held.keys; rising = b.held.rising } };
+          held = record {
+            number = h.number;
+            up = sym (ap not (still_gone m.world.downs));
+            tables = record { there = b.held.there; all = b.held.all; keys = b.held.keys; rising = b.held.rising };
+            ups = λ _. starts_up w lucks b.failed;
+          };
           outs = b.outs ∙ ap (λ (l : List Outbox). outs_of old ++ l) (sym (said_both m (λ x. still (without_down the_store x)) ∙ append-nil (said_by m)));
         },
       )
 
-  pub start_failed : (mid tables : tree.BTreeMap ℕ (Hosted D)) (outs : List StoreOut) (lucks : List Luck) → AreMoved state w old.numbers mid old.outs outs true (tables_start old.numbers lucks w)
+  pub start_failed : old.is_up ≡ false → (mid tables : tree.BTreeMap ℕ (Hosted D)) (outs : List StoreOut) (lucks : List Luck) → AreMoved state w old.numbers mid old.outs outs true (tables_start old.numbers lucks w)
       → ((x : World) → HoldsTables state x old.numbers mid → HoldsTables state (tables_fall old.numbers x).world old.numbers tables)
       → ((tables_start (tables_of w owner) lucks w).failed ≡ true) × IsMoved state old (record old { tables = tables; outs = outs })
       (and_then (tables_start (tables_of w owner) lucks w) (tables_fall (tables_of w owner)))
-  start_failed mid tables outs lucks a falls =
+  start_failed is mid tables outs lucks a falls =
       let m = tables_start (keys_of w.tables) lucks w in
       let b = by_keys mid outs true lucks a in
       let silent = falls_silent (keys_of w.tables) m.world in
@@ -165,7 +194,12 @@ module _ {D : Type 0} (state : D → DiskState) (w : World) (old : StoreHost D) 
       h.tables.all (falls m.world b.held) in (
         b.failed,
         record {
-          held = record { number = h.number; up = h.up ∙ ap (λ (ds : List Node). not (has_node ds the_store)) (sym (silent.downs ∙ b.downs)); tables = here };
+          held = record {
+            number = h.number;
+            up = h.up ∙ ap (λ (ds : List Node). not (has_node ds the_store)) (sym (silent.downs ∙ b.downs));
+            tables = here;
+            ups = λ up. absurd (true≢false (sym (not_up (has_node w.downs the_store) (sym is ∙ h.up)) ∙ (ap (λ (ds : List Node). has_node ds the_store) (sym (silent.downs ∙ b.downs)) ∙ up)));
+          };
           outs = b.outs ∙ ap (λ (l : List Outbox). outs_of old ++ l)
               (sym (said_both m (tables_fall (keys_of w.tables)) ∙ (ap (λ (l : List Outbox). said_by m ++ l) silent.said ∙ append-nil (said_by m))));
         },
@@ -176,7 +210,7 @@ module _ {D : Type 0} (state : D → DiskState) (w : World) (old : StoreHost D) 
   pub put_is : (schema : Schema) (made up : Bool) (table : ℕ) (it : Hosted D) (new : tree.BTreeMap ℕ (Hosted D)) (numbers : List ℕ) → tree.get nat_cmp old.tables table ≡ None
       → ((q : ℕ) → tree.get nat_cmp new q ≡ cond (is_at (nat_cmp table) q) (Some it) (tree.get nat_cmp old.tables q)) → new.entries ≡ insert_entry nat_cmp old.tables.entries table it
       → IsStrictlySortedBy nat_cmp (keys_of new.entries)
-      → numbers ≡ keys_of new.entries → IsHosted state (Some schema) table (new_table made up) it → HoldsStore state (with_table w table schema made up) (record old {
+      → numbers ≡ keys_of new.entries → IsHosted state (Some schema) table (new_table made up) it → HoldsParts state (with_table w table schema made up) (record old {
         tables = new;
         numbers = numbers;
       })

@@ -1,14 +1,31 @@
 -- What the calls of a Store with its tables promise, in the moves of the world.
-use Rattle.std.specs.Prelude.{◌≡◌, ◌⊎◌, ℕ, Bool, List, ◌++◌, Result, IfErr, IsErrOf}
+use Rattle.std.specs.Prelude.{◌≡◌, ◌⊎◌, ◌↔◌, ℕ, Bool, false, true, List, [], ◌++◌, Option, Some, option_map, Result, Ok}
+use Rattle.std.specs.Prelude.{OnOk, OnErr, IfOk, IfErr, IsErrOf}
 use Rattle.std.specs.BTreeMap as tree
 use Rattle.disk_trait.specs.Calls.{DiskState}
+use Rattle.stab_base.specs.declared.limits.TheConstants.{NUMBER_MAX}
+use Rattle.stab_base.specs.declared.node.Node.{Node}
+use Rattle.row_value.specs.declared.schema.Schema.{Schema}
+use Rattle.row_value.specs.Fit.{fit_of}
+use Rattle.row_store.specs.Spelling.{IsClient}
+use Rattle.step_tables.specs.Messages.{table_of}
+use Rattle.step_tables.specs.Store.{current_of}
+use Rattle.step_tables.specs.StoreMoves.{Take}
+use Rattle.step_tables.specs.Travels.{message_of}
+use Rattle.step_tables.specs.declared.message.Message.{Message}
+use Rattle.step_tables.specs.declared.message.Message.TheVariants as kinds
 use Rattle.store_node.specs.declared.fault.NodeFault.{NodeFault}
-use Rattle.store_node.specs.declared.fault.NodeFault.TheVariants.{Disk, Memory}
+use Rattle.store_node.specs.declared.fault.NodeFault.TheVariants.{Busy, Spent, Disk, Memory}
 use Rattle.store_node.specs.declared.node.StoreOut.{StoreOut}
-use Rattle.world_tables.specs.World.{World, Moved}
+use Rattle.store_node.specs.declared.showing.ShownRow.{ShownRow}
+use Rattle.store_node.specs.Calls.{IsAtWork, IsSpent}
+use Rattle.store_node.specs.Reading.{shown_of}
+use Rattle.world_tables.specs.World.{World, Moved, owner, schema_at, hosted_at, move_table, table_falls, store_falls}
+use Rattle.world_tables.specs.World as world
 use Rattle.store_host.specs.declared.hosted.Hosted.{Hosted}
 use Rattle.store_host.specs.declared.host.StoreHost.{StoreHost}
 use Rattle.store_host.specs.Holds.{HoldsTables, HoldsStore, outs_in, outs_of, said_by, SameFaults, RisenFaults}
+use Rattle.store_host.specs.Steps.{IsBusy, IsTakeFault}
 
 -- The tables are where these moves lead to from this world, and what the moves told and sent was put behind what was.
 -- One of the moves failed, or none.
@@ -30,3 +47,84 @@ pub record HasCause {D T : Type 0} (state : D → DiskState) (old new : tree.BTr
   pub counted : (IsErrOf result Disk → ⊥) → SameFaults state old new
   pub cause : IsErrOf result Disk → RisenFaults state old new
   pub only : IfErr result (λ e. (e ≡ Disk) ⊎ (e ≡ Memory))
+
+-- ---- messages
+
+-- the table that a message is of
+abbrev pub table_in : Message → ℕ
+table_in message = table_of (message_of message)
+
+-- a request whose content is a row of its table, where that is there, of one of the clients; any other message
+abbrev pub FitsIn : World → Message → Type 0
+FitsIn w (kinds.SyncRequest request) =
+    ((schema : Schema) → schema_at w request.table ≡ Some schema → fit_of schema request.content ≡ Ok tt)
+    × IsClient request.client
+FitsIn w other = Unit {0}
+
+-- the table is there and has writes to do, with this version at work
+abbrev pub IsBusyWith : World → ℕ → ℕ → Type 0
+IsBusyWith w table version = (hosted : world.Hosted) × (hosted_at w table ≡ Some hosted)
+    × IsAtWork hosted.store.disk hosted.store.agenda version
+
+-- the message's table is there and has no writes to do, and no version is left for the new write that it asks for
+abbrev pub IsSpentIn : World → Message → Type 0
+IsSpentIn w message = (hosted : world.Hosted) × (hosted_at w (table_in message) ≡ Some hosted)
+    × (hosted.store.agenda ≡ Some []) × IsSpent hosted.store.disk message
+
+-- Why a message was refused, and which disks failed in it: some of one table, where it says so, and else none.
+pub record HasTakeCause {D : Type 0} (state : D → DiskState) (old new : tree.BTreeMap ℕ (Hosted D))
+    (result : Result (Unit {0}) NodeFault) : Type 0 where
+  pub counted : (IsErrOf result Disk → ⊥) → SameFaults state old new
+  pub cause : IsErrOf result Disk → RisenFaults state old new
+  pub only : IfErr result IsTakeFault
+
+-- What the tables make of a message for one of them.
+pub record AreTaken {D : Type 0} (state : D → DiskState) (w : World) (numbers : List ℕ) (from : Node)
+    (message : Message) (new : tree.BTreeMap ℕ (Hosted D)) (before after : List StoreOut)
+    (result : Result (Unit {0}) NodeFault) : Type 0 where
+  pub done : FitsIn w message → OnOk result (AreMoved state w numbers new before after false
+      (move_table (table_in message) (Take from (message_of message)) w))
+  pub dropped : (FitsIn w message → ⊥) → OnOk result (HoldsTables state w numbers new × (after ≡ before))
+  pub idle : (IsBusy result → ⊥) → (hosted : world.Hosted) → hosted_at w (table_in message) ≡ Some hosted
+      → hosted.store.agenda ≡ Some []
+  pub busy : (version : ℕ) → IsErrOf result (Busy version) ↔ IsBusyWith w (table_in message) version
+  pub given : FitsIn w message → IsSpentIn w message → OnOk result ⊥
+  pub spent : (last : ℕ) → IsErrOf result (Spent last) → IsSpentIn w message × (last ≡ NUMBER_MAX)
+  pub refused : (IsErrOf result Disk → ⊥) → OnErr result (HoldsTables state w numbers new × (after ≡ before))
+  pub fallen : IsErrOf result Disk
+      → AreMoved state w numbers new [] [] false (table_falls (table_in message) w) × (after ≡ before)
+
+-- What a Store makes of a message for one of its tables: the table's move, or nothing, where the table isn't there or
+-- the content is no row of it. A refusal leaves all as it was. Where a disk has failed the Store is down with all its
+-- tables, and no device has changed.
+pub record Takes {D : Type 0} (state : D → DiskState) (w : World) (from : Node) (message : Message)
+    (old new : StoreHost D) (result : Result (Unit {0}) NodeFault) : Type 0 where
+  pub done : FitsIn w message
+      → OnOk result (IsMoved state old new (move_table (table_in message) (Take from (message_of message)) w))
+  pub dropped : (FitsIn w message → ⊥) → OnOk result (HoldsStore state w new × (new.outs ≡ old.outs))
+  pub idle : (IsBusy result → ⊥) → (hosted : world.Hosted) → hosted_at w (table_in message) ≡ Some hosted
+      → hosted.store.agenda ≡ Some []
+  pub busy : (version : ℕ) → IsErrOf result (Busy version) ↔ IsBusyWith w (table_in message) version
+  pub given : FitsIn w message → IsSpentIn w message → OnOk result ⊥
+  pub spent : (last : ℕ) → IsErrOf result (Spent last) → IsSpentIn w message × (last ≡ NUMBER_MAX)
+  pub refused : (IsErrOf result Disk → ⊥) → OnErr result (HoldsStore state w new)
+  pub fallen : IsErrOf result Disk → IsMoved state old new (store_falls owner w)
+
+-- ---- rows
+
+-- What the tables show of a row of one of them.
+pub record AreShown {D : Type 0} (state : D → DiskState) (w : World) (numbers : List ℕ) (table : ℕ) (row : List ℕ)
+    (new : tree.BTreeMap ℕ (Hosted D)) (result : Result (Option ShownRow) NodeFault) : Type 0 where
+  pub shown : (hosted : world.Hosted) → hosted_at w table ≡ Some hosted
+      → IfOk result (λ shown. shown ≡ option_map shown_of (current_of hosted.store.disk.items row))
+  pub stays : (IsErrOf result Disk → ⊥) → HoldsTables state w numbers new
+  pub fallen : IsErrOf result Disk → AreMoved state w numbers new [] [] false (table_falls table w)
+
+-- What a Store shows of a row of one of its tables: its last item, if it has one. Nothing has changed; or a disk has
+-- failed, and the Store is down with all its tables.
+pub record ShowsRow {D : Type 0} (state : D → DiskState) (w : World) (table : ℕ) (row : List ℕ)
+    (old new : StoreHost D) (result : Result (Option ShownRow) NodeFault) : Type 0 where
+  pub shown : (hosted : world.Hosted) → hosted_at w table ≡ Some hosted
+      → IfOk result (λ shown. shown ≡ option_map shown_of (current_of hosted.store.disk.items row))
+  pub stays : (IsErrOf result Disk → ⊥) → HoldsStore state w new
+  pub fallen : IsErrOf result Disk → IsMoved state old new (store_falls owner w)

@@ -13,9 +13,10 @@ use Rattle.chunk_store.specs.Standing as chunks
 use Rattle.row_store.specs.Standing as rows
 use Rattle.status_log.specs.Standing as logs
 use Rattle.row_value.specs.declared.schema.Schema.{Schema}
-use Rattle.step_tables.specs.StoreMoves.{StoreStep}
+use Rattle.step_tables.specs.StoreMoves.{StoreStep, StoreTask}
 use Rattle.store_node.specs.declared.node.StoreOut.{StoreOut}
-use Rattle.store_node.specs.Due.{fact_of, send_of}
+use Rattle.step_tables.specs.Travels.{send_of}
+use Rattle.store_node.specs.Due.{fact_of}
 use Rattle.store_node.specs.Node.{IsTable, told_by, sent_by, own_faults}
 use Rattle.world_tables.specs.World.{World, Outbox, Moved, schema_at, hosted_at, owner, the_store, is_down, history_on}
 use Rattle.world_tables.specs.World.{packets_from}
@@ -60,14 +61,37 @@ pub record HoldsTables {D : Type 0} (state : D → DiskState) (w : World) (numbe
   pub keys : numbers ≡ keys_of tables.entries
   pub rising : IsStrictlySortedBy nat_cmp numbers
 
-pub record HoldsStore {D : Type 0} (state : D → DiskState) (w : World) (host : StoreHost D) : Type 0 where
+-- it is up: it has an agenda
+abbrev pub IsUpAt : Option (List StoreTask) → Type 0
+IsUpAt o = (agenda : List StoreTask) × (o ≡ Some agenda)
+
+-- all tables are up
+abbrev pub AllUp : World → Type 0
+AllUp w = (table : ℕ) (hosted : world.Hosted) → hosted_at w table ≡ Some hosted → IsUpAt hosted.store.agenda
+
+-- a Store whose tables may be down beside it
+pub record HoldsParts {D : Type 0} (state : D → DiskState) (w : World) (host : StoreHost D) : Type 0 where
   pub number : host.number ≡ owner
   pub up : host.is_up ≡ not (is_down w the_store)
   pub tables : HoldsTables state w host.numbers host.tables
 
+-- A Store, whose tables are up where it is.
+pub record HoldsStore {D : Type 0} (state : D → DiskState) (w : World) (host : StoreHost D) : Type 0 where
+  pub number : host.number ≡ owner
+  pub up : host.is_up ≡ not (is_down w the_store)
+  pub tables : HoldsTables state w host.numbers host.tables
+  pub ups : is_down w the_store ≡ false → AllUp w
+
 -- it holds some world
 abbrev pub AreTables : {D : Type 0} → (D → DiskState) → tree.BTreeMap ℕ (Hosted D) → Type 0
 AreTables state tables = (w : World) × (numbers : List ℕ) × HoldsTables state w numbers tables
+
+-- and all are up in it
+abbrev pub AreUpTables : {D : Type 0} → (D → DiskState) → tree.BTreeMap ℕ (Hosted D) → Type 0
+AreUpTables state tables = (w : World) × (numbers : List ℕ) × HoldsTables state w numbers tables × AllUp w
+
+abbrev pub AreParts : {D : Type 0} → (D → DiskState) → StoreHost D → Type 0
+AreParts state host = (w : World) × HoldsParts state w host
 
 abbrev pub IsStore : {D : Type 0} → (D → DiskState) → StoreHost D → Type 0
 IsStore state host = (w : World) × HoldsStore state w host

@@ -1,20 +1,28 @@
 -- A table's step, what it tells put behind what was told, and the causes of its calls.
-use Rattle.std.specs.Prelude.{◌≡◌, ◌⊎◌, ℕ, ◌+◌, ◌<◌, ◌++◌, Bool, true, false, List, [], ◌∷◌, filter, Option, Some}
-use Rattle.std.specs.Prelude.{None, Result}
-use Rattle.std.specs.Prelude.{IfErr, IsErrOf}
+use Rattle.std.specs.Prelude.{◌≡◌, ◌⊎◌, ◌↔◌, ℕ, ◌+◌, ◌<◌, ◌++◌, Bool, true, false, List, [], ◌∷◌, filter, Option, Some}
+use Rattle.std.specs.Prelude.{None, option_map, Result, OnOk, OnErr, IfOk, IfErr, IsErrOf}
 use Rattle.disk_trait.specs.Calls.{DiskState}
+use Rattle.stab_base.specs.declared.limits.TheConstants.{NUMBER_MAX}
+use Rattle.stab_base.specs.declared.node.Node.{Node}
 use Rattle.row_value.specs.declared.schema.Schema.{Schema}
-use Rattle.step_tables.specs.StoreMoves.{StoreStep, StoreMove, Start, store_step}
+use Rattle.step_tables.specs.Messages as messages
+use Rattle.step_tables.specs.Store.{current_of}
+use Rattle.step_tables.specs.StoreMoves.{StoreStep, StoreMove, Take, Crash, Start, store_step}
+use Rattle.step_tables.specs.Travels.{message_of}
+use Rattle.step_tables.specs.declared.message.Message.{Message}
 use Rattle.store_node.specs.declared.fault.NodeFault.{NodeFault}
-use Rattle.store_node.specs.declared.fault.NodeFault.TheVariants.{Disk, Memory}
+use Rattle.store_node.specs.declared.fault.NodeFault.TheVariants.{Busy, Spent, Disk, Memory}
 use Rattle.store_node.specs.declared.node.TableNode.{TableNode}
 use Rattle.store_node.specs.declared.node.StoreOut.{StoreOut}
+use Rattle.store_node.specs.declared.showing.ShownRow.{ShownRow}
+use Rattle.store_node.specs.Calls.{IsTaken, IsAtWork, IsSpent}
 use Rattle.store_node.specs.Node.{IsTable, told_by, sent_by, own_faults}
+use Rattle.store_node.specs.Reading.{shown_of}
 use Rattle.world_tables.specs.World.{Outbox, owner, the_store, scheme_in, chunk_in, packets_from, declared_late}
 use Rattle.world_tables.specs.World.{agenda_of}
 use Rattle.world_tables.specs.World as world
 use Rattle.store_host.specs.declared.hosted.Hosted.{Hosted}
-use Rattle.store_host.specs.Holds.{IsHosted, behind_step, outs_in, says_something}
+use Rattle.store_host.specs.Holds.{IsHosted, IsUpAt, behind_step, outs_in, says_something}
 
 -- what a move makes of the table
 abbrev pub moved_at : Option Schema → ℕ → world.Hosted → StoreMove → StoreStep
@@ -68,3 +76,48 @@ pub record HasNodeCause {D T : Type 0} (state : D → DiskState) (old new : Tabl
   pub counted : (IsErrOf result Disk → ⊥) → own_faults state new ≡ own_faults state old
   pub cause : IsErrOf result Disk → own_faults state old < own_faults state new
   pub only : IfErr result (λ e. (e ≡ Disk) ⊎ (e ≡ Memory))
+
+-- ---- messages and rows
+
+-- it was refused since writes are to be done
+abbrev pub IsBusy : {T : Type 0} → Result T NodeFault → Type 0
+IsBusy result = (version : ℕ) × IsErrOf result (Busy version)
+
+-- why a message was refused
+abbrev pub IsTakeFault : NodeFault → Type 0
+IsTakeFault e = ((version : ℕ) × (e ≡ Busy version)) ⊎ ((e ≡ Spent NUMBER_MAX) ⊎ ((e ≡ Disk) ⊎ (e ≡ Memory)))
+
+pub record HasNodeTakeCause {D : Type 0} (state : D → DiskState) (old new : TableNode D)
+    (result : Result (Unit {0}) NodeFault) : Type 0 where
+  pub counted : (IsErrOf result Disk → ⊥) → own_faults state new ≡ own_faults state old
+  pub cause : IsErrOf result Disk → own_faults state old < own_faults state new
+  pub only : IfErr result IsTakeFault
+
+-- What a table makes of a message: its step, or nothing, where it takes no such message or refuses it. Where a disk has
+-- failed it is down, with the disk as it was.
+pub record HasTaken {D : Type 0} (state : D → DiskState) (declared : Option Schema) (table : ℕ)
+    (hosted : world.Hosted) (from : Node) (message : Message) (old new : Hosted D) (before after : List StoreOut)
+    (result : Result (Unit {0}) NodeFault) : Type 0 where
+  pub taken : IsTaken old.node message → OnOk result (HasTold state declared table hosted
+      (moved_at declared table hosted (Take from (message_of message))) new before after)
+  pub dropped : (IsTaken old.node message → ⊥)
+      → OnOk result (IsHosted state declared table hosted new × (after ≡ before))
+  pub idle : (IsBusy result → ⊥) → hosted.store.agenda ≡ Some []
+  pub busy : (version : ℕ) → IsErrOf result (Busy version) ↔ IsAtWork hosted.store.disk hosted.store.agenda version
+  pub given : IsTaken old.node message → IsSpent hosted.store.disk message → OnOk result ⊥
+  pub spent : (last : ℕ) → IsErrOf result (Spent last) → (hosted.store.agenda ≡ Some [])
+      × IsSpent hosted.store.disk message × (last ≡ NUMBER_MAX)
+  pub refused : (IsErrOf result Disk → ⊥)
+      → OnErr result (IsHosted state declared table hosted new × (after ≡ before))
+  pub fallen : IsErrOf result Disk → HasTold state declared table hosted
+      (moved_at declared table hosted (Crash messages.FailedBefore)) new [] [] × (after ≡ before)
+
+-- What a table shows of a row: its last item. Nothing has changed; or a disk has failed, and the table is down with the
+-- disk as it was.
+pub record HasShown {D : Type 0} (state : D → DiskState) (declared : Option Schema) (table : ℕ)
+    (hosted : world.Hosted) (row : List ℕ) (new : Hosted D) (result : Result (Option ShownRow) NodeFault)
+    : Type 0 where
+  pub shown : IfOk result (λ shown. shown ≡ option_map shown_of (current_of hosted.store.disk.items row))
+  pub stays : (IsErrOf result Disk → ⊥) → IsHosted state declared table hosted new
+  pub fallen : IsErrOf result Disk → HasTold state declared table hosted
+      (moved_at declared table hosted (Crash messages.FailedBefore)) new [] []

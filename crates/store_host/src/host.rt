@@ -1,6 +1,7 @@
 //! A Store with its tables.
 ghost use Rattle.std.specs.Prelude.{◌≡◌, ◌⊎◌, ◌<◌, ◌≤◌, ◌≢◌, ◌+◌, ℕ, [], List, Option, None, Some, not, false, true};
-ghost use Rattle.std.specs.Prelude.{IfOk, IfErr, OnOk, IsErrOf, option_copied, option_map, is_some, map, length};
+ghost use Rattle.std.specs.Prelude.{IfOk, IfErr, OnOk, OnErr, IsErrOf, IsSome, option_copied, option_map, is_some, map};
+ghost use Rattle.std.specs.Prelude.{length};
 ghost use Rattle.std.specs.Prelude.{Bool, if◌then◌else◌};
 ghost use Rattle.std.specs.Ordering.{nat_cmp};
 ghost use Rattle.std.specs.BTreeMap as tree;
@@ -15,20 +16,25 @@ ghost use Rattle.step_tables.specs.Messages.{Luck};
 ghost use Rattle.store_node.specs.declared.fault.NodeFault.TheVariants.{Disk as DiskFailed, Memory};
 ghost use Rattle.world_tables.specs.World.{World as AWorld, Hosted as AHosted, owner, the_store, is_down, hosted_at};
 ghost use Rattle.world_tables.specs.World.{busy_table, busy_step, write_next, store_falls, store_crashes, tables_of};
-ghost use Rattle.world_tables.specs.World.{tasks_of, store_until_idle, is_at_work};
+ghost use Rattle.world_tables.specs.World.{tasks_of, store_until_idle, is_at_work, schema_at, chunk_in, names_on};
 ghost use Rattle.world_tables.specs.World.{tables_start, tables_fall, and_then, still, without_down, with_table};
-ghost use Rattle.store_host.specs.Holds.{IsHosted, HoldsStore, IsStore, SameFaults, faults_at, disks_at};
+ghost use Rattle.store_host.specs.Holds.{IsHosted, HoldsParts, HoldsStore, AreParts, IsStore, SameFaults};
+ghost use Rattle.store_host.specs.Holds.{faults_at, disks_at};
 ghost use Rattle.store_host.specs.Steps.{new_table, faults_of};
-ghost use Rattle.store_host.specs.Calls.{IsMoved, HasCause};
+ghost use Rattle.store_host.specs.Calls.{IsMoved, HasCause, Takes, HasTakeCause, ShowsRow};
 
 use crate::hosted::Hosted;
-use crate::tables::{crash_busy, first_busy, halt_all, is_busy_at, numbers_of, start_all, work_at};
+use crate::tables::{
+    crash_busy, deliver_to, first_busy, halt_all, is_busy_at, numbers_of, show_at, start_all,
+    work_at,
+};
 use disk_trait::Disk;
 use row_value::Schema;
-use stab_base::{Sequence, Step, StoreNo, TableNo};
+use stab_base::{Names, Node, RowId, Sequence, Step, StoreNo, TableNo};
 use std::alloc::Global;
 use std::collections::BTreeMap;
-use store_node::{NodeFault, StoreOut};
+use step_tables::Message;
+use store_node::{NodeFault, ShownRow, StoreOut};
 use table_model::{History, Tables};
 
 /// A Store with its tables, each on its three disks. The Store is up or down with all of them.
@@ -109,7 +115,7 @@ impl<D: Disk + Drop> StoreHost<D> {
         requires { tree.get nat_cmp self.old.tables table ≡ None }
         ensures put { (w : AWorld) (schema : ASchema) (made up : Bool) → HoldsStore D.state w self.old
             → IsHosted D.state (Some schema) table (new_table made up) hosted
-            → OnOk result (HoldsStore D.state (with_table w table schema made up) self.new) }
+            → OnOk result (HoldsParts D.state (with_table w table schema made up) self.new) }
         ensures outs { self.new.outs ≡ self.old.outs }
         ensures tables { OnOk result ((q : ℕ) → tree.get nat_cmp self.new.tables q
             ≡ (if is_at (nat_cmp table) q then Some hosted else tree.get nat_cmp self.old.tables q)) }
@@ -176,12 +182,13 @@ impl<D: Disk + Drop> StoreHost<D> {
 
     // Takes the Store down with all its tables, beside any write.
     fn fall(&mut self)
-        requires { IsStore D.state self.old }
-        ensures fallen { (w : AWorld) → HoldsStore D.state w self.old
+        requires { AreParts D.state self.old }
+        ensures fallen { (w : AWorld) → HoldsParts D.state w self.old
             → IsMoved D.state self.old self.new (store_falls owner w) }
         ensures counted { SameFaults D.state self.old.tables self.new.tables }
         ensures down { self.new.is_up ≡ false }
         ensures outs { self.new.outs ≡ self.old.outs }
+        ensures numbers { self.new.numbers ≡ self.old.numbers }
     {
         halt_all(self.numbers.as_slice(), &mut self.tables);
         self.is_up = false;
@@ -199,6 +206,9 @@ impl<D: Disk + Drop> StoreHost<D> {
         ensures failed { (w : AWorld) → HoldsStore D.state w self.old → IsErrOf result DiskFailed
             → IsMoved D.state self.old self.new (write_next owner messages.FailedBefore (busy_table w owner) w)
             ⊎ IsMoved D.state self.old self.new (write_next owner messages.FailedAfter (busy_table w owner) w) }
+        ensures faulty { (w : AWorld) → HoldsStore D.state w self.old → IsErrOf result DiskFailed
+            → ((write_next owner messages.FailedBefore (busy_table w owner) w).failed ≡ true)
+            × ((write_next owner messages.FailedAfter (busy_table w owner) w).failed ≡ true) }
         ensures up { OnOk result (self.new.is_up ≡ true) }
         ensures cause { HasCause D.state self.old.tables self.new.tables result }
     {
@@ -237,6 +247,73 @@ impl<D: Disk + Drop> StoreHost<D> {
             self.work()?;
         }
         Err(NodeFault::Memory)
+    }
+
+    /// Takes a message for one of its tables; one for a table that isn't there is lost, and so is one whose content is
+    /// no row of the table.
+    ///
+    /// `Busy` where the table has writes to do, with the version at work, and `Spent` where a new write finds no
+    /// version left. `Disk` where a disk failed: the Store is then down, with all its tables. Any other fault leaves
+    /// all as it was.
+    pub fn deliver(&mut self, from: Node, message: &Message) -> Result<(), NodeFault>
+        requires held { IsStore D.state self.old }
+        requires up { self.old.is_up ≡ true }
+        ensures takes { (w : AWorld) → HoldsStore D.state w self.old
+            → Takes D.state w from message.now self.old self.new result }
+        ensures outs { OnErr result (self.new.outs ≡ self.old.outs) }
+        ensures up { (IsErrOf result DiskFailed → ⊥) → self.new.is_up ≡ true }
+        ensures down { IsErrOf result DiskFailed → self.new.is_up ≡ false }
+        ensures numbers { self.new.numbers ≡ self.old.numbers }
+        ensures cause { HasTakeCause D.state self.old.tables self.new.tables result }
+    {
+        match deliver_to(self.alloc, &mut self.tables, &mut self.outs, from, message) {
+            Ok(()) => Ok(()),
+            Err(NodeFault::Disk) => {
+                self.fall();
+                Err(NodeFault::Disk)
+            }
+            Err(fault) => Err(fault),
+        }
+    }
+
+    /// A row of a table with its last version, whole, or none where nothing was written to it. The table may have
+    /// writes to do.
+    ///
+    /// `Disk` where a disk failed: the Store is then down, with all its tables. `Memory` leaves all as it was.
+    pub fn show(&mut self, table: TableNo, row: &RowId) -> Result<Option<ShownRow>, NodeFault>
+        requires held { IsStore D.state self.old }
+        requires up { self.old.is_up ≡ true }
+        requires there { IsSome (tree.get nat_cmp self.old.tables table) }
+        ensures shows { (w : AWorld) → HoldsStore D.state w self.old
+            → ShowsRow D.state w table row.now self.old self.new result }
+        ensures outs { self.new.outs ≡ self.old.outs }
+        ensures up { (IsErrOf result DiskFailed → ⊥) → self.new.is_up ≡ true }
+        ensures down { IsErrOf result DiskFailed → self.new.is_up ≡ false }
+        ensures numbers { self.new.numbers ≡ self.old.numbers }
+        ensures cause { HasCause D.state self.old.tables self.new.tables result }
+    {
+        match show_at(&mut self.tables, table, row) {
+            Ok(shown) => Ok(shown),
+            Err(NodeFault::Disk) => {
+                self.fall();
+                Err(NodeFault::Disk)
+            }
+            Err(fault) => Err(fault),
+        }
+    }
+
+    /// The names of the chunks on a table's device, in rising order: those that rows name, and those that no row names
+    /// yet or any more.
+    pub fn chunk_names(&self, table: TableNo) -> Result<Names, NodeFault>
+        requires held { IsStore D.state self.now }
+        requires up { self.now.is_up ≡ true }
+        requires there { IsSome (tree.get nat_cmp self.now.tables table) }
+        ensures names { (w : AWorld) (hosted : AHosted) → HoldsStore D.state w self.now
+            → hosted_at w table ≡ Some hosted
+            → IfOk result (λ names. names ≡ names_on (chunk_in (schema_at w table)) hosted.store.disk) }
+        ensures only { IfErr result (λ e. e ≡ Memory) }
+    {
+        self.tables.get(&table).unwrap().node.chunk_names()
     }
 
     /// Crashes the Store: of the disk of the next write the first `calls` calls pass, and a write that follows lands

@@ -8,21 +8,25 @@ ghost use Rattle.row_store.specs.Spelling.{table_payload};
 ghost use Rattle.row_value.specs.declared.schema.Scheme.TheVariants.{Eventual};
 ghost use Rattle.row_value.specs.declared.schema.Schema.{Schema as ASchema};
 ghost use Rattle.step_tables.specs.Sayings.{saying};
-ghost use Rattle.step_tables.specs.StoreMoves.{StoreStep, Work, Crash};
+ghost use Rattle.std.specs.Vec.{vec_capacity, vec_len};
+ghost use Rattle.step_tables.specs.StoreMoves.{StoreStep, TableStore, Work, Crash};
 ghost use Rattle.step_tables.specs.Messages as messages;
 ghost use Rattle.store_node.specs.declared.fault.NodeFault.TheVariants.{Disk as DiskFailed, Memory};
 ghost use Rattle.store_node.specs.Due.{fact_of};
-ghost use Rattle.store_node.specs.Node.{IsNode, own_faults};
+ghost use Rattle.store_node.specs.Node.{IsNode, IsTable, has_task, own_faults};
 ghost use Rattle.world_tables.specs.World.{owner, goes_on, history_on, next_step, tasks_in};
 ghost use Rattle.world_tables.specs.World as world;
 ghost use Rattle.store_host.specs.Holds.{IsHosted, outs_in, outbox_of, says_something, disks_at};
 ghost use Rattle.store_host.specs.Steps.{IsTelling, HasTold, moved_at, started_at, new_table, faults_of, HasNodeCause};
+ghost use Rattle.store_host.specs.Steps.{HasTaken, HasNodeTakeCause, HasShown};
 
 use disk_trait::Disk;
 use row_value::Schema;
-use stab_base::{Sequence, Step, StoreNo, TableNo};
+use stab_base::{Node, RowId, Sequence, Step, StoreNo, TableNo};
 use std::alloc::Global;
-use store_node::{NodeFault, StoreFact, StoreOut, TableNode};
+use std::mem;
+use step_tables::Message;
+use store_node::{NodeFault, ShownRow, StoreFact, StoreOut, TableNode};
 use table_model::History;
 
 /// A table of the Store, and the history that it has told.
@@ -75,6 +79,17 @@ fn put(outs: &mut Sequence<StoreOut>, out: StoreOut) -> Result<(), NodeFault>
     }
     outs.push(out)?;
     Ok(())
+}
+
+// Adds what a table told and sent where there is room for it, unless it is nothing.
+fn put_at_once(outs: &mut Vec<StoreOut>, out: StoreOut)
+    requires { vec_len outs.old < vec_capacity outs.old }
+    ensures put { outs_in outs.new.items ≡ outs_in outs.old.items ++ filter says_something (outbox_of out ∷ []) }
+    ensures silent { says_something (outbox_of out) ≡ false → outs.new.items ≡ outs.old.items }
+{
+    if says_something(&out) {
+        outs.push(out).unwrap();
+    }
 }
 
 impl<D: Disk + Drop> Hosted<D> {
@@ -210,6 +225,66 @@ impl<D: Disk + Drop> Hosted<D> {
             Ok(()) => self.tell(outs),
             Err(fault) => Err(fault),
         }
+    }
+
+    // Takes a message where no write is to be done, with room for what is sent.
+    fn take(
+        &mut self,
+        outs: &mut Vec<StoreOut>,
+        from: Node,
+        message: &Message,
+    ) -> Result<(), NodeFault>
+        requires node { IsNode D.state self.old.node }
+        requires up { self.old.node.is_up ≡ true }
+        requires idle { (s : TableStore) → IsTable D.state self.old.node s → has_task s.agenda ≡ false }
+        ensures taken { (schema : Option ASchema) (table : ℕ) (hosted : world.Hosted)
+            → IsHosted D.state schema table hosted self.old
+            → HasTaken D.state schema table hosted from message.now self.old self.new outs.old.items outs.new.items
+            result }
+        ensures cause { HasNodeTakeCause D.state self.old.node self.new.node result }
+    {
+        outs.reserve(1)?;
+        self.node.deliver(from, message)?;
+        let out = self.node.take_out();
+        put_at_once(outs, out);
+        Ok(())
+    }
+
+    /// Takes a message, and puts what is sent behind what was told. A refusal leaves all as it was, but where a disk
+    /// has failed the table is down.
+    pub(crate) fn deliver(
+        &mut self,
+        alloc: Global,
+        outs: &mut Sequence<StoreOut>,
+        from: Node,
+        message: &Message,
+    ) -> Result<(), NodeFault>
+        requires node { IsNode D.state self.old.node }
+        requires up { self.old.node.is_up ≡ true }
+        ensures taken { (schema : Option ASchema) (table : ℕ) (hosted : world.Hosted)
+            → IsHosted D.state schema table hosted self.old
+            → HasTaken D.state schema table hosted from message.now self.old self.new outs.old outs.new result }
+        ensures cause { HasNodeTakeCause D.state self.old.node self.new.node result }
+    {
+        if self.node.is_busy() {
+            return self.node.deliver(from, message);
+        }
+        let mut room = mem::replace(outs, Sequence::new(alloc)).into_vec();
+        let answer = self.take(&mut room, from, message);
+        *outs = Sequence::from_vec(room);
+        answer
+    }
+
+    /// A row with its last version, or none where nothing was written to it.
+    pub(crate) fn show(&mut self, row: &RowId) -> Result<Option<ShownRow>, NodeFault>
+        requires node { IsNode D.state self.old.node }
+        requires up { self.old.node.is_up ≡ true }
+        ensures shown { (schema : Option ASchema) (table : ℕ) (hosted : world.Hosted)
+            → IsHosted D.state schema table hosted self.old
+            → HasShown D.state schema table hosted row.now self.new result }
+        ensures cause { HasNodeCause D.state self.old.node self.new.node result }
+    {
+        self.node.show(row)
     }
 
     /// The disks of the chunks, the rows and the log.

@@ -1,5 +1,8 @@
 //! Moves of a Store's tables, one by one and of all.
 ghost use Rattle.std.specs.Prelude.{◌≡◌, ◌⊎◌, ℕ, List, false, true, [], Some, IfOk, IfErr, OnOk, IsErrOf};
+ghost use Rattle.std.specs.Prelude.{IsSome};
+ghost use Rattle.std.specs.BTreeMap as tree;
+ghost use Rattle.std.specs.Ordering.{nat_cmp};
 ghost use Rattle.std.specs.Map.{keys_of};
 ghost use Rattle.step_tables.specs.StoreMoves.{Work};
 ghost use Rattle.step_tables.specs.Messages as messages;
@@ -7,15 +10,16 @@ ghost use Rattle.step_tables.specs.Messages.{Luck};
 ghost use Rattle.store_node.specs.declared.fault.NodeFault.TheVariants.{Disk as DiskFailed, Memory};
 ghost use Rattle.world_tables.specs.World.{World as AWorld, owner, is_at_work, busy_table, busy_step, move_table};
 ghost use Rattle.world_tables.specs.World.{table_falls, tables_fall, table_crashes, table_starts, tables_start};
-ghost use Rattle.store_host.specs.Holds.{HoldsTables, AreTables, SameFaults};
-ghost use Rattle.store_host.specs.Calls.{AreMoved, HasCause};
+ghost use Rattle.store_host.specs.Holds.{HoldsTables, AreTables, AreUpTables, AllUp, SameFaults};
+ghost use Rattle.store_host.specs.Calls.{AreMoved, HasCause, AreTaken, HasTakeCause, AreShown};
 
 use crate::hosted::Hosted;
 use disk_trait::Disk;
-use stab_base::{Sequence, Step, TableNo};
+use stab_base::{Node, RowId, Sequence, Step, TableNo};
 use std::alloc::Global;
 use std::collections::BTreeMap;
-use store_node::{NodeFault, StoreOut};
+use step_tables::Message;
+use store_node::{NodeFault, ShownRow, StoreOut, table_of};
 use table_model::Tables;
 
 /// Whether a table has writes to do.
@@ -170,6 +174,44 @@ pub(crate) fn start_all<D: Disk + Drop>(
         start_at(tables, outs, *table)?;
     }
     Ok(())
+}
+
+/// Takes a message for one of these tables; one for a table that isn't there is lost.
+pub(crate) fn deliver_to<D: Disk + Drop>(
+    alloc: Global,
+    tables: &mut BTreeMap<TableNo, Hosted<D>>,
+    outs: &mut Sequence<StoreOut>,
+    from: Node,
+    message: &Message,
+) -> Result<(), NodeFault>
+    requires { AreUpTables D.state tables.old }
+    ensures taken { (w : AWorld) (numbers : List ℕ) → HoldsTables D.state w numbers tables.old → AllUp w
+        → AreTaken D.state w numbers from message.now tables.new outs.old outs.new result }
+    ensures cause { HasTakeCause D.state tables.old tables.new result }
+{
+    let table = table_of(message);
+    match tables.get_mut(&table) {
+        Some(hosted) => hosted.deliver(alloc, outs, from, message),
+        None => Ok(()),
+    }
+}
+
+/// A row of one of these tables.
+pub(crate) fn show_at<D: Disk + Drop>(
+    tables: &mut BTreeMap<TableNo, Hosted<D>>,
+    table: TableNo,
+    row: &RowId,
+) -> Result<Option<ShownRow>, NodeFault>
+    requires up { AreUpTables D.state tables.old }
+    requires there { IsSome (tree.get nat_cmp tables.old table) }
+    ensures shown { (w : AWorld) (numbers : List ℕ) → HoldsTables D.state w numbers tables.old → AllUp w
+        → AreShown D.state w numbers table row.now tables.new result }
+    ensures cause { HasCause D.state tables.old tables.new result }
+{
+    match tables.get_mut(&table) {
+        Some(hosted) => hosted.show(row),
+        None => Ok(None),
+    }
 }
 
 /// The numbers of the tables, rising.

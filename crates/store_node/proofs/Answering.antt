@@ -20,7 +20,7 @@ use Rattle.step_tables.specs.Messages.{Send, Pulled}
 use Rattle.step_tables.specs.Messages as ends
 use Rattle.step_tables.specs.Store.{next_changed}
 use Rattle.step_tables.specs.StoreMoves.{StoreDisk, StoreStep, StoreTask, TableStore, answered, responded, pulled_for, item_for, yours_in}
-use Rattle.step_tables.specs.Travels.{outcome_of, pulled_of}
+use Rattle.step_tables.specs.Travels.{outcome_of, pulled_of, send_of}
 use Rattle.store_commit.specs.declared.devs.TableDevs.{TableDevs}
 use Rattle.store_commit.specs.declared.fault.CommitFault.{CommitFault}
 use Rattle.store_commit.specs.declared.fault.CommitFault.TheVariants as commits
@@ -35,7 +35,6 @@ use Rattle.store_node.specs.declared.fault.NodeFault.TheVariants as node_faults
 use Rattle.store_node.specs.declared.node.TableNode.{TableNode}
 use Rattle.store_node.specs.declared.taking.Taken.{Taken}
 use Rattle.store_node.specs.declared.taking.Taken.TheVariants.{Answered, Begun}
-use Rattle.store_node.specs.Due.{send_of}
 use Rattle.store_node.specs.Fault.{fault_of}
 use Rattle.store_node.specs.Gathered.{HasRoom}
 use Rattle.store_node.specs.Messages.{entry_of}

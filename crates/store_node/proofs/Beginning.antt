@@ -16,7 +16,8 @@ use Rattle.step_tables.specs.Facts.{Fact}
 use Rattle.step_tables.specs.Facts as facts_of
 use Rattle.step_tables.specs.StoreMoves.{StoreDisk, StoreTask, TableStore, Start}
 use Rattle.store_node.specs.Devices.{BeginsStart}
-use Rattle.store_node.specs.Due.{fact_of, send_of, facts_found}
+use Rattle.step_tables.specs.Travels.{send_of}
+use Rattle.store_node.specs.Due.{fact_of, facts_found}
 use Rattle.store_node.specs.Fault.{fault_of}
 use Rattle.store_node.specs.Gathered.{HasRoom}
 use Rattle.store_node.specs.declared.gathered.Gathered.{Gathered}

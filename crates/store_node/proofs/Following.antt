@@ -20,7 +20,8 @@ use Rattle.step_tables.specs.Store.{Stored}
 use Rattle.step_tables.specs.StoreMoves.{StoreDisk, StoreTask, StoreChange, TableStore, changed}
 use Rattle.step_tables.specs.StoreMoves as moves
 use Rattle.device_laws.specs.Stands.{Stands, Follows, IsWriteOf}
-use Rattle.store_node.specs.Due.{fact_of, send_of, told_at, sent_at, is_last_of}
+use Rattle.step_tables.specs.Travels.{send_of}
+use Rattle.store_node.specs.Due.{fact_of, told_at, sent_at, is_last_of}
 use Rattle.store_node.specs.Gathered.{HasRoom}
 use Rattle.store_node.specs.declared.gathered.Gathered.{Gathered}
 use Rattle.store_node.specs.declared.told.StoreFact.{StoreFact}

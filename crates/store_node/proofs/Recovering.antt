@@ -29,7 +29,8 @@ use Rattle.device_laws.proofs.Empty.{nothing_stands}
 use Rattle.device_laws.proofs.NamedDevices.{one_list_left, none_open, open_entry}
 use Rattle.device_laws.proofs.Recoveries.{open_follows, closed_follows}
 use Rattle.store_node.specs.Devices.{MakesTable, BeginsStart, no_rows}
-use Rattle.store_node.specs.Due.{fact_of, send_of, facts_found}
+use Rattle.step_tables.specs.Travels.{send_of}
+use Rattle.store_node.specs.Due.{fact_of, facts_found}
 use Rattle.store_node.specs.Fault.{fault_of}
 use Rattle.store_node.specs.Gathered.{HasRoom}
 use Rattle.store_node.specs.declared.gathered.Gathered.{Gathered}

@@ -29,7 +29,8 @@ use Rattle.store_commit.specs.Agenda.{update_writes}
 use Rattle.store_commit.specs.Update.{entry_for, stored_for}
 use Rattle.device_laws.specs.Stands.{Stands, Follows, update_for}
 use Rattle.device_laws.proofs.Updates.{update_follows}
-use Rattle.store_node.specs.Due.{fact_of, send_of}
+use Rattle.step_tables.specs.Travels.{send_of}
+use Rattle.store_node.specs.Due.{fact_of}
 use Rattle.store_node.specs.Fault.{fault_of}
 use Rattle.store_node.specs.Gathered.{HasRoom}
 use Rattle.store_node.specs.Taking.{refusal_of, Serves, IsBegunBy, step_for}

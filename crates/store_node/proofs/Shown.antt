@@ -25,7 +25,8 @@ use Rattle.store_node.specs.declared.fault.NodeFault.TheVariants as node_faults
 use Rattle.store_node.specs.declared.node.TableNode.{TableNode}
 use Rattle.store_node.specs.declared.showing.WholeRow.{WholeRow}
 use Rattle.store_node.specs.declared.showing.ShownRow.{ShownRow}
-use Rattle.store_node.specs.Due.{fact_of, send_of}
+use Rattle.step_tables.specs.Travels.{send_of}
+use Rattle.store_node.specs.Due.{fact_of}
 use Rattle.store_node.specs.Node.{AreOwed, IsWorking, IsTable, IsNode, IsSame, own_faults, LeavesEither}
 use Rattle.store_node.specs.Calls.{Fell, Stays, Shows}
 use Rattle.store_node.proofs.Falling.{MayHold, fallen, fallen_leaves, ready_sound}

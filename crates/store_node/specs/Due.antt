@@ -1,5 +1,5 @@
 -- What a write tells and sends once it is done.
-use Rattle.std.specs.Prelude.{ℕ, Bool, true, false, List, [], ◌∷◌, Option, Some}
+use Rattle.std.specs.Prelude.{ℕ, Bool, true, false, List, [], ◌∷◌, Some}
 use Rattle.stab_base.specs.declared.node.Node.{Node}
 use Rattle.stab_base.specs.declared.step.Step.{Step}
 use Rattle.stab_base.specs.declared.step.Step.TheVariants as steps
@@ -7,8 +7,6 @@ use Rattle.step_tables.specs.Facts.{Fact}
 use Rattle.step_tables.specs.Facts as facts
 use Rattle.step_tables.specs.Messages.{Send}
 use Rattle.step_tables.specs.Messages as messages
-use Rattle.step_tables.specs.Travels.{message_of}
-use Rattle.step_tables.specs.declared.message.Message.{Message}
 use Rattle.store_commit.specs.Devs.{Write}
 use Rattle.store_commit.specs.declared.recovery.Recovery.{Recovery}
 use Rattle.store_commit.specs.declared.recovery.Recovery.TheVariants.{Nothing, Forward, Back}
@@ -23,9 +21,6 @@ fact_of (told.Accepted table entry) = facts.Accepted table entry
 fact_of (told.Forward table entry) = facts.Forward table entry
 fact_of (told.Back table version) = facts.Back table version
 fact_of (told.Recovered store table) = facts.StoreRecovered store table
-
-abbrev pub send_of : Option Node × Message → Send
-send_of p = record { to = p.0; message = message_of p.1 }
 
 abbrev pub accepted : ℕ → Node → Entry → Send
 accepted table to entry = record {

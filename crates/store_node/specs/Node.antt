@@ -24,7 +24,8 @@ use Rattle.step_tables.specs.StoreMoves.{StoreDisk, StoreTask, TableStore, chang
 use Rattle.step_tables.specs.declared.message.Message.{Message}
 use Rattle.step_tables.specs.declared.message.Message.TheVariants as kinds
 use Rattle.device_laws.specs.Stands.{Stands, Follows}
-use Rattle.store_node.specs.Due.{fact_of, send_of, told_at, sent_at, is_last_of}
+use Rattle.step_tables.specs.Travels.{send_of}
+use Rattle.store_node.specs.Due.{fact_of, told_at, sent_at, is_last_of}
 use Rattle.store_node.specs.Gathered.{HasRoom}
 use Rattle.store_node.specs.declared.node.TableNode.{TableNode}
 use Rattle.store_node.specs.declared.owed.Owed.{Owed}

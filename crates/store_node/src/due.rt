@@ -1,6 +1,7 @@
 //! What a write tells and sends once it is done.
 ghost use Rattle.std.specs.Prelude.{◌≡◌, map, option_to_list};
-ghost use Rattle.store_node.specs.Due.{fact_of, told_at, send_of, sent_at, facts_found};
+ghost use Rattle.step_tables.specs.Travels.{send_of};
+ghost use Rattle.store_node.specs.Due.{fact_of, told_at, sent_at, facts_found};
 
 use crate::owed::Owed;
 use crate::told::StoreFact;

@@ -17,6 +17,7 @@ mod told;
 mod update;
 
 pub use fault::NodeFault;
+pub use messages::table_of;
 pub use node::{StoreOut, TableNode};
 pub use showing::ShownRow;
 pub use told::StoreFact;

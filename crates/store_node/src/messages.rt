@@ -3,8 +3,7 @@ ghost use Rattle.std.specs.Prelude.{◌≡◌, ◌+◌, ◌++◌, ◌<◌, Some}
 ghost use Rattle.std.specs.Bool.{MatchBool};
 ghost use Rattle.step_tables.specs.Messages.{table_of};
 ghost use Rattle.step_tables.specs.StoreMoves.{responded};
-ghost use Rattle.step_tables.specs.Travels.{message_of, outcome_of};
-ghost use Rattle.store_node.specs.Due.{send_of};
+ghost use Rattle.step_tables.specs.Travels.{message_of, outcome_of, send_of};
 ghost use Rattle.store_node.specs.Node.{Fits};
 ghost use Rattle.store_node.specs.Messages.{IsFor, entry_of};
 ghost use Rattle.store_node.specs.Update.{request_of};
@@ -14,7 +13,8 @@ use stab_base::{Node, TableNo, Version};
 use step_tables::{Addressed, Message, Outcome, SyncRequest, SyncResponse};
 use table_model::Entry;
 
-fn table_of(message: &Message) -> TableNo
+/// The table that a message is of.
+pub fn table_of(message: &Message) -> TableNo
     ensures { result ≡ table_of (message_of message.now) }
 {
     match message {

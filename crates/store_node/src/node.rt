@@ -14,7 +14,8 @@ ghost use Rattle.row_store.specs.Standing as rows;
 ghost use Rattle.status_log.specs.Standing as logs;
 ghost use Rattle.store_commit.specs.Standing.{writes_of};
 ghost use Rattle.step_tables.specs.StoreMoves.{TableStore, answered};
-ghost use Rattle.store_node.specs.Due.{fact_of, send_of};
+ghost use Rattle.step_tables.specs.Travels.{send_of};
+ghost use Rattle.store_node.specs.Due.{fact_of};
 ghost use Rattle.store_node.specs.Kept.{AreKept};
 ghost use Rattle.store_node.specs.Node.{IsTable, IsNode, IsSame, told_by, sent_by, nothing_stored, has_task};
 ghost use Rattle.store_node.specs.Calls.{Works, Crashes, Declares, DeclaresLate, Recovers, Starts, Falls, Fell};
@@ -159,6 +160,7 @@ impl<D: Disk + Drop> TableNode<D> {
         ensures shows { (s : TableStore) → IsTable D.state self.old s
             → Shows D.state D.images s row.now self.old self.new result }
         ensures node { IsNode D.state self.new }
+        ensures declared { self.new.is_declared ≡ self.old.is_declared }
         ensures up { OnOk result (self.new.is_up ≡ true) }
     {
         match read_row(self.alloc, &mut self.devs, row) {
@@ -204,6 +206,7 @@ impl<D: Disk + Drop> TableNode<D> {
         ensures fault { result ≡ fault_of fault }
         ensures disk { fault ≡ CommitFault.Disk → Fell D.state D.images self.old self.new }
         ensures other { (fault ≡ CommitFault.Disk → ⊥) → self.new ≡ self.old }
+        ensures declared { self.new.is_declared ≡ self.old.is_declared }
     {
         if fault == CommitFault::Disk {
             self.fall(0);
@@ -347,6 +350,7 @@ impl<D: Disk + Drop> TableNode<D> {
         requires idle { writes_of self.old.devs ≡ [] }
         ensures answers { (s : TableStore) → IsTable D.state self.old s
             → Answers D.state D.images s (answered s.disk from (pull_of request.now)) ⊥ self.old self.new result }
+        ensures declared { self.new.is_declared ≡ self.old.is_declared }
     {
         self.messages.reserve(1)?;
         match pull(self.alloc, &mut self.devs, request) {
@@ -371,6 +375,7 @@ impl<D: Disk + Drop> TableNode<D> {
             → Answers D.state D.images s (step_for self.old.schema.chunk self.old.table s.disk from
             (request_of request.now) (refused_by s.disk request.now))
             ((refused_by s.disk request.now ≡ None) × (length s.disk.items ≡ NUMBER_MAX)) self.old self.new result }
+        ensures declared { self.new.is_declared ≡ self.old.is_declared }
     {
         self.facts.reserve(1)?;
         self.messages.reserve(1)?;
@@ -401,6 +406,7 @@ impl<D: Disk + Drop> TableNode<D> {
         ensures delivers { (s : TableStore) → IsTable D.state self.old s
             → Delivers D.state D.images s from message.now self.old self.new result }
         ensures node { IsNode D.state self.new }
+        ensures declared { self.new.is_declared ≡ self.old.is_declared }
     {
         if !self.devs.idle() {
             return Err(NodeFault::Busy {

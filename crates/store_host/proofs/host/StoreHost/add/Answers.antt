@@ -1,15 +1,23 @@
-use Rattle.std.proofs.Common.{Bool, Some, true, false, ◌∙◌, subst, arith}
-use Rattle.std.specs.Prelude.{OnOk}
+use Rattle.std.proofs.Common.{◌≡◌, Bool, Some, true, false, ap, ◌∙◌, subst, arith}
+use Rattle.std.specs.Prelude.{OnOk, not}
 use Rattle.std.proofs.lemmas.Result.{on_ok_weaker}
-use Rattle.world_tables.specs.World.{with_table}
-use Rattle.store_host.specs.Holds.{HoldsStore}
+use Rattle.world_tables.specs.World.{with_table, is_down, the_store}
+use Rattle.store_host.specs.Holds.{HoldsParts}
+use Rattle.store_host.proofs.Ups.{added_up}
 use Rattle.store_host.proofs.Moving.{added_faults, other_faults}
 use Rattle.store_host.proofs.host.StoreHost.add.Goals as goal
 
 pub returns-in-Ok-clause-added : goal.returns-in-Ok-clause-added
 returns-in-Ok-clause-added g c w h =
-    subst (λ (b : Bool). OnOk c.put.result (HoldsStore g.D.Disk.state (with_table w c.args.table c.args.schema true b) c.put.new.self)) h.up
-    (c.put.ensures.put w c.args.schema true c.args.self.now.is_up h (c.in-Ok.ensures.declared (Some c.args.schema) c.args.table c.new-hosted.ensures.hosted))
+    on_ok_weaker c.put.result
+    (λ (k : HoldsParts g.D.Disk.state (with_table w c.args.table c.args.schema true (not (is_down w the_store))) c.put.new.self). record {
+      number = k.number;
+      up = k.up;
+      tables = k.tables;
+      ups = λ (up : is_down w the_store ≡ false). added_up w c.args.table c.args.schema true (not (is_down w the_store)) (ap not up) (h.ups up);
+    })
+    (subst (λ (b : Bool). OnOk c.put.result (HoldsParts g.D.Disk.state (with_table w c.args.table c.args.schema true b) c.put.new.self)) h.up
+    (c.put.ensures.put w c.args.schema true c.args.self.now.is_up h (c.in-Ok.ensures.declared (Some c.args.schema) c.args.table c.new-hosted.ensures.hosted)))
 
 pub returns-in-Ok-clause-counted : goal.returns-in-Ok-clause-counted
 returns-in-Ok-clause-counted g c =

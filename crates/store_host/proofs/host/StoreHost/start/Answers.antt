@@ -20,7 +20,7 @@ returns-in-Err-Disk-clause-failed g c w h failed =
     let a = subst (λ (ns : List ℕ). (lucks : List Luck) × AreMoved g.D.Disk.state w old.numbers c.start_all.new.tables old.outs c.start_all.new.outs true (tables_start ns lucks w))
     c.as_slice.ensures
     (c.in-Err-Disk.ensures.refused w old.numbers h.tables (let is = c.in-Err-Disk.field-0-is in cc)) in
-    let k = start_failed g.D.Disk.state w old h c.start_all.new.tables c.halt_all.new.tables c.start_all.new.outs a.0 a.1
+    let k = start_failed g.D.Disk.state w old h c.requires.down c.start_all.new.tables c.halt_all.new.tables c.start_all.new.outs a.0 a.1
     (λ x k. subst (λ (ns : List ℕ). HoldsTables g.D.Disk.state (tables_fall ns x).world old.numbers c.halt_all.new.tables) c.as_slice-in-Err-Disk.ensures
     (c.halt_all.ensures.fallen x old.numbers k)) in
     (a.0, k.0, k.1)

@@ -14,13 +14,11 @@ use Rattle.store_node.proofs.Handing.{devices_up, node_ready, node_hidden}
 use Rattle.store_node.proofs.Answering.{never_spent, pushed, shortly, refusedly, pulls}
 use Rattle.store_node.proofs.node.TableNode.answer_pull.Goals as goal
 
-pub returns-in_err-reserve : goal.returns-in_err-reserve
-returns-in_err-reserve g c = record {
-  answers = λ s t.
-      let p = err_from_is_err_and c.from_residual.result c.from_residual.ensures.1 in
-      rw (p.1, p.2) (shortly g.D.Disk.state g.D.Disk.images (λ f image left. g.met.D.Disk.only_now (inner_of f) image left) c.args.self.now c.requires.up c.requires.idle (λ disk. answered disk c.args.from (pull_of c.args.request.now)) (λ _. ⊥)
-      c.args.self.now.facts c.reserve.new.self refl c.reserve.ensures.same s t);
-}
+pub returns-in_err-reserve-clause-answers : goal.returns-in_err-reserve-clause-answers
+returns-in_err-reserve-clause-answers g c s t =
+    let p = err_from_is_err_and c.from_residual.result c.from_residual.ensures.1 in
+    rw (p.1, p.2) (shortly g.D.Disk.state g.D.Disk.images (λ f image left. g.met.D.Disk.only_now (inner_of f) image left) c.args.self.now c.requires.up c.requires.idle (λ disk. answered disk c.args.from (pull_of c.args.request.now)) (λ _. ⊥)
+    c.args.self.now.facts c.reserve.new.self refl c.reserve.ensures.same s t)
 
 pub pull-requires : goal.pull-requires
 pull-requires g c =
@@ -32,23 +30,19 @@ pull-requires g c =
       hidden = node_hidden g.D.Disk.state g.D.Disk.images old n.0.disk n.0.agenda n.1 c.requires.up;
     }
 
-pub returns-in-Ok : goal.returns-in-Ok
-returns-in-Ok g c = record {
-  answers = λ s t.
-      let old = c.args.self.now in
-      let ready = node_ready g.D.Disk.state g.D.Disk.images old s.disk s.agenda t c.requires.up in
-      pulls g.D.Disk.state g.D.Disk.images (λ f image left. g.met.D.Disk.only_now (inner_of f) image left) old c.requires.up c.requires.idle c.pull.new.table old.facts c.put.new.self c.args.from c.args.request.now c.in-Ok.response
-      (serves_only (behind g.D.Disk.state) (λ f. g.D.Disk.images (inner_of f)) old.devs c.pull.new.table (Ok c.in-Ok.response) ready c.in-Ok.ensures.reads) c.in-Ok.ensures.reads.asks.agenda c.in-Ok.ensures.answer refl (pushed _ _ _ _ c.put.ensures.added c.reserve.ensures.same) s t;
-}
+pub returns-in-Ok-clause-answers : goal.returns-in-Ok-clause-answers
+returns-in-Ok-clause-answers g c s t =
+    let old = c.args.self.now in
+    let ready = node_ready g.D.Disk.state g.D.Disk.images old s.disk s.agenda t c.requires.up in
+    pulls g.D.Disk.state g.D.Disk.images (λ f image left. g.met.D.Disk.only_now (inner_of f) image left) old c.requires.up c.requires.idle c.pull.new.table old.facts c.put.new.self c.args.from c.args.request.now c.in-Ok.response
+    (serves_only (behind g.D.Disk.state) (λ f. g.D.Disk.images (inner_of f)) old.devs c.pull.new.table (Ok c.in-Ok.response) ready c.in-Ok.ensures.reads) c.in-Ok.ensures.reads.asks.agenda c.in-Ok.ensures.answer refl (pushed _ _ _ _ c.put.ensures.added c.reserve.ensures.same) s t
 
-pub returns-in-Err : goal.returns-in-Err
-returns-in-Err g c = record {
-  answers = λ s t.
-      let old = c.args.self.now in
-      let r : Result PullResponse CommitFault = Err c.in-Err.fault in
-      let ready = node_ready g.D.Disk.state g.D.Disk.images old s.disk s.agenda t c.requires.up in
-      subst (λ (f : NodeFault). Answers g.D.Disk.state g.D.Disk.images s (answered s.disk c.args.from (pull_of c.args.request.now)) ⊥ old c.fail.new.self (Err f)) (sym c.fail.ensures.fault)
-      (refusedly g.D.Disk.state g.D.Disk.images (λ f image left. g.met.D.Disk.only_now (inner_of f) image left) old c.requires.up c.requires.idle c.pull.new.table old.facts c.reserve.new.self
-      (λ disk. answered disk c.args.from (pull_of c.args.request.now)) (λ _. ⊥) c.fail.new.self {T = PullResponse} c.in-Err.fault (λ _ _ is. never_spent c.in-Err.fault c.in-Err.ensures.reads.asks.only is)
-      (serves_only (behind g.D.Disk.state) (λ f. g.D.Disk.images (inner_of f)) old.devs c.pull.new.table r ready c.in-Err.ensures.reads) refl c.reserve.ensures.same c.fail.ensures.disk c.fail.ensures.other s t);
-}
+pub returns-in-Err-clause-answers : goal.returns-in-Err-clause-answers
+returns-in-Err-clause-answers g c s t =
+    let old = c.args.self.now in
+    let r : Result PullResponse CommitFault = Err c.in-Err.fault in
+    let ready = node_ready g.D.Disk.state g.D.Disk.images old s.disk s.agenda t c.requires.up in
+    subst (λ (f : NodeFault). Answers g.D.Disk.state g.D.Disk.images s (answered s.disk c.args.from (pull_of c.args.request.now)) ⊥ old c.fail.new.self (Err f)) (sym c.fail.ensures.fault)
+    (refusedly g.D.Disk.state g.D.Disk.images (λ f image left. g.met.D.Disk.only_now (inner_of f) image left) old c.requires.up c.requires.idle c.pull.new.table old.facts c.reserve.new.self
+    (λ disk. answered disk c.args.from (pull_of c.args.request.now)) (λ _. ⊥) c.fail.new.self {T = PullResponse} c.in-Err.fault (λ _ _ is. never_spent c.in-Err.fault c.in-Err.ensures.reads.asks.only is)
+    (serves_only (behind g.D.Disk.state) (λ f. g.D.Disk.images (inner_of f)) old.devs c.pull.new.table r ready c.in-Err.ensures.reads) refl c.reserve.ensures.same c.fail.ensures.disk c.fail.ensures.other s t)

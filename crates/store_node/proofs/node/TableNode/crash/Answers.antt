@@ -3,7 +3,8 @@ use Rattle.disk_trait.specs.Fuse.{behind, inner_of}
 use Rattle.store_commit.specs.declared.task.Task.{Task}
 use Rattle.store_commit.specs.Devs.{Write}
 use Rattle.store_commit.specs.Standing.{write_of, writes_of, IsReady, WorksOn}
-use Rattle.store_node.specs.Due.{fact_of, send_of}
+use Rattle.step_tables.specs.Travels.{send_of}
+use Rattle.store_node.specs.Due.{fact_of}
 use Rattle.store_node.proofs.Handing.{devices_up, node_ready}
 use Rattle.store_node.proofs.Working.{crash_done}
 use Rattle.store_node.proofs.Nodes.{crashes_node}

@@ -1,6 +1,7 @@
 use Rattle.std.proofs.Common.{map, refl, sym, ap}
 use Rattle.disk_trait.specs.Fuse.{inner_of}
-use Rattle.store_node.specs.Due.{fact_of, send_of}
+use Rattle.step_tables.specs.Travels.{send_of}
+use Rattle.store_node.specs.Due.{fact_of}
 use Rattle.store_node.proofs.Halting.{halts_up, halts_down, halted_node}
 use Rattle.store_node.proofs.node.TableNode.halt.Goals as goal
 

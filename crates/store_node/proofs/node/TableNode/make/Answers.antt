@@ -1,5 +1,6 @@
 use Rattle.std.proofs.Common.{◌≡◌, map, Err, refl, sym, ap, subst}
-use Rattle.store_node.specs.Due.{fact_of, send_of}
+use Rattle.step_tables.specs.Travels.{send_of}
+use Rattle.store_node.specs.Due.{fact_of}
 use Rattle.store_node.proofs.Handing.{devices_up}
 use Rattle.store_node.proofs.Recovering.{declare_done, declare_failed}
 use Rattle.store_node.specs.declared.fault.NodeFault.{NodeFault}

@@ -1,7 +1,8 @@
 use Rattle.std.proofs.Common.{◌≡◌, ◌++◌, map, length, Ok, Err, refl, sym, ◌∙◌, ap, subst}
 use Rattle.std.specs.Prelude.{option_to_list}
 use Rattle.std.proofs.lemmas.Result.{err_from_is_err_and}
-use Rattle.store_node.specs.Due.{fact_of, send_of, facts_found}
+use Rattle.step_tables.specs.Travels.{send_of}
+use Rattle.store_node.specs.Due.{fact_of, facts_found}
 use Rattle.store_node.proofs.Following.{less_room}
 use Rattle.store_node.proofs.Starting.{room_two, one_at_most}
 use Rattle.store_node.proofs.Handing.{put_told}

@@ -1,5 +1,6 @@
 use Rattle.std.proofs.Common.{refl, ap, map}
-use Rattle.store_node.specs.Due.{fact_of, send_of}
+use Rattle.step_tables.specs.Travels.{send_of}
+use Rattle.store_node.specs.Due.{fact_of}
 use Rattle.store_node.proofs.Handing.{taken_out}
 use Rattle.store_node.proofs.node.TableNode.take_out.Goals as goal
 

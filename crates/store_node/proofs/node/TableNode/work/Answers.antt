@@ -1,7 +1,8 @@
 use Rattle.std.proofs.Common.{◌≡◌, map, Bool, List, ◌∷◌, Ok, Err, refl, sym, ◌∙◌, ap, subst, append-nil}
 use Rattle.disk_trait.specs.Fuse.{inner_of}
 use Rattle.store_commit.specs.Standing.{writes_of}
-use Rattle.store_node.specs.Due.{fact_of, send_of, told_at, sent_at, is_last_of}
+use Rattle.step_tables.specs.Travels.{send_of}
+use Rattle.store_node.specs.Due.{fact_of, told_at, sent_at, is_last_of}
 use Rattle.store_node.proofs.Following.{last_is}
 use Rattle.store_node.proofs.Handing.{put_told, put_room, due_room, devices_up, node_ready, node_hidden, fact_due_room, message_due_room}
 use Rattle.store_node.proofs.Working.{idle_works, work_done, work_failed}

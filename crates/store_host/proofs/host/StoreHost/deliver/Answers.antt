@@ -1,0 +1,50 @@
+use Rattle.std.proofs.Common.{Err, rules, refl, ap, ◌∙◌}
+use Rattle.store_host.proofs.Moving.{then_take_cause}
+use Rattle.store_host.proofs.Stores.{held_up, all_up}
+use Rattle.store_host.proofs.Serving.{took, took_falling, took_parts}
+use Rattle.store_host.proofs.host.StoreHost.deliver.Goals as goal
+
+pub deliver_to-requires : goal.deliver_to-requires
+deliver_to-requires g c = let n = c.requires.held in held_up g.D.Disk.state n.0 c.args.self.now n.1 c.requires.up
+
+pub returns-in-Ok-clause-takes : goal.returns-in-Ok-clause-takes
+returns-in-Ok-clause-takes g c w h =
+    took g.D.Disk.state w c.args.self.now h c.args.from c.args.message.now c.deliver_to.new.tables c.deliver_to.new.outs _ (λ is. cc)
+    (c.in-Ok.ensures.taken w c.args.self.now.numbers h.tables (all_up g.D.Disk.state w c.args.self.now h c.requires.up))
+
+pub fall-requires : goal.fall-requires
+fall-requires g c =
+    let n = c.requires.held in (
+      _,
+      took_parts g.D.Disk.state n.0 c.args.self.now n.1 c.args.from c.args.message.now c.deliver_to.new.tables c.deliver_to.new.outs c.in-Err-Disk.field-0 c.in-Err-Disk.field-0-is
+          (c.in-Err-Disk.ensures.taken n.0 c.args.self.now.numbers n.1.tables (all_up g.D.Disk.state n.0 c.args.self.now n.1 c.requires.up)),
+    )
+
+pub returns-in-Err-Disk-clause-takes : goal.returns-in-Err-Disk-clause-takes
+returns-in-Err-Disk-clause-takes g c w h =
+    took_falling g.D.Disk.state w c.args.self.now h c.args.from c.args.message.now c.deliver_to.new.tables c.deliver_to.new.outs c.fall.new.self c.in-Err-Disk.field-0 c.in-Err-Disk.field-0-is
+    (c.in-Err-Disk.ensures.taken w c.args.self.now.numbers h.tables (all_up g.D.Disk.state w c.args.self.now h c.requires.up)) c.fall.ensures.fallen
+
+pub returns-in-Err-Disk-clause-outs : goal.returns-in-Err-Disk-clause-outs
+returns-in-Err-Disk-clause-outs g c =
+    let n = c.requires.held in
+    let k = c.in-Err-Disk.ensures.taken n.0 c.args.self.now.numbers n.1.tables (all_up g.D.Disk.state n.0 c.args.self.now n.1 c.requires.up) in
+    c.fall.ensures.outs ∙ (k.fallen (ap Err c.in-Err-Disk.field-0-is)).1
+
+pub returns-in-Err-Disk-clause-up : goal.returns-in-Err-Disk-clause-up
+returns-in-Err-Disk-clause-up g c = λ other. absurd (other refl)
+
+pub returns-in-Err-Disk-clause-cause : goal.returns-in-Err-Disk-clause-cause
+returns-in-Err-Disk-clause-cause g c =
+    then_take_cause g.D.Disk.state c.args.self.now.tables c.deliver_to.new.tables c.fall.new.self.tables c.fall.ensures.counted c.in-Err-Disk.field-0 c.in-Err-Disk.field-0-is c.in-Err-Disk.ensures.cause
+
+pub returns-in-Err-clause-takes : goal.returns-in-Err-clause-takes
+returns-in-Err-clause-takes g c w h =
+    took g.D.Disk.state w c.args.self.now h c.args.from c.args.message.now c.deliver_to.new.tables c.deliver_to.new.outs _ (search rules)
+    (c.in-Err.ensures.taken w c.args.self.now.numbers h.tables (all_up g.D.Disk.state w c.args.self.now h c.requires.up))
+
+pub returns-in-Err-clause-outs : goal.returns-in-Err-clause-outs
+returns-in-Err-clause-outs g c =
+    let n = c.requires.held in
+    let k = c.in-Err.ensures.taken n.0 c.args.self.now.numbers n.1.tables (all_up g.D.Disk.state n.0 c.args.self.now n.1 c.requires.up) in
+    (k.refused (search rules)).1

@@ -1,0 +1,38 @@
+use Rattle.std.proofs.Common.{Err, rules, refl, ap, ◌∙◌}
+use Rattle.store_host.proofs.Moving.{then_show_cause}
+use Rattle.store_host.proofs.Stores.{held_up, all_up}
+use Rattle.store_host.proofs.Serving.{showed, showed_falling, showed_parts}
+use Rattle.store_host.proofs.host.StoreHost.show.Goals as goal
+
+pub show_at-requires-clause-up : goal.show_at-requires-clause-up
+show_at-requires-clause-up g c = let n = c.requires.held in held_up g.D.Disk.state n.0 c.args.self.now n.1 c.requires.up
+
+pub returns-in-Ok-clause-shows : goal.returns-in-Ok-clause-shows
+returns-in-Ok-clause-shows g c w h =
+    showed g.D.Disk.state w c.args.self.now h c.args.table c.args.row.now c.show_at.new.tables _ (λ is. cc)
+    (c.in-Ok.ensures.shown w c.args.self.now.numbers h.tables (all_up g.D.Disk.state w c.args.self.now h c.requires.up))
+
+pub fall-requires : goal.fall-requires
+fall-requires g c =
+    let n = c.requires.held in (
+      _,
+      showed_parts g.D.Disk.state n.0 c.args.self.now n.1 c.args.table c.args.row.now c.show_at.new.tables c.in-Err-Disk.field-0 c.in-Err-Disk.field-0-is
+          (c.in-Err-Disk.ensures.shown n.0 c.args.self.now.numbers n.1.tables (all_up g.D.Disk.state n.0 c.args.self.now n.1 c.requires.up)),
+    )
+
+pub returns-in-Err-Disk-clause-shows : goal.returns-in-Err-Disk-clause-shows
+returns-in-Err-Disk-clause-shows g c w h =
+    showed_falling g.D.Disk.state w c.args.self.now h c.args.table c.args.row.now c.show_at.new.tables c.fall.new.self c.in-Err-Disk.field-0 c.in-Err-Disk.field-0-is
+    (c.in-Err-Disk.ensures.shown w c.args.self.now.numbers h.tables (all_up g.D.Disk.state w c.args.self.now h c.requires.up)) c.fall.ensures.fallen
+
+pub returns-in-Err-Disk-clause-up : goal.returns-in-Err-Disk-clause-up
+returns-in-Err-Disk-clause-up g c = λ other. absurd (other refl)
+
+pub returns-in-Err-Disk-clause-cause : goal.returns-in-Err-Disk-clause-cause
+returns-in-Err-Disk-clause-cause g c =
+    then_show_cause g.D.Disk.state c.args.self.now.tables c.show_at.new.tables c.fall.new.self.tables c.fall.ensures.counted c.in-Err-Disk.field-0 c.in-Err-Disk.field-0-is c.in-Err-Disk.ensures.cause
+
+pub returns-in-Err-clause-shows : goal.returns-in-Err-clause-shows
+returns-in-Err-clause-shows g c w h =
+    showed g.D.Disk.state w c.args.self.now h c.args.table c.args.row.now c.show_at.new.tables _ (search rules)
+    (c.in-Err.ensures.shown w c.args.self.now.numbers h.tables (all_up g.D.Disk.state w c.args.self.now h c.requires.up))

@@ -1,28 +1,49 @@
--- The refusal that a call's fault is answered by, and what a write's fault tells.
-use Rattle.std.specs.Prelude.{◌≡◌, ℕ, ◌+◌, List, Some, Result, Ok, Err}
-use Rattle.stab_base.specs.declared.limits.TheConstants.{NUMBER_MAX}
-use Rattle.row_value.specs.declared.content.Content.{Content}
-use Rattle.table_model.specs.declared.line.Refusal.{Refusal}
-use Rattle.table_model.specs.declared.line.Refusal.TheVariants as refusals
-use Rattle.step_tables.specs.Client.{Client}
-use Rattle.client_core.specs.declared.call_fault.CallFault.{CallFault}
-use Rattle.client_core.specs.declared.call_fault.CallFault.TheVariants as call
+-- What the calls of the world promise.
+use Rattle.std.specs.Prelude.{◌≡◌, ℕ, ◌++◌, List, [], ◌∷◌, map, length, is_some, Result, IfOk}
+use Rattle.disk_trait.specs.Calls.{DiskState}
+use Rattle.stab_base.specs.declared.node.Node.{Node}
+use Rattle.table_model.specs.declared.line.TextLine.{TextLine}
+use Rattle.step_tables.specs.Facts as facts
+use Rattle.step_tables.specs.Facts.{AnswerLine, FactLine}
+use Rattle.step_tables.specs.Lines.{line_of}
+use Rattle.step_tables.specs.Messages.{Luck}
+use Rattle.world_tables.specs.World.{WorldStep, lines_of, lines_from, hosted_at}
+use Rattle.store_host.specs.Holds.{outs_of}
+use Rattle.world_tables.specs.World as moves
 use Rattle.world_steps.specs.declared.fault.WorldFault.{WorldFault}
-use Rattle.world_steps.specs.declared.fault.WorldFault.TheVariants.{Limit, Memory}
-use Rattle.world_steps.specs.Holds.{SpendsNumber}
+use Rattle.world_steps.specs.declared.world.World.{World}
+use Rattle.world_steps.specs.Holds.{Holds}
+use Rattle.step_tables.specs.declared.out.Out.{Out}
+use Rattle.step_tables.specs.Travels.{send_of}
+use Rattle.step_tables.specs.Lines as told
+use Rattle.world_tables.specs.World.{packets_from, sent_lines}
+use Rattle.world_steps.specs.Network.{packets_in}
+use Rattle.world_steps.specs.Outs.{packets_of}
 
-abbrev pub refusal_in : CallFault → Result Refusal WorldFault
-refusal_in call.NoTable = Ok refusals.NoTable
-refusal_in (call.BadCell column) = Ok (refusals.BadCell column)
-refusal_in (call.BadObject column len) = Ok (refusals.BadObject column len)
-refusal_in (call.RowTooLarge len) = Ok (refusals.RowTooLarge len)
-refusal_in (call.TooManyChunks count) = Ok (refusals.TooManyChunks count)
-refusal_in call.NoRow = Ok refusals.NoRow
-refusal_in (call.Spent last) = Err (Limit 11 (NUMBER_MAX + 1))
-refusal_in call.Memory = Err Memory
+-- The lines are those of the step, and the program's world holds the world behind it, which has the same tables.
+pub record IsDone {D : Type 0} (state : D → DiskState) (w : moves.World) (s : WorldStep) (lines : List TextLine)
+    (new : World D) : Type 0 where
+  pub lines_are : map line_of lines ≡ lines_of w s
+  pub held : Holds state s.world new
+  pub tables : (table : ℕ) → is_some (hosted_at s.world table) ≡ is_some (hosted_at w table)
 
--- the client's numbers are spent exactly where this write would be done
-abbrev pub IsNumberCause : Client → ℕ → List ℕ → Content → WorldFault → Type 0
-IsNumberCause client table row content (Limit code count) =
-    (code ≡ 11) × (count ≡ NUMBER_MAX + 1) × SpendsNumber (Some client) table row content
-IsNumberCause client table row content Memory = Unit {0}
+-- the same with some lucks of the device calls, unless the call ends the run
+abbrev pub Comes : {D : Type 0} → (D → DiskState) → moves.World → (List Luck → WorldStep)
+    → Result (List TextLine) WorldFault → World D → Type 0
+Comes state w f result new = IfOk result (λ lines. (lucks : List Luck) × IsDone state w (f lucks) lines new)
+
+-- The answer, and then what waits at the Store to be told and sent. Only the network and what waits have changed.
+pub record HasTold {D : Type 0} (old new : World D) (answer : facts.Answer) (lines : List TextLine) : Type 0 where
+  pub lines_are : map line_of lines
+      ≡ AnswerLine answer ∷ lines_from (length (packets_in old.network)) (outs_of old.store)
+  pub packets : packets_in new.network ≡ packets_in old.network ++ packets_of (outs_of old.store)
+  pub store : new.store ≡ record old.store { outs = [] }
+  pub same : new ≡ record old { store = new.store; network = new.network }
+
+-- The answer, and then what a party told and sent.
+pub record HasSent {D : Type 0} (old new : World D) (from : Node) (answer : facts.Answer) (out : Out)
+    (lines : List TextLine) : Type 0 where
+  pub lines_are : map line_of lines ≡ AnswerLine answer ∷ (map FactLine (map told.fact_of out.facts)
+      ++ sent_lines (length (packets_in old.network)) (packets_from from (map send_of out.messages)))
+  pub packets : packets_in new.network ≡ packets_in old.network ++ packets_from from (map send_of out.messages)
+  pub same : new ≡ record old { network = new.network }

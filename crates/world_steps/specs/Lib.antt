@@ -1,6 +1,7 @@
 pub mod Network
-pub mod Hosted
+pub mod Nodes
+pub mod Fair
 pub mod Holds
-pub mod Delivered
+pub mod Outs
+pub mod Steps
 pub mod Calls
-pub mod Moves

@@ -1,100 +1,118 @@
-//! The calls of a client's node, and what a client that they are made of answers.
-ghost use Rattle.std.specs.Prelude.{◌≡◌, IfOk, IfErr, OnOk, Some};
-ghost use Rattle.step_tables.specs.Client.{answered, write_step, show_step, sum_step, sync_step, pull_step};
-ghost use Rattle.client_core.specs.State.{stepped};
-ghost use Rattle.world_steps.specs.Holds.{SpendsNumber};
-ghost use Rattle.world_steps.specs.Calls.{refusal_in, IsNumberCause};
+//! The calls of clients.
+ghost use Rattle.std.specs.Prelude.{◌≡◌, ◌∷◌, ◌≢◌, ℕ, [], map, IfOk, IfErr};
+ghost use Rattle.step_tables.specs.Facts.{AnswerLine};
+ghost use Rattle.step_tables.specs.Lines.{answer_of, line_of};
+ghost use Rattle.table_model.specs.declared.event.Event.TheVariants as events;
+ghost use Rattle.world_tables.specs.World.{World as AWorld, step};
+ghost use Rattle.world_steps.specs.declared.fault.WorldFault.TheVariants.{Memory, Limit as LimitPassed};
+ghost use Rattle.world_steps.specs.declared.fault.WorldFault.TheVariants.{Depot as DepotFailed};
+ghost use Rattle.world_steps.specs.Calls.{Comes, HasSent};
+ghost use Rattle.world_steps.specs.Holds.{Holds};
+ghost use Rattle.world_steps.specs.Steps.{Spends};
 
 use crate::fault::WorldFault;
-use client_core::{CallFault, ClientNode};
-use row_value::{Content, RowId, TableNo};
-use stab_base::NUMBER_MAX;
-use table_model::{Answer, Refusal};
+use crate::world::{Lines, World};
+use client_host::ClientFault;
+use disk_trait::Disk;
+use row_value::{ClientNo, Content, RowId, TableNo};
+use stab_base::{NUMBER_MAX, Node};
+use step_tables::Out;
+use table_model::{Answer, TextLine};
 
-// The refusal of a call that isn't done, or the limit that ends the run.
-fn refusal_of(fault: CallFault) -> Result<Refusal, WorldFault>
-    ensures { result ≡ refusal_in fault }
-{
-    match fault {
-        CallFault::NoTable => Ok(Refusal::NoTable),
-        CallFault::BadCell { column } => Ok(Refusal::BadCell { column }),
-        CallFault::BadObject { column, len } => Ok(Refusal::BadObject { column, len }),
-        CallFault::RowTooLarge { len } => Ok(Refusal::RowTooLarge { len }),
-        CallFault::TooManyChunks { count } => Ok(Refusal::TooManyChunks { count }),
-        CallFault::NoRow => Ok(Refusal::NoRow),
-        CallFault::Spent { .. } => Err(WorldFault::Limit {
-            code: 11,
-            count: NUMBER_MAX + 1,
-        }),
-        CallFault::Memory => Err(WorldFault::Memory),
+impl<D: Disk + Drop> World<D> {
+    /// An answer, and then what a party told and sent.
+    pub(crate) fn send(&mut self, from: Node, answer: Answer, out: Out) -> Result<Lines, WorldFault>
+        ensures sent { IfOk result (λ lines. HasSent self.old self.new from (answer_of answer) out lines) }
+        ensures memory { IfErr result (λ e. e ≡ Memory) }
+    {
+        let mut lines = self.only(answer)?;
+        let Out { messages, facts } = out;
+        for fact in facts.into_vec() {
+            lines.push(TextLine::Fact(fact))?;
+        }
+        self.network.send_all(from, messages, &mut lines)?;
+        Ok(lines)
     }
-}
 
-/// Writes a row: what the client answers.
-#[tactic(auto, using(crate::proofs::Refusals::write_refused, crate::proofs::Refusals::refused_stepped))]
-pub(crate) fn write(
-    node: &mut ClientNode,
-    table: TableNo,
-    row: RowId,
-    content: &Content,
-) -> Result<Answer, WorldFault>
-    ensures answer { IfOk result (λ answer. answer ≡ (write_step node.old.client table row content.now).answer) }
-    ensures node { OnOk result (node.new ≡ stepped node.old (write_step node.old.client table row content.now)) }
-    ensures cause { IfErr result (IsNumberCause node.old.client table row content.now) }
-    ensures unspent { OnOk result (SpendsNumber (Some node.old.client) table row content.now → ⊥) }
-{
-    match node.write(table, row, content) {
-        Ok(number) => Ok(Answer::Number(number)),
-        Err(fault) => Ok(Answer::Refused(refusal_of(fault)?)),
+    /// The client writes a row whole.
+    pub(crate) fn write(
+        &mut self,
+        client: ClientNo,
+        table: TableNo,
+        row: RowId,
+        content: &Content,
+    ) -> Result<Lines, WorldFault>
+        ensures done { (w : AWorld) → Holds D.state w self.old
+            → Comes D.state w (step w (events.Write client table row content.now)) result self.new }
+        ensures limit { (w : AWorld) → Holds D.state w self.old → IfErr result (λ e. (code count : ℕ)
+            → e ≡ LimitPassed code count → (code ≡ 11) × Spends w (events.Write client table row content.now)) }
+        ensures only { IfErr result (λ e. e ≢ DepotFailed) }
+    {
+        match self.clients.write(client, table, row, content) {
+            Ok((answer, out)) => self.send(Node::Client(client), answer, out),
+            Err(ClientFault::Spent) => Err(WorldFault::Limit {
+                code: 11,
+                count: NUMBER_MAX + 1,
+            }),
+            Err(ClientFault::Memory) => Err(WorldFault::Memory),
+        }
     }
-}
 
-/// Shows a row: what the client answers.
-#[tactic(auto, using(crate::proofs::Refusals::call_refused))]
-pub(crate) fn show(node: &ClientNode, table: TableNo, row: RowId) -> Result<Answer, WorldFault>
-    ensures answer { IfOk result (λ answer. show_step node.now.client table row ≡ answered node.now.client answer) }
-    ensures memory { IfErr result (λ fault. fault ≡ WorldFault.Memory) }
-{
-    match node.read(table, row) {
-        Ok(shown) => Ok(Answer::Shown(shown)),
-        Err(fault) => Ok(Answer::Refused(refusal_of(fault)?)),
+    /// The client shows a row.
+    pub(crate) fn show(
+        &self,
+        client: ClientNo,
+        table: TableNo,
+        row: RowId,
+    ) -> Result<Lines, WorldFault>
+        ensures done { (w : AWorld) → Holds D.state w self.now
+            → Comes D.state w (step w (events.Show client table row)) result self.now }
+        ensures memory { IfErr result (λ e. e ≡ Memory) }
+    {
+        match self.clients.show(client, table, row) {
+            Ok(answer) => self.only(answer),
+            Err(_) => Err(WorldFault::Memory),
+        }
     }
-}
 
-/// Shows a row, its objects by their digests: what the client answers.
-#[tactic(auto, using(crate::proofs::Refusals::call_refused))]
-pub(crate) fn sum(node: &ClientNode, table: TableNo, row: RowId) -> Result<Answer, WorldFault>
-    ensures answer { IfOk result (λ answer. sum_step node.now.client table row ≡ answered node.now.client answer) }
-    ensures memory { IfErr result (λ fault. fault ≡ WorldFault.Memory) }
-{
-    match node.sum(table, row) {
-        Ok(answer) => Ok(answer),
-        Err(fault) => Ok(Answer::Refused(refusal_of(fault)?)),
+    /// The client shows a row, each object by its digest.
+    pub(crate) fn sum(
+        &self,
+        client: ClientNo,
+        table: TableNo,
+        row: RowId,
+    ) -> Result<Lines, WorldFault>
+        ensures done { (w : AWorld) → Holds D.state w self.now
+            → Comes D.state w (step w (events.Sum client table row)) result self.now }
+        ensures memory { IfErr result (λ e. e ≡ Memory) }
+    {
+        match self.clients.sum(client, table, row) {
+            Ok(answer) => self.only(answer),
+            Err(_) => Err(WorldFault::Memory),
+        }
     }
-}
 
-/// Sends a table's writes: what the client answers.
-#[tactic(auto, using(crate::proofs::Refusals::call_refused, crate::proofs::Refusals::refused_stepped))]
-pub(crate) fn sync(node: &mut ClientNode, table: TableNo) -> Result<Answer, WorldFault>
-    ensures answer { IfOk result (λ answer. answer ≡ (sync_step node.old.client table).answer) }
-    ensures node { OnOk result (node.new ≡ stepped node.old (sync_step node.old.client table)) }
-    ensures memory { IfErr result (λ fault. fault ≡ WorldFault.Memory) }
-{
-    match node.sync_now(table) {
-        Ok(rows) => Ok(Answer::Number(rows)),
-        Err(fault) => Ok(Answer::Refused(refusal_of(fault)?)),
+    /// The client sends the writes of a table that wait to be sent.
+    pub(crate) fn sync(&mut self, client: ClientNo, table: TableNo) -> Result<Lines, WorldFault>
+        ensures done { (w : AWorld) → Holds D.state w self.old
+            → Comes D.state w (step w (events.Sync client table)) result self.new }
+        ensures memory { IfErr result (λ e. e ≡ Memory) }
+    {
+        match self.clients.sync(client, table) {
+            Ok((answer, out)) => self.send(Node::Client(client), answer, out),
+            Err(_) => Err(WorldFault::Memory),
+        }
     }
-}
 
-/// Asks for a table's next change: what the client answers.
-#[tactic(auto, using(crate::proofs::Refusals::call_refused, crate::proofs::Refusals::refused_stepped))]
-pub(crate) fn pull(node: &mut ClientNode, table: TableNo) -> Result<Answer, WorldFault>
-    ensures answer { IfOk result (λ answer. answer ≡ (pull_step node.old.client table).answer) }
-    ensures node { OnOk result (node.new ≡ stepped node.old (pull_step node.old.client table)) }
-    ensures memory { IfErr result (λ fault. fault ≡ WorldFault.Memory) }
-{
-    match node.pull_now(table) {
-        Ok(()) => Ok(Answer::Done),
-        Err(fault) => Ok(Answer::Refused(refusal_of(fault)?)),
+    /// The client asks for the next change of a table.
+    pub(crate) fn pull(&mut self, client: ClientNo, table: TableNo) -> Result<Lines, WorldFault>
+        ensures done { (w : AWorld) → Holds D.state w self.old
+            → Comes D.state w (step w (events.Pull client table)) result self.new }
+        ensures memory { IfErr result (λ e. e ≡ Memory) }
+    {
+        match self.clients.pull(client, table) {
+            Ok((answer, out)) => self.send(Node::Client(client), answer, out),
+            Err(_) => Err(WorldFault::Memory),
+        }
     }
 }

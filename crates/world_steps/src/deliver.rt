@@ -1,86 +1,105 @@
-//! A packet's way to its party. Where there is none, the packet is lost.
-ghost use Rattle.std.specs.Prelude.{◌≡◌, IfOk, IfErr, OnOk};
-ghost use Rattle.memory_runs.specs.World.{World as AWorld, stored_at, client_at, table_in};
-ghost use Rattle.memory_runs.specs.World.{to_store, to_client, carried};
-ghost use Rattle.world_steps.specs.Network.{packet_of};
-ghost use Rattle.world_steps.specs.Holds.{HasTables, HasClients, SpendsVersion, SpendsAt};
-ghost use Rattle.world_steps.specs.Delivered.{store_out, client_out, IsVersionCause, IsPacketCause, Tells};
+//! Deliveries of packets.
+ghost use Rattle.std.specs.Prelude.{◌≡◌, ◌≢◌, ◌∷◌, ℕ, [], true, Some, length, map, slice_get, IfOk, IfErr};
+ghost use Rattle.stab_base.specs.declared.node.Node.TheVariants as nodes;
+ghost use Rattle.step_tables.specs.Facts as moves;
+ghost use Rattle.step_tables.specs.Facts.{AnswerLine};
+ghost use Rattle.step_tables.specs.Lines.{line_of};
+ghost use Rattle.table_model.specs.declared.event.Event.TheVariants as events;
+ghost use Rattle.world_tables.specs.World.{World as AWorld, Packet as APacket, step, carried, the_store, to_hosted};
+ghost use Rattle.world_tables.specs.World.{hosted_at};
+ghost use Rattle.step_tables.specs.Messages.{table_of};
+ghost use Rattle.step_tables.specs.StoreMoves.{Take};
+ghost use Rattle.world_steps.specs.declared.fault.WorldFault.TheVariants.{Memory, Limit as LimitPassed};
+ghost use Rattle.world_steps.specs.declared.fault.WorldFault.TheVariants.{Depot as DepotFailed};
+ghost use Rattle.world_steps.specs.Calls.{Comes};
+ghost use Rattle.world_steps.specs.Fair.{ArePlaces};
+ghost use Rattle.world_steps.specs.Holds.{Holds};
+ghost use Rattle.world_steps.specs.Network.{packets_in};
+ghost use Rattle.world_steps.specs.Steps.{Spends};
 
 use crate::fault::WorldFault;
-use crate::hosted::Hosted;
-use crate::network::{Packet, STORE, table_in};
-use client_core::ClientNode;
-use row_value::{ClientNo, TableNo};
-use std::alloc::Global;
-use std::collections::BTreeMap;
-use step_tables::Out;
-use table_model::Node;
+use crate::moves::take;
+use crate::network::STORE;
+use crate::world::{Lines, World};
+use disk_trait::Disk;
+use row_value::ClientNo;
+use stab_base::Node;
+use table_model::{Answer, Refusal};
 
-/// Delivers a packet to its party: the party, and what it sends and tells.
-pub(crate) fn carried(
-    alloc: Global,
-    tables: &mut BTreeMap<TableNo, Hosted>,
-    clients: &mut BTreeMap<ClientNo, ClientNode>,
-    packet: &Packet,
-) -> Result<(Node, Out), WorldFault>
-    ensures out { (w : AWorld) → HasTables w tables.old → HasClients w clients.old
-        → IfOk result (λ sent. Tells w (carried w (packet_of packet.now) packet.now.to) sent.0 sent.1) }
-    ensures tables { (w : AWorld) → HasTables w tables.old
-        → OnOk result (HasTables (carried w (packet_of packet.now) packet.now.to).world tables.new) }
-    ensures clients { (w : AWorld) → HasClients w clients.old
-        → OnOk result (HasClients (carried w (packet_of packet.now) packet.now.to).world clients.new) }
-    ensures cause { (w : AWorld) → HasTables w tables.old
-        → IfErr result (IsPacketCause w (packet_of packet.now)) }
-    ensures unspent { (w : AWorld) → HasTables w tables.old
-        → OnOk result (SpendsAt w (packet_of packet.now) packet.now.to → ⊥) }
-{
-    match packet.to {
-        Node::Store(_) => Ok((STORE, to_store(alloc, tables, packet)?)),
-        Node::Client(client) => Ok((packet.to, to_client(alloc, clients, client, packet)?)),
-        Node::Gate(_) => Ok((packet.to, Out::new(alloc))),
+impl<D: Disk + Drop> World<D> {
+    /// Delivers a packet. Where its party isn't there it is lost.
+    pub(crate) fn deliver(&mut self, number: u64) -> Result<Lines, WorldFault>
+        requires held { (w : AWorld) × Holds D.state w self.old }
+        ensures done { (w : AWorld) → Holds D.state w self.old → ArePlaces w
+            → Comes D.state w (step w (events.Deliver number)) result self.new }
+        ensures limit { (w : AWorld) → Holds D.state w self.old → IfErr result (λ e. (code count : ℕ)
+            → e ≡ LimitPassed code count → (code ≡ 11) × Spends w (events.Deliver number)) }
+        ensures only { IfErr result (λ e. e ≢ DepotFailed) }
+    {
+        match self.network.address(number) {
+            None => self.no_packet(),
+            Some(Node::Store(_)) => self.deliver_to_store(number),
+            Some(Node::Client(client)) => self.deliver_to_client(client, number),
+            Some(Node::Gate(_)) => self.only(Answer::Done),
+        }
     }
-}
 
-// Delivers a packet to its table: what the table sends and tells.
-fn to_store(
-    alloc: Global,
-    tables: &mut BTreeMap<TableNo, Hosted>,
-    packet: &Packet,
-) -> Result<Out, WorldFault>
-    ensures out { (w : AWorld) → HasTables w tables.old
-        → IfOk result (λ out. out ≡ store_out (packet_of packet.now) (stored_at w (table_in packet.now.message))) }
-    ensures tables { (w : AWorld) → HasTables w tables.old
-        → OnOk result (HasTables (to_store w (packet_of packet.now) (stored_at w (table_in packet.now.message))).world
-        tables.new) }
-    ensures cause { (w : AWorld) → HasTables w tables.old
-        → IfErr result (IsVersionCause (stored_at w (table_in packet.now.message)) (packet_of packet.now)) }
-    ensures unspent { (w : AWorld) → HasTables w tables.old
-        → OnOk result (SpendsVersion (stored_at w (table_in packet.now.message)) (packet_of packet.now) → ⊥) }
-{
-    match tables.get_mut(&table_in(&packet.message)) {
-        Some(hosted) => hosted.deliver(packet.from, &packet.message),
-        None => Ok(Out::new(alloc)),
+    // No packet of this number was sent.
+    fn no_packet(&self) -> Result<Lines, WorldFault>
+        ensures lines { IfOk result (λ lines. map line_of lines
+            ≡ AnswerLine (moves.Refuses (moves.NoPacket (length (packets_in self.now.network)))) ∷ []) }
+        ensures memory { IfErr result (λ e. e ≡ Memory) }
+    {
+        let sent = self.network.sent();
+        self.only(Answer::Refused(Refusal::NoPacket { sent }))
     }
-}
 
-// Delivers a packet to a client: what the client sends and tells.
-fn to_client(
-    alloc: Global,
-    clients: &mut BTreeMap<ClientNo, ClientNode>,
-    client: ClientNo,
-    packet: &Packet,
-) -> Result<Out, WorldFault>
-    ensures out { (w : AWorld) → HasClients w clients.old
-        → IfOk result (λ out. out ≡ client_out (packet_of packet.now) (client_at w client)) }
-    ensures clients { (w : AWorld) → HasClients w clients.old
-        → OnOk result (HasClients (to_client w client (packet_of packet.now) (client_at w client)).world clients.new) }
-    ensures memory { IfErr result (λ fault. fault ≡ WorldFault.Memory) }
-{
-    let Some(node) = clients.get_mut(&client) else {
-        return Ok(Out::new(alloc));
-    };
-    match node.deliver(&packet.message) {
-        Ok(()) => Ok(node.take_out()),
-        Err(_) => Err(WorldFault::Memory),
+    fn deliver_to_client(&mut self, client: ClientNo, number: u64) -> Result<Lines, WorldFault>
+        ensures done { (w : AWorld) (packet : APacket) → Holds D.state w self.old
+            → slice_get w.packets number ≡ Some packet
+            → Comes D.state w (λ lucks. carried w packet lucks (nodes.Client client)) result self.new }
+        ensures memory { IfErr result (λ e. e ≡ Memory) }
+    {
+        let Some(packet) = self.network.get(number) else {
+            return Err(WorldFault::Memory);
+        };
+        match self.clients.deliver(client, &packet.message) {
+            Ok(out) => self.send(Node::Client(client), Answer::Done, out),
+            Err(_) => Err(WorldFault::Memory),
+        }
+    }
+
+    fn deliver_to_store(&mut self, number: u64) -> Result<Lines, WorldFault>
+        requires held { (w : AWorld) × Holds D.state w self.old }
+        ensures done { (w : AWorld) (packet : APacket) → Holds D.state w self.old
+            → slice_get w.packets number ≡ Some packet
+            → Comes D.state w (λ lucks. carried w packet lucks the_store) result self.new }
+        ensures limit { (w : AWorld) → Holds D.state w self.old → IfErr result (λ e. (code count : ℕ)
+            → e ≡ LimitPassed code count → (code ≡ 11) × Spends w (events.Deliver number)) }
+        ensures only { IfErr result (λ e. e ≢ DepotFailed) }
+    {
+        if self.is_down(STORE) {
+            return self.refuse(STORE);
+        }
+        self.take(number)
+    }
+
+    fn take(&mut self, number: u64) -> Result<Lines, WorldFault>
+        requires held { (w : AWorld) × Holds D.state w self.old }
+        requires up { self.old.store.is_up ≡ true }
+        ensures done { (w : AWorld) (packet : APacket) → Holds D.state w self.old
+            → slice_get w.packets number ≡ Some packet
+            → Comes D.state w (λ lucks. to_hosted w (table_of packet.message) (Take packet.from packet.message) lucks
+            (hosted_at w (table_of packet.message))) result self.new }
+        ensures limit { (w : AWorld) → Holds D.state w self.old → IfErr result (λ e. (code count : ℕ)
+            → e ≡ LimitPassed code count → (code ≡ 11) × Spends w (events.Deliver number)) }
+        ensures only { IfErr result (λ e. e ≢ DepotFailed) }
+    {
+        let is_held = self.is_held(STORE);
+        let Some(packet) = self.network.get(number) else {
+            return Err(WorldFault::Memory);
+        };
+        let answer = take(&mut self.store, is_held, packet.from, &packet.message)?;
+        self.tell(answer)
     }
 }

@@ -10,6 +10,9 @@ pub enum WorldFault {
     /// The limit of this code would be passed by this number. 11: versions and numbers of writes.
     #[error("limit {code} would be passed by {count}")]
     Limit { code: u32, count: u64 },
+    /// The depot handed out no disk.
+    #[error("the depot failed")]
+    Depot,
     #[error("out of memory")]
     Memory,
 }

@@ -1,13 +1,17 @@
-//! The world: the Store's tables, the clients, and the network between them.
+//! The world: the Store's tables on their disks, the clients, and the network between them.
 #![tactic(auto)]
 
 mod calls;
+mod declare;
 mod deliver;
 mod fault;
-mod hosted;
+mod holds;
+mod moves;
 mod network;
-#[cfg(test)]
-mod tests;
+mod node_moves;
+mod nodes;
+mod outs;
+mod shows;
 mod world;
 
 pub use fault::WorldFault;

@@ -1,14 +1,19 @@
 //! Every packet that was ever sent. A packet stays: it may be delivered again, later than others, or never.
-ghost use Rattle.std.specs.Prelude.{◌≡◌, [], ◌∷◌, ◌++◌, length, slice_get, option_copied, option_map, IfErr, OnOk};
-ghost use Rattle.table_model.specs.declared.line.TextLine.TheVariants as text;
-ghost use Rattle.memory_runs.specs.World.{told, sent_fact, sent_from, table_in};
-ghost use Rattle.world_steps.specs.Network.{packets_in, packet_of, packets_from};
+ghost use Rattle.std.specs.Prelude.{◌≡◌, [], ◌∷◌, ◌++◌, length, map, slice_get, option_copied, option_map, IfErr, OnOk};
+ghost use Rattle.step_tables.specs.Facts as moves;
+ghost use Rattle.step_tables.specs.Facts.{FactLine};
+ghost use Rattle.step_tables.specs.Messages.{table_of, name_of};
+ghost use Rattle.step_tables.specs.Lines.{line_of};
+ghost use Rattle.step_tables.specs.Travels.{message_of, send_of};
+ghost use Rattle.world_tables.specs.World.{Packet as APacket, packets_from, sent_lines};
+ghost use Rattle.world_steps.specs.declared.fault.WorldFault.TheVariants.{Memory};
+ghost use Rattle.world_steps.specs.Network.{packets_in, packet_of};
 
 use crate::fault::WorldFault;
 use row_value::{Sequence, TableNo};
 use std::alloc::Global;
 use step_tables::{Addressed, Message};
-use table_model::{Fact, Node, TextLine};
+use table_model::{Fact, MessageName, Node, TextLine};
 
 /// The one Store, which owns every table.
 pub(crate) const STORE: Node = Node::Store(1);
@@ -29,7 +34,7 @@ pub(crate) struct Network {
 
 /// The table that a message is about.
 pub(crate) fn table_in(message: &Message) -> TableNo
-    ensures { result ≡ table_in message.now }
+    ensures { result ≡ table_of (message_of message.now) }
 {
     match message {
         Message::PullRequest(request) => request.table,
@@ -37,6 +42,12 @@ pub(crate) fn table_in(message: &Message) -> TableNo
         Message::SyncRequest(request) => request.table,
         Message::SyncResponse(response) => response.table,
     }
+}
+
+fn name_in(message: &Message) -> MessageName
+    ensures { result ≡ name_of (message_of message.now) }
+{
+    message.name()
 }
 
 impl Network {
@@ -61,6 +72,14 @@ impl Network {
         self.packets.get(usize::try_from(number).ok()?)
     }
 
+    /// Whom a packet is for.
+    pub(crate) fn address(&self, number: u64) -> Option<Node>
+        ensures { result ≡ option_map (λ (p : APacket). p.to) (slice_get (packets_in self.now) number) }
+    {
+        let packet = self.get(number)?;
+        Some(packet.to)
+    }
+
     /// Sends messages from a party, in order, and adds the line of each.
     pub(crate) fn send_all(
         &mut self,
@@ -68,10 +87,11 @@ impl Network {
         messages: Sequence<Addressed>,
         lines: &mut Sequence<TextLine>,
     ) -> Result<(), WorldFault>
-        ensures packets { OnOk result (packets_in self.new ≡ packets_in self.old ++ packets_from from messages) }
-        ensures lines { OnOk result (lines.new ≡ lines.old
-            ++ told (sent_from (length (packets_in self.old)) (packets_from from messages))) }
-        ensures memory { IfErr result (λ fault. fault ≡ WorldFault.Memory) }
+        ensures packets { OnOk result (packets_in self.new
+            ≡ packets_in self.old ++ packets_from from (map send_of messages)) }
+        ensures lines { OnOk result (map line_of lines.new ≡ map line_of lines.old
+            ++ sent_lines (length (packets_in self.old)) (packets_from from (map send_of messages))) }
+        ensures memory { IfErr result (λ e. e ≡ Memory) }
     {
         for (to, message) in messages.into_vec() {
             self.send(from, to.unwrap_or(STORE), message, lines)?;
@@ -87,17 +107,16 @@ impl Network {
         lines: &mut Sequence<TextLine>,
     ) -> Result<(), WorldFault>
         ensures packets { OnOk result (packets_in self.new ≡ packets_in self.old
-            ++ record { from = from; to = to; message = message } ∷ []) }
-        ensures lines { OnOk result (lines.new ≡ lines.old
-            ++ text.Fact (sent_fact (length (packets_in self.old)) (record { from = from; to = to; message = message }))
-            ∷ []) }
-        ensures memory { IfErr result (λ fault. fault ≡ WorldFault.Memory) }
+            ++ record { from = from; to = to; message = message_of message } ∷ []) }
+        ensures lines { OnOk result (map line_of lines.new ≡ map line_of lines.old
+            ++ FactLine (moves.Sent (length (packets_in self.old)) from to (name_of (message_of message))) ∷ []) }
+        ensures memory { IfErr result (λ e. e ≡ Memory) }
     {
         let fact = Fact::Sent {
             packet: self.sent(),
             from,
             to,
-            name: message.name(),
+            name: name_in(&message),
         };
         lines.push(TextLine::Fact(fact))?;
         self.packets.push(Packet { from, to, message })?;

@@ -1,16 +1,32 @@
-use Rattle.std.proofs.Common.{[], ◌∙◌, ap, Some, cond}
+use Rattle.std.proofs.Common.{◌≡◌, ℕ, sym, subst, List, Some, cond, arith}
 use Rattle.std.specs.Ordering.{nat_cmp}
 use Rattle.std.specs.BTreeMap as tree
 use Rattle.std.specs.BTreeMap.{is_at}
 use Rattle.row_value.specs.declared.schema.Schema.{Schema}
-use Rattle.world_steps.proofs.Maps.{same_inserted, tables_inserted}
+use Rattle.step_tables.specs.Messages.{Luck}
+use Rattle.world_tables.specs.World.{made_with}
+use Rattle.store_host.specs.Holds.{HoldsStore}
+use Rattle.table_model.specs.declared.event.Event.TheVariants as events
+use Rattle.table_model.specs.declared.line.TextLine.{TextLine}
+use Rattle.world_steps.specs.Steps.{IsStep}
+use Rattle.world_steps.proofs.Declared.{made_ok, not_there, not_out}
 use Rattle.world_steps.proofs.world.World.add_table.Goals as goal
 
-pub returns-clause-world : goal.returns-clause-world
-returns-clause-world c = λ w h. record {
-  schemas = same_inserted w.schemas c.args.self.now.schemas c.insert.new.self c.args.table c.args.schema.now h.schemas
-      (λ q. c.in_ok-insert.ensures.updates.0 q ∙ ap (λ (s : Schema). cond (is_at (nat_cmp c.args.table) q) (Some s) (tree.get nat_cmp c.args.self.now.schemas q)) c.in_ok-copy.ensures);
-  tables = tables_inserted w c.args.self.now.tables c.insert-2.new.self c.args.table [] c.new.result h.tables c.new.ensures c.in_ok-insert-2.ensures.updates.0;
-  clients = h.clients;
-  packets = h.packets;
-}
+pub hand_out_three-requires-clause-small : goal.hand_out_three-requires-clause-small
+hand_out_three-requires-clause-small g c =
+    let k = c.requires.made.most in omega (arith, k)
+
+pub hand_out_three-requires-clause-free : goal.hand_out_three-requires-clause-free
+hand_out_three-requires-clause-free g c =
+    let k = c.requires.held in not_out g.D.Disk.state k.0 c.args.table c.args.self.now k.1 (g.P.Depot.state c.args.depot.now).is_out k.2 c.requires.absent c.requires.made.least
+
+pub returns-clause-done : goal.returns-clause-done
+returns-clause-done g c w h out =
+    subst (λ (ls : List TextLine). IsStep g.D.Disk.state w (events.Table c.args.table c.args.schema.now) ls (g.P.Depot.state c.hand_out_three.new.depot).is_out
+    (record c.args.self.now { schemas = c.insert.new.self; store = c.add.new.store })) (sym c.new.ensures)
+    (made_ok g.D.Disk.state w c.args.table c.args.schema.now (g.P.Depot.state c.args.depot.now).is_out (g.P.Depot.state c.hand_out_three.new.depot).is_out c.args.self.now c.insert.new.self
+    c.add.new.store h out (not_there g.D.Disk.state w c.args.table c.args.self.now h c.requires.absent) c.requires.made.least
+    (subst (λ (s : Schema). (q : ℕ) → tree.get nat_cmp c.insert.new.self q ≡ cond (is_at (nat_cmp c.args.table) q) (Some s) (tree.get nat_cmp c.args.self.now.schemas q)) c.in_ok-known.ensures
+    c.in_ok-insert.ensures.updates.0) c.in_ok-disks.ensures.out
+    (subst (λ (s : Schema). (luck : Luck) × HoldsStore g.D.Disk.state (made_with w c.args.table s luck) c.add.new.store) c.in_ok-own.ensures (c.in_ok-add.ensures.added w h.store))
+    c.in_ok-add.ensures.outs)

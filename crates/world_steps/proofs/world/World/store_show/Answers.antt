@@ -1,7 +1,18 @@
-use Rattle.world_steps.proofs.Shows.{shown_row}
+use Rattle.std.proofs.Common.{sym, ◌∙◌, refl}
+use Rattle.world_tables.specs.World.{store_shows, chunk_names}
+use Rattle.world_steps.proofs.Showing.{comes_there, comes_not_there, there_now}
 use Rattle.world_steps.proofs.world.World.store_show.Goals as goal
 
-pub returns-in_ok-show-in-Some-clause-lines : goal.returns-in_ok-show-in-Some-clause-lines
-returns-in_ok-show-in-Some-clause-lines c = λ w h.
-    shown_row c.only.result w c.args.self.now.tables c.args.table c.args.row.now c.in-Some.hosted.now c.in_ok-show-in-Some.field-0
-    h.tables c.in-Some.ensures.value (c.in_ok-show-in-Some.ensures.answer c.args.table) c.only.ensures.lines
+pub returns-then-has-clause-done : goal.returns-then-has-clause-done
+returns-then-has-clause-done g c w h =
+    comes_there g.D.Disk.state w c.args.table (λ lucks o. store_shows w c.args.row.now lucks o) c.show_there.result _ (sym c.if-has.true ∙ c.has.ensures.held w h.store)
+    (λ hosted at. c.show_there.ensures.done w hosted h at)
+
+pub show_there-requires-clause-there : goal.show_there-requires-clause-there
+show_there-requires-clause-there g c =
+    there_now _ (sym c.if-has.true ∙ c.has.ensures.there)
+
+pub returns-clause-done : goal.returns-clause-done
+returns-clause-done g c w h =
+    comes_not_there g.D.Disk.state w c.args.self.now h c.args.table (λ lucks o. store_shows w c.args.row.now lucks o) (λ lucks. refl) c.only.result
+    (sym c.if-has.false ∙ c.has.ensures.held w h.store) c.only.ensures.lines

@@ -1,8 +1,13 @@
-use Rattle.step_tables.specs.Client.{Client, sum_step}
-use Rattle.world_steps.proofs.Shows.{shown_world}
+use Rattle.std.proofs.Common.{[], refl}
+use Rattle.stab_base.specs.declared.node.Node.TheVariants as nodes
+use Rattle.step_tables.specs.ClientMoves as moves
+use Rattle.world_tables.specs.World.{call, client_at}
+use Rattle.world_steps.proofs.Called.{comes_called, call_same, call_none, sent_nothing}
 use Rattle.world_steps.proofs.world.World.sum.Goals as goal
 
-pub returns-clause-world : goal.returns-clause-world
-returns-clause-world c = λ w h.
-    shown_world c.only-2.result w c.args.self.now c.args.client c.in-Some.node.now (λ (node : Client). sum_step node c.args.table c.args.row) c.in_ok-sum.field-0
-    h c.in-Some.ensures.value c.in_ok-sum.ensures.answer
+pub returns-in-Ok-clause-done : goal.returns-in-Ok-clause-done
+returns-in-Ok-clause-done g c w h =
+    comes_called g.D.Disk.state w c.args.self.now h c.args.client (call w c.args.client (moves.Sum c.args.table c.args.row) []) c.args.self.now.clients _ _ (c.in-Ok.ensures.called w h.clients)
+    (call_same w c.args.client (moves.Sum c.args.table c.args.row) [] (client_at w c.args.client))
+    (call_none w c.args.client (moves.Sum c.args.table c.args.row) []) (λ lucks. call w c.args.client (moves.Sum c.args.table c.args.row) lucks) refl c.args.self.now c.only.result
+    (sent_nothing c.args.self.now (nodes.Client c.args.client) _ c.only.result c.only.ensures.lines)

@@ -1,17 +1,20 @@
-use Rattle.std.proofs.Common.{[], ap, ◌∙◌}
-use Rattle.step_tables.specs.Client.{Client, write_step}
-use Rattle.client_core.specs.State.{NodeState}
-use Rattle.world_steps.proofs.Maps.{some_there}
-use Rattle.world_steps.proofs.CallSteps.{called_world}
+use Rattle.std.proofs.Common.{[], refl}
+use Rattle.stab_base.specs.declared.node.Node.TheVariants as nodes
+use Rattle.step_tables.specs.ClientMoves as moves
+use Rattle.world_tables.specs.World.{call, client_at}
+use Rattle.world_steps.proofs.Called.{comes_called, call_same, call_none, spent_at, spent_cause}
 use Rattle.world_steps.proofs.world.World.write.Goals as goal
 
-pub returns-clause-world : goal.returns-clause-world
-returns-clause-world c = λ w h.
-    let after = c.take_out-out.new.self in
-    let stepped = c.in_ok-answer.ensures.node in
-    called_world w c.args.self.now c.args.client c.in-Some.node.now (λ (node : Client). write_step node c.args.table c.args.row c.args.content.now) c.take_out-out.result
-    (record { holds = h; there = c.in-Some.ensures.value; sent = c.take_out-out.ensures.taken ∙ ap (λ (n : NodeState). n.out) stepped })
-    c.tell.result after (c.get_mut.follows.lender after) c.tell.new.self
-    ((c.get_mut.follows.holds after).3 (some_there _ _ c.in-Some.ensures.value)).0
-    (c.take_out-out.ensures.left ∙ ap (λ (n : NodeState). record n { out = record { messages = []; facts = [] } }) stepped)
-    c.tell.ensures.packets c.tell.ensures.same
+pub returns-in-Ok-clause-done : goal.returns-in-Ok-clause-done
+returns-in-Ok-clause-done g c w h =
+    comes_called g.D.Disk.state w c.args.self.now h c.args.client (call w c.args.client (moves.Write c.args.table c.args.row c.args.content.now) []) c.write.new.self _ _
+    (c.in-Ok.ensures.called w h.clients) (call_same w c.args.client (moves.Write c.args.table c.args.row c.args.content.now) [] (client_at w c.args.client))
+    (call_none w c.args.client (moves.Write c.args.table c.args.row c.args.content.now) []) (λ lucks. call w c.args.client (moves.Write c.args.table c.args.row c.args.content.now) lucks) refl
+    c.send.new.self c.send.result c.send.ensures.sent
+
+pub returns-in-Err-Spent-clause-limit : goal.returns-in-Err-Spent-clause-limit
+returns-in-Err-Spent-clause-limit g c w h code count e = (
+  cc,
+  spent_at w c.args.client (moves.Write c.args.table c.args.row c.args.content.now)
+      (spent_cause w c.args.client (moves.Write c.args.table c.args.row c.args.content.now) c.in-Err-Spent.field-0 c.in-Err-Spent.field-0-is (c.in-Err-Spent.ensures.cause w h.clients)),
+)

@@ -1,3 +1,0 @@
-pub mod Runs
-pub mod Counts
-pub mod PlainLines

@@ -1,4 +1,0 @@
-pub mod Told
-pub mod World
-pub mod Turns
-pub mod Lines

@@ -1,4 +1,0 @@
-pub mod Histories
-pub mod Versions
-pub mod Indexes
-pub mod Decisions

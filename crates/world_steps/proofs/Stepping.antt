@@ -1,0 +1,108 @@
+-- A call of the world as a step, and the faults that come of it.
+use Rattle.std.proofs.Common.{◌≡◌, ◌≢◌, ◌⊎◌, ⊎_elim, ℕ, List, [], ◌∷◌, map, Option, Some, None, Result, Ok, Err, refl, sym, ◌∙◌, ap, subst, Bool}
+use Rattle.std.specs.Prelude.{IfOk, IfErr, is_some}
+use Rattle.disk_trait.specs.Calls.{DiskState, IsCounted}
+use Rattle.stab_base.specs.declared.node.Node.{Node}
+use Rattle.stab_base.specs.declared.node.Node.TheVariants as nodes
+use Rattle.table_model.specs.declared.event.Event.{Event}
+use Rattle.table_model.specs.declared.event.Event.TheVariants as events
+use Rattle.table_model.specs.declared.line.TextLine.{TextLine}
+use Rattle.step_tables.specs.ClientMoves.{Client}
+use Rattle.step_tables.specs.Members.{Among}
+use Rattle.step_tables.specs.Messages.{Luck}
+use Rattle.world_tables.specs.Quiet.{Quiet, at_first, after}
+use Rattle.world_tables.specs.Turns.{Happening, world_from}
+use Rattle.world_tables.specs.World.{Packet, Hosted, step, start, lines_of, hosted_at, client_at, joined}
+use Rattle.world_tables.specs.World as moves
+use Rattle.name_laws.proofs.Plain as plain
+use Rattle.name_laws.proofs.Quiets.{Follows, start_follows, step_follows}
+use Rattle.world_steps.specs.declared.fault.WorldFault.{WorldFault}
+use Rattle.world_steps.specs.declared.fault.WorldFault.TheVariants.{Memory, Limit, Depot}
+use Rattle.world_steps.specs.declared.world.World.{World}
+use Rattle.world_steps.specs.Calls.{Comes}
+use Rattle.world_steps.specs.Fair.{IsPlace, ArePlaces}
+use Rattle.world_steps.specs.Holds.{Holds, IsReached, AreOut, first_disk}
+use Rattle.world_steps.specs.Steps.{IsStep}
+
+-- ---- packets go to places
+
+follows_run : (run : List Happening) (w : moves.World) (q : Quiet) → Follows w q → (r : Quiet) × Follows (world_from w run) r
+follows_run [] w q k = (q, k)
+follows_run (h ∷ more) w q k =
+    follows_run more (step w h.event h.lucks).world (after q (record { event = h.event; lines = lines_of w (step w h.event h.lucks) })) (step_follows w q h.event h.lucks k)
+
+same_place : (node : Node) → plain.IsPlace node → IsPlace node
+same_place (nodes.Store number) k = k
+same_place (nodes.Gate gate) k = tt
+same_place (nodes.Client c) k = tt
+
+pub places : (w : moves.World) → IsReached w → ArePlaces w
+places w r p a =
+    let k = follows_run r.run start at_first start_follows in
+    same_place p.to (k.1.fine.places p (subst (λ (x : moves.World). Among x.packets p) r.is a)).1
+
+-- ---- steps
+
+pub stepped : {D : Type 0} (state : D → DiskState) (w : moves.World) (event : Event) (is_out : ℕ → Bool) (new : World D) (result : Result (List TextLine) WorldFault) → AreOut is_out w
+    → Comes state w (step w event) result new → IfOk result (λ lines. IsStep state w event lines is_out new)
+stepped state w event is_out new (Err e) out k = tt
+stepped state w event is_out new (Ok lines) out k = record {
+  lucks = k.0;
+  lines_are = k.1.lines_are;
+  held = k.1.held;
+  out = λ table disk one small. out table disk one small ∙ sym (k.1.tables table);
+}
+
+pub nothing_done : {D : Type 0} (state : D → DiskState) (w : moves.World) (number : ℕ) (is_out : ℕ → Bool) (world : World D) (lines : List TextLine) → Holds state w world → AreOut is_out w
+    → lines ≡ []
+    → IsStep state w (events.Store number) lines is_out world
+nothing_done state w number is_out world lines h out is =
+    subst (λ (ls : List TextLine). IsStep state w (events.Store number) ls is_out world) (sym is) (record { lucks = []; lines_are = refl; held = h; out = out })
+
+pub client_joins : {D : Type 0} (state : D → DiskState) (w : moves.World) (c : ℕ) (gate : Option ℕ) (tables : List ℕ) (is_out : ℕ → Bool) (new : World D)
+    (result : Result (List TextLine) WorldFault) → AreOut is_out w
+    → IfOk result (λ lines. (lines ≡ []) × Holds state (joined w c tables (client_at w c)) new) → IfOk result (λ lines. IsStep state w (events.Client c gate tables) lines is_out new)
+client_joins state w c gate tables is_out new (Err e) out k = tt
+client_joins state w c gate tables is_out new (Ok lines) out k =
+    subst (λ (ls : List TextLine). IsStep state w (events.Client c gate tables) ls is_out new) (sym k.0) (record {
+      lucks = [];
+      lines_are = refl;
+      held = k.1;
+      out = λ table disk one small. out table disk one small ∙ same table (client_at w c);
+    })
+  where
+    same : (table : ℕ) (o : Option Client) → is_some (hosted_at w table) ≡ is_some (hosted_at (joined w c tables o) table)
+    same table None = refl
+    same table (Some node) = refl
+
+-- ---- faults
+
+module _ (result : Result (List TextLine) WorldFault) where
+  pub memory_limit : IfErr result (λ e. e ≡ Memory) → (Q : ℕ → ℕ → Type 0) → IfErr result (λ e. (code count : ℕ) → e ≡ Limit code count → Q code count)
+  memory_limit k Q = go result k
+    where
+      go : (r : Result (List TextLine) WorldFault) → IfErr r (λ e. e ≡ Memory) → IfErr r (λ e. (code count : ℕ) → e ≡ Limit code count → Q code count)
+      go (Ok lines) k = tt
+      go (Err e) k = λ code count is. let both : Memory ≡ Limit code count = sym k ∙ is in absurd cc
+
+  pub either_limit : IfErr result (λ e. (e ≡ Depot) ⊎ (e ≡ Memory)) → (Q : ℕ → ℕ → Type 0) → IfErr result (λ e. (code count : ℕ) → e ≡ Limit code count → Q code count)
+  either_limit k Q = go result k
+    where
+      go : (r : Result (List TextLine) WorldFault) → IfErr r (λ e. (e ≡ Depot) ⊎ (e ≡ Memory)) → IfErr r (λ e. (code count : ℕ) → e ≡ Limit code count → Q code count)
+      go (Ok lines) k = tt
+      go (Err e) k = λ code count is. ⊎_elim (λ (d : e ≡ Depot). let both : Depot ≡ Limit code count = sym d ∙ is in absurd cc)
+          (λ (m : e ≡ Memory). let both : Memory ≡ Limit code count = sym m ∙ is in absurd cc) k
+
+  pub other_counted : IfErr result (λ e. e ≢ Depot) → (n : ℕ) → IsCounted Depot n n result
+  other_counted k n = go result k
+    where
+      go : (r : Result (List TextLine) WorldFault) → IfErr r (λ e. e ≢ Depot) → IsCounted Depot n n r
+      go (Ok lines) k = refl
+      go (Err e) k = (λ is. absurd (k is), λ no. refl)
+
+  pub memory_other : IfErr result (λ e. e ≡ Memory) → IfErr result (λ e. e ≢ Depot)
+  memory_other k = go result k
+    where
+      go : (r : Result (List TextLine) WorldFault) → IfErr r (λ e. e ≡ Memory) → IfErr r (λ e. e ≢ Depot)
+      go (Ok lines) k = tt
+      go (Err e) k = λ is. let both : Memory ≡ Depot = sym k ∙ is in absurd cc

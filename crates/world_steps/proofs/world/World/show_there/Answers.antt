@@ -1,0 +1,18 @@
+use Rattle.std.proofs.Common.{sym, ◌∙◌, refl}
+use Rattle.world_tables.specs.World.{row_read, first_luck, the_store}
+use Rattle.world_steps.proofs.Done.{down_refused, up_goes_on, up_now}
+use Rattle.world_steps.proofs.world.World.show_there.Goals as goal
+
+pub returns-then-is_down-clause-done : goal.returns-then-is_down-clause-done
+returns-then-is_down-clause-done g c w hosted h at =
+    down_refused g.D.Disk.state w the_store (λ lucks. row_read w hosted c.args.row.now (first_luck lucks)) c.refuse.result c.args.self.now h (sym c.if-is_down.true ∙ c.is_down.ensures.held w h)
+    c.refuse.ensures.lines
+
+pub show_stored-requires-clause-up : goal.show_stored-requires-clause-up
+show_stored-requires-clause-up g c =
+    up_now c.args.self.now.store.is_up (sym c.if-is_down.false ∙ c.is_down.ensures.store refl)
+
+pub returns-clause-done : goal.returns-clause-done
+returns-clause-done g c w hosted h at =
+    up_goes_on g.D.Disk.state w the_store (λ lucks. row_read w hosted c.args.row.now (first_luck lucks)) c.show_stored.result c.show_stored.new.self
+    (sym c.if-is_down.false ∙ c.is_down.ensures.held w h) (c.show_stored.ensures.done w hosted h at)

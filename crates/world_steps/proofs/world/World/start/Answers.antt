@@ -1,0 +1,20 @@
+use Rattle.std.proofs.Common.{sym, ◌∙◌}
+use Rattle.world_tables.specs.World.{answered, started}
+use Rattle.step_tables.specs.Facts as facts
+use Rattle.world_steps.proofs.Done.{stays, comes_as, down_now}
+use Rattle.world_steps.proofs.Others.{up_stays}
+use Rattle.world_steps.proofs.world.World.start.Goals as goal
+
+pub start_down-requires-clause-down : goal.start_down-requires-clause-down
+start_down-requires-clause-down g c is =
+    down_now c.args.self.now.store.is_up (sym c.if-is_down.true ∙ c.is_down.ensures.store is)
+
+pub returns-then-is_down-clause-done : goal.returns-then-is_down-clause-done
+returns-then-is_down-clause-done g c w h =
+    c.start_down.ensures.done w h (sym c.if-is_down.true ∙ c.is_down.ensures.held w h)
+
+pub returns-clause-done : goal.returns-clause-done
+returns-clause-done g c w h =
+    comes_as g.D.Disk.state w (λ lucks. started w lucks c.args.node) (λ lucks. answered w facts.Done) c.only.result c.args.self.now
+    (λ lucks. up_stays w c.args.node lucks (sym c.if-is_down.false ∙ c.is_down.ensures.held w h))
+    (stays g.D.Disk.state w c.args.self.now h facts.Done c.only.result c.only.ensures.lines)

@@ -1,0 +1,29 @@
+use Rattle.std.proofs.Common.{ap, ◌∙◌}
+use Rattle.step_tables.specs.Messages.{table_of}
+use Rattle.step_tables.specs.StoreMoves.{Take}
+use Rattle.step_tables.specs.Travels.{message_of}
+use Rattle.world_tables.specs.World.{Packet, to_hosted, hosted_at}
+use Rattle.world_steps.proofs.Done.{told_moves}
+use Rattle.world_steps.proofs.Taken.{fits}
+use Rattle.world_steps.proofs.Called.{sent_is, sent_fair, any_packet}
+use Rattle.world_steps.specs.Network.{packet_of}
+use Rattle.world_steps.proofs.world.World.take.Goals as goal
+
+pub take-requires-clause-held : goal.take-requires-clause-held
+take-requires-clause-held g c =
+    let k = c.requires.held in let p = c.in-Some.packet.now in (
+      k.0,
+      k.1.store,
+      fits k.0 p.from p.message
+          (sent_fair g.D.Disk.state k.0 c.args.self.now k.1 c.args.number (packet_of p) (any_packet g.D.Disk.state k.0 c.args.self.now k.1 c.args.number p c.in-Some.ensures) p c.in-Some.ensures),
+    )
+
+pub returns-clause-done : goal.returns-clause-done
+returns-clause-done g c w packet h at =
+    let p = c.in-Some.packet.now in
+    let k = c.in_ok-answer.ensures.done w h.store h.fair.tables (c.is_held-is_held.ensures w h)
+    (fits w p.from p.message (sent_fair g.D.Disk.state w c.args.self.now h c.args.number packet at p c.in-Some.ensures)) in
+    told_moves g.D.Disk.state w c.args.self.now h k.1.moves k.1.goes k.1.answer _ _ c.tell.result c.tell.new.self
+    (λ lucks. to_hosted w (table_of packet.message) (Take packet.from packet.message) lucks (hosted_at w (table_of packet.message))) k.0
+    (ap (λ (x : Packet). to_hosted w (table_of x.message) (Take x.from x.message) k.0 (hosted_at w (table_of x.message)))
+    (sent_is g.D.Disk.state w c.args.self.now h c.args.number packet at p c.in-Some.ensures) ∙ k.1.step_is) k.1.answered c.tell.ensures.told

@@ -1,0 +1,22 @@
+use Rattle.std.proofs.Common.{sym, ◌∙◌}
+use Rattle.step_tables.specs.Facts as facts
+use Rattle.stab_base.specs.declared.step.Step.TheVariants as steps
+use Rattle.world_tables.specs.World.{answered, all_worked}
+use Rattle.world_steps.proofs.Done.{stays, comes_as, owner_comes}
+use Rattle.world_steps.proofs.Others.{other_all_worked}
+use Rattle.world_steps.proofs.world.World.work_all_up.Goals as goal
+
+pub returns-then-is_owner-clause-done : goal.returns-then-is_owner-clause-done
+returns-then-is_owner-clause-done g c w h =
+    owner_comes g.D.Disk.state w c.args.node (sym c.is_owner.ensures ∙ c.if-is_owner.true) (λ n lucks. all_worked w lucks n) c.work_store_all.result c.work_store_all.new.self
+    (c.work_store_all.ensures.done w h)
+
+pub work_store_all-requires-clause-up : goal.work_store_all-requires-clause-up
+work_store_all-requires-clause-up g c =
+    c.requires.up (sym c.is_owner.ensures ∙ c.if-is_owner.true)
+
+pub returns-clause-done : goal.returns-clause-done
+returns-clause-done g c w h =
+    comes_as g.D.Disk.state w (λ lucks. all_worked w lucks c.args.node) (λ lucks. answered w (facts.Number 0)) c.only.result c.args.self.now
+    (λ lucks. other_all_worked w c.args.node (sym c.is_owner.ensures ∙ c.if-is_owner.false) lucks)
+    (stays g.D.Disk.state w c.args.self.now h (facts.Number 0) c.only.result c.only.ensures.lines)

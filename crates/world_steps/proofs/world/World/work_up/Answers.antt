@@ -1,0 +1,21 @@
+use Rattle.std.proofs.Common.{sym, ◌∙◌}
+use Rattle.step_tables.specs.Facts as facts
+use Rattle.stab_base.specs.declared.step.Step.TheVariants as steps
+use Rattle.world_tables.specs.World.{answered, worked}
+use Rattle.world_steps.proofs.Done.{stays, comes_as, owner_comes}
+use Rattle.world_steps.proofs.Others.{other_worked}
+use Rattle.world_steps.proofs.world.World.work_up.Goals as goal
+
+pub returns-then-is_owner-clause-done : goal.returns-then-is_owner-clause-done
+returns-then-is_owner-clause-done g c w h =
+    owner_comes g.D.Disk.state w c.args.node (sym c.is_owner.ensures ∙ c.if-is_owner.true) (λ n lucks. worked w lucks n) c.work_store.result c.work_store.new.self (c.work_store.ensures.done w h)
+
+pub work_store-requires-clause-up : goal.work_store-requires-clause-up
+work_store-requires-clause-up g c =
+    c.requires.up (sym c.is_owner.ensures ∙ c.if-is_owner.true)
+
+pub returns-clause-done : goal.returns-clause-done
+returns-clause-done g c w h =
+    comes_as g.D.Disk.state w (λ lucks. worked w lucks c.args.node) (λ lucks. answered w (facts.Did steps.Idle)) c.only.result c.args.self.now
+    (λ lucks. other_worked w c.args.node (sym c.is_owner.ensures ∙ c.if-is_owner.false) lucks)
+    (stays g.D.Disk.state w c.args.self.now h (facts.Did steps.Idle) c.only.result c.only.ensures.lines)

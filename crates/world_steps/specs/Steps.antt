@@ -1,0 +1,32 @@
+-- What a step of the world promises.
+use Rattle.std.specs.Prelude.{◌≡◌, ℕ, Bool, List, map, length, Some}
+use Rattle.disk_trait.specs.Calls.{DiskState}
+use Rattle.stab_base.specs.declared.limits.TheConstants.{NUMBER_MAX}
+use Rattle.table_model.specs.declared.event.Event.{Event}
+use Rattle.table_model.specs.declared.event.Event.TheVariants as events
+use Rattle.table_model.specs.declared.line.TextLine.{TextLine}
+use Rattle.step_tables.specs.ClientMoves.{Client}
+use Rattle.step_tables.specs.Lines.{line_of}
+use Rattle.step_tables.specs.Messages.{Luck}
+use Rattle.world_tables.specs.World.{step, lines_of, hosted_at, client_at}
+use Rattle.world_tables.specs.World as moves
+use Rattle.world_steps.specs.declared.world.World.{World}
+use Rattle.world_steps.specs.Holds.{Holds, AreOut}
+
+-- The event is carried out: with some lucks of its device calls, these are the lines of its step, and the program's
+-- world holds the world behind it.
+pub record IsStep {D : Type 0} (state : D → DiskState) (w : moves.World) (event : Event) (lines : List TextLine)
+    (is_out : ℕ → Bool) (new : World D) : Type 0 where
+  pub lucks : List Luck
+  pub lines_are : map line_of lines ≡ lines_of w (step w event lucks)
+  pub held : Holds state (step w event lucks).world new
+  pub out : AreOut is_out (step w event lucks).world
+
+-- a number or a version above the last would be needed
+abbrev pub Spends : moves.World → Event → Type 0
+Spends w (events.Write client table row content) =
+    (node : Client) × (client_at w client ≡ Some node) × (node.disk.last ≡ NUMBER_MAX)
+Spends w (events.Deliver packet) =
+    (table : ℕ) × (hosted : moves.Hosted) × (hosted_at w table ≡ Some hosted)
+    × (length hosted.store.disk.items ≡ NUMBER_MAX)
+Spends w other = ⊥

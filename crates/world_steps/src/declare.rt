@@ -1,0 +1,141 @@
+//! The declarations of tables and of clients.
+ghost use Rattle.std.specs.Prelude.{◌≡◌, ◌⊎◌, ◌==◌, ◌||◌, ◌+◌, ◌*◌, ◌-◌, ◌<◌, ◌≤◌, ℕ, false, true, [], None};
+ghost use Rattle.std.specs.Prelude.{IfOk, IfErr, OnOk, OnErr};
+ghost use Rattle.std.specs.Ordering.{nat_cmp};
+ghost use Rattle.std.specs.BTreeMap as tree;
+ghost use Rattle.disk_trait.specs.Calls.{IsCounted};
+ghost use Rattle.table_model.specs.declared.event.Event.TheVariants as events;
+ghost use Rattle.world_tables.specs.World.{World as AWorld, joined, client_at};
+ghost use Rattle.world_steps.specs.declared.fault.WorldFault.TheVariants.{Depot as DepotFailed, Memory};
+ghost use Rattle.world_steps.specs.Holds.{Holds, IsMade, AreOut, first_disk};
+ghost use Rattle.world_steps.specs.Steps.{IsStep};
+
+use crate::fault::WorldFault;
+use crate::moves::add;
+use crate::world::{Lines, World};
+use disk_trait::{Depot, DepotFault, Disk};
+use row_value::{ClientNo, Schema, Sequence, TableNo};
+
+// A disk of the depot.
+fn hand_out<P: Depot>(depot: &mut P, number: u32) -> Result<P::Disk, WorldFault>
+    requires { (P.state depot.old).is_out number ≡ false }
+    ensures out { OnOk result ((k : ℕ) → (P.state depot.new).is_out k
+        ≡ ((k == number) || (P.state depot.old).is_out k)) }
+    ensures refused { OnErr result ((k : ℕ) → (P.state depot.new).is_out k ≡ (P.state depot.old).is_out k) }
+    ensures cause { IsCounted DepotFailed (P.state depot.old).faults (P.state depot.new).faults result }
+    ensures only { IfErr result (λ e. (e ≡ DepotFailed) ⊎ (e ≡ Memory)) }
+{
+    match depot.disk(number) {
+        Ok(disk) => Ok(disk),
+        Err(DepotFault::Failed) => Err(WorldFault::Depot),
+        Err(DepotFault::Memory) => Err(WorldFault::Memory),
+    }
+}
+
+// Two disks, or none.
+fn hand_out_two<P: Depot>(
+    depot: &mut P,
+    first: u32,
+    second: u32,
+) -> Result<(P::Disk, P::Disk), WorldFault>
+    requires first { (P.state depot.old).is_out first ≡ false }
+    requires second { (P.state depot.old).is_out second ≡ false }
+    requires apart { (second == first) ≡ false }
+    ensures out { OnOk result ((k : ℕ) → (P.state depot.new).is_out k
+        ≡ ((k == second) || ((k == first) || (P.state depot.old).is_out k))) }
+    ensures refused { OnErr result ((k : ℕ) → (P.state depot.new).is_out k ≡ (P.state depot.old).is_out k) }
+    ensures cause { IsCounted DepotFailed (P.state depot.old).faults (P.state depot.new).faults result }
+    ensures only { IfErr result (λ e. (e ≡ DepotFailed) ⊎ (e ≡ Memory)) }
+{
+    let disk = hand_out(depot, first)?;
+    match hand_out(depot, second) {
+        Ok(other) => Ok((disk, other)),
+        Err(fault) => {
+            depot.back(first, disk);
+            Err(fault)
+        }
+    }
+}
+
+// The three disks of a table, or none.
+fn hand_out_three<P: Depot>(
+    depot: &mut P,
+    first: u32,
+) -> Result<(P::Disk, P::Disk, P::Disk), WorldFault>
+    requires small { first < 1000 }
+    requires free { (k : ℕ) → k < 3 → (P.state depot.old).is_out (first + k) ≡ false }
+    ensures out { OnOk result ((k : ℕ) → (P.state depot.new).is_out k ≡ ((k == first + 2)
+        || ((k == first + 1) || ((k == first) || (P.state depot.old).is_out k)))) }
+    ensures cause { IsCounted DepotFailed (P.state depot.old).faults (P.state depot.new).faults result }
+    ensures only { IfErr result (λ e. (e ≡ DepotFailed) ⊎ (e ≡ Memory)) }
+{
+    let (chunk_disk, row_disk) = hand_out_two(depot, first, first + 1)?;
+    match hand_out(depot, first + 2) {
+        Ok(log_disk) => Ok((chunk_disk, row_disk, log_disk)),
+        Err(fault) => {
+            depot.back(first, chunk_disk);
+            depot.back(first + 1, row_disk);
+            Err(fault)
+        }
+    }
+}
+
+impl<D: Disk + Drop> World<D> {
+    /// Declares a table; one that is there stays as it is.
+    pub(crate) fn declare<P: Depot<Disk = D>>(
+        &mut self,
+        depot: &mut P,
+        table: TableNo,
+        schema: &Schema,
+    ) -> Result<Lines, WorldFault>
+        requires made { IsMade table schema.now }
+        requires held { (w : AWorld) × Holds D.state w self.old × AreOut (P.state depot.old).is_out w }
+        ensures done { (w : AWorld) → Holds D.state w self.old → AreOut (P.state depot.old).is_out w
+            → IfOk result (λ lines. IsStep D.state w (events.Table table schema.now) lines
+            (P.state depot.new).is_out self.new) }
+        ensures depot { IsCounted DepotFailed (P.state depot.old).faults (P.state depot.new).faults result }
+        ensures only { IfErr result (λ e. (e ≡ DepotFailed) ⊎ (e ≡ Memory)) }
+    {
+        if self.store.has(table) {
+            return Ok(Sequence::new(self.alloc));
+        }
+        self.add_table(depot, table, schema)
+    }
+
+    fn add_table<P: Depot<Disk = D>>(
+        &mut self,
+        depot: &mut P,
+        table: TableNo,
+        schema: &Schema,
+    ) -> Result<Lines, WorldFault>
+        requires made { IsMade table schema.now }
+        requires held { (w : AWorld) × Holds D.state w self.old × AreOut (P.state depot.old).is_out w }
+        requires absent { tree.get nat_cmp self.old.store.tables table ≡ None }
+        ensures done { (w : AWorld) → Holds D.state w self.old → AreOut (P.state depot.old).is_out w
+            → IfOk result (λ lines. IsStep D.state w (events.Table table schema.now) lines
+            (P.state depot.new).is_out self.new) }
+        ensures depot { IsCounted DepotFailed (P.state depot.old).faults (P.state depot.new).faults result }
+        ensures only { IfErr result (λ e. (e ≡ DepotFailed) ⊎ (e ≡ Memory)) }
+    {
+        let known = schema.copy()?;
+        let own = schema.copy()?;
+        let disks = hand_out_three(depot, 3 * (table - 1))?;
+        self.schemas.insert(table, known)?;
+        add(&mut self.store, table, own, disks)?;
+        Ok(Sequence::new(self.alloc))
+    }
+
+    /// Adds a client that opens these tables, as far as they are declared; one that is there stays as it is.
+    pub(crate) fn join(&mut self, client: ClientNo, tables: &[TableNo]) -> Result<Lines, WorldFault>
+        requires least { 1 ≤ client }
+        requires most { client ≤ 64 }
+        ensures done { (w : AWorld) → Holds D.state w self.old → IfOk result (λ lines. (lines ≡ [])
+            × Holds D.state (joined w client tables.now (client_at w client)) self.new) }
+        ensures memory { IfErr result (λ e. e ≡ Memory) }
+    {
+        match self.clients.join(client, tables, &self.schemas) {
+            Ok(()) => Ok(Sequence::new(self.alloc)),
+            Err(_) => Err(WorldFault::Memory),
+        }
+    }
+}

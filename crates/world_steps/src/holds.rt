@@ -1,0 +1,119 @@
+//! Nodes on hold, and nodes that are down.
+ghost use Rattle.std.specs.Prelude.{◌≡◌, ◌∷◌, [], true, false, not, map, IfOk, IfErr};
+ghost use Rattle.step_tables.specs.Facts as moves;
+ghost use Rattle.step_tables.specs.Facts.{AnswerLine};
+ghost use Rattle.step_tables.specs.Lines.{answer_of, line_of};
+ghost use Rattle.table_model.specs.declared.event.Event.TheVariants as events;
+ghost use Rattle.world_tables.specs.World.{World as AWorld, step, is_down, has_node, same_node, the_store, answered};
+ghost use Rattle.world_tables.specs.World.{without_node};
+ghost use Rattle.world_steps.specs.declared.fault.WorldFault.TheVariants.{Memory};
+ghost use Rattle.world_steps.specs.Calls.{Comes};
+ghost use Rattle.world_steps.specs.Holds.{Holds};
+
+use crate::fault::WorldFault;
+use crate::world::{Lines, World};
+use disk_trait::Disk;
+use row_value::Sequence;
+use stab_base::Node;
+use table_model::{Answer, Refusal, TextLine};
+
+/// Whether this is the one Store.
+pub(crate) fn is_owner(node: Node) -> bool
+    ensures { result ≡ same_node node the_store }
+{
+    match node {
+        Node::Store(number) => number == 1,
+        _ => false,
+    }
+}
+
+impl<D: Disk + Drop> World<D> {
+    // An answer alone.
+    pub(crate) fn only(&self, answer: Answer) -> Result<Lines, WorldFault>
+        ensures lines { IfOk result (λ lines. map line_of lines ≡ AnswerLine (answer_of answer) ∷ []) }
+        ensures memory { IfErr result (λ e. e ≡ Memory) }
+    {
+        let mut lines = Sequence::new(self.alloc);
+        lines.push(TextLine::Answer(answer))?;
+        Ok(lines)
+    }
+
+    /// That the node is down.
+    pub(crate) fn refuse(&self, node: Node) -> Result<Lines, WorldFault>
+        ensures lines { IfOk result (λ lines. map line_of lines
+            ≡ AnswerLine (moves.Refuses (moves.NodeDown node)) ∷ []) }
+        ensures memory { IfErr result (λ e. e ≡ Memory) }
+    {
+        self.only(Answer::Refused(Refusal::Down { node }))
+    }
+
+    pub(crate) fn is_down(&self, node: Node) -> bool
+        ensures store { same_node node the_store ≡ true → result ≡ not self.now.store.is_up }
+        ensures held { (w : AWorld) → Holds D.state w self.now → result ≡ is_down w node }
+    {
+        if is_owner(node) {
+            return !self.store.is_up();
+        }
+        self.is_other_down(node)
+    }
+
+    // Clients and gateways have no devices yet, and are up.
+    fn is_other_down(&self, node: Node) -> bool
+        requires { same_node node the_store ≡ false }
+        ensures { (w : AWorld) → Holds D.state w self.now → result ≡ is_down w node }
+    {
+        match node {
+            Node::Store(_) => self.downs.has(node),
+            Node::Client(_) => false,
+            Node::Gate(_) => false,
+        }
+    }
+
+    pub(crate) fn is_held(&self, node: Node) -> bool
+        ensures { (w : AWorld) → Holds D.state w self.now → result ≡ has_node w.holds node }
+    {
+        self.held.has(node)
+    }
+
+    /// From now on the node does its device writes only where a line says so.
+    pub(crate) fn hold(&mut self, node: Node) -> Result<Lines, WorldFault>
+        ensures done { (w : AWorld) → Holds D.state w self.old
+            → Comes D.state w (step w (events.Hold node)) result self.new }
+        ensures memory { IfErr result (λ e. e ≡ Memory) }
+    {
+        if self.is_down(node) {
+            return self.refuse(node);
+        }
+        self.hold_up(node)
+    }
+
+    fn hold_up(&mut self, node: Node) -> Result<Lines, WorldFault>
+        ensures done { (w : AWorld) → Holds D.state w self.old
+            → Comes D.state w (λ lucks. answered (record w { holds = node ∷ w.holds }) moves.Done) result self.new }
+        ensures memory { IfErr result (λ e. e ≡ Memory) }
+    {
+        self.held.add(node)?;
+        self.only(Answer::Done)
+    }
+
+    /// From now on the node does its device writes by itself.
+    pub(crate) fn free(&mut self, node: Node) -> Result<Lines, WorldFault>
+        ensures done { (w : AWorld) → Holds D.state w self.old
+            → Comes D.state w (step w (events.Free node)) result self.new }
+        ensures memory { IfErr result (λ e. e ≡ Memory) }
+    {
+        if self.is_down(node) {
+            return self.refuse(node);
+        }
+        self.free_up(node)
+    }
+
+    fn free_up(&mut self, node: Node) -> Result<Lines, WorldFault>
+        ensures done { (w : AWorld) → Holds D.state w self.old → Comes D.state w
+            (λ lucks. answered (record w { holds = without_node w.holds node }) moves.Done) result self.new }
+        ensures memory { IfErr result (λ e. e ≡ Memory) }
+    {
+        self.held.remove(node);
+        self.only(Answer::Done)
+    }
+}

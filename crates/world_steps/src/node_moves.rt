@@ -1,0 +1,218 @@
+//! What is done to a node: its next write, all its writes, a crash, a start. Only a Store has devices so far.
+ghost use Rattle.std.specs.Prelude.{◌≡◌, ℕ, true, false, IfOk, IfErr};
+ghost use Rattle.stab_base.specs.declared.node.Node.TheVariants as nodes;
+ghost use Rattle.step_tables.specs.Facts as moves;
+ghost use Rattle.step_tables.specs.Lines.{answer_of};
+ghost use Rattle.table_model.specs.declared.event.Event.TheVariants as events;
+ghost use Rattle.world_tables.specs.World.{World as AWorld, step, worked, all_worked, crashed, started, the_store};
+ghost use Rattle.world_tables.specs.World.{is_down, same_node, answered, with_down};
+ghost use Rattle.store_host.specs.Holds.{IsStore};
+ghost use Rattle.world_steps.specs.declared.fault.WorldFault.TheVariants.{Memory};
+ghost use Rattle.world_steps.specs.Calls.{Comes, HasTold};
+ghost use Rattle.world_steps.specs.Holds.{Holds};
+
+use crate::fault::WorldFault;
+use crate::holds::is_owner;
+use crate::moves::{crash, start, work_all, work_once};
+use crate::network::STORE;
+use crate::outs::tell;
+use crate::world::{Lines, World};
+use disk_trait::Disk;
+use stab_base::{Node, Step, StoreNo};
+use table_model::Answer;
+
+impl<D: Disk + Drop> World<D> {
+    /// An answer, and then what the Store told and sent.
+    pub(crate) fn tell(&mut self, answer: Answer) -> Result<Lines, WorldFault>
+        ensures told { IfOk result (λ lines. HasTold self.old self.new (answer_of answer) lines) }
+        ensures memory { IfErr result (λ e. e ≡ Memory) }
+    {
+        let mut lines = self.only(answer)?;
+        let outs = self.store.take_outs();
+        tell(&mut self.network, outs, &mut lines)?;
+        Ok(lines)
+    }
+
+    /// The node does its next device write.
+    pub(crate) fn work(&mut self, node: Node) -> Result<Lines, WorldFault>
+        requires held { IsStore D.state self.old.store }
+        ensures done { (w : AWorld) → Holds D.state w self.old
+            → Comes D.state w (step w (events.Work node)) result self.new }
+        ensures memory { IfErr result (λ e. e ≡ Memory) }
+    {
+        if self.is_down(node) {
+            return self.refuse(node);
+        }
+        self.work_up(node)
+    }
+
+    fn work_up(&mut self, node: Node) -> Result<Lines, WorldFault>
+        requires held { IsStore D.state self.old.store }
+        requires up { same_node node the_store ≡ true → self.old.store.is_up ≡ true }
+        ensures done { (w : AWorld) → Holds D.state w self.old
+            → Comes D.state w (λ lucks. worked w lucks node) result self.new }
+        ensures memory { IfErr result (λ e. e ≡ Memory) }
+    {
+        if is_owner(node) {
+            return self.work_store();
+        }
+        self.only(Answer::Did(Step::Idle))
+    }
+
+    fn work_store(&mut self) -> Result<Lines, WorldFault>
+        requires held { IsStore D.state self.old.store }
+        requires up { self.old.store.is_up ≡ true }
+        ensures done { (w : AWorld) → Holds D.state w self.old
+            → Comes D.state w (λ lucks. worked w lucks the_store) result self.new }
+        ensures memory { IfErr result (λ e. e ≡ Memory) }
+    {
+        let answer = work_once(&mut self.store)?;
+        self.tell(answer)
+    }
+
+    /// The node does all its device writes.
+    pub(crate) fn work_all(&mut self, node: Node) -> Result<Lines, WorldFault>
+        requires held { IsStore D.state self.old.store }
+        ensures done { (w : AWorld) → Holds D.state w self.old
+            → Comes D.state w (step w (events.WorkAll node)) result self.new }
+        ensures memory { IfErr result (λ e. e ≡ Memory) }
+    {
+        if self.is_down(node) {
+            return self.refuse(node);
+        }
+        self.work_all_up(node)
+    }
+
+    fn work_all_up(&mut self, node: Node) -> Result<Lines, WorldFault>
+        requires held { IsStore D.state self.old.store }
+        requires up { same_node node the_store ≡ true → self.old.store.is_up ≡ true }
+        ensures done { (w : AWorld) → Holds D.state w self.old
+            → Comes D.state w (λ lucks. all_worked w lucks node) result self.new }
+        ensures memory { IfErr result (λ e. e ≡ Memory) }
+    {
+        if is_owner(node) {
+            return self.work_store_all();
+        }
+        self.only(Answer::Number(0))
+    }
+
+    fn work_store_all(&mut self) -> Result<Lines, WorldFault>
+        requires held { IsStore D.state self.old.store }
+        requires up { self.old.store.is_up ≡ true }
+        ensures done { (w : AWorld) → Holds D.state w self.old
+            → Comes D.state w (λ lucks. all_worked w lucks the_store) result self.new }
+        ensures memory { IfErr result (λ e. e ≡ Memory) }
+    {
+        let answer = work_all(&mut self.store)?;
+        self.tell(answer)
+    }
+
+    /// The node stops inside its next device write. A client and a gateway have no devices yet, and go on.
+    pub(crate) fn crash(&mut self, node: Node, calls: u32, pick: u64) -> Result<Lines, WorldFault>
+        requires held { IsStore D.state self.old.store }
+        ensures done { (w : AWorld) → Holds D.state w self.old
+            → Comes D.state w (step w (events.Crash node calls pick)) result self.new }
+        ensures memory { IfErr result (λ e. e ≡ Memory) }
+    {
+        if self.is_down(node) {
+            return self.refuse(node);
+        }
+        self.crash_up(node, calls, pick)
+    }
+
+    fn crash_up(&mut self, node: Node, calls: u32, pick: u64) -> Result<Lines, WorldFault>
+        requires held { IsStore D.state self.old.store }
+        requires up { same_node node the_store ≡ true → self.old.store.is_up ≡ true }
+        ensures done { (w : AWorld) → Holds D.state w self.old
+            → Comes D.state w (λ lucks. crashed w calls lucks node) result self.new }
+        ensures memory { IfErr result (λ e. e ≡ Memory) }
+    {
+        if is_owner(node) {
+            return self.crash_store(calls, pick);
+        }
+        self.crash_other(node)
+    }
+
+    fn crash_store(&mut self, calls: u32, pick: u64) -> Result<Lines, WorldFault>
+        requires held { IsStore D.state self.old.store }
+        requires up { self.old.store.is_up ≡ true }
+        ensures done { (w : AWorld) → Holds D.state w self.old
+            → Comes D.state w (λ lucks. crashed w calls lucks the_store) result self.new }
+        ensures memory { IfErr result (λ e. e ≡ Memory) }
+    {
+        let answer = crash(&mut self.store, calls, pick);
+        self.tell(answer)
+    }
+
+    // A Store that has no tables is down; a client and a gateway go on.
+    fn crash_other(&mut self, node: Node) -> Result<Lines, WorldFault>
+        requires { same_node node the_store ≡ false }
+        ensures done { (w : AWorld) (calls : ℕ) → Holds D.state w self.old
+            → Comes D.state w (λ lucks. crashed w calls lucks node) result self.new }
+        ensures memory { IfErr result (λ e. e ≡ Memory) }
+    {
+        match node {
+            Node::Store(number) => self.take_down(number),
+            Node::Client(_) => self.only(Answer::Done),
+            Node::Gate(_) => self.only(Answer::Done),
+        }
+    }
+
+    fn take_down(&mut self, number: StoreNo) -> Result<Lines, WorldFault>
+        requires { same_node (nodes.Store number) the_store ≡ false }
+        ensures done { (w : AWorld) → Holds D.state w self.old → Comes D.state w
+            (λ lucks. answered (with_down (nodes.Store number) w) moves.Done) result self.new }
+        ensures memory { IfErr result (λ e. e ≡ Memory) }
+    {
+        self.downs.add(Node::Store(number))?;
+        self.only(Answer::Done)
+    }
+
+    /// A node that is down is started; one that is up goes on.
+    pub(crate) fn start(&mut self, node: Node) -> Result<Lines, WorldFault>
+        requires held { IsStore D.state self.old.store }
+        ensures done { (w : AWorld) → Holds D.state w self.old
+            → Comes D.state w (step w (events.Start node)) result self.new }
+        ensures memory { IfErr result (λ e. e ≡ Memory) }
+    {
+        if self.is_down(node) {
+            return self.start_down(node);
+        }
+        self.only(Answer::Done)
+    }
+
+    fn start_down(&mut self, node: Node) -> Result<Lines, WorldFault>
+        requires held { IsStore D.state self.old.store }
+        requires down { same_node node the_store ≡ true → self.old.store.is_up ≡ false }
+        ensures done { (w : AWorld) → Holds D.state w self.old → true ≡ is_down w node
+            → Comes D.state w (λ lucks. started w lucks node) result self.new }
+        ensures memory { IfErr result (λ e. e ≡ Memory) }
+    {
+        if is_owner(node) {
+            return self.start_store();
+        }
+        self.bring_up(node)
+    }
+
+    fn bring_up(&mut self, node: Node) -> Result<Lines, WorldFault>
+        requires { same_node node the_store ≡ false }
+        ensures done { (w : AWorld) → Holds D.state w self.old → true ≡ is_down w node
+            → Comes D.state w (λ lucks. started w lucks node) result self.new }
+        ensures memory { IfErr result (λ e. e ≡ Memory) }
+    {
+        self.downs.remove(node);
+        self.only(Answer::Done)
+    }
+
+    fn start_store(&mut self) -> Result<Lines, WorldFault>
+        requires held { IsStore D.state self.old.store }
+        requires down { self.old.store.is_up ≡ false }
+        ensures done { (w : AWorld) → Holds D.state w self.old → true ≡ is_down w the_store
+            → Comes D.state w (λ lucks. started w lucks the_store) result self.new }
+        ensures memory { IfErr result (λ e. e ≡ Memory) }
+    {
+        let is_held = self.is_held(STORE);
+        let answer = start(&mut self.store, is_held)?;
+        self.tell(answer)
+    }
+}

@@ -50,8 +50,6 @@ pub(crate) fn limit_text(limit: &str) -> &'static str {
         "7" => "a Store's number is above 16",
         "8" => "a table has more than 32 columns",
         "9" => "the script names more than 65,536 rows of one table",
-        "11" =>
-            "the last number of a client's writes or of a table's versions, 2^62, has been given",
         _ => "the script passes a limit",
     }
 }
@@ -63,6 +61,7 @@ pub(crate) fn status_text(status: u8) -> &'static str {
         4 => "the script can't be read to its end: standard input failed",
         5 => "the transcript can't be written: standard output failed",
         6 => "there is no more memory",
+        8 => "a disk can't be had: the depot failed",
         _ => "the run ended early",
     }
 }

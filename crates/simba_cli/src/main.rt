@@ -4,6 +4,7 @@
 mod ending;
 mod noted;
 
+use disk_kit::MemDepot;
 use ending::{StopWords, code_text, limit_text, status_text, stop_words};
 use noted::Noted;
 use simba_top::run_simba;
@@ -56,7 +57,8 @@ fn run(rt: &HostRuntime) -> u8 {
     };
     let mut source = ReaderSource::new(rt.stdin());
     let mut sink = Noted::new(WriterSink::new(rt.stdout()));
-    let status = run_simba(rt.alloc(), &words, &mut source, &mut sink);
+    let mut depot = MemDepot::new(rt.alloc(), Vec::new(rt.alloc()));
+    let status = run_simba(rt.alloc(), &words, &mut source, &mut sink, &mut depot);
     let _ = tell(rt, status, sink.last());
     status
 }

@@ -1,4 +1,8 @@
 //! Runs of the whole program over bytes in memory.
+ghost use Rattle.std.specs.Prelude.{◌≡◌, ℕ, false};
+
+use disk_kit::MemDepot;
+use disk_trait::Depot;
 use simba_top::run_simba;
 use stab_io::{MemSink, MemSource};
 use std::alloc::Global;
@@ -24,7 +28,23 @@ pub(crate) fn ends(
     let words = vec![in alloc; String::from_str(alloc, word)?]?;
     let mut source = MemSource::new(script, Vec::from_slice(alloc, takes)?);
     let mut sink = MemSink::new(alloc, Vec::from_slice(alloc, puts)?);
-    let status = run_simba(alloc, &words, &mut source, &mut sink);
+    let mut depot = MemDepot::new(alloc, Vec::new(alloc));
+    let status = run_simba(alloc, &words, &mut source, &mut sink, &mut depot);
+    Ok((status, sink.into_bytes()))
+}
+
+// The same on another depot.
+pub(crate) fn ends_on<P: Depot>(
+    alloc: Global,
+    script: &str,
+    depot: &mut P,
+) -> Result<(u8, Vec<u8>), Fail>
+    requires { (k : ℕ) → (P.state depot.old).is_out k ≡ false }
+{
+    let words = vec![in alloc; String::from_str(alloc, "run")?]?;
+    let mut source = MemSource::new(texts(alloc, &[script])?, Vec::new(alloc));
+    let mut sink = MemSink::new(alloc, Vec::new(alloc));
+    let status = run_simba(alloc, &words, &mut source, &mut sink, depot);
     Ok((status, sink.into_bytes()))
 }
 

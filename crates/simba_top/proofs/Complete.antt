@@ -1,26 +1,14 @@
 -- A line that a run has carried out isn't bad and passes no limit.
-use Rattle.std.proofs.Common.{◌≡◌, ◌⊎◌, ℕ, ◌+◌, ◌<◌, ◌≤◌, List, [], ◌∷◌, ◌++◌, length, Option, Some, None, refl, sym, ap, subst, ◌∙◌, inl, inr, append_assoc}
+use Rattle.std.proofs.Common.{◌≡◌, ◌⊎◌, ℕ, ◌<◌, ◌≤◌, List, [], ◌∷◌, ◌++◌, length, sym, ap, subst, ◌∙◌, inl, inr, append_assoc}
 use Rattle.std.proofs.Common.{arith}
-use Rattle.std.specs.Prelude.{slice_get}
 use Rattle.table_model.specs.declared.event.Event.{Event}
-use Rattle.table_model.specs.declared.event.Event.TheVariants as events
-use Rattle.stab_base.specs.declared.node.Node.{Node}
-use Rattle.stab_base.specs.declared.node.Node.TheVariants as nodes
-use Rattle.row_value.specs.declared.content.Content.{Content}
-use Rattle.step_tables.specs.Store.{Stored}
-use Rattle.step_tables.specs.Client.{Client}
-use Rattle.memory_runs.specs.World.{Packet, client_at, stored_at, table_in}
-use Rattle.memory_runs.specs.Turns.{world_after}
-use Rattle.memory_runs.proofs.Counts.{stored_or_none, store_few, last_few, stored_few}
-use Rattle.world_steps.specs.Holds.{SpendsNumber, SpendsVersion, SpendsAt, SpendsPacket, Spends}
-use Rattle.stab_io.specs.Lines.{Next, Line, End, LineTooLong, InputTooLong}
-use Rattle.script_text.specs.declared.fault.BadLine.{BadLine}
+use Rattle.stab_io.specs.Lines.{Next, Line, LineTooLong, InputTooLong}
 use Rattle.script_text.specs.Names.{Names, no_names}
-use Rattle.script_text.specs.Grammar.{IsPassed, Spells, IsFault, PassesLimit}
+use Rattle.script_text.specs.Grammar.{IsPassed, Spells}
 use Rattle.simba_top.specs.declared.run.TheConstants.{MOST_LINES}
 use Rattle.simba_top.specs.declared.row_names.TheConstants.{MOST_ROWS}
 use Rattle.simba_top.specs.RowNames.{rows_named, FewRows, NamesTooMany}
-use Rattle.simba_top.specs.Script.{next_in, Behind, Spelled, IsFront, IsWhole}
+use Rattle.simba_top.specs.Script.{next_in, Behind, Spelled, IsFront}
 use Rattle.simba_top.proofs.RowNames.{rows_grow}
 use Rattle.simba_top.proofs.Fronts.{Grammar, same_line, spelled_few}
 
@@ -43,47 +31,10 @@ no_limit total rest end (line ∷ lines) next behind some is which =
     let e : Line line behind.0 ≡ next = sym behind.1 ∙ is in
     elim which [ inl l ↦ (let f = e ∙ l in cc f) | inr i ↦ (let f = e ∙ i in cc f) ]
 
--- ---- the numbers of a script's writes and versions are no more than its events
-
-module _ (script : List Event) (few : length script ≤ MOST_LINES) where
-  no_number : (client table : ℕ) (row : List ℕ) (content : Content) (o : Option Client) → client_at (world_after script) client ≡ o
-      → SpendsNumber o table row content → ⊥
-  no_number client table row content None there spent = spent
-  no_number client table row content (Some node) there spent = let last = spent.1 in omega (arith, last, last_few script client node there, few)
-
-  no_version : (packet : Packet) (o : Option (List Stored)) → stored_at (world_after script) (table_in packet.message) ≡ o → SpendsVersion o packet → ⊥
-  no_version packet None there spent = spent
-  no_version packet (Some stored) there spent =
-      let held : length stored ≤ length script =
-      subst (λ (o : Option (List Stored)). length (stored_or_none o) ≤ length script) there (stored_few script (table_in packet.message)) in
-      omega (arith, spent, store_few (table_in packet.message) stored packet.message, held, few)
-
-  no_packet_at : (packet : Packet) (to : Node) → SpendsAt (world_after script) packet to → ⊥
-  no_packet_at packet (nodes.Store store) spent = no_version packet (stored_at (world_after script) (table_in packet.message)) refl spent
-  no_packet_at packet (nodes.Client client) spent = spent
-  no_packet_at packet (nodes.Gate gate) spent = spent
-
-  no_packet : (o : Option Packet) → SpendsPacket (world_after script) o → ⊥
-  no_packet None spent = spent
-  no_packet (Some packet) spent = no_packet_at packet packet.to spent
-
-  pub not_spent : (event : Event) → Spends (world_after script) event → ⊥
-  not_spent (events.Write client table row content) spent = no_number client table row content (client_at (world_after script) client) refl spent
-  not_spent (events.Deliver packet) spent = no_packet (slice_get (world_after script).packets packet) spent
-  not_spent (events.Store store) spent = spent
-  not_spent (events.Table table schema) spent = spent
-  not_spent (events.Client client gate tables) spent = spent
-  not_spent (events.Show client table row) spent = spent
-  not_spent (events.Sum client table row) spent = spent
-  not_spent (events.Sync client table) spent = spent
-  not_spent (events.Pull client table) spent = spent
-  not_spent (events.StoreShow table row) spent = spent
-  not_spent (events.History table) spent = spent
+-- ---- no event is one too many
 
 pub front_few : (input : List ℕ) (script : List Event) (count : ℕ) (names : Names) (rest : List ℕ) → IsFront input script count names rest → length script ≤ MOST_LINES
 front_few input script count names rest front = omega (arith, spelled_few no_names front.lines script names front.spelled, front.counted, front.few)
-
--- ---- nor does an event name a row too many
 
 -- the event that the line behind a front spells is the next of a longer one
 pub event_next : Grammar → (total : ℕ) (names after : Names) (rest end : List ℕ) (lines : List (List ℕ)) (script : List Event) (line left : List ℕ) (event : Event)

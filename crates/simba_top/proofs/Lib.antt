@@ -1,10 +1,12 @@
 pub mod RowNames
+pub mod Events
 pub mod Fronts
 pub mod Grammars
 pub mod Complete
 pub mod OneEnd
 pub mod Puts
 pub mod Sounds
+pub mod Counts
 pub mod Turns
 pub mod Endings
 pub mod Statuses

@@ -1,21 +1,18 @@
 -- An input has one end: a line that is bad, or that passes a limit, is the last that any run over it comes to.
-use Rattle.std.proofs.Common.{◌≡◌, ◌⊎◌, ℕ, ◌+◌, ◌-◌, ◌<◌, ◌≤◌, List, [], ◌∷◌, ◌++◌, length, refl, sym, ap, subst, ◌∙◌, inl, inr, append-nil, length-append, arith}
+use Rattle.std.proofs.Common.{◌≡◌, ◌⊎◌, ℕ, ◌-◌, ◌<◌, ◌≤◌, List, [], ◌∷◌, ◌++◌, length, refl, sym, ap, subst, ◌∙◌, inl, inr, append-nil, length-append, arith}
 use Rattle.std.proofs.lemmas.Bool.{cases_lt}
 use Rattle.table_model.specs.declared.event.Event.{Event}
-use Rattle.memory_runs.specs.Turns.{world_after}
-use Rattle.world_steps.specs.Holds.{Spends}
 use Rattle.stab_io.specs.declared.limits.TheConstants.{INPUT_LIMIT}
 use Rattle.stab_io.specs.Lines.{Next, Line, LineTooLong, InputTooLong}
 use Rattle.script_text.specs.declared.fault.BadLine.{BadLine}
 use Rattle.script_text.specs.Names.{Names}
-use Rattle.script_text.specs.Grammar.{IsPassed, Spells, IsFault, PassesLimit}
+use Rattle.script_text.specs.Grammar.{Spells, IsFault, PassesLimit}
 use Rattle.simba_top.specs.declared.run.TheConstants.{MOST_LINES}
-use Rattle.simba_top.specs.declared.row_names.TheConstants.{MOST_ROWS}
-use Rattle.simba_top.specs.RowNames.{rows_named, FewRows, NamesTooMany}
+use Rattle.simba_top.specs.RowNames.{NamesTooMany}
 use Rattle.simba_top.specs.Script.{next_in, Behind, Spelled, IsFront, IsWhole}
 use Rattle.simba_top.specs.Ends.{IsBadAt, IsLimitAt, Passes}
 use Rattle.simba_top.proofs.Fronts.{Grammar, Rest, rest_of_fronts, front_fits, none_is_end, not_end}
-use Rattle.simba_top.proofs.Complete.{line_apart, no_limit, not_spent, front_few, event_next, not_too_many}
+use Rattle.simba_top.proofs.Complete.{line_apart, no_limit, event_next, not_too_many}
 
 -- the lines behind a front, where a longer one has some
 some_lines : {total : ℕ} {names : Names} {front all : List (List ℕ)} {script whole : List Event} {bytes end : List ℕ} {after : Names}
@@ -52,11 +49,10 @@ module _ (grammar : Grammar) (input : List ℕ) (script whole : List Event) (cou
         | inl p ↦ no_limit (length input) at.rest end rest.lines InputTooLong rest.behind lines p.1 (inr refl)
         | inr (inl p) ↦ (let most = p.1 in let few = all.few in omega (arith, longer, most, few))
         | inr (inr (inl p)) ↦ no_limit (length input) at.rest end rest.lines LineTooLong rest.behind lines p.2 (inl refl)
-        | inr (inr (inr (inl p))) ↦ not_spent script (front_few input script count at.names at.rest at.front) p.2.2 p.2.6
-        | inr (inr (inr (inr (inl p)))) ↦
+        | inr (inr (inr (inl p))) ↦
             (let next = event_next grammar (length input) at.names names' at.rest end rest.lines rest.events p.2.0 p.2.1 p.2.2 rest.behind rest.spelled lines p.2.3 p.2.4 in
             not_too_many script whole next.0 p.2.2 (rest.grows ∙ ap (λ (events : List Event). script ++ events) next.1) all.rows p.2.5)
-        | inr (inr (inr (inr (inr p)))) ↦
+        | inr (inr (inr (inr p))) ↦
             line_apart (λ names line. PassesLimit names line limit) (λ names line. grammar.passed_limit names line limit)
             (λ names line event. grammar.spells_limit names line event limit)
             (length input) at.names names' at.rest end rest.lines rest.events p.1.0 p.1.1 rest.behind rest.spelled lines p.1.2 p.1.3
@@ -99,9 +95,7 @@ module _ (grammar : Grammar) (input : List ℕ) (script : List Event) (count : �
   -- a limit that the next line passes, once it is read
   abbrev pub OfLine : ℕ → Type 0
   OfLine limit = (count < MOST_LINES) × ((line : List ℕ) × (left : List ℕ) × (next_in (length input) rest ≡ Line line left)
-      × (((limit ≡ 11) × ((event : Event) × Spells names line event × FewRows (script ++ event ∷ []) × Spends (world_after script) event))
-      ⊎ (((limit ≡ 9) × ((event : Event) × Spells names line event × NamesTooMany script event))
-      ⊎ PassesLimit names line limit)))
+      × (((limit ≡ 9) × ((event : Event) × Spells names line event × NamesTooMany script event)) ⊎ PassesLimit names line limit))
 
   -- the four causes of a limit
   abbrev pub Causes : ℕ → Type 0
@@ -115,34 +109,18 @@ module _ (grammar : Grammar) (input : List ℕ) (script : List Event) (count : �
   causes limit (inl p) = inl p
   causes limit (inr (inl p)) = inr (inl (p.0, p.1, p.3))
   causes limit (inr (inr (inl p))) = inr (inr (inl p))
-  causes limit (inr (inr (inr (inl p)))) = inr (inr (inr (p.1, (p.2.0, p.2.1, p.2.3, inl (p.0, (p.2.2, p.2.4, p.2.5, p.2.6))))))
-  causes limit (inr (inr (inr (inr (inl p))))) = inr (inr (inr (p.1, (p.2.0, p.2.1, p.2.3, inr (inl (p.0, (p.2.2, p.2.4, p.2.5)))))))
-  causes limit (inr (inr (inr (inr (inr p))))) = inr (inr (inr (p.0, (p.1.0, p.1.1, p.1.2, inr (inr p.1.3)))))
-
-  few_and_many : (one other : Event) → one ≡ other → FewRows (script ++ one ∷ []) → NamesTooMany script other → ⊥
-  few_and_many one other is few many =
-      let fits = few many.0 in
-      let more = subst (λ (e : Event). MOST_ROWS < length (rows_named many.0 (script ++ e ∷ []))) (sym is) many.1 in
-      omega (arith, fits, more)
+  causes limit (inr (inr (inr (inl p)))) = inr (inr (inr (p.1, (p.2.0, p.2.1, p.2.3, inl (p.0, (p.2.2, p.2.4, p.2.5))))))
+  causes limit (inr (inr (inr (inr p)))) = inr (inr (inr (p.0, (p.1.0, p.1.1, p.1.2, inr p.1.3))))
 
   -- of one line
   of_line : (line : List ℕ) (l m : ℕ)
-      → ((l ≡ 11) × ((event : Event) × Spells names line event × FewRows (script ++ event ∷ []) × Spends (world_after script) event))
-      ⊎ (((l ≡ 9) × ((event : Event) × Spells names line event × NamesTooMany script event)) ⊎ PassesLimit names line l)
-      → ((m ≡ 11) × ((event : Event) × Spells names line event × FewRows (script ++ event ∷ []) × Spends (world_after script) event))
-      ⊎ (((m ≡ 9) × ((event : Event) × Spells names line event × NamesTooMany script event)) ⊎ PassesLimit names line m)
+      → ((l ≡ 9) × ((event : Event) × Spells names line event × NamesTooMany script event)) ⊎ PassesLimit names line l
+      → ((m ≡ 9) × ((event : Event) × Spells names line event × NamesTooMany script event)) ⊎ PassesLimit names line m
       → l ≡ m
   of_line line l m (inl p) (inl q) = p.0 ∙ sym q.0
-  of_line line l m (inl p) (inr (inl q)) =
-      absurd (few_and_many p.1.0 q.1.0 (grammar.one_event names line p.1.0 q.1.0 p.1.1 q.1.1) p.1.2 q.1.2)
-  of_line line l m (inl p) (inr (inr q)) = absurd (grammar.spells_limit names line p.1.0 m p.1.1 q)
-  of_line line l m (inr (inl p)) (inl q) =
-      absurd (few_and_many q.1.0 p.1.0 (grammar.one_event names line q.1.0 p.1.0 q.1.1 p.1.1) q.1.2 p.1.2)
-  of_line line l m (inr (inl p)) (inr (inl q)) = p.0 ∙ sym q.0
-  of_line line l m (inr (inl p)) (inr (inr q)) = absurd (grammar.spells_limit names line p.1.0 m p.1.1 q)
-  of_line line l m (inr (inr p)) (inl q) = absurd (grammar.spells_limit names line q.1.0 l q.1.1 p)
-  of_line line l m (inr (inr p)) (inr (inl q)) = absurd (grammar.spells_limit names line q.1.0 l q.1.1 p)
-  of_line line l m (inr (inr p)) (inr (inr q)) = grammar.one_limit names line l m p q
+  of_line line l m (inl p) (inr q) = absurd (grammar.spells_limit names line p.1.0 m p.1.1 q)
+  of_line line l m (inr p) (inl q) = absurd (grammar.spells_limit names line q.1.0 l q.1.1 p)
+  of_line line l m (inr p) (inr q) = grammar.one_limit names line l m p q
 
   one_cause : (l m : ℕ) → Causes l → Causes m → l ≡ m
   one_cause l m (inl p) (inl q) = p.0 ∙ sym q.0
@@ -171,8 +149,7 @@ module _ (grammar : Grammar) (input : List ℕ) (script : List Event) (count : �
   one_cause l m (inr (inr (inr p))) (inr (inr (inr q))) =
       let same : p.1.0 ≡ q.1.0 = next_line p.1.0 p.1.1 q.1.0 q.1.1 (next_in (length input) rest) p.1.2 q.1.2 in
       of_line q.1.0 l m
-      (subst (λ (line : List ℕ). ((l ≡ 11) × ((event : Event) × Spells names line event × FewRows (script ++ event ∷ []) × Spends (world_after script) event))
-      ⊎ (((l ≡ 9) × ((event : Event) × Spells names line event × NamesTooMany script event)) ⊎ PassesLimit names line l)) same p.1.3) q.1.3
+      (subst (λ (line : List ℕ). ((l ≡ 9) × ((event : Event) × Spells names line event × NamesTooMany script event)) ⊎ PassesLimit names line l) same p.1.3) q.1.3
 
   pub one_passes : (l m : ℕ) → Passes input script count names rest l → Passes input script count names rest m → l ≡ m
   one_passes l m p q = one_cause l m (causes l p) (causes m q)
@@ -186,12 +163,10 @@ module _ (grammar : Grammar) (input : List ℕ) (script : List Event) (count : �
   bad_passes fault line left few next bad limit (inr (inr (inr p))) =
       of_bad p.1.3 (subst (λ (l : List ℕ). IsFault names l fault) (next_line line left p.1.0 p.1.1 (next_in (length input) rest) next p.1.2) bad)
     where
-      of_bad : ((limit ≡ 11) × ((event : Event) × Spells names p.1.0 event × FewRows (script ++ event ∷ []) × Spends (world_after script) event))
-          ⊎ (((limit ≡ 9) × ((event : Event) × Spells names p.1.0 event × NamesTooMany script event)) ⊎ PassesLimit names p.1.0 limit)
+      of_bad : ((limit ≡ 9) × ((event : Event) × Spells names p.1.0 event × NamesTooMany script event)) ⊎ PassesLimit names p.1.0 limit
           → IsFault names p.1.0 fault → ⊥
       of_bad (inl x) here = grammar.fault_spells names p.1.0 x.1.0 fault x.1.1 here
-      of_bad (inr (inl x)) here = grammar.fault_spells names p.1.0 x.1.0 fault x.1.1 here
-      of_bad (inr (inr x)) here = grammar.fault_limit names p.1.0 fault limit here x
+      of_bad (inr x) here = grammar.fault_limit names p.1.0 fault limit here x
 
 -- ---- ends of one input
 
@@ -212,8 +187,7 @@ module _ (grammar : Grammar) (input : List ℕ) where
         | inr (inl p) ↦ (let some = p.2 in omega (arith, some))
         | inr (inr (inl p)) ↦ (let e = sym end ∙ p.2 in cc e)
         | inr (inr (inr (inl p))) ↦ not_end (length input) p.2.0 p.2.1 p.2.3
-        | inr (inr (inr (inr (inl p)))) ↦ not_end (length input) p.2.0 p.2.1 p.2.3
-        | inr (inr (inr (inr (inr p)))) ↦ not_end (length input) p.1.0 p.1.1 p.1.2
+        | inr (inr (inr (inr p))) ↦ not_end (length input) p.1.0 p.1.1 p.1.2
       ]
 
   pub not_limit : (script whole : List Event) (count limit : ℕ) → IsLimitAt input script count limit → IsWhole input whole → ⊥

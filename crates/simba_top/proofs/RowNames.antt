@@ -1,5 +1,5 @@
 -- The rows that a script names, with those of one event more.
-use Rattle.std.proofs.Common.{◌≡◌, ℕ, ◌+◌, ◌<◌, ◌≤◌, Bool, true, false, eqb, cond, List, [], ◌∷◌, ◌++◌, length, Option, Some, None, Result, Ok, Err, refl, sym, ap, subst, ◌∙◌, inl, inr, arith}
+use Rattle.std.proofs.Common.{◌≡◌, ℕ, ◌<◌, ◌≤◌, Bool, true, false, eqb, cond, List, [], ◌∷◌, ◌++◌, length, Option, Some, None, Result, Ok, Err, refl, sym, ap, subst, ◌∙◌, inl, inr, arith}
 use Rattle.std.specs.Prelude.{◌⊎◌, OnOk, IfErr}
 use Rattle.std.specs.declared.cmp.Ordering.{Ordering}
 use Rattle.std.specs.declared.cmp.Ordering.TheVariants.{Less, Equal, Greater}
@@ -12,7 +12,7 @@ use Rattle.simba_top.specs.declared.row_names.RowNames.{RowNames}
 use Rattle.simba_top.specs.declared.row_names.TheConstants.{MOST_ROWS}
 use Rattle.simba_top.specs.declared.stop.Stop.{Stop}
 use Rattle.simba_top.specs.declared.stop.Stop.TheVariants.{Memory, Limit}
-use Rattle.simba_top.specs.RowNames.{row_in, with_row, rows_after, rows_named, rows_in, HasRows, FewRows, NamesTooMany, IsRowCause}
+use Rattle.simba_top.specs.RowNames.{row_in, with_row, rows_after, rows_named, rows_in, HasRows, FewRows, IsRowCause}
 
 rows_after-push : (table : ℕ) (rows : List (List ℕ)) (script : List Event) (event : Event)
     → rows_after table rows (script ++ event ∷ []) ≡ with_row (row_in event) table (rows_after table rows script)

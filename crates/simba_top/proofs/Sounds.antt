@@ -1,37 +1,97 @@
--- The transcript of a script that lines spell is sound.
-use Rattle.std.proofs.Common.{◌≡◌, ◌⊎◌, ℕ, List, [], ◌∷◌, refl, subst, sym, inl, inr}
+-- What leads to a world is a run of its script, and goes on by one event.
+use Rattle.std.proofs.Common.{◌≡◌, ℕ, Bool, List, [], ◌∷◌, ◌++◌, length, map, refl, sym, ap, subst, ◌∙◌, append-nil, append_assoc}
+use Rattle.std.proofs.lemmas.List.{map-append, length-map}
 use Rattle.std.specs.List.{AllByRecursion}
+use Rattle.disk_trait.specs.Calls.{DiskState}
 use Rattle.table_model.specs.declared.event.Event.{Event}
-use Rattle.table_model.specs.declared.event.Event.TheVariants as events
-use Rattle.memory_laws.specs.Lift.{IsEventual}
-use Rattle.memory_laws.proofs.Runs.{runs_are, sound}
-use Rattle.script_text.specs.Names.{Names, no_names, with_event}
-use Rattle.script_text.specs.Grammar.{SpelledBy, Spells}
-use Rattle.simba_top.specs.Script.{Spelled, IsFront}
-use Rattle.simba_top.specs.Ends.{IsSoundRun}
+use Rattle.table_model.specs.declared.line.TextLine.{TextLine}
+use Rattle.step_tables.specs.Facts.{Line}
+use Rattle.step_tables.specs.Lines.{line_of}
+use Rattle.world_tables.specs.World.{start, step, lines_of}
+use Rattle.world_tables.specs.World as moves
+use Rattle.world_tables.specs.Turns.{Happening, turns_from, turns, world_from, transcript_of}
+use Rattle.client_laws.proofs.Law.{client_law}
+use Rattle.client_laws.proofs.Grows.{client_grows, lapsed_grows}
+use Rattle.world_laws.proofs.Runs.{all_runs}
+use Rattle.world_laws.proofs.Fresh.{fresh_part}
+use Rattle.name_laws.proofs.Runs.{all_listed}
+use Rattle.world_steps.specs.declared.world.World.{World}
+use Rattle.world_steps.specs.Holds.{Holds, IsBuilt, IsReached, IsWorld, AreOut}
+use Rattle.world_steps.specs.Steps.{IsStep}
+use Rattle.simba_top.specs.Ends.{IsRun}
+use Rattle.simba_top.specs.Stands.{Leads}
 
--- a table that a line declares is eventual
-spelled_eventual : (names : Names) (words : List (List ℕ)) (event : Event) → SpelledBy names words event → IsEventual event
-spelled_eventual names words (events.Table table schema) s = s.2
-spelled_eventual names words (events.Store store) s = tt
-spelled_eventual names words (events.Client client gate tables) s = tt
-spelled_eventual names words (events.Write client table row content) s = tt
-spelled_eventual names words (events.Show client table row) s = tt
-spelled_eventual names words (events.Sum client table row) s = tt
-spelled_eventual names words (events.Sync client table) s = tt
-spelled_eventual names words (events.Pull client table) s = tt
-spelled_eventual names words (events.Deliver packet) s = tt
-spelled_eventual names words (events.StoreShow table row) s = tt
-spelled_eventual names words (events.History table) s = tt
+-- ---- one event more
 
-all_eventual : (names : Names) (lines : List (List ℕ)) (script : List Event) (after : Names) → Spelled names lines script after → AllByRecursion IsEventual script
-all_eventual names [] script after s = subst (λ (es : List Event). AllByRecursion IsEventual es) (sym s.0) tt
-all_eventual names (line ∷ lines) script after (inl s) = all_eventual names lines script after s.1
-all_eventual names (line ∷ lines) script after (inr s) =
-    subst (λ (es : List Event). AllByRecursion IsEventual es) (sym s.2)
-    (spelled_eventual names _ s.0 s.3.2, all_eventual (with_event names s.0) lines s.1 after s.4)
+module _ (h : Happening) where
+  pub world_from-push : (w : moves.World) (run : List Happening)
+      → world_from w (run ++ h ∷ []) ≡ (step (world_from w run) h.event h.lucks).world
+  world_from-push w [] = refl
+  world_from-push w (first ∷ run) = world_from-push (step w first.event first.lucks).world run
 
-pub sound_run : (input : List ℕ) (script : List Event) (count : ℕ) (names : Names) (rest : List ℕ) → IsFront input script count names rest → IsSoundRun script
-sound_run input script count names rest front =
-    let eventual : AllByRecursion IsEventual script = all_eventual no_names front.lines script names front.spelled in
-    record { run = runs_are script eventual; sound = sound script eventual }
+  pub transcript-push : (w : moves.World) (run : List Happening) → transcript_of (turns_from w (run ++ h ∷ []))
+      ≡ transcript_of (turns_from w run) ++ lines_of (world_from w run) (step (world_from w run) h.event h.lucks)
+  transcript-push w [] = append-nil (lines_of w (step w h.event h.lucks))
+  transcript-push w (first ∷ run) =
+      let s = step w first.event first.lucks in
+      let last = lines_of (world_from s.world run) (step (world_from s.world run) h.event h.lucks) in
+      ap (λ (lines : List Line). lines_of w s ++ lines) (transcript-push s.world run)
+      ∙ sym (append_assoc (lines_of w s) (transcript_of (turns_from s.world run)) last)
+
+all-push : {X : Type 0} (P : X → Type 0) (xs : List X) (x : X) → AllByRecursion P xs → P x → AllByRecursion P (xs ++ x ∷ [])
+all-push P [] x all here = (here, tt)
+all-push P (first ∷ xs) x all here = (all.0, all-push P xs x all.1 here)
+
+module _ {D : Type 0} (state : D → DiskState) (script : List Event) (told : List TextLine) (world : World D) (is_out : ℕ → Bool)
+    (leads : Leads state script told world is_out) where
+  pub is_run : IsRun script told
+  is_run = record {
+    run = leads.run;
+    events = leads.events;
+    lines_are = leads.lines_are;
+    sound = all_runs client_law client_grows lapsed_grows fresh_part leads.run;
+    listed = all_listed leads.run;
+  }
+
+  pub as_many : length leads.run ≡ length script
+  as_many = sym (length-map leads.run (λ (h : Happening). h.event)) ∙ ap (λ (es : List Event). length es) leads.events
+
+  pub reached : IsReached (world_from start leads.run)
+  reached = record { run = leads.run; built = leads.built; is = refl }
+
+  pub is_world : IsWorld state is_out world
+  is_world = record { w = world_from start leads.run; reached = reached; held = leads.held; out = leads.out }
+
+  pub leads_on : (event : Event) (lines : List TextLine) (new : World D) (out : ℕ → Bool) → IsBuilt event
+      → IsStep state (world_from start leads.run) event lines out new → Leads state (script ++ event ∷ []) (told ++ lines) new out
+  leads_on event lines new out built s =
+      let h : Happening = record { event = event; lucks = s.lucks } in
+      let behind : world_from start (leads.run ++ h ∷ []) ≡ (step (world_from start leads.run) event s.lucks).world =
+      world_from-push h start leads.run in
+      record {
+        run = leads.run ++ h ∷ [];
+        events = map-append (λ (x : Happening). x.event) leads.run (h ∷ []) ∙ ap (λ (es : List Event). es ++ event ∷ []) leads.events;
+        lines_are = map-append line_of told lines
+            ∙ ap (λ (ls : List Line). ls ++ map line_of lines) leads.lines_are
+            ∙ ap (λ (ls : List Line). transcript_of (turns leads.run) ++ ls) s.lines_are
+            ∙ sym (transcript-push h start leads.run);
+        built = all-push (λ (x : Happening). IsBuilt x.event) leads.run h leads.built built;
+        held = subst (λ (w : moves.World). Holds state w new) (sym behind) s.held;
+        out = subst (λ (w : moves.World). AreOut out w) (sym behind) s.out;
+      }
+
+-- the world stands where a script has led, also behind one event more
+pub world_on : {D : Type 0} (state : D → DiskState) (is_out out : ℕ → Bool) (world new : World D) (event : Event) (lines : List TextLine)
+    → (old : IsWorld state is_out world) → IsBuilt event → IsStep state old.w event lines out new → IsWorld state out new
+world_on state is_out out world new event lines old built s =
+    let h : Happening = record { event = event; lucks = s.lucks } in
+    record {
+      w = (step old.w event s.lucks).world;
+      reached = record {
+        run = old.reached.run ++ h ∷ [];
+        built = all-push (λ (x : Happening). IsBuilt x.event) old.reached.run h old.reached.built built;
+        is = ap (λ (w : moves.World). (step w event s.lucks).world) old.reached.is ∙ sym (world_from-push h start old.reached.run);
+      };
+      held = s.held;
+      out = s.out;
+    }

@@ -1,18 +1,17 @@
 -- What the status of a run says.
-use Rattle.std.proofs.Common.{◌≡◌, ◌⊎◌, ℕ, ◌+◌, ◌-◌, ◌^◌, ◌<◌, List, [], ◌++◌, Option, Some, None, Result, Ok, Err, refl, subst, inl, inr, arith}
+use Rattle.std.proofs.Common.{◌≡◌, ◌⊎◌, ℕ, ◌+◌, ◌-◌, ◌^◌, ◌<◌, List, Option, Some, None, Result, Ok, Err, refl, subst, inl, inr, arith}
 use Rattle.std.specs.Prelude.{IfSome, OnOk, IfErr, MatchResult}
 use Rattle.std.specs.Io.KnownBytes.{IsAtEnd}
 use Rattle.table_model.specs.declared.event.Event.{Event}
-use Rattle.simba_top.proofs.Sounds.{sound_run}
 use Rattle.stab_io.specs.Faults.{Rose}
 use Rattle.script_text.specs.declared.fault.BadLine.{BadLine as ABadLine}
 use Rattle.script_text.specs.Names.{Names}
 use Rattle.simba_top.specs.declared.stop.Stop.{Stop}
-use Rattle.simba_top.specs.declared.stop.Stop.TheVariants.{Read, Put, Memory, BadLine, Limit}
+use Rattle.simba_top.specs.declared.stop.Stop.TheVariants.{Read, Put, Depot, Memory, BadLine, Limit}
 use Rattle.simba_top.specs.Script.{IsFront, IsWhole}
 use Rattle.simba_top.specs.Ends.{IsBadAt, IsLimitAt, IsCutOff, Tells, TellsStop}
 use Rattle.simba_top.specs.Stops.{status_of}
-use Rattle.simba_top.specs.Stands.{Stopped, IsDone, CountsReads, CountsPuts}
+use Rattle.simba_top.specs.Stands.{Stopped, IsDone, CountsReads, CountsPuts, CountsDepots}
 use Rattle.simba_top.proofs.Fronts.{Grammar}
 use Rattle.simba_top.proofs.OneEnd.{not_bad, not_limit}
 
@@ -24,26 +23,24 @@ unrisen : (count : ℕ) → Rose count count → count < 2 ^ 64 - 1 → ⊥
 unrisen count rose below = let h = rose.1 in omega arith
 
 -- the outcome of a run, of the bytes left and the bytes held, and of the counts of faults, before and after
-pub record Outcome (left left' held held' : Option (List ℕ)) (reads reads' puts puts' : ℕ) (ended : Result (Unit {0}) Stop) : Type 0 where
+pub record Outcome (left left' held held' : Option (List ℕ)) (reads reads' puts puts' depots depots' : ℕ) (ended : Result (Unit {0}) Stop) : Type 0 where
   pub end : OnOk ended (IsAtEnd left')
   pub done : OnOk ended (IfSome left (λ input. IsDone input held held'))
   pub stopped : IfErr ended (λ stop. IfSome left (λ input. Stopped stop input left' held held'))
   pub reads_counted : MatchResult ended (λ _. reads' ≡ reads) (λ stop. CountsReads stop reads reads')
   pub puts_counted : MatchResult ended (λ _. puts' ≡ puts) (λ stop. CountsPuts stop puts puts')
+  pub depots_counted : MatchResult ended (λ _. depots' ≡ depots) (λ stop. CountsDepots stop depots depots')
 
-module _ (left left' held held' : Option (List ℕ)) (reads reads' puts puts' : ℕ) where
+module _ (left left' held held' : Option (List ℕ)) (reads reads' puts puts' depots depots' : ℕ) where
   abbrev Came : Result (Unit {0}) Stop → Type 0
-  Came ended = Outcome left left' held held' reads reads' puts puts' ended
+  Came ended = Outcome left left' held held' reads reads' puts puts' depots depots' ended
 
   pub done : (ended : Result (Unit {0}) Stop) → Came ended → status_of ended ≡ 0
       → IsAtEnd left' × IfSome left (λ input. (script : List Event) × IsWhole input script × Tells script held held')
-  done (Ok over) came is = (
-    came.end,
-    if_some_map (λ input. IsDone input held held') (λ input. (script : List Event) × IsWhole input script × Tells script held held') left
-        (λ input is. (is.0, is.1, (sound_run input is.0 is.1.0 is.1.1 [] is.1.2, is.2))) came.done,
-  )
+  done (Ok over) came is = (came.end, came.done)
   done (Err Read) came is = absurd (omega arith)
   done (Err Put) came is = absurd (omega arith)
+  done (Err Depot) came is = absurd (omega arith)
   done (Err Memory) came is = absurd (omega arith)
   done (Err (BadLine fault)) came is = absurd (omega arith)
   done (Err (Limit limit)) came is = absurd (omega arith)
@@ -55,10 +52,11 @@ module _ (left left' held held' : Option (List ℕ)) (reads reads' puts puts' : 
   pub bad_line : (ended : Result (Unit {0}) Stop) → Came ended → status_of ended ≡ 3 → IfSome left BadLineOf
   bad_line (Err (BadLine fault)) came is =
       if_some_map (λ input. Stopped (BadLine fault) input left' held held') BadLineOf left
-      (λ input at. (at.0, at.1, fault, at.2, (sound_run input at.0 at.1 at.2.names at.2.rest at.2.front, at.3))) came.stopped
+      (λ input at. (at.0, at.1, fault, at.2, at.3)) came.stopped
   bad_line (Ok over) came is = absurd (omega arith)
   bad_line (Err Read) came is = absurd (omega arith)
   bad_line (Err Put) came is = absurd (omega arith)
+  bad_line (Err Depot) came is = absurd (omega arith)
   bad_line (Err Memory) came is = absurd (omega arith)
   bad_line (Err (Limit limit)) came is = absurd (omega arith)
 
@@ -69,10 +67,11 @@ module _ (left left' held held' : Option (List ℕ)) (reads reads' puts puts' : 
   pub limit_passed : (ended : Result (Unit {0}) Stop) → Came ended → status_of ended ≡ 7 → IfSome left LimitOf
   limit_passed (Err (Limit limit)) came is =
       if_some_map (λ input. Stopped (Limit limit) input left' held held') LimitOf left
-      (λ input at. (at.0, at.1, limit, at.2, (sound_run input at.0 at.1 at.2.names at.2.rest at.2.front, at.3))) came.stopped
+      (λ input at. (at.0, at.1, limit, at.2, at.3)) came.stopped
   limit_passed (Ok over) came is = absurd (omega arith)
   limit_passed (Err Read) came is = absurd (omega arith)
   limit_passed (Err Put) came is = absurd (omega arith)
+  limit_passed (Err Depot) came is = absurd (omega arith)
   limit_passed (Err Memory) came is = absurd (omega arith)
   limit_passed (Err (BadLine fault)) came is = absurd (omega arith)
 
@@ -84,10 +83,11 @@ module _ (left left' held held' : Option (List ℕ)) (reads reads' puts puts' : 
   read (Err Read) came is = (
     came.reads_counted,
     if_some_map (λ input. Stopped Read input left' held held') (λ input. IfSome left' (CutOff input)) left
-        (λ input at. if_some_map (λ bytes. IsCutOff input at.0 bytes) (CutOff input) left' (λ bytes cut. (at.0, cut, (sound_run input at.0 cut.count cut.names (cut.held ++ bytes) cut.front, at.2))) at.1) came.stopped,
+        (λ input at. if_some_map (λ bytes. IsCutOff input at.0 bytes) (CutOff input) left' (λ bytes cut. (at.0, cut, at.2)) at.1) came.stopped,
   )
   read (Ok over) came is = absurd (omega arith)
   read (Err Put) came is = absurd (omega arith)
+  read (Err Depot) came is = absurd (omega arith)
   read (Err Memory) came is = absurd (omega arith)
   read (Err (BadLine fault)) came is = absurd (omega arith)
   read (Err (Limit limit)) came is = absurd (omega arith)
@@ -98,31 +98,47 @@ module _ (left left' held held' : Option (List ℕ)) (reads reads' puts puts' : 
   pub memory : (ended : Result (Unit {0}) Stop) → Came ended → status_of ended ≡ 6 → IfSome left NoMemory
   memory (Err Memory) came is =
       if_some_map (λ input. Stopped Memory input left' held held') NoMemory left
-      (λ input at. (at.1.0, at.0, at.1.1.0, at.1.1.1, at.1.1.2, (sound_run input at.1.0 at.0 at.1.1.0 at.1.1.1 at.1.1.2, at.1.2))) came.stopped
+      (λ input at. (at.1.0, at.0, at.1.1.0, at.1.1.1, at.1.1.2, at.1.2)) came.stopped
   memory (Ok over) came is = absurd (omega arith)
+  memory (Err Depot) came is = absurd (omega arith)
   memory (Err Read) came is = absurd (omega arith)
   memory (Err Put) came is = absurd (omega arith)
   memory (Err (BadLine fault)) came is = absurd (omega arith)
   memory (Err (Limit limit)) came is = absurd (omega arith)
 
+  pub depot : (ended : Result (Unit {0}) Stop) → Came ended → status_of ended ≡ 8 → (depots < depots') × IfSome left NoMemory
+  depot (Err Depot) came is = (
+    came.depots_counted,
+    if_some_map (λ input. Stopped Depot input left' held held') NoMemory left
+        (λ input at. (at.1.0, at.0, at.1.1.0, at.1.1.1, at.1.1.2, at.1.2)) came.stopped,
+  )
+  depot (Ok over) came is = absurd (omega arith)
+  depot (Err Read) came is = absurd (omega arith)
+  depot (Err Put) came is = absurd (omega arith)
+  depot (Err Memory) came is = absurd (omega arith)
+  depot (Err (BadLine fault)) came is = absurd (omega arith)
+  depot (Err (Limit limit)) came is = absurd (omega arith)
+
   -- where the whole input spells a script and no fault came
   abbrev Completes : ℕ → List ℕ → Type 0
   Completes status input = (script : List Event) → IsWhole input script
-      → reads' ≡ reads → reads < 2 ^ 64 - 1 → puts' ≡ puts → puts < 2 ^ 64 - 1 → (status ≡ 0) ⊎ (status ≡ 6)
+      → reads' ≡ reads → reads < 2 ^ 64 - 1 → puts' ≡ puts → puts < 2 ^ 64 - 1 → depots' ≡ depots → (status ≡ 0) ⊎ (status ≡ 6)
 
   given : (P : List ℕ → Type 0) → ((input : List ℕ) → P input) → IfSome left P
   given P f = elim left as (λ (o : Option (List ℕ)). IfSome o P) [ None ↦ tt | Some input ↦ f input ]
 
   pub complete : Grammar → (ended : Result (Unit {0}) Stop) → Came ended → IfSome left (Completes (status_of ended))
-  complete grammar (Ok over) came = given (Completes 0) (λ input script whole r rb p pb. inl refl)
-  complete grammar (Err Memory) came = given (Completes 6) (λ input script whole r rb p pb. inr refl)
+  complete grammar (Ok over) came = given (Completes 0) (λ input script whole r rb p pb d. inl refl)
+  complete grammar (Err Memory) came = given (Completes 6) (λ input script whole r rb p pb d. inr refl)
   complete grammar (Err Read) came =
-      given (Completes 4) (λ input script whole r rb p pb. absurd (unrisen reads (subst (Rose reads) r came.reads_counted) rb))
+      given (Completes 4) (λ input script whole r rb p pb d. absurd (unrisen reads (subst (Rose reads) r came.reads_counted) rb))
   complete grammar (Err Put) came =
-      given (Completes 5) (λ input script whole r rb p pb. absurd (unrisen puts (subst (Rose puts) p came.puts_counted) pb))
+      given (Completes 5) (λ input script whole r rb p pb d. absurd (unrisen puts (subst (Rose puts) p came.puts_counted) pb))
+  complete grammar (Err Depot) came =
+      given (Completes 8) (λ input script whole r rb p pb d. absurd (let rose = came.depots_counted in omega (arith, rose, d)))
   complete grammar (Err (BadLine fault)) came =
       if_some_map (λ input. Stopped (BadLine fault) input left' held held') (Completes 3) left
-      (λ input at script whole r rb p pb. absurd (not_bad grammar input at.0 script at.1 fault at.2 whole)) came.stopped
+      (λ input at script whole r rb p pb d. absurd (not_bad grammar input at.0 script at.1 fault at.2 whole)) came.stopped
   complete grammar (Err (Limit limit)) came =
       if_some_map (λ input. Stopped (Limit limit) input left' held held') (Completes 7) left
-      (λ input at script whole r rb p pb. absurd (not_limit grammar input at.0 script at.1 limit at.2 whole)) came.stopped
+      (λ input at script whole r rb p pb d. absurd (not_limit grammar input at.0 script at.1 limit at.2 whole)) came.stopped

@@ -1,6 +1,6 @@
 -- A run goes on by one line.
 use Rattle.std.proofs.Common.{◌≡◌, ◌⊎◌, inl, inr, ℕ, ◌+◌, ◌-◌, ◌<◌, ◌≤◌, lit≤, Bool, true, false, cond, List, [], ◌∷◌, ◌++◌, length, map, Option, Some, None, refl, sym, ap, subst, ◌∙◌, append-nil}
-use Rattle.std.proofs.Common.{arith}
+use Rattle.std.proofs.Common.{length-append, arith}
 use Rattle.std.specs.Prelude.{IfSome, IfNone, IsSomeAnd, MatchOption}
 use Rattle.std.specs.Global.{Vec}
 use Rattle.std.specs.List.{flat_map}
@@ -10,13 +10,13 @@ use Rattle.std.proofs.lemmas.Grind.{flat_map-append}
 use Rattle.std.proofs.lemmas.List.Folds.{flat_map-map}
 use Rattle.table_model.specs.declared.event.Event.{Event}
 use Rattle.table_model.specs.declared.line.TextLine.{TextLine}
-use Rattle.memory_runs.specs.World.{step}
-use Rattle.memory_runs.specs.Turns.{world_after, transcript}
-use Rattle.memory_runs.proofs.Runs.{world_after-push, transcript-push}
-use Rattle.stab_io.specs.Lines.{Line, End, LineTooLong, InputTooLong, next_of}
-use Rattle.stab_io.specs.Reading.{Reading, ahead, IsNextLine, ComesNext, CountsAll, IsFirstPast}
+use Rattle.disk_trait.specs.Calls.{DiskState}
+use Rattle.world_tables.specs.World.{start}
+use Rattle.world_tables.specs.Turns.{world_from}
+use Rattle.stab_io.specs.Lines.{Next, Line, End, LineTooLong, InputTooLong, next_of}
+use Rattle.stab_io.specs.Reading.{Reading, ahead, IsNextLine, ComesNext, CountsAll, IsFirstPast, IsUnfinished}
 use Rattle.stab_io.specs.declared.line_fault.LineFault.{LineFault}
-use Rattle.stab_io.specs.declared.line_fault.LineFault.TheVariants.{Read, InputLimit}
+use Rattle.stab_io.specs.declared.line_fault.LineFault.TheVariants.{Read, LineLimit, InputLimit, Memory as NoMemory}
 use Rattle.stab_io.proofs.NextLine.{no_room}
 use Rattle.stab_io.specs.declared.limits.Limits.{Limits}
 use Rattle.stab_io.specs.declared.limits.TheConstants.{LINE_LIMIT, INPUT_LIMIT}
@@ -27,19 +27,21 @@ use Rattle.simba_top.specs.declared.stop.Stop.{Stop}
 use Rattle.simba_top.specs.declared.stop.Stop.TheVariants as stops
 use Rattle.simba_top.specs.declared.turn.Run.{Run}
 use Rattle.simba_top.specs.declared.run.TheConstants.{MOST_LINES}
-use Rattle.world_steps.specs.Holds.{Holds}
-use Rattle.world_steps.specs.Holds.{IsCause as IsWorldCause}
+use Rattle.world_steps.specs.Holds.{Holds, IsBuilt}
+use Rattle.world_steps.specs.Steps.{IsStep, Spends}
 use Rattle.world_steps.specs.declared.fault.WorldFault.{WorldFault}
 use Rattle.world_steps.specs.declared.fault.WorldFault.TheVariants as world_faults
-use Rattle.memory_runs.specs.World as laws
 use Rattle.simba_top.specs.RowNames.{HasRows, FewRows, IsRowCause}
 use Rattle.simba_top.specs.declared.row_names.RowNames.{RowNames}
 use Rattle.simba_top.specs.Script.{next_in, IsFront, IsWhole}
 use Rattle.simba_top.specs.Stops.{of_line, of_world}
-use Rattle.simba_top.specs.Ends.{text_of_run, IsFull, IsLimitAt, IsCutOff}
-use Rattle.simba_top.specs.Stands.{IsReady, Stands, HasLine, GoesOn, IsCause}
+use Rattle.simba_top.specs.Ends.{IsFull, IsLimitAt, IsCutOff}
+use Rattle.simba_top.specs.Stands.{IsReady, Leads, Stands, HasLine, GoesOn, IsCause}
 use Rattle.world_steps.specs.declared.world.World.{World}
 use Rattle.simba_top.proofs.Fronts.{front_start, front_passed, front_event}
+use Rattle.simba_top.proofs.Sounds.{leads_on}
+use Rattle.simba_top.proofs.Complete.{front_few}
+use Rattle.simba_top.proofs.Counts.{not_spent}
 
 some_and : {X : Type 0} (o : Option X) (P : X → Type 0) → IsSomeAnd o P → (x : X) × (o ≡ Some x) × P x
 some_and None P h = absurd h
@@ -54,19 +56,26 @@ known None f = tt
 known (Some x) f = f x refl
 
 -- the run at its start
-pub stands_new : (input : List ℕ) (run : Run) → run.reader ≡ record { used = 0; held = []; stopped = None; limits = record { line = LINE_LIMIT; input = INPUT_LIMIT } }
-    → run.names ≡ no_names → run.count ≡ 0 → HasRows [] run.rows → Holds (world_after []) run.world → Stands input [] run (Some input)
-stands_new input run reader names count rows world = record {
+pub leads_new : {D : Type 0} (state : D → DiskState) (world : World D) (is_out : ℕ → Bool) → Holds state start world → ((k : ℕ) → is_out k ≡ false)
+    → Leads state [] [] world is_out
+leads_new state world is_out held none =
+    record { run = []; events = refl; lines_are = refl; built = tt; held = held; out = λ table k some few. none _ }
+
+pub stands_new : {D : Type 0} (state : D → DiskState) (input : List ℕ) (run : Run D) (is_out : ℕ → Bool)
+    → run.reader ≡ record { used = 0; held = []; stopped = None; limits = record { line = LINE_LIMIT; input = INPUT_LIMIT } }
+    → run.names ≡ no_names → run.count ≡ 0 → HasRows [] run.rows → Holds state start run.world → ((k : ℕ) → is_out k ≡ false)
+    → Stands state input [] [] run is_out (Some input)
+stands_new state input run is_out reader names count rows world none = record {
   rest = input;
   front = rw (names, count) (front_start input);
   here = ap (λ (r : Reading). ahead r (Some input)) reader;
   used = let e = ap (λ (r : Reading). r.used) reader in omega (arith, e);
-  world = world;
+  world = leads_new state run.world is_out world none;
   rows = rows;
 }
 
 -- what comes next in the input, as the reader sees it
-next_same : (input rest : List ℕ) (run : Run) → IsReady run → run.reader.used + length rest ≡ length input
+next_same : {D : Type 0} (input rest : List ℕ) (run : Run D) → IsReady run → run.reader.used + length rest ≡ length input
     → next_in (length input) rest ≡ next_of run.reader.limits run.reader.used rest
 next_same input rest run ready used =
     let e : length input - length rest ≡ run.reader.used = omega (arith, used) in
@@ -85,7 +94,8 @@ unfolding next_of
 end_nil limits used [] e = refl
 end_nil limits used (b ∷ bytes) e = absurd (let none = eqb-true (length (b ∷ bytes)) 0 (over _ _ _ _ _ e) in omega (arith, none))
 
-module _ (input : List ℕ) (script : List Event) (run : Run) (left : Option (List ℕ)) (ready : IsReady run) (stands : Stands input script run left) where
+module _ {D : Type 0} (state : D → DiskState) (input : List ℕ) (script : List Event) (told : List TextLine) (run : Run D) (is_out : ℕ → Bool) (left : Option (List ℕ))
+    (ready : IsReady run) (stands : Stands state input script told run is_out left) where
   at_end : ComesNext run.reader left End → IsWhole input script
   at_end comes =
       let empty : stands.rest ≡ [] = end_nil run.reader.limits run.reader.used stands.rest
@@ -94,7 +104,7 @@ module _ (input : List ℕ) (script : List Event) (run : Run) (left : Option (Li
 
   module _ (after : Reading) (left' : Option (List ℕ)) where
     has_line : (line : List ℕ) → IsNextLine run.reader left line after left' → CountsAll run.reader left after left'
-        → HasLine input script line (record run { reader = after }) left'
+        → HasLine state input script told line (record run { reader = after }) is_out left'
     has_line line next counts =
         let found = some_and (ahead after left') (λ rest. next_of run.reader.limits run.reader.used stands.rest ≡ Line line rest)
         (if_some (ahead run.reader left) stands.rest
@@ -116,16 +126,58 @@ module _ (input : List ℕ) (script : List Event) (run : Run) (left : Option (Li
 
     pub next_found : (found : Option (Vec ℕ)) → IfSome found (λ line. IsNextLine run.reader left line.items after left')
         → IfNone found (ComesNext run.reader left End) → CountsAll run.reader left after left'
-        → MatchOption found (IsWhole input script) (λ line. HasLine input script line.items (record run { reader = after }) left')
+        → MatchOption found (IsWhole input script) (λ line. HasLine state input script told line.items (record run { reader = after }) is_out left')
     next_found None line end counts = at_end end
     next_found (Some v) line end counts = has_line v.items line counts
+
+    -- the stop that a refusal of the next line gives
+    module _ (few : run.count < MOST_LINES) (keeps : Keeps (ahead run.reader left) (ahead after left')) (used : after.used ≡ run.reader.used)
+        (limits : after.limits ≡ run.reader.limits) where
+      unread : IsUnfinished after → IfSome left' (λ bytes. IsCutOff input script bytes)
+      unread unfinished = known left' (λ bytes is.
+          let same : after.held ++ bytes ≡ stands.rest = rw (stands.here, is) at keeps in
+          let line = ap (λ (l : Limits). l.line) (limits ∙ ready.limits) in
+          let whole = ap (λ (l : Limits). l.input) (limits ∙ ready.limits) in
+          let len = sym (length-append after.held bytes) ∙ ap (λ (bytes : List ℕ). length bytes) same in
+          record {
+            count = run.count;
+            names = run.names;
+            held = after.held;
+            front = subst (λ (bytes : List ℕ). IsFront input script run.count run.names bytes) (sym same) stands.front;
+            unfinished = unfinished.0;
+            short = omega (arith, unfinished.1, line);
+            fits = omega (arith, stands.used, used, unfinished.2, whole, len);
+            few = inl few;
+          })
+
+      comes : (next : Next) → ComesNext run.reader left next → next_in (length input) stands.rest ≡ next
+      comes next is =
+          next_same input stands.rest run ready stands.used
+          ∙ if_some (ahead run.reader left) stands.rest (λ bytes. next_of run.reader.limits run.reader.used bytes ≡ next) stands.here is
+
+      pub line_stops : (fault : LineFault) → (fault ≡ Read → IsUnfinished after) → ((len : ℕ) → fault ≡ LineLimit len → ComesNext run.reader left LineTooLong)
+          → ((len : ℕ) → fault ≡ InputLimit len → ComesNext run.reader left InputTooLong) → IsCause (of_line fault) input script run.count left'
+      line_stops Read read long past = unread (read refl)
+      line_stops NoMemory read long past = (run.names, stands.rest, stands.front)
+      line_stops (LineLimit len) read long past = record {
+        names = run.names;
+        rest = stands.rest;
+        front = stands.front;
+        passes = inr (inr (inl (refl, few, comes LineTooLong (long len refl))));
+      }
+      line_stops (InputLimit len) read long past = record {
+        names = run.names;
+        rest = stands.rest;
+        front = stands.front;
+        passes = inl (refl, comes InputTooLong (past len refl), inl few);
+      }
 
   -- behind the most lines: the source failed before another byte, or that byte is the first past the input's limit
   module _ (after : Reading) (left' : Option (List ℕ)) (keeps : Keeps (ahead run.reader left) (ahead after left')) where
     kept : (bytes : List ℕ) → left' ≡ Some bytes → after.held ≡ [] → stands.rest ≡ bytes
     kept bytes is none =
-        let told : after.held ++ bytes ≡ stands.rest = rw (stands.here, is) at keeps in
-        sym told ∙ ap (λ (held : List ℕ). held ++ bytes) none
+        let same : after.held ++ bytes ≡ stands.rest = rw (stands.here, is) at keeps in
+        sym same ∙ ap (λ (held : List ℕ). held ++ bytes) none
 
     pub cut_off : after.held ≡ [] → run.reader.used ≤ run.reader.limits.input → IfSome left' (λ bytes. IsCutOff input script bytes)
     cut_off none within = known left' (λ bytes is.
@@ -169,26 +221,21 @@ module _ (input : List ℕ) (script : List Event) (run : Run) (left : Option (Li
   no_more after left' fault keeps within read past (inl is) = rw is (cut_off after left' keeps (read is) within)
   no_more after left' fault keeps within read past (inr is) = rw is (first_past (past _ is))
 
--- the lines of one event more, and their text
-step_texts : (script : List Event) (event : Event) (told : List TextLine) (texts : List (List ℕ))
-    → told ≡ (step (world_after script) event).lines → texts ≡ map (λ (line : TextLine). text_of line ++ 10 ∷ []) told
-    → (transcript script ++ told ≡ transcript (script ++ event ∷ []))
-    × (text_of_run (script ++ event ∷ []) ≡ text_of_run script ++ flat_map (λ (text : List ℕ). text) texts)
-step_texts script event told texts is text =
+-- the text of some lines more
+step_texts : (told lines : List TextLine) (texts : List (List ℕ)) → texts ≡ map (λ (line : TextLine). text_of line ++ 10 ∷ []) lines
+    → transcript_text (told ++ lines) ≡ transcript_text told ++ flat_map (λ (text : List ℕ). text) texts
+step_texts told lines texts text =
     let whole : TextLine → List ℕ = λ line. text_of line ++ 10 ∷ [] in
-    let goes : transcript (script ++ event ∷ []) ≡ transcript script ++ told =
-    transcript-push script event ∙ ap (λ (ls : List TextLine). transcript script ++ ls) (sym is) in (
-      sym goes,
-      ap (λ (ls : List TextLine). transcript_text ls) goes
-          ∙ flat_map-append whole (transcript script) told
-          ∙ ap (λ (bytes : List ℕ). text_of_run script ++ bytes)
-          (sym (ap (λ (ts : List (List ℕ)). flat_map (λ (text : List ℕ). text) ts) text ∙ flat_map-map (λ (text : List ℕ). text) whole told)),
-    )
+    flat_map-append whole told lines
+    ∙ ap (λ (bytes : List ℕ). transcript_text told ++ bytes)
+    (sym (ap (λ (ts : List (List ℕ)). flat_map (λ (text : List ℕ). text) ts) text ∙ flat_map-map (λ (text : List ℕ). text) whole lines))
 
-module _ (input : List ℕ) (script : List Event) (line : List ℕ) (run : Run) (left : Option (List ℕ)) (has : HasLine input script line run left) (few : run.count < MOST_LINES) where
-  pub passes_over : IsPassed line → GoesOn input script (record run { count = run.count + 1 }) left []
+module _ {D : Type 0} (state : D → DiskState) (input : List ℕ) (script : List Event) (told : List TextLine) (line : List ℕ) (run : Run D) (is_out : ℕ → Bool)
+    (left : Option (List ℕ)) (has : HasLine state input script told line run is_out left) (few : run.count < MOST_LINES) where
+  pub passes_over : IsPassed line → GoesOn state input told (record run { count = run.count + 1 }) is_out left []
   passes_over passed = (
     script,
+    told,
     record {
       rest = has.rest;
       front = front_passed input script run.count run.names has.before line has.rest has.front has.next few passed;
@@ -197,28 +244,28 @@ module _ (input : List ℕ) (script : List Event) (line : List ℕ) (run : Run) 
       world = has.world;
       rows = has.rows;
     },
-    sym (append-nil (text_of_run script)),
+    sym (append-nil (transcript_text told)),
   )
 
-  pub carries_out : (event : Event) (names : Names) (rows : RowNames) (world : World) (told : List TextLine) (texts : List (List ℕ)) → Spells run.names line event
-      → names ≡ with_event run.names event
+  pub carries_out : (event : Event) (names : Names) (rows : RowNames) (world : World D) (out : ℕ → Bool) (lines : List TextLine) (texts : List (List ℕ))
+      → Spells run.names line event → names ≡ with_event run.names event
       → HasRows (script ++ event ∷ []) rows → FewRows (script ++ event ∷ [])
-      → told ≡ (step (world_after script) event).lines → Holds (step (world_after script) event).world world
-      → texts ≡ map (λ (line : TextLine). text_of line ++ 10 ∷ []) told
-      → GoesOn input script (record run { names = names; rows = rows; world = world; count = run.count + 1 }) left texts
-  carries_out event names rows world told texts spells named has_rows few_rows lines stepped text =
-      let goes = step_texts script event told texts lines text in (
-        script ++ event ∷ [],
-        record {
-          rest = has.rest;
-          front = rw named (front_event input script run.count run.names has.before line has.rest has.front has.next few event spells few_rows);
-          here = has.here;
-          used = has.used;
-          world = subst (λ (w : laws.World). Holds w world) (sym (world_after-push script event)) stepped;
-          rows = has_rows;
-        },
-        goes.1,
-      )
+      → IsBuilt event → IsStep state (world_from start has.world.run) event lines out world
+      → texts ≡ map (λ (line : TextLine). text_of line ++ 10 ∷ []) lines
+      → GoesOn state input told (record run { names = names; rows = rows; world = world; count = run.count + 1 }) out left texts
+  carries_out event names rows world out lines texts spells named has_rows few_rows built step text = (
+    script ++ event ∷ [],
+    told ++ lines,
+    record {
+      rest = has.rest;
+      front = rw named (front_event input script run.count run.names has.before line has.rest has.front has.next few event spells few_rows);
+      here = has.here;
+      used = has.used;
+      world = leads_on state script told run.world is_out has.world event lines world out built step;
+      rows = has_rows;
+    },
+    step_texts told lines texts text,
+  )
 
   -- why the line isn't carried out
 
@@ -228,19 +275,18 @@ module _ (input : List ℕ) (script : List Event) (line : List ℕ) (run : Run) 
     names = run.names;
     rest = has.before;
     front = has.front;
-    passes = inr (inr (inr (inr (inl (cause.0, few, (line, has.rest, event, has.next, spells, cause.1))))));
+    passes = inr (inr (inr (inl (cause.0, few, (line, has.rest, event, has.next, spells, cause.1)))));
   }
   row_stops event stops.Read spells cause = absurd cause
   row_stops event stops.Put spells cause = absurd cause
+  row_stops event stops.Depot spells cause = absurd cause
   row_stops event (stops.BadLine fault) spells cause = absurd cause
 
-  pub world_stops : (event : Event) (fault : WorldFault) → Spells run.names line event → FewRows (script ++ event ∷ [])
-      → IsWorldCause (world_after script) event fault
+  -- no number is spent yet
+  pub world_stops : (event : Event) (fault : WorldFault) → IsBuilt event
+      → ((code count : ℕ) → fault ≡ world_faults.Limit code count → (code ≡ 11) × Spends (world_from start has.world.run) event)
       → IsCause (of_world fault) input script run.count left
-  world_stops event world_faults.Memory spells few_rows cause = (run.names, has.before, has.front)
-  world_stops event (world_faults.Limit code count) spells few_rows cause = record {
-    names = run.names;
-    rest = has.before;
-    front = has.front;
-    passes = inr (inr (inr (inl (cause.0, few, (line, has.rest, event, has.next, spells, few_rows, cause.2)))));
-  }
+  world_stops event world_faults.Memory built spent = (run.names, has.before, has.front)
+  world_stops event world_faults.Depot built spent = (run.names, has.before, has.front)
+  world_stops event (world_faults.Limit code count) built spent =
+      absurd (not_spent state script told run.world is_out has.world (front_few input script run.count run.names has.before has.front) event (spent code count refl).1)

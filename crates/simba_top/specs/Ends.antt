@@ -2,10 +2,11 @@
 use Rattle.std.specs.Prelude.{◌≡◌, ◌⊎◌, ℕ, ◌+◌, ◌-◌, ◌<◌, ◌≤◌, List, [], ◌∷◌, ◌++◌, length, map, codes, Option}
 use Rattle.std.specs.Io.KnownBytes.{Appends}
 use Rattle.table_model.specs.declared.event.Event.{Event}
-use Rattle.memory_runs.specs.Turns.{turns, world_after, transcript}
-use Rattle.world_tables.specs.Turns as moves
+use Rattle.table_model.specs.declared.line.TextLine.{TextLine}
+use Rattle.step_tables.specs.Lines.{line_of}
+use Rattle.world_tables.specs.Turns.{Happening, turns, transcript_of}
 use Rattle.world_tables.specs.Sound.{IsSound}
-use Rattle.memory_laws.specs.Lift.{turn_of, at_once}
+use Rattle.world_tables.specs.Quiet.{AreListed}
 use Rattle.stab_io.specs.declared.limits.TheConstants.{LINE_LIMIT, INPUT_LIMIT}
 use Rattle.stab_io.specs.Lines.{Line, LineTooLong, InputTooLong, HasNoNewline}
 use Rattle.script_text.specs.declared.fault.BadLine.{BadLine}
@@ -13,17 +14,35 @@ use Rattle.script_text.specs.Names.{Names}
 use Rattle.script_text.specs.Grammar.{Spells, IsFault, PassesLimit}
 use Rattle.transcript_text.specs.Text.{stop_text, transcript_text}
 use Rattle.simba_top.specs.declared.run.TheConstants.{MOST_LINES}
-use Rattle.world_steps.specs.Holds.{Spends}
-use Rattle.simba_top.specs.RowNames.{FewRows, NamesTooMany}
+use Rattle.simba_top.specs.RowNames.{NamesTooMany}
 use Rattle.simba_top.specs.Script.{next_in, IsFront}
 
--- the transcript of a script, as bytes
-abbrev pub text_of_run : List Event → List ℕ
-text_of_run script = transcript_text (transcript script)
+-- ---- what is written
 
--- the transcript of a script, and behind it the line that says why the run stopped
-abbrev pub stopped_text : List Event → ℕ → ℕ → ℕ → List ℕ
-stopped_text script status line code = text_of_run script ++ (stop_text status line code ++ 10 ∷ [])
+-- A run of a script: its events, each with the lucks of its device calls, and what the lines of it are. They are sound,
+-- and where chunks are listed at a quiet Store they are those that its rows name
+pub record IsRun (script : List Event) (lines : List TextLine) : Type 0 where
+  pub run : List Happening
+  pub events : map (λ (h : Happening). h.event) run ≡ script
+  pub lines_are : map line_of lines ≡ transcript_of (turns run)
+  pub sound : IsSound (turns run)
+  pub listed : AreListed (turns run)
+
+-- where the sink tells its bytes: the transcript of a run of this script was added to them
+abbrev pub Tells : List Event → Option (List ℕ) → Option (List ℕ) → Type 0
+Tells script before after =
+    (lines : List TextLine) × IsRun script lines × Appends before after (transcript_text lines)
+
+-- a transcript, and behind it the line that says why the run stopped
+abbrev pub stopped_text : List TextLine → ℕ → ℕ → ℕ → List ℕ
+stopped_text lines status line code = transcript_text lines ++ (stop_text status line code ++ 10 ∷ [])
+
+-- the same, with the line that says why the run stopped
+abbrev pub TellsStop : List Event → ℕ → ℕ → ℕ → Option (List ℕ) → Option (List ℕ) → Type 0
+TellsStop script status line code before after =
+    (lines : List TextLine) × IsRun script lines × Appends before after (stopped_text lines status line code)
+
+-- ---- how it ends
 
 -- the line behind these spells nothing: it is line `count + 1`, and this is its fault
 pub record IsBadAt (input : List ℕ) (script : List Event) (count : ℕ) (fault : BadLine) : Type 0 where
@@ -41,21 +60,17 @@ abbrev pub IsFull : List ℕ → List ℕ → Type 0
 IsFull input rest = length input - length rest ≡ INPUT_LIMIT
 
 -- the line behind these is the first that passes a limit: 1 the input's bytes, 2 its lines, 3 the bytes of a line,
--- 9 the rows that a script names in a table, 11 versions and the numbers of a client's writes, where the event passes
--- no limit on rows, or one on what the line declares. The first byte past a limit decides, so behind the most lines any
--- byte does, whatever is behind it
+-- 9 the rows that a script names in a table, or one on what the line declares. The first byte past a limit decides, so
+-- behind the most lines any byte does, whatever is behind it
 abbrev pub Passes : List ℕ → List Event → ℕ → Names → List ℕ → ℕ → Type 0
 Passes input script count names rest limit =
     ((limit ≡ 1) × (next_in (length input) rest ≡ InputTooLong) × ((count < MOST_LINES) ⊎ IsFull input rest))
     ⊎ (((limit ≡ 2) × (count ≡ MOST_LINES) × (0 < length rest) × (length input - length rest < INPUT_LIMIT))
     ⊎ (((limit ≡ 3) × (count < MOST_LINES) × (next_in (length input) rest ≡ LineTooLong))
-    ⊎ (((limit ≡ 11) × (count < MOST_LINES) × ((line : List ℕ) × (left : List ℕ) × (event : Event)
-    × (next_in (length input) rest ≡ Line line left) × Spells names line event × FewRows (script ++ event ∷ [])
-    × Spends (world_after script) event))
     ⊎ (((limit ≡ 9) × (count < MOST_LINES) × ((line : List ℕ) × (left : List ℕ) × (event : Event)
     × (next_in (length input) rest ≡ Line line left) × Spells names line event × NamesTooMany script event))
     ⊎ ((count < MOST_LINES) × ((line : List ℕ) × (left : List ℕ)
-    × (next_in (length input) rest ≡ Line line left) × PassesLimit names line limit))))))
+    × (next_in (length input) rest ≡ Line line left) × PassesLimit names line limit)))))
 
 pub record IsLimitAt (input : List ℕ) (script : List Event) (count limit : ℕ) : Type 0 where
   pub names : Names
@@ -75,29 +90,14 @@ pub record IsCutOff (input : List ℕ) (script : List Event) (left : List ℕ) :
   pub fits : length input - length left ≤ INPUT_LIMIT
   pub few : (count < MOST_LINES) ⊎ (held ≡ [])
 
--- a script's transcript is what the script's events write where each is a call or a delivery and then the node's work
--- until it is idle, every device write being done; and it is sound
-pub record IsSoundRun (script : List Event) : Type 0 where
-  pub run : moves.turns (map at_once script) ≡ map turn_of (turns script)
-  pub sound : IsSound (map turn_of (turns script))
-
--- where the sink tells its bytes: the transcript of this script was added to them
-abbrev pub Tells : List Event → Option (List ℕ) → Option (List ℕ) → Type 0
-Tells script before after = IsSoundRun script × Appends before after (text_of_run script)
-
--- the same, with the line that says why the run stopped
-abbrev pub TellsStop : List Event → ℕ → ℕ → ℕ → Option (List ℕ) → Option (List ℕ) → Type 0
-TellsStop script status line code before after =
-    IsSoundRun script × Appends before after (stopped_text script status line code)
-
 -- a text that a run over this input may write: the transcript of its first lines, with its stop line where it has one
 abbrev pub IsTextOf : List ℕ → List ℕ → Type 0
-IsTextOf input text = (script : List Event) × IsSoundRun script × (
+IsTextOf input text = (script : List Event) × (lines : List TextLine) × IsRun script lines × (
     ((count : ℕ) × (names : Names) × (rest : List ℕ) × IsFront input script count names rest
-    × (text ≡ text_of_run script))
+    × (text ≡ transcript_text lines))
     ⊎ (((count : ℕ) × (fault : BadLine) × IsBadAt input script count fault
-    × (text ≡ stopped_text script 3 (count + 1) fault.code))
-    ⊎ ((count limit : ℕ) × IsLimitAt input script count limit × (text ≡ stopped_text script 7 (count + 1) limit))))
+    × (text ≡ stopped_text lines 3 (count + 1) fault.code))
+    ⊎ ((count limit : ℕ) × IsLimitAt input script count limit × (text ≡ stopped_text lines 7 (count + 1) limit))))
 
 -- the words are the one word `run`
 abbrev pub AreRun : List (List ℕ) → Type 0

@@ -10,7 +10,7 @@ use Rattle.table_model.specs.declared.event.Event.TheVariants as events
 use Rattle.simba_top.specs.declared.row_names.RowNames.{RowNames}
 use Rattle.simba_top.specs.declared.row_names.TheConstants.{MOST_ROWS}
 use Rattle.simba_top.specs.declared.stop.Stop.{Stop}
-use Rattle.simba_top.specs.declared.stop.Stop.TheVariants.{Read, Put, Memory, BadLine, Limit}
+use Rattle.simba_top.specs.declared.stop.Stop.TheVariants.{Read, Put, Depot, Memory, BadLine, Limit}
 
 -- the row that an event names, and its table
 abbrev pub row_in : Event → Option (ℕ × List ℕ)
@@ -25,6 +25,13 @@ row_in (events.Sync client table) = None
 row_in (events.Pull client table) = None
 row_in (events.Deliver packet) = None
 row_in (events.History table) = None
+row_in (events.Chunks table) = None
+row_in (events.Hold node) = None
+row_in (events.Free node) = None
+row_in (events.Work node) = None
+row_in (events.WorkAll node) = None
+row_in (events.Crash node calls pick) = None
+row_in (events.Start node) = None
 
 abbrev pub seen : Option (ℕ × Bor (List ℕ)) → Option (ℕ × List ℕ)
 seen None = None
@@ -67,4 +74,5 @@ IsRowCause script event Memory = Unit {0}
 IsRowCause script event (Limit limit) = (limit ≡ 9) × NamesTooMany script event
 IsRowCause script event Read = ⊥
 IsRowCause script event Put = ⊥
+IsRowCause script event Depot = ⊥
 IsRowCause script event (BadLine fault) = ⊥

@@ -1,60 +1,79 @@
 -- Where a run stands over an input, and how it ends there.
-use Rattle.std.specs.Prelude.{◌≡◌, ℕ, ◌+◌, ◌≤◌, List, ◌++◌, length, Option, Some, None, IfSome}
-use Rattle.std.specs.List.{flat_map}
+use Rattle.std.specs.Prelude.{◌≡◌, ℕ, ◌+◌, ◌<◌, ◌≤◌, Bool, List, ◌++◌, length, map, Option, Some, None, IfSome}
+use Rattle.std.specs.List.{flat_map, AllByRecursion}
 use Rattle.std.specs.Io.KnownBytes.{Appends}
+use Rattle.disk_trait.specs.Calls.{DiskState}
 use Rattle.table_model.specs.declared.event.Event.{Event}
-use Rattle.memory_runs.specs.Turns.{world_after}
+use Rattle.table_model.specs.declared.line.TextLine.{TextLine}
+use Rattle.step_tables.specs.Lines.{line_of}
+use Rattle.world_tables.specs.World.{start}
+use Rattle.world_tables.specs.Turns.{Happening, turns, world_from, transcript_of}
 use Rattle.stab_io.specs.Faults.{Rose, AppendsFront}
 use Rattle.stab_io.specs.Lines.{Line}
 use Rattle.stab_io.specs.Reading.{ahead}
 use Rattle.stab_io.specs.declared.limits.TheConstants.{LINE_LIMIT, INPUT_LIMIT}
 use Rattle.script_text.specs.Names.{Names}
+use Rattle.transcript_text.specs.Text.{transcript_text}
 use Rattle.simba_top.specs.declared.run.TheConstants.{MOST_LINES}
 use Rattle.simba_top.specs.declared.stop.Stop.{Stop}
-use Rattle.simba_top.specs.declared.stop.Stop.TheVariants.{Read, Put, Memory, BadLine, Limit}
+use Rattle.simba_top.specs.declared.stop.Stop.TheVariants.{Read, Put, Depot, Memory, BadLine, Limit}
 use Rattle.simba_top.specs.declared.turn.Run.{Run}
-use Rattle.world_steps.specs.Holds.{Holds}
+use Rattle.world_steps.specs.declared.world.World.{World}
+use Rattle.world_steps.specs.Holds.{Holds, IsBuilt, AreOut}
 use Rattle.simba_top.specs.RowNames.{HasRows}
 use Rattle.simba_top.specs.Script.{next_in, IsFront, IsWhole}
-use Rattle.simba_top.specs.Ends.{text_of_run, stopped_text, IsBadAt, IsLimitAt, IsCutOff, IsTextOf}
+use Rattle.simba_top.specs.Ends.{Tells, TellsStop, IsBadAt, IsLimitAt, IsCutOff, IsTextOf}
 
 -- the reader answers, at the limits of a script, and the lines are no more than a script's
-pub record IsReady (run : Run) : Type 0 where
+pub record IsReady {D : Type 0} (run : Run D) : Type 0 where
   pub stopped : run.reader.stopped ≡ None
   pub limits : run.reader.limits ≡ record { line = LINE_LIMIT; input = INPUT_LIMIT }
   pub few : run.count ≤ MOST_LINES
 
+-- the events of a script led to this world, with some lucks, and wrote these lines; the disks that are out are its own
+pub record Leads {D : Type 0} (state : D → DiskState) (script : List Event) (told : List TextLine) (world : World D)
+    (is_out : ℕ → Bool) : Type 0 where
+  pub run : List Happening
+  pub events : map (λ (h : Happening). h.event) run ≡ script
+  pub lines_are : map line_of told ≡ transcript_of (turns run)
+  pub built : AllByRecursion (λ (h : Happening). IsBuilt h.event) run
+  pub held : Holds state (world_from start run) world
+  pub out : AreOut is_out (world_from start run)
+
 -- the lines so far are the first of the input and spell the script, and the bytes ahead are the rest
-pub record Stands (input : List ℕ) (script : List Event) (run : Run) (left : Option (List ℕ)) : Type 0 where
+pub record Stands {D : Type 0} (state : D → DiskState) (input : List ℕ) (script : List Event) (told : List TextLine)
+    (run : Run D) (is_out : ℕ → Bool) (left : Option (List ℕ)) : Type 0 where
   pub rest : List ℕ
   pub front : IsFront input script run.count run.names rest
   pub here : ahead run.reader left ≡ Some rest
   pub used : run.reader.used + length rest ≡ length input
-  pub world : Holds (world_after script) run.world
+  pub world : Leads state script told run.world is_out
   pub rows : HasRows script run.rows
 
 -- the same, where a line has been read that isn't carried out
-pub record HasLine (input : List ℕ) (script : List Event) (line : List ℕ) (run : Run)
-    (left : Option (List ℕ)) : Type 0 where
+pub record HasLine {D : Type 0} (state : D → DiskState) (input : List ℕ) (script : List Event) (told : List TextLine)
+    (line : List ℕ) (run : Run D) (is_out : ℕ → Bool) (left : Option (List ℕ)) : Type 0 where
   pub before : List ℕ
   pub front : IsFront input script run.count run.names before
   pub rest : List ℕ
   pub next : next_in (length input) before ≡ Line line rest
   pub here : ahead run.reader left ≡ Some rest
   pub used : run.reader.used + length rest ≡ length input
-  pub world : Holds (world_after script) run.world
+  pub world : Leads state script told run.world is_out
   pub rows : HasRows script run.rows
 
 -- the run goes on to a longer script, whose transcript goes on by these texts
-abbrev pub GoesOn : List ℕ → List Event → Run → Option (List ℕ) → List (List ℕ) → Type 0
-GoesOn input script run left texts =
-    (longer : List Event) × Stands input longer run left
-    × (text_of_run longer ≡ text_of_run script ++ flat_map (λ (text : List ℕ). text) texts)
+abbrev pub GoesOn : {D : Type 0} → (D → DiskState) → List ℕ → List TextLine → Run D → (ℕ → Bool) → Option (List ℕ)
+    → List (List ℕ) → Type 0
+GoesOn state input told run is_out left texts =
+    (longer : List Event) × (all : List TextLine) × Stands state input longer all run is_out left
+    × (transcript_text all ≡ transcript_text told ++ flat_map (λ (text : List ℕ). text) texts)
 
 -- why a run stops behind `count` lines that spell the script
 abbrev pub IsCause : Stop → List ℕ → List Event → ℕ → Option (List ℕ) → Type 0
 IsCause Read input script count left = IfSome left (λ bytes. IsCutOff input script bytes)
 IsCause Put input script count left = ⊥
+IsCause Depot input script count left = (names : Names) × (rest : List ℕ) × IsFront input script count names rest
 IsCause Memory input script count left = (names : Names) × (rest : List ℕ) × IsFront input script count names rest
 IsCause (BadLine fault) input script count left = IsBadAt input script count fault
 IsCause (Limit limit) input script count left = IsLimitAt input script count limit
@@ -63,28 +82,30 @@ IsCause (Limit limit) input script count left = IsLimitAt input script count lim
 abbrev pub EndedBy : Stop → List ℕ → ℕ → Option (List ℕ) → Option (List ℕ) → Option (List ℕ) → Type 0
 EndedBy Put input count left before after = (text : List ℕ) × IsTextOf input text × AppendsFront before after text
 EndedBy stop input count left before after =
-    (script : List Event) × IsCause stop input script count left × Appends before after (text_of_run script)
+    (script : List Event) × IsCause stop input script count left × Tells script before after
 
 -- the same at the end, where the line that says why the run stopped is written too
 abbrev pub Stopped : Stop → List ℕ → Option (List ℕ) → Option (List ℕ) → Option (List ℕ) → Type 0
 Stopped Read input left before after = EndedBy Read input 0 left before after
 Stopped Put input left before after = EndedBy Put input 0 left before after
+Stopped Depot input left before after = (count : ℕ) × EndedBy Depot input count left before after
 Stopped Memory input left before after = (count : ℕ) × EndedBy Memory input count left before after
 Stopped (BadLine fault) input left before after = (script : List Event) × (count : ℕ) × IsBadAt input script count fault
-    × Appends before after (stopped_text script 3 (count + 1) fault.code)
+    × TellsStop script 3 (count + 1) fault.code before after
 Stopped (Limit limit) input left before after = (script : List Event) × (count : ℕ) × IsLimitAt input script count limit
-    × Appends before after (stopped_text script 7 (count + 1) limit)
+    × TellsStop script 7 (count + 1) limit before after
 
 -- the transcript of the lines so far has been added to the bytes of the sink
-abbrev pub Goes : List ℕ → Run → Option (List ℕ) → Option (List ℕ) → Option (List ℕ) → Type 0
-Goes input run left before now = (script : List Event) × Stands input script run left
-    × Appends before now (text_of_run script)
+abbrev pub Goes : {D : Type 0} → (D → DiskState) → List ℕ → Run D → (ℕ → Bool) → Option (List ℕ) → Option (List ℕ)
+    → Option (List ℕ) → Type 0
+Goes state input run is_out left before now = (script : List Event) × (told : List TextLine)
+    × Stands state input script told run is_out left × Appends before now (transcript_text told)
 
 -- the input was read to its end, and its transcript written
 abbrev pub IsDone : List ℕ → Option (List ℕ) → Option (List ℕ) → Type 0
-IsDone input before after = (script : List Event) × IsWhole input script × Appends before after (text_of_run script)
+IsDone input before after = (script : List Event) × IsWhole input script × Tells script before after
 
--- a count of faults of the source, or of the sink, rises where this stop says so, and else stays
+-- a count of faults of the source, of the sink, or of the depot rises where this stop says so, and else stays
 abbrev pub CountsReads : Stop → ℕ → ℕ → Type 0
 CountsReads Read old new = Rose old new
 CountsReads stop old new = new ≡ old
@@ -92,3 +113,7 @@ CountsReads stop old new = new ≡ old
 abbrev pub CountsPuts : Stop → ℕ → ℕ → Type 0
 CountsPuts Put old new = Rose old new
 CountsPuts stop old new = new ≡ old
+
+abbrev pub CountsDepots : Stop → ℕ → ℕ → Type 0
+CountsDepots Depot old new = old < new
+CountsDepots stop old new = new ≡ old

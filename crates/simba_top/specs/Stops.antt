@@ -7,7 +7,7 @@ use Rattle.script_text.specs.declared.fault.ScriptFault.TheVariants as script_fa
 use Rattle.world_steps.specs.declared.fault.WorldFault.{WorldFault}
 use Rattle.world_steps.specs.declared.fault.WorldFault.TheVariants as world_faults
 use Rattle.simba_top.specs.declared.stop.Stop.{Stop}
-use Rattle.simba_top.specs.declared.stop.Stop.TheVariants.{Read, Put, Memory, BadLine, Limit}
+use Rattle.simba_top.specs.declared.stop.Stop.TheVariants.{Read, Put, Depot, Memory, BadLine, Limit}
 
 abbrev pub of_line : LineFault → Stop
 of_line line_faults.Read = Read
@@ -22,12 +22,14 @@ of_script script_faults.Memory = Memory
 
 abbrev pub of_world : WorldFault → Stop
 of_world (world_faults.Limit code count) = Limit code
+of_world world_faults.Depot = Depot
 of_world world_faults.Memory = Memory
 
 abbrev pub status_of : {T : Type 0} → Result T Stop → ℕ
 status_of (Ok done) = 0
 status_of (Err Read) = 4
 status_of (Err Put) = 5
+status_of (Err Depot) = 8
 status_of (Err Memory) = 6
 status_of (Err (BadLine fault)) = 3
 status_of (Err (Limit limit)) = 7

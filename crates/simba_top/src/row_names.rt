@@ -36,7 +36,14 @@ fn row_in(event: &Event) -> Option<(TableNo, &RowId)>
         | Event::Sync { .. }
         | Event::Pull { .. }
         | Event::Deliver { .. }
-        | Event::History { .. } => None,
+        | Event::History { .. }
+        | Event::Chunks { .. }
+        | Event::Hold { .. }
+        | Event::Free { .. }
+        | Event::Work { .. }
+        | Event::WorkAll { .. }
+        | Event::Crash { .. }
+        | Event::Start { .. } => None,
     }
 }
 
@@ -73,7 +80,7 @@ impl RowNames {
         ensures rows { OnOk result ((q : ℕ) → rows_in self.new q
             ≡ with_row (Some (table, row.now)) q (rows_in self.old q)) }
         ensures few { OnOk result (length (rows_in self.new table) ≤ MOST_ROWS) }
-        ensures fault { IfErr result (λ stop. (stop ≢ Stop.Read) × (stop ≢ Stop.Put)) }
+        ensures fault { IfErr result (λ stop. (stop ≢ Stop.Read) × (stop ≢ Stop.Put) × (stop ≢ Stop.Depot)) }
         ensures cause { IfErr result (λ stop. (stop ≡ Stop.Memory)
             ⊎ ((stop ≡ Stop.Limit 9)
             × (MOST_ROWS < length (with_row (Some (table, row.now)) table (rows_in self.old table))))) }
@@ -91,7 +98,7 @@ impl RowNames {
         ensures few { (script : List AnEvent) → HasRows script self.old → FewRows script
             → OnOk result (FewRows (script ++ event.now ∷ [])) }
         ensures cause { (script : List AnEvent) → HasRows script self.old → IfErr result (IsRowCause script event.now) }
-        ensures fault { IfErr result (λ stop. (stop ≢ Stop.Read) × (stop ≢ Stop.Put)) }
+        ensures fault { IfErr result (λ stop. (stop ≢ Stop.Read) × (stop ≢ Stop.Put) × (stop ≢ Stop.Depot)) }
     {
         match row_in(event) {
             Some((table, row)) => self.add_row(table, row),

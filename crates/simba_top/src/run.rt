@@ -1,5 +1,5 @@
-ghost use Rattle.std.specs.Prelude.{◌≡◌, ◌≢◌, ◌⊎◌, ◌↔◌, ◌+◌, ◌-◌, ◌<◌, ◌^◌, ℕ, List, map, IfSome, IsTrue, OnOk, IfErr};
-ghost use Rattle.std.specs.Prelude.{MatchResult};
+ghost use Rattle.std.specs.Prelude.{◌≡◌, ◌≢◌, ◌⊎◌, ◌↔◌, ◌+◌, ◌-◌, ◌<◌, ◌^◌, ℕ, false, List, map, IfSome, IsTrue, OnOk};
+ghost use Rattle.std.specs.Prelude.{IfErr, MatchResult};
 ghost use Rattle.std.specs.String.{string_bytes};
 ghost use Rattle.std.specs.Io.KnownBytes.{IsAtEnd};
 ghost use Rattle.table_model.specs.declared.event.Event.{Event as AnEvent};
@@ -9,18 +9,20 @@ ghost use Rattle.stab_io.specs.Faults.{Rose, AppendsFront};
 ghost use Rattle.simba_top.specs.Script.{IsFront, IsWhole};
 ghost use Rattle.simba_top.specs.Ends.{AreRun, IsBadAt, IsLimitAt, IsCutOff, Tells, TellsStop, IsTextOf};
 ghost use Rattle.simba_top.specs.Stops.{status_of};
-ghost use Rattle.simba_top.specs.Stands.{IsDone, Stopped, CountsReads, CountsPuts};
+ghost use Rattle.simba_top.specs.Stands.{IsDone, Stopped, CountsReads, CountsPuts, CountsDepots};
 
 use crate::stop::Stop;
 use crate::turn::Run;
+use disk_trait::Depot;
 use stab_io::{Sink, Source};
 use std::alloc::Global;
 
 /// The most lines of a script.
 pub const MOST_LINES: u64 = 1_048_576;
 
-/// The whole program: reads a script from the source, carries it out, and writes its transcript to the sink, one `put`
-/// for each line, the lines of an event when it ends. The answer is the status that the program ends with:
+/// The whole program: reads a script from the source, carries it out on disks of the depot, and writes its transcript
+/// to the sink, one `put` for each line, the lines of an event when it ends. A disk that fails doesn't end the run. The
+/// answer is the status that the program ends with:
 ///
 /// | status | when |
 /// |---|---|
@@ -31,15 +33,20 @@ pub const MOST_LINES: u64 = 1_048_576;
 /// | 5 | the sink failed |
 /// | 6 | memory was refused |
 /// | 7 | a limit was passed; `stop 7 LINE LIMIT` is written last |
-pub fn run_simba<S: Source, K: Sink>(
+/// | 8 | the depot failed to hand out a disk |
+pub fn run_simba<S: Source, K: Sink, P: Depot>(
     alloc: Global,
     words: &[String],
     source: &mut S,
     sink: &mut K,
+    depot: &mut P,
 ) -> u8
+    // No disk is out.
+    requires { (k : ℕ) → (P.state depot.old).is_out k ≡ false }
     // 2: exactly where the words aren't valid.
     ensures words { (result ≡ 2) ↔ (AreRun (map string_bytes words.now) → ⊥) }
-    ensures untouched { result ≡ 2 → (source.new ≡ source.old) × (sink.new ≡ sink.old) }
+    ensures untouched { result ≡ 2
+        → (source.new ≡ source.old) × (sink.new ≡ sink.old) × (depot.new ≡ depot.old) }
 
     // 0: the whole input was read, and its transcript was written.
     ensures done { result ≡ 0 → IsAtEnd (S.left source.new) × IfSome (S.left source.old) (λ input.
@@ -69,23 +76,32 @@ pub fn run_simba<S: Source, K: Sink>(
         × IsFront input script count names rest
         × Tells script (K.holds sink.old) (K.holds sink.new)) }
 
+    // 8: the depot failed; what was written is the transcript of the first lines.
+    ensures depot { result ≡ 8 → ((P.state depot.old).faults < (P.state depot.new).faults)
+        × IfSome (S.left source.old) (λ input.
+        (script : List AnEvent) × (count : ℕ) × (names : Names) × (rest : List ℕ)
+        × IsFront input script count names rest
+        × Tells script (K.holds sink.old) (K.holds sink.new)) }
+
     // There is no other status, and no other fault.
-    ensures statuses { (result ≡ 0)
-        ⊎ ((result ≡ 2) ⊎ ((result ≡ 3) ⊎ ((result ≡ 4) ⊎ ((result ≡ 5) ⊎ ((result ≡ 6) ⊎ (result ≡ 7)))))) }
+    ensures statuses { (result ≡ 0) ⊎ ((result ≡ 2) ⊎ ((result ≡ 3) ⊎ ((result ≡ 4) ⊎ ((result ≡ 5) ⊎ ((result ≡ 6)
+        ⊎ ((result ≡ 7) ⊎ (result ≡ 8))))))) }
     ensures source_faults { result ≢ 4 → S.faults source.new ≡ S.faults source.old }
     ensures sink_faults { result ≢ 5 → K.faults sink.new ≡ K.faults sink.old }
+    ensures depot_faults { result ≢ 8 → (P.state depot.new).faults ≡ (P.state depot.old).faults }
 
     // Valid input, where no fault came, gives 0 or want of memory.
     ensures complete { AreRun (map string_bytes words.now)
         → IfSome (S.left source.old) (λ input. (script : List AnEvent) → IsWhole input script
         → S.faults source.new ≡ S.faults source.old → S.faults source.old < 2 ^ 64 - 1
         → K.faults sink.new ≡ K.faults sink.old → K.faults sink.old < 2 ^ 64 - 1
+        → (P.state depot.new).faults ≡ (P.state depot.old).faults
         → (result ≡ 0) ⊎ (result ≡ 6)) }
 {
     if !is_run(words) {
         return 2;
     }
-    status_of(run_whole(alloc, source, sink))
+    status_of(run_whole(alloc, source, sink, depot))
 }
 
 fn is_run(words: &[String]) -> bool
@@ -107,11 +123,18 @@ fn status_of(ended: Result<(), Stop>) -> u8
         Err(Stop::Put) => 5,
         Err(Stop::Memory) => 6,
         Err(Stop::Limit(_)) => 7,
+        Err(Stop::Depot) => 8,
     }
 }
 
 // Carries out the script of the source, and says why it stopped.
-fn run_whole<S: Source, K: Sink>(alloc: Global, source: &mut S, sink: &mut K) -> Result<(), Stop>
+fn run_whole<S: Source, K: Sink, P: Depot>(
+    alloc: Global,
+    source: &mut S,
+    sink: &mut K,
+    depot: &mut P,
+) -> Result<(), Stop>
+    requires { (k : ℕ) → (P.state depot.old).is_out k ≡ false }
     ensures end { OnOk result (IsAtEnd (S.left source.new)) }
     ensures done { OnOk result (IfSome (S.left source.old)
         (λ input. IsDone input (K.holds sink.old) (K.holds sink.new))) }
@@ -121,9 +144,11 @@ fn run_whole<S: Source, K: Sink>(alloc: Global, source: &mut S, sink: &mut K) ->
         (λ stop. CountsReads stop (S.faults source.old) (S.faults source.new)) }
     ensures puts { MatchResult result (λ _. K.faults sink.new ≡ K.faults sink.old)
         (λ stop. CountsPuts stop (K.faults sink.old) (K.faults sink.new)) }
+    ensures depots { MatchResult result (λ _. (P.state depot.new).faults ≡ (P.state depot.old).faults)
+        (λ stop. CountsDepots stop (P.state depot.old).faults (P.state depot.new).faults) }
 {
-    let mut run = Run::new(alloc);
-    match run.whole(source, sink) {
+    let mut run: Run<P::Disk> = Run::new(alloc);
+    match run.whole(source, sink, depot) {
         Ok(()) => Ok(()),
         Err(stop) => Err(run.end(sink, stop)),
     }

@@ -14,6 +14,8 @@ pub(crate) enum Stop {
     Read,
     /// The sink failed.
     Put,
+    /// The depot failed.
+    Depot,
     /// Memory was refused.
     Memory,
     /// The next line is in no grammar.
@@ -53,6 +55,7 @@ impl From<WorldFault> for Stop {
     fn from(fault: WorldFault) -> Stop {
         match fault {
             WorldFault::Limit { code, .. } => Stop::Limit(code),
+            WorldFault::Depot => Stop::Depot,
             WorldFault::Memory => Stop::Memory,
         }
     }

@@ -1,20 +1,21 @@
-ghost use Rattle.std.specs.Prelude.{◌≡◌, ◌≢◌, ◌⊎◌, ◌+◌, ◌<◌, ◌≤◌, ◌++◌, ◌∷◌, [], ℕ, List, Option, Some, map, OnOk};
-ghost use Rattle.std.specs.Prelude.{OnErr, IfOk, IfErr, IfSome, IfNone, MatchResult, MatchOption, MatchBool};
+ghost use Rattle.std.specs.Prelude.{◌≡◌, ◌≢◌, ◌⊎◌, ◌+◌, ◌<◌, ◌≤◌, ◌++◌, ◌∷◌, [], ℕ, Bool, false, List, Option, Some};
+ghost use Rattle.std.specs.Prelude.{map, OnOk, OnErr, IfOk, IfErr, IfSome, IfNone, MatchResult, MatchOption, MatchBool};
 ghost use Rattle.std.specs.List.{flat_map};
 ghost use Rattle.std.specs.Io.KnownBytes.{Appends, IsAtEnd};
 ghost use Rattle.table_model.specs.declared.event.Event.{Event as AnEvent};
 ghost use Rattle.table_model.specs.declared.line.TextLine.{TextLine as ALine};
 ghost use Rattle.script_text.specs.Grammar.{Spells};
-ghost use Rattle.transcript_text.specs.Text.{text_of, stop_text};
+ghost use Rattle.transcript_text.specs.Text.{text_of, stop_text, transcript_text};
+ghost use Rattle.world_steps.specs.Holds.{IsBuilt, IsWorld};
 ghost use Rattle.stab_io.specs.Faults.{Rose, AppendsFront};
 ghost use Rattle.simba_top.specs.Script.{IsWhole};
-ghost use Rattle.simba_top.specs.Ends.{text_of_run};
 ghost use Rattle.simba_top.specs.Stands.{IsReady, Stands, HasLine, Goes, GoesOn, IsCause, EndedBy, Stopped, IsDone};
-ghost use Rattle.simba_top.specs.Stands.{CountsReads, CountsPuts};
+ghost use Rattle.simba_top.specs.Stands.{CountsReads, CountsPuts, CountsDepots};
 
 use crate::row_names::RowNames;
 use crate::run::MOST_LINES;
 use crate::stop::Stop;
+use disk_trait::{Depot, Disk};
 use row_value::Bytes;
 use script_text::{Declared, line_text, parse_line, stop_text};
 use stab_io::{Failed, LineReader, Sink, Source};
@@ -24,11 +25,11 @@ use world_steps::{Lines, World};
 
 /// A run over a script: what its lines so far have made.
 #[derive(Drop)]
-pub(crate) struct Run {
+pub(crate) struct Run<D: Disk> {
     reader: LineReader,
     names: Declared,
     rows: RowNames,
-    world: World,
+    world: World<D>,
     // the lines so far
     count: u64,
     alloc: Global,
@@ -65,10 +66,12 @@ fn put_all<K: Sink>(sink: &mut K, texts: &[Bytes]) -> Result<(), Failed>
     Ok(())
 }
 
-impl Run {
-    pub(crate) fn new(alloc: Global) -> Run
+impl<D: Disk + Drop> Run<D> {
+    pub(crate) fn new(alloc: Global) -> Run<D>
         ensures ready { IsReady result }
-        ensures stands { (input : List ℕ) → Stands input [] result (Some input) }
+        ensures held { (is_out : ℕ → Bool) → ((k : ℕ) → is_out k ≡ false) → IsWorld D.state is_out result.world }
+        ensures stands { (input : List ℕ) (is_out : ℕ → Bool) → ((k : ℕ) → is_out k ≡ false)
+            → Stands D.state input [] [] result is_out (Some input) }
     {
         Run {
             reader: LineReader::new(alloc),
@@ -81,24 +84,31 @@ impl Run {
     }
 
     /// Carries out the lines of the source, to its end.
-    pub(crate) fn whole<S: Source, K: Sink>(
+    pub(crate) fn whole<S: Source, K: Sink, P: Depot<Disk = D>>(
         &mut self,
         source: &mut S,
         sink: &mut K,
+        depot: &mut P,
     ) -> Result<(), Stop>
-        requires { IsReady self.old }
+        requires ready { IsReady self.old }
+        requires held { IsWorld D.state (P.state depot.old).is_out self.old.world }
         ensures end { OnOk result (IsAtEnd (S.left source.new)) }
         ensures few { self.new.count ≤ MOST_LINES }
-        ensures done { (input : List ℕ) → Stands input [] self.old (S.left source.old)
+        ensures done { (input : List ℕ)
+            → Stands D.state input [] [] self.old (P.state depot.old).is_out (S.left source.old)
             → OnOk result (IsDone input (K.holds sink.old) (K.holds sink.new)) }
-        ensures ends { (input : List ℕ) → Stands input [] self.old (S.left source.old) → IfErr result (λ stop.
+        ensures ends { (input : List ℕ)
+            → Stands D.state input [] [] self.old (P.state depot.old).is_out (S.left source.old)
+            → IfErr result (λ stop.
             EndedBy stop input self.new.count (S.left source.new) (K.holds sink.old) (K.holds sink.new)) }
         ensures reads { MatchResult result (λ _. S.faults source.new ≡ S.faults source.old)
             (λ stop. CountsReads stop (S.faults source.old) (S.faults source.new)) }
         ensures puts { MatchResult result (λ _. K.faults sink.new ≡ K.faults sink.old)
             (λ stop. CountsPuts stop (K.faults sink.old) (K.faults sink.new)) }
+        ensures depots { MatchResult result (λ _. (P.state depot.new).faults ≡ (P.state depot.old).faults)
+            (λ stop. CountsDepots stop (P.state depot.old).faults (P.state depot.new).faults) }
     {
-        'lines: while self.turn(source, sink)? {}
+        'lines: while self.turn(source, sink, depot)? {}
         Ok(())
     }
 
@@ -110,11 +120,12 @@ impl Run {
             → Stopped result input left before (K.holds sink.new) }
         ensures reads { (old new : ℕ) → CountsReads stop old new → CountsReads result old new }
         ensures puts { (old : ℕ) → CountsPuts stop old (K.faults sink.old) → CountsPuts result old (K.faults sink.new) }
+        ensures depots { (old new : ℕ) → CountsDepots stop old new → CountsDepots result old new }
     {
         match stop {
             Stop::BadLine(fault) => self.put_stop(sink, 3, fault.code).err().unwrap_or(stop),
             Stop::Limit(limit) => self.put_stop(sink, 7, limit).err().unwrap_or(stop),
-            Stop::Read | Stop::Put | Stop::Memory => stop,
+            Stop::Read | Stop::Put | Stop::Depot | Stop::Memory => stop,
         }
     }
 
@@ -135,27 +146,38 @@ impl Run {
     }
 
     // Carries out one line. False at the end.
-    fn turn<S: Source, K: Sink>(&mut self, source: &mut S, sink: &mut K) -> Result<bool, Stop>
-        requires { IsReady self.old }
+    fn turn<S: Source, K: Sink, P: Depot<Disk = D>>(
+        &mut self,
+        source: &mut S,
+        sink: &mut K,
+        depot: &mut P,
+    ) -> Result<bool, Stop>
+        requires ready { IsReady self.old }
+        requires held { IsWorld D.state (P.state depot.old).is_out self.old.world }
+        ensures held { OnOk result (IsWorld D.state (P.state depot.new).is_out self.new.world) }
         ensures ready { IfOk result (λ more. MatchBool more (IsReady self.new × (self.new.count ≡ self.old.count + 1))
             (IsAtEnd (S.left source.new))) }
         ensures few { self.new.count ≤ MOST_LINES }
         ensures goes { (input : List ℕ) (before : Option (List ℕ))
-            → Goes input self.old (S.left source.old) before (K.holds sink.old) → IfOk result (λ more. MatchBool more
-            (Goes input self.new (S.left source.new) before (K.holds sink.new))
+            → Goes D.state input self.old (P.state depot.old).is_out (S.left source.old) before (K.holds sink.old)
+            → IfOk result (λ more. MatchBool more
+            (Goes D.state input self.new (P.state depot.new).is_out (S.left source.new) before (K.holds sink.new))
             (IsDone input before (K.holds sink.new))) }
         ensures ends { (input : List ℕ) (before : Option (List ℕ))
-            → Goes input self.old (S.left source.old) before (K.holds sink.old) → IfErr result (λ stop.
+            → Goes D.state input self.old (P.state depot.old).is_out (S.left source.old) before (K.holds sink.old)
+            → IfErr result (λ stop.
             EndedBy stop input self.new.count (S.left source.new) before (K.holds sink.new)) }
         ensures reads { MatchResult result (λ _. S.faults source.new ≡ S.faults source.old)
             (λ stop. CountsReads stop (S.faults source.old) (S.faults source.new)) }
         ensures puts { MatchResult result (λ _. K.faults sink.new ≡ K.faults sink.old)
             (λ stop. CountsPuts stop (K.faults sink.old) (K.faults sink.new)) }
+        ensures depots { MatchResult result (λ _. (P.state depot.new).faults ≡ (P.state depot.old).faults)
+            (λ stop. CountsDepots stop (P.state depot.old).faults (P.state depot.new).faults) }
     {
         let Some(line) = self.next_line(source)? else {
             return Ok(false);
         };
-        let texts = self.event_texts(&line)?;
+        let texts = self.event_texts(depot, &line)?;
         put_all(sink, &texts)?;
         Ok(true)
     }
@@ -167,13 +189,15 @@ impl Run {
         ensures few { IfOk result (λ found. IfSome found (λ _. self.new.count < MOST_LINES)) }
         ensures same { self.new ≡ record self.old { reader = self.new.reader } }
         ensures end { IfOk result (λ found. IfNone found (IsAtEnd (S.left source.new))) }
-        ensures found { (input : List ℕ) (script : List AnEvent) → Stands input script self.old (S.left source.old)
+        ensures found { (input : List ℕ) (script : List AnEvent) (told : List ALine) (is_out : ℕ → Bool)
+            → Stands D.state input script told self.old is_out (S.left source.old)
             → MatchResult result
             (λ found. MatchOption found (IsWhole input script)
-            (λ line. HasLine input script line.items self.new (S.left source.new)))
+            (λ line. HasLine D.state input script told line.items self.new is_out (S.left source.new)))
             (λ stop. IsCause stop input script self.old.count (S.left source.new)) }
         ensures reads { MatchResult result (λ _. S.faults source.new ≡ S.faults source.old)
-            (λ stop. (stop ≢ Stop.Put) × CountsReads stop (S.faults source.old) (S.faults source.new)) }
+            (λ stop. (stop ≢ Stop.Put) × (stop ≢ Stop.Depot)
+            × CountsReads stop (S.faults source.old) (S.faults source.new)) }
     {
         if self.count >= MOST_LINES {
             self.end_due(source)?;
@@ -189,12 +213,14 @@ impl Run {
         ensures ready { OnOk result (IsReady self.new) }
         ensures same { self.new ≡ record self.old { reader = self.new.reader } }
         ensures end { OnOk result (IsAtEnd (S.left source.new)) }
-        ensures found { (input : List ℕ) (script : List AnEvent) → Stands input script self.old (S.left source.old)
+        ensures found { (input : List ℕ) (script : List AnEvent) (told : List ALine) (is_out : ℕ → Bool)
+            → Stands D.state input script told self.old is_out (S.left source.old)
             → MatchResult result
             (λ _. IsWhole input script)
             (λ stop. IsCause stop input script self.old.count (S.left source.new)) }
         ensures reads { MatchResult result (λ _. S.faults source.new ≡ S.faults source.old)
-            (λ stop. (stop ≢ Stop.Put) × CountsReads stop (S.faults source.old) (S.faults source.new)) }
+            (λ stop. (stop ≢ Stop.Put) × (stop ≢ Stop.Depot)
+            × CountsReads stop (S.faults source.old) (S.faults source.new)) }
     {
         if self.reader.goes_on(source)? {
             return Err(Stop::Limit(2));
@@ -203,19 +229,28 @@ impl Run {
     }
 
     // Carries out a line: the text of each line that it writes.
-    fn event_texts(&mut self, line: &[u8]) -> Result<Vec<Bytes>, Stop>
+    fn event_texts<P: Depot<Disk = D>>(
+        &mut self,
+        depot: &mut P,
+        line: &[u8],
+    ) -> Result<Vec<Bytes>, Stop>
         requires ready { IsReady self.old }
         requires few { self.old.count < MOST_LINES }
+        requires held { IsWorld D.state (P.state depot.old).is_out self.old.world }
+        ensures held { OnOk result (IsWorld D.state (P.state depot.new).is_out self.new.world) }
         ensures ready { OnOk result (IsReady self.new × (self.new.count ≡ self.old.count + 1)) }
         ensures few { OnErr result (self.new.count ≡ self.old.count) }
-        ensures texts { (input : List ℕ) (script : List AnEvent) (left : Option (List ℕ))
-            → HasLine input script line.now self.old left
-            → MatchResult result (λ texts. GoesOn input script self.new left texts.items)
+        ensures texts { (input : List ℕ) (script : List AnEvent) (told : List ALine) (left : Option (List ℕ))
+            → HasLine D.state input script told line.now self.old (P.state depot.old).is_out left
+            → MatchResult result
+            (λ texts. GoesOn D.state input told self.new (P.state depot.new).is_out left texts.items)
             (λ stop. IsCause stop input script self.old.count left) }
         ensures fault { IfErr result (λ stop. (stop ≢ Stop.Read) × (stop ≢ Stop.Put)) }
+        ensures depots { MatchResult result (λ _. (P.state depot.new).faults ≡ (P.state depot.old).faults)
+            (λ stop. CountsDepots stop (P.state depot.old).faults (P.state depot.new).faults) }
     {
         match parse_line(self.alloc, line, &self.names)? {
-            Some(event) => self.carry_out(&event),
+            Some(event) => self.carry_out(depot, &event),
             None => {
                 self.count += 1;
                 Ok(Vec::new(self.alloc))
@@ -223,21 +258,32 @@ impl Run {
         }
     }
 
-    fn carry_out(&mut self, event: &Event) -> Result<Vec<Bytes>, Stop>
+    fn carry_out<P: Depot<Disk = D>>(
+        &mut self,
+        depot: &mut P,
+        event: &Event,
+    ) -> Result<Vec<Bytes>, Stop>
         requires ready { IsReady self.old }
         requires few { self.old.count < MOST_LINES }
+        requires built { IsBuilt event.now }
+        requires held { IsWorld D.state (P.state depot.old).is_out self.old.world }
+        ensures held { OnOk result (IsWorld D.state (P.state depot.new).is_out self.new.world) }
         ensures ready { OnOk result (IsReady self.new × (self.new.count ≡ self.old.count + 1)) }
         ensures few { OnErr result (self.new.count ≡ self.old.count) }
-        ensures texts { (input : List ℕ) (script : List AnEvent) (line : List ℕ) (left : Option (List ℕ))
-            → HasLine input script line self.old left
+        ensures texts { (input : List ℕ) (script : List AnEvent) (told : List ALine) (line : List ℕ)
+            (left : Option (List ℕ))
+            → HasLine D.state input script told line self.old (P.state depot.old).is_out left
             → Spells self.old.names line event.now
-            → MatchResult result (λ texts. GoesOn input script self.new left texts.items)
+            → MatchResult result
+            (λ texts. GoesOn D.state input told self.new (P.state depot.new).is_out left texts.items)
             (λ stop. IsCause stop input script self.old.count left) }
         ensures fault { IfErr result (λ stop. (stop ≢ Stop.Read) × (stop ≢ Stop.Put)) }
+        ensures depots { MatchResult result (λ _. (P.state depot.new).faults ≡ (P.state depot.old).faults)
+            (λ stop. CountsDepots stop (P.state depot.old).faults (P.state depot.new).faults) }
     {
         self.names.add(event)?;
         self.rows.add(event)?;
-        let lines = self.world.step(event)?;
+        let lines = self.world.step(depot, event)?;
         let texts = texts_of(self.alloc, &lines)?;
         self.count += 1;
         Ok(texts)

@@ -8,4 +8,8 @@ known (Some input) P f = f input refl
 
 pub returns-clause-stopped : goal.returns-clause-stopped
 returns-clause-stopped g c = known _ _ (λ input is.
-    c.end.ensures.ends input _ _ (c.in-Err.ensures.ends input (rw is (c.new-run.ensures.stands input))))
+    c.end.ensures.ends input _ _ (c.in-Err.ensures.ends input (rw is (c.new-run.ensures.stands input (g.P.Depot.state c.args.depot.now).is_out c.requires))))
+
+pub returns-in-Ok-clause-done : goal.returns-in-Ok-clause-done
+returns-in-Ok-clause-done g c = known _ _ (λ input is.
+    c.in-Ok.ensures.done input (rw is (c.new-run.ensures.stands input (g.P.Depot.state c.args.depot.now).is_out c.requires)))

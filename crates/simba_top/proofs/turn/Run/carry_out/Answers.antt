@@ -1,22 +1,40 @@
 use Rattle.std.proofs.lemmas.Result.{err_from_is_err_and}
-use Rattle.memory_runs.specs.Turns.{world_after}
+use Rattle.world_tables.specs.World.{start}
+use Rattle.world_tables.specs.Turns.{world_from}
+use Rattle.simba_top.proofs.Sounds.{reached, world_on}
 use Rattle.simba_top.proofs.Turns.{carries_out, row_stops, world_stops}
 use Rattle.simba_top.proofs.turn.Run.carry_out.Goals as goal
 
+pub returns-clause-held : goal.returns-clause-held
+returns-clause-held g c =
+    let w = c.requires.held in
+    let out = (g.P.Depot.state c.args.depot.now).is_out in
+    let new = (g.P.Depot.state c.step.new.depot).is_out in
+    world_on g.D.Disk.state out new c.args.self.now.world c.step.new.self c.args.event.now c.in_ok-lines.lines w c.requires.built
+    (c.in_ok-lines.ensures.done w.w w.reached w.held w.out)
+
 pub returns-clause-texts : goal.returns-clause-texts
-returns-clause-texts c = λ input script line left has spells.
-    carries_out input script line c.args.self.now left has c.requires.few c.args.event.now c.add.new.self c.add-2.new.self c.step.new.self c.in_ok-lines.lines c.in_ok-texts.texts.items
-    spells c.in_ok-add.ensures.ok (c.in_ok-add-2.ensures.rows script has.rows) (c.in_ok-add-2.ensures.few script has.rows has.front.rows)
-    (c.in_ok-lines.ensures.lines (world_after script) has.world) (c.in_ok-lines.ensures.world (world_after script) has.world) c.in_ok-texts.ensures
+returns-clause-texts g c = λ input script told line left has spells.
+    let state = g.D.Disk.state in
+    let out = (g.P.Depot.state c.args.depot.now).is_out in
+    let new = (g.P.Depot.state c.step.new.depot).is_out in
+    let l = has.world in
+    carries_out state input script told line c.args.self.now out left has c.requires.few c.args.event.now c.add.new.self c.add-2.new.self c.step.new.self new
+    c.in_ok-lines.lines c.in_ok-texts.texts.items
+    spells c.in_ok-add.ensures.ok (c.in_ok-add-2.ensures.rows script has.rows) (c.in_ok-add-2.ensures.few script has.rows has.front.rows) c.requires.built
+    (c.in_ok-lines.ensures.done (world_from start l.run) (reached state script told c.args.self.now.world out l) l.held l.out) c.in_ok-texts.ensures
 
 pub returns-in_err-add-2-clause-texts : goal.returns-in_err-add-2-clause-texts
-returns-in_err-add-2-clause-texts c = λ input script line left has spells.
+returns-in_err-add-2-clause-texts g c = λ input script told line left has spells.
     let p = err_from_is_err_and c.from_residual-in_err-add-2.result c.from_residual-in_err-add-2.ensures.1 in
-    rw (p.1, p.2) (row_stops input script line c.args.self.now left has c.requires.few c.args.event.now c.in_err-add-2.field-0.0 spells
-    (c.in_err-add-2.ensures.cause script has.rows))
+    rw (p.1, p.2) (row_stops g.D.Disk.state input script told line c.args.self.now (g.P.Depot.state c.args.depot.now).is_out left has c.requires.few c.args.event.now
+    c.in_err-add-2.field-0.0 spells (c.in_err-add-2.ensures.cause script has.rows))
 
 pub returns-in_err-lines-clause-texts : goal.returns-in_err-lines-clause-texts
-returns-in_err-lines-clause-texts c = λ input script line left has spells.
+returns-in_err-lines-clause-texts g c = λ input script told line left has spells.
+    let state = g.D.Disk.state in
+    let out = (g.P.Depot.state c.args.depot.now).is_out in
+    let l = has.world in
     let p = err_from_is_err_and c.from_residual-in_err-lines.result c.from_residual-in_err-lines.ensures.1 in
-    rw (p.1, p.2) (world_stops input script line c.args.self.now left has c.requires.few c.args.event.now c.in_err-lines.field-0.0 spells
-    (c.in_ok-add-2.ensures.few script has.rows has.front.rows) (c.in_err-lines.ensures.cause (world_after script) has.world))
+    rw (p.1, p.2) (world_stops state input script told line c.args.self.now out left has c.requires.few c.args.event.now c.in_err-lines.field-0.0 c.requires.built
+    (c.in_err-lines.ensures.limit (world_from start l.run) (reached state script told c.args.self.now.world out l) l.held))

@@ -118,10 +118,10 @@ module _ (names : Names) (word : List ℕ) where
       let p = bind-ok (store_at names word) (λ number. Ok (nodes.Store number)) node e in
       subst (λ (x : Node). (word ≡ node_word x) × IsNode names x) (ok_same _ _ p.2) (store_at-ok p.0 p.1)
 
-  client-ok : (node : Node) → (client_at names word >>= λ number. Ok (nodes.Client number)) ≡ Ok node → (word ≡ node_word node) × IsNode names node
+  client-ok : (node : Node) → (client_at names word >>= λ number. Err Unbuilt) ≡ Ok node → ⊥
   client-ok node e =
-      let p = bind-ok (client_at names word) (λ number. Ok (nodes.Client number)) node e in
-      subst (λ (x : Node). (word ≡ node_word x) × IsNode names x) (ok_same _ _ p.2) (client_at-ok names word p.0 p.1)
+      let p = bind-ok (client_at names word) (λ number. Err Unbuilt) node e in
+      ok_err node Unbuilt (sym p.2)
 
   gate-ok : (node : Node) → (node_at 71 word >>= λ number. Err NotDeclared) ≡ Ok node → ⊥
   gate-ok node e =
@@ -134,7 +134,7 @@ module _ (names : Names) (word : List ℕ) where
     | inl store ↦ store-ok node (rw store at e)
     | inr other ↦ elim (cases_Bool (begins_with 71 word)) [
       | inl gate ↦ absurd (gate-ok node (rw (other, gate) at e))
-      | inr neither ↦ client-ok node (rw (other, neither) at e)
+      | inr neither ↦ absurd (client-ok node (rw (other, neither) at e))
     ]
   ]
 

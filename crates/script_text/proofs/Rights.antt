@@ -56,7 +56,7 @@ pub party_at-right : (names : Names) (node : Node) → IsNode names node → par
 unfolding party_at
 party_at-right names (nodes.Store n) h = rw (store_at-right names n h) refl
 party_at-right names (nodes.Gate n) h = absurd h
-party_at-right names (nodes.Client n) h = rw (client_at-right names n h) refl
+party_at-right names (nodes.Client n) h = absurd h
 
 store-number : store_number (codes "S1") ≡ Ok (Some 1)
 unfolding limited_at node_at is_number small

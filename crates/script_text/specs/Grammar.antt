@@ -172,11 +172,11 @@ node_word (nodes.Store store) = codes "S" ++ decimal store
 node_word (nodes.Gate gate) = codes "G" ++ decimal gate
 node_word (nodes.Client client) = client_word client
 
--- a node that is declared; no gateway can be yet
+-- a Store that is declared; no gateway can be yet, and a client has no devices yet
 abbrev pub IsNode : Names → Node → Type 0
 IsNode names (nodes.Store store) = (1 ≤ store) × (store < 2 ^ 32) × (has_store names store ≡ true)
 IsNode names (nodes.Gate gate) = ⊥
-IsNode names (nodes.Client client) = IsClient names client
+IsNode names (nodes.Client client) = ⊥
 
 -- `VERB N`
 abbrev pub SpellsNode : List ℕ → Names → List (List ℕ) → Node → Type 0

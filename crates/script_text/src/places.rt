@@ -78,7 +78,7 @@ fn names_a_gateway(word: &str) -> bool
     matches!(word.as_bytes(), [b'G', ..])
 }
 
-// A node that is declared; no gateway can be yet.
+// A Store that is declared; no gateway can be yet, and a client has no devices yet.
 #[tactic(auto, unfolding(crate::specs::Places::party_at))]
 pub(crate) fn party_at(names: &Declared, word: &str) -> Result<Node, Code>
     ensures { result ≡ party_at names.now word.now }
@@ -91,8 +91,8 @@ pub(crate) fn party_at(names: &Declared, word: &str) -> Result<Node, Code>
         let _number = node_at('G', word)?;
         return Err(Code::NotDeclared);
     }
-    let client = client_at(names, word)?;
-    Ok(Node::Client(client))
+    let _client = client_at(names, word)?;
+    Err(Code::Unbuilt)
 }
 
 #[tactic(auto, unfolding(crate::specs::Places::table_at))]

@@ -377,7 +377,7 @@ fn refusals_of_nodes_at_the_start(rt: HostRuntime) -> Result<(), Fail> {
     check(&rt, rt.alloc(), &names, &OF_NODES_AT_THE_START)
 }
 
-const OF_NODES: [(&str, u32, usize); 56] = [
+const OF_NODES: [(&str, u32, usize); 57] = [
     ("chunks T1", 0, 0),
     ("chunks T2", 0, 0),
     ("chunks T3", 8, 1),
@@ -385,7 +385,7 @@ const OF_NODES: [(&str, u32, usize); 56] = [
     ("chunks S1", 5, 1),
     ("chunks T1 T2", 3, 2),
     ("hold S1", 0, 0),
-    ("hold C1", 0, 0),
+    ("hold C1", 12, 1),
     ("hold G1", 8, 1),
     ("hold G17", 8, 1),
     ("hold S2", 8, 1),
@@ -405,19 +405,20 @@ const OF_NODES: [(&str, u32, usize); 56] = [
     ("hold -", 5, 1),
     ("hold S1 C1", 3, 2),
     ("hold G1 C1", 8, 1),
-    ("free C1", 0, 0),
+    ("free C1", 12, 1),
     ("free S1 x", 3, 2),
     ("work S1", 0, 0),
     ("work S1 1", 3, 2),
     ("do S1", 0, 0),
     ("do C2", 8, 1),
     ("do S1 S1", 3, 2),
-    ("start C1", 0, 0),
+    ("start C1", 12, 1),
     ("start S1 0", 3, 2),
     ("crash S1", 2, 2),
     ("crash S1 0", 2, 3),
     ("crash S1 0 0", 0, 0),
-    ("crash C1 4 18446744073709551615", 0, 0),
+    ("crash S1 4 18446744073709551615", 0, 0),
+    ("crash C1 5 x", 12, 1),
     ("crash S1 5 0", 4, 2),
     ("crash S1 04 0", 4, 2),
     ("crash S1 00 0", 4, 2),
@@ -469,7 +470,7 @@ fn each_event_ends_the_declarations(rt: HostRuntime) -> Result<(), Fail> {
         SSHOW,
         "chunks T1",
         "hold S1",
-        "free C1",
+        "free S1",
         "work S1",
         "do S1",
         "crash S1 0 0",
@@ -639,7 +640,7 @@ fn is_done_to_a_node(index: usize, event: &Event) -> bool {
         (
             1,
             Event::Free {
-                node: Node::Client(1),
+                node: Node::Store(1),
             },
         ) => true,
         (
@@ -651,13 +652,13 @@ fn is_done_to_a_node(index: usize, event: &Event) -> bool {
         (
             3,
             Event::WorkAll {
-                node: Node::Client(1),
+                node: Node::Store(1),
             },
         ) => true,
         (
             4,
             Event::Crash {
-                node: Node::Client(1),
+                node: Node::Store(1),
                 calls: 3,
                 pick: 7,
             },
@@ -687,10 +688,10 @@ fn lines_say_what_is_done_to_a_node(rt: HostRuntime) -> Result<(), Fail> {
     let names = behind(alloc, &[STORE, TABLE, SECOND, CLIENT])?;
     let lines = [
         "hold S1",
-        "free C1",
+        "free S1",
         "work S1",
-        "do C1",
-        "crash C1 3 7",
+        "do S1",
+        "crash S1 3 7",
         "crash S1 0 18446744073709551615",
         "start S1",
         "chunks T2",

@@ -21,3 +21,8 @@ pub mod Starting
 pub mod Asking
 pub mod Behind
 pub mod RowSets
+pub mod Theres
+pub mod Scans
+pub mod Wholes
+pub mod ShownRows
+pub mod Sparing

@@ -120,7 +120,7 @@ module _ (chunks : List (ChunkName × List ℕ)) (name : LocalName) where
 
 -- ---- slots and records
 
-key_itself : (a : RowKey) → is_at (key_cmp a) a ≡ true
+pub key_itself : (a : RowKey) → is_at (key_cmp a) a ≡ true
 key_itself a = (eq_by_cmp_equiv key_cmp_total).refl a
 
 pub cases_key : (a b : RowKey) → (a ≡ b) ⊎ (is_at (key_cmp a) b ≡ false)

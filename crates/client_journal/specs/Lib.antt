@@ -11,3 +11,7 @@ pub mod Made
 pub mod TakesOn
 pub mod Recover
 pub mod Asking
+pub mod There
+pub mod Scan
+pub mod Spare
+pub mod Small

@@ -27,7 +27,7 @@ use std::alloc::{AllocError, Global};
 use std::collections::BTreeSet;
 
 // Whether a commit changes the slots of this row.
-fn is_row(commit: &Commit, table: TableNo, row: &RowId) -> bool
+pub(crate) fn is_row(commit: &Commit, table: TableNo, row: &RowId) -> bool
     ensures { MatchBool result (IsRow commit.now.table commit.now.row table row.now)
         (IsRow commit.now.table commit.now.row table row.now → ⊥) }
 {
@@ -110,7 +110,7 @@ fn record_at(
 }
 
 // The record of a table, once it is known of what is held.
-fn record_with(
+pub(crate) fn record_with(
     commit: &Option<Commit>,
     table: TableNo,
     old: Option<TableRecord>,
@@ -225,7 +225,7 @@ impl<D: Disk + Drop> Journal<D> {
     }
 
     // The commit at work, if one is.
-    fn commit_at_work(&mut self) -> Result<Option<Commit>, JournalFault>
+    pub(crate) fn commit_at_work(&mut self) -> Result<Option<Commit>, JournalFault>
         requires up { AreUp self.old }
         requires looked { AreLookedAt D.state self.old }
         ensures reads { Reads D.state D.images self.old self.new result }
@@ -244,7 +244,11 @@ impl<D: Disk + Drop> Journal<D> {
     }
 
     // The slots of a row that are held.
-    fn held_slots(&mut self, table: TableNo, row: &RowId) -> Result<Option<RowSlots>, JournalFault>
+    pub(crate) fn held_slots(
+        &mut self,
+        table: TableNo,
+        row: &RowId,
+    ) -> Result<Option<RowSlots>, JournalFault>
         requires up { AreUp self.old }
         requires looked { AreLookedAt D.state self.old }
         ensures reads { Reads D.state D.images self.old self.new result }

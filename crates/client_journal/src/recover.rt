@@ -388,7 +388,7 @@ impl<D: Disk + Drop> Journal<D> {
     }
 
     // What is made of the plan at work, and the writes of it.
-    fn rolled(&mut self) -> Result<(Rolled, VecDeque<Task>), JournalFault>
+    pub(crate) fn rolled(&mut self) -> Result<(Rolled, VecDeque<Task>), JournalFault>
         requires starting { IsStarting D.state self.old }
         ensures starts { Starts D.state D.images self.old self.new result }
         ensures answer { IfOk result (λ p. p.0 ≡ rolled_of (devs D.state self.old).journal.at_work) }

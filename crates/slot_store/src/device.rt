@@ -2,20 +2,22 @@
 ghost use Rattle.std.specs.Prelude.{◌≡◌, ◌↔◌, ◌+◌, ◌*◌, ◌<◌, ◌≤◌, false, ℕ, List, length, is_some, None, Some, OnOk};
 ghost use Rattle.std.specs.Prelude.{OnErr, IfOk, IfSome, IfNone, IsErrOf, Ok};
 ghost use Rattle.std.specs.Bool.{MatchBool};
+ghost use Rattle.std.specs.Map.{keys_of};
+ghost use Rattle.std.specs.List.Sorted.{IsStrictlySortedBy};
 ghost use Rattle.vault.specs.Limit.{payload_most};
 ghost use Rattle.vault.specs.Standing.{payloads, gets, disk_of, IsDown, IsUp, IsSynced, IsRestarted};
 ghost use Rattle.stab_base.specs.declared.limits.TheConstants.{NUMBER_MAX};
 ghost use Rattle.slot_store.specs.declared.held.RowSlots.{RowSlots};
 ghost use Rattle.slot_store.specs.Spelling.{HasRowSpelling, row_payload, HasRecordSpelling, record_payload};
 ghost use Rattle.slot_store.specs.Reading.{row_in};
-ghost use Rattle.slot_store.specs.Data.{with_slots, with_record, slots_of, record_of, records_of, AreRowsOf};
+ghost use Rattle.slot_store.specs.Data.{with_slots, with_record, slots_of, record_of, records_of, AreRowsOf, key_cmp};
 ghost use Rattle.slot_store.specs.Memory.{IsPlace, row_at};
 ghost use Rattle.slot_store.specs.Standing.{vault_of, held, slot_reads, reads_after, IsLookedAt, IsOpened, HasRoom};
 ghost use Rattle.slot_store.specs.Standing.{Stays, Formats, Looks, Restarts, OpensWrite, Reserves, Puts, Gets};
 
 use crate::change::{Change, RowChange, TableChange};
 use crate::fault::{SlotFault, told};
-use crate::held::{RowIds, RowKey, RowSlots, TableRecord, TableRecords};
+use crate::held::{RowIds, RowKey, RowKeys, RowSlots, TableRecord, TableRecords};
 use crate::memory::SlotMemory;
 use crate::reader::row_in;
 use crate::writer::{write_record, write_row};
@@ -245,6 +247,26 @@ impl<D: Disk + Drop> SlotDev<D> {
         }
         let rows = self.inner.memory.rows_of(self.alloc, table)?;
         Ok(rows)
+    }
+
+    /// The keys of the rows of which slots are kept, in rising order. It reads nothing from the disk.
+    pub fn keys(&mut self) -> Result<RowKeys, SlotFault>
+        requires ready { IsUp (vault_of self.old) → IsLookedAt D.state self.old }
+        ensures keys { IfOk result (λ keys. keys ≡ keys_of (held D.state self.old).rows) }
+        ensures rising { IfOk result (λ keys. IsStrictlySortedBy key_cmp keys) }
+        ensures stays { Stays D.state self.old self.new }
+        ensures vault { vault_of self.new ≡ vault_of self.old }
+        ensures not_no_row { IsErrOf result SlotFault.NoRow → ⊥ }
+        ensures not_disk { IsErrOf result SlotFault.Disk → ⊥ }
+        ensures down { IsErrOf result SlotFault.Down ↔ IsDown (vault_of self.old) }
+        ensures unchanged { IsErrOf result SlotFault.Down → self.new ≡ self.old }
+        ensures reads { slot_reads self.new ≡ slot_reads self.old }
+    {
+        if self.inner.is_down() {
+            return Err(SlotFault::Down);
+        }
+        let keys = self.inner.memory.row_keys()?;
+        Ok(keys)
     }
 
     /// The record of a table, if it was put. It reads nothing from the disk.

@@ -35,5 +35,8 @@ pub struct RowKey {
 /// Ids of rows.
 pub type RowIds = Sequence<RowId>;
 
+/// Keys of rows.
+pub type RowKeys = Sequence<RowKey>;
+
 /// Records of tables.
 pub type TableRecords = Sequence<TableRecord>;

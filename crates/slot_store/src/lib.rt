@@ -14,7 +14,7 @@ mod writer;
 
 pub use device::SlotDev;
 pub use fault::SlotFault;
-pub use held::{RowIds, RowKey, RowSlots, TABLE_MAX, TableRecord, TableRecords};
+pub use held::{RowIds, RowKey, RowKeys, RowSlots, TABLE_MAX, TableRecord, TableRecords};
 pub use held_value::Slots;
 pub use laws::{
     data_follows_its_payloads, puts_change_one_value, slots_have_one_payload, tables_are_limited,

@@ -2,7 +2,7 @@
 ghost use Rattle.std.specs.Prelude.{◌≡◌, IfOk, map};
 
 use crate::change::{Change, RowChange, TableChange, change_in};
-use crate::held::{RowIds, RowKey, TableRecord, TableRecords};
+use crate::held::{RowIds, RowKey, RowKeys, TableRecord, TableRecords};
 use crate::reader::schema_in;
 use crate::schemas::{RecordPlace, keep_schema, part, schema_part};
 use spare_map::SpareMap;
@@ -84,7 +84,8 @@ impl SlotMemory {
 impl SlotMemory {
     ghost use Rattle.std.specs.Prelude.{◌≡◌, ◌≤◌, [], ◌∷◌, ◌++◌, map, option_map, Some, IfOk, OnOk};
     ghost use Rattle.std.specs.BTreeMap.{is_at};
-    ghost use Rattle.std.specs.Map.{lookup};
+    ghost use Rattle.std.specs.Map.{lookup, keys_of};
+    ghost use Rattle.std.specs.List.Sorted.{IsStrictlySortedBy};
     ghost use Rattle.std.specs.Ordering.{nat_cmp};
     ghost use Rattle.spare_map.specs.Late.{entries_of, spare_of};
     ghost use Rattle.spare_map.specs.Values.{AllValues};
@@ -109,6 +110,21 @@ impl SlotMemory {
         };
         let keys = self.places.keys_between(from, end)?;
         Ok(RowIds::from_vec(ids_of(alloc, &keys)?))
+    }
+
+    /// The keys of the rows, in rising order.
+    pub(crate) fn row_keys(&mut self) -> Result<RowKeys, AllocError>
+        ensures keys { IfOk result (λ keys. keys ≡ keys_of (entries_of key_cmp self.old.places)) }
+        ensures rising { IfOk result (λ keys. IsStrictlySortedBy key_cmp keys) }
+        ensures same { entries_of key_cmp self.new.places ≡ entries_of key_cmp self.old.places }
+        ensures spare { spare_of self.old.places ≤ spare_of self.new.places }
+        ensures records { self.new.records ≡ self.old.records }
+        ensures schemas { self.new.schemas ≡ self.old.schemas }
+        ensures last { self.new.last ≡ self.old.last }
+    {
+        // what was put while memory was refused
+        self.places.reserve(0)?;
+        Ok(RowKeys::from_vec(self.places.keys()?))
     }
 
     // The record of a table that is kept so.

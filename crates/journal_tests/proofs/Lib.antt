@@ -1,2 +1,3 @@
-mod Moves
-mod Shaped
+pub mod Moves
+pub mod Shaped
+mod Looked

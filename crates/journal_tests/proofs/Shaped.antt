@@ -31,7 +31,7 @@ gone_len : (n number : ℕ) → length (slots_spelling (numbered_slots n (main_o
 unfolding eight four
 gone_len n number = refl
 
-one_len : (n number len : ℕ) → length (slots_spelling (numbered_slots n (main_of number (object_of len (new_piece 0 ∷ []))))) ≡ 50
+pub one_len : (n number len : ℕ) → length (slots_spelling (numbered_slots n (main_of number (object_of len (new_piece 0 ∷ []))))) ≡ 50
 unfolding eight four
 one_len n number len = refl
 
@@ -43,7 +43,7 @@ eight_len : (n : ℕ) → length (eight n) ≡ 8
 unfolding eight
 eight_len n = refl
 
-drop_len : (name : LocalName) → length (list_spelling local_spelling (name ∷ [])) ≡ 16
+pub drop_len : (name : LocalName) → length (list_spelling local_spelling (name ∷ [])) ≡ 16
 unfolding eight four
 drop_len name = refl
 
@@ -146,7 +146,7 @@ bare_is_plan d position new_record positions records =
     (λ name has. absurd cc) (λ ordinal lt. absurd (omega (arith, lt))) refl tt (λ name has. absurd cc) tt (omega arith)
 
 module _ (d : ClientDevs) (row : List ℕ) (size : length row ≡ 16) (number : ℕ) (within : number ≤ NUMBER_MAX) where
-  main_fits : (n : ℕ) (content : HeldContent) → HasSlots (numbered_slots n (main_of number content)) → length (slots_spelling (numbered_slots n (main_of number content))) ≤ 63 → RowFits n (Some (change_of row number content))
+  pub main_fits : (n : ℕ) (content : HeldContent) → HasSlots (numbered_slots n (main_of number content)) → length (slots_spelling (numbered_slots n (main_of number content))) ≤ 63 → RowFits n (Some (change_of row number content))
   main_fits n content has most = ((size, has), omega (arith, size, most, length-append row (slots_spelling (numbered_slots n (main_of number content)))))
 
   number_within : number < 2 ^ 64

@@ -4,6 +4,10 @@
 #[cfg(test)]
 mod calls;
 #[cfg(test)]
+mod disks;
+#[cfg(test)]
+mod hostile;
+#[cfg(test)]
 mod plans;
 #[cfg(test)]
 mod shown;

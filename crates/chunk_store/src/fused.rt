@@ -1,5 +1,5 @@
 //! A device whose disk can be stopped in mid-stream.
-ghost use Rattle.chunk_store.specs.Standing.{Stops};
+ghost use Rattle.chunk_store.specs.Standing.{Stops, Renews};
 
 use crate::ChunkDev;
 use disk_trait::{Disk, FuseDisk};
@@ -12,5 +12,12 @@ impl<D: Disk + Drop> ChunkDev<FuseDisk<D>> {
         ensures { Stops D.state D.images calls pick self.old self.new }
     {
         self.inner.stop_after(calls, pick);
+    }
+
+    /// The fuse of the disk is unset, and has stopped nothing: as new.
+    pub fn renew(&mut self)
+        ensures { Renews D.state D.images self.old self.new }
+    {
+        self.inner.renew();
     }
 }

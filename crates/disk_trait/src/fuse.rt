@@ -100,6 +100,18 @@ impl<D: Disk> FuseDisk<D> {
             pick,
         };
     }
+
+    /// The fuse is unset, and has stopped nothing: as new.
+    pub fn renew(&mut self)
+        ensures inner { inner_of self.new ≡ inner_of self.old }
+        ensures state { behind D.state self.new ≡ fused (D.state (inner_of self.old)) FuseSetting.Unset 0 }
+        ensures time { Elapses (behind D.state self.old) (behind D.state self.new) (D.images (inner_of self.old))
+            (D.images (inner_of self.new)) }
+    {
+        let FuseDisk { setting, stops, .. } = self;
+        *setting = FuseSetting::Unset;
+        *stops = 0;
+    }
 }
 
 impl<D: Disk> Disk for FuseDisk<D> {

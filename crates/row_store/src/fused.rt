@@ -1,6 +1,6 @@
 //! A device whose disk can be stopped in mid-stream.
 ghost use Rattle.std.specs.Prelude.{◌≡◌};
-ghost use Rattle.row_store.specs.Standing.{row_reads, Stops};
+ghost use Rattle.row_store.specs.Standing.{row_reads, Stops, Renews};
 
 use crate::RowDev;
 use disk_trait::{Disk, FuseDisk};
@@ -14,5 +14,13 @@ impl<D: Disk + Drop> RowDev<FuseDisk<D>> {
         ensures reads { row_reads self.new ≡ row_reads self.old }
     {
         self.inner.stop_after(calls, pick);
+    }
+
+    /// The fuse of the disk is unset, and has stopped nothing: as new.
+    pub fn renew(&mut self)
+        ensures renews { Renews D.state D.images self.old self.new }
+        ensures reads { row_reads self.new ≡ row_reads self.old }
+    {
+        self.inner.renew();
     }
 }

@@ -91,5 +91,10 @@ abbrev pub Stops :
     Type 0
 Stops state images count pick old new = stops.Stops state images Fits HasSpare pending_of count pick old.inner new.inner
 
+-- the fuse of its disk is as new, and all else is as it was
+abbrev pub Renews : {D : Type 0} → (D → DiskState) → (D → ℕ → List ℕ → Type 0) → StatusLog (FuseDisk D) → StatusLog (FuseDisk D)
+    → Type 0
+Renews state images old new = stops.Renews state images Fits HasSpare pending_of old.inner new.inner
+
 abbrev pub Refuses : {D T : Type 0} → (D → DiskState) → StatusLog D → StatusLog D → Result T LogFault → Type 0
 Refuses state old new result = calls.Refuses state fault_of (vault_of old) (vault_of new) old new result

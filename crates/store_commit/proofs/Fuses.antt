@@ -141,7 +141,7 @@ module _ {D : Type 0} (state : D → DiskState) (images : D → ℕ → List ℕ
     chunk_leaves : vaults.Leaves state images (chunks.vault_of old.chunks) (chunks.vault_of old.chunks) (λ l. chunks_of l ≡ chunks.chunks state old.chunks)
     chunk_leaves = runs_weaker state images (chunks.vault_of old.chunks) (chunks.vault_of old.chunks) (λ l. l ≡ payloads state (chunks.vault_of old.chunks)) (λ l. chunks_of l ≡ chunks.chunks state old.chunks) (synced_leaves (chunks.vault_of old.chunks) up.chunks synced.chunks sound.chunks) (λ l is. ap chunks_of is)
 
-    row_leaves : vaults.Leaves state images (rows.vault_of old.rows) (rows.vault_of old.rows) (λ l. data_of l ≡ rows.held state old.rows)
+    pub row_leaves : vaults.Leaves state images (rows.vault_of old.rows) (rows.vault_of old.rows) (λ l. data_of l ≡ rows.held state old.rows)
     row_leaves = runs_weaker state images (rows.vault_of old.rows) (rows.vault_of old.rows) (λ l. l ≡ payloads state (rows.vault_of old.rows)) (λ l. data_of l ≡ rows.held state old.rows) (synced_leaves (rows.vault_of old.rows) up.rows synced.rows sound.rows) (λ l is. ap data_of is)
 
     log_leaves : vaults.Leaves state images (logs.vault_of old.log) (logs.vault_of old.log) (λ l. pending_of l ≡ logs.entry_open state old.log)

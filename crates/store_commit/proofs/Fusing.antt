@@ -22,60 +22,65 @@ use Rattle.store_commit.specs.declared.devs.TableDevs.{TableDevs}
 use Rattle.store_commit.specs.declared.fault.CommitFault.{CommitFault}
 use Rattle.store_commit.specs.declared.fault.CommitFault.TheVariants.{Disk, Down, Memory}
 use Rattle.store_commit.specs.Fault.{caused, chunk_cause, row_cause, log_cause}
+use Rattle.store_commit.specs.Standing.{all_stops}
 use Rattle.store_commit.specs.Unset.{AreUnset, KeepsUnset, HasCause}
 
 module _ {D : Type 0} (state : D → DiskState) where
+  -- fuses that are as new are unset, and stay as new
+  keeps : (old new : TableDevs D) → (AreUnset state old → AreUnset state new) → (AreUnset state old → all_stops state new ≡ all_stops state old) → KeepsUnset state old new
+  keeps old new unset stopped = record { unset = unset; stopped = stopped; fresh = λ f. record { unset = unset f.unset; unstopped = stopped f.unset ∙ f.unstopped } }
+
   pub keeps_then : (old mid new : TableDevs D) → KeepsUnset state old mid → KeepsUnset state mid new → KeepsUnset state old new
-  keeps_then old mid new a b = record { unset = λ u. b.unset (a.unset u); stopped = λ u. b.stopped (a.unset u) ∙ a.stopped u }
+  keeps_then old mid new a b = keeps old new (λ u. b.unset (a.unset u)) (λ u. b.stopped (a.unset u) ∙ a.stopped u)
 
   -- the same devices, or devices with the same vaults
   pub keeps_vaults : (old new : TableDevs D) → chunks.vault_of new.chunks ≡ chunks.vault_of old.chunks → rows.vault_of new.rows ≡ rows.vault_of old.rows → logs.vault_of new.log ≡ logs.vault_of old.log → KeepsUnset state old new
-  keeps_vaults old new a b c = record {
-    unset = λ u. record { chunks = ap (λ v. (state (disk_of v)).is_armed) a ∙ u.chunks; rows = ap (λ v. (state (disk_of v)).is_armed) b ∙ u.rows; log = ap (λ v. (state (disk_of v)).is_armed) c ∙ u.log };
-    stopped = λ u. let x : stops state (chunks.vault_of new.chunks) ≡ stops state (chunks.vault_of old.chunks) = ap (λ v. stops state v) a in
-        let y : stops state (rows.vault_of new.rows) ≡ stops state (rows.vault_of old.rows) = ap (λ v. stops state v) b in
-        let z : stops state (logs.vault_of new.log) ≡ stops state (logs.vault_of old.log) = ap (λ v. stops state v) c in
-        omega (arith, x, y, z);
-  }
+  keeps_vaults old new a b c =
+      keeps old new
+      (λ u. record { chunks = ap (λ v. (state (disk_of v)).is_armed) a ∙ u.chunks; rows = ap (λ v. (state (disk_of v)).is_armed) b ∙ u.rows; log = ap (λ v. (state (disk_of v)).is_armed) c ∙ u.log })
+      (λ u. let x : stops state (chunks.vault_of new.chunks) ≡ stops state (chunks.vault_of old.chunks) = ap (λ v. stops state v) a in
+      let y : stops state (rows.vault_of new.rows) ≡ stops state (rows.vault_of old.rows) = ap (λ v. stops state v) b in
+      let z : stops state (logs.vault_of new.log) ≡ stops state (logs.vault_of old.log) = ap (λ v. stops state v) c in
+      omega (arith, x, y, z))
 
   pub keeps_same : (old new : TableDevs D) → new.chunks ≡ old.chunks → new.rows ≡ old.rows → new.log ≡ old.log → KeepsUnset state old new
   keeps_same old new a b c = keeps_vaults old new (ap chunks.vault_of a) (ap rows.vault_of b) (ap logs.vault_of c)
 
   pub chunk_burns : {T E : Type 0} (old : TableDevs D) (dev : ChunkDev D) (count : ℕ) (r : Result T E) → vaults.Burns state count (chunks.vault_of old.chunks) (chunks.vault_of dev) r → KeepsUnset state old (record old { chunks = dev })
-  chunk_burns old dev count r b = record {
-    unset = λ u. record { chunks = (b.unarmed u.chunks).0; rows = u.rows; log = u.log };
-    stopped = λ u. ap (λ (n : ℕ). n + (stops state (rows.vault_of old.rows) + stops state (logs.vault_of old.log))) (b.unarmed u.chunks).1;
-  }
+  chunk_burns old dev count r b =
+      keeps old (record old { chunks = dev })
+      (λ u. record { chunks = (b.unarmed u.chunks).0; rows = u.rows; log = u.log })
+      (λ u. ap (λ (n : ℕ). n + (stops state (rows.vault_of old.rows) + stops state (logs.vault_of old.log))) (b.unarmed u.chunks).1)
 
   pub row_burns : {T E : Type 0} (old : TableDevs D) (dev : RowDev D) (count : ℕ) (r : Result T E) → vaults.Burns state count (rows.vault_of old.rows) (rows.vault_of dev) r → KeepsUnset state old (record old { rows = dev })
-  row_burns old dev count r b = record {
-    unset = λ u. record { chunks = u.chunks; rows = (b.unarmed u.rows).0; log = u.log };
-    stopped = λ u. ap (λ (n : ℕ). stops state (chunks.vault_of old.chunks) + (n + stops state (logs.vault_of old.log))) (b.unarmed u.rows).1;
-  }
+  row_burns old dev count r b =
+      keeps old (record old { rows = dev })
+      (λ u. record { chunks = u.chunks; rows = (b.unarmed u.rows).0; log = u.log })
+      (λ u. ap (λ (n : ℕ). stops state (chunks.vault_of old.chunks) + (n + stops state (logs.vault_of old.log))) (b.unarmed u.rows).1)
 
   pub log_burns : {T E : Type 0} (old : TableDevs D) (dev : StatusLog D) (count : ℕ) (r : Result T E) → vaults.Burns state count (logs.vault_of old.log) (logs.vault_of dev) r → KeepsUnset state old (record old { log = dev })
-  log_burns old dev count r b = record {
-    unset = λ u. record { chunks = u.chunks; rows = u.rows; log = (b.unarmed u.log).0 };
-    stopped = λ u. ap (λ (n : ℕ). stops state (chunks.vault_of old.chunks) + (stops state (rows.vault_of old.rows) + n)) (b.unarmed u.log).1;
-  }
+  log_burns old dev count r b =
+      keeps old (record old { log = dev })
+      (λ u. record { chunks = u.chunks; rows = u.rows; log = (b.unarmed u.log).0 })
+      (λ u. ap (λ (n : ℕ). stops state (chunks.vault_of old.chunks) + (stops state (rows.vault_of old.rows) + n)) (b.unarmed u.log).1)
 
   pub chunk_same : (old : TableDevs D) (dev : ChunkDev D) → vaults.SameFuse state (chunks.vault_of old.chunks) (chunks.vault_of dev) → KeepsUnset state old (record old { chunks = dev })
-  chunk_same old dev b = record {
-    unset = λ u. record { chunks = b.is_armed ∙ u.chunks; rows = u.rows; log = u.log };
-    stopped = λ u. ap (λ (n : ℕ). n + (stops state (rows.vault_of old.rows) + stops state (logs.vault_of old.log))) b.stops;
-  }
+  chunk_same old dev b =
+      keeps old (record old { chunks = dev })
+      (λ u. record { chunks = b.is_armed ∙ u.chunks; rows = u.rows; log = u.log })
+      (λ u. ap (λ (n : ℕ). n + (stops state (rows.vault_of old.rows) + stops state (logs.vault_of old.log))) b.stops)
 
   pub row_same : (old : TableDevs D) (dev : RowDev D) → vaults.SameFuse state (rows.vault_of old.rows) (rows.vault_of dev) → KeepsUnset state old (record old { rows = dev })
-  row_same old dev b = record {
-    unset = λ u. record { chunks = u.chunks; rows = b.is_armed ∙ u.rows; log = u.log };
-    stopped = λ u. ap (λ (n : ℕ). stops state (chunks.vault_of old.chunks) + (n + stops state (logs.vault_of old.log))) b.stops;
-  }
+  row_same old dev b =
+      keeps old (record old { rows = dev })
+      (λ u. record { chunks = u.chunks; rows = b.is_armed ∙ u.rows; log = u.log })
+      (λ u. ap (λ (n : ℕ). stops state (chunks.vault_of old.chunks) + (n + stops state (logs.vault_of old.log))) b.stops)
 
   pub log_same : (old : TableDevs D) (dev : StatusLog D) → vaults.SameFuse state (logs.vault_of old.log) (logs.vault_of dev) → KeepsUnset state old (record old { log = dev })
-  log_same old dev b = record {
-    unset = λ u. record { chunks = u.chunks; rows = u.rows; log = b.is_armed ∙ u.log };
-    stopped = λ u. ap (λ (n : ℕ). stops state (chunks.vault_of old.chunks) + (stops state (rows.vault_of old.rows) + n)) b.stops;
-  }
+  log_same old dev b =
+      keeps old (record old { log = dev })
+      (λ u. record { chunks = u.chunks; rows = u.rows; log = b.is_armed ∙ u.log })
+      (λ u. ap (λ (n : ℕ). stops state (chunks.vault_of old.chunks) + (stops state (rows.vault_of old.rows) + n)) b.stops)
 
   -- ---- the count of faults
 

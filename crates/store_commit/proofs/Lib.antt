@@ -25,3 +25,5 @@ pub mod Fusing
 pub mod StillHidden
 pub mod Sinces
 pub mod Stopping
+pub mod Renewing
+pub mod Arming

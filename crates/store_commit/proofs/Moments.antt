@@ -8,8 +8,11 @@ use Rattle.store_commit.specs.declared.devs.TableDevs.{TableDevs}
 use Rattle.store_commit.specs.declared.fault.CommitFault.{CommitFault}
 use Rattle.store_commit.specs.Devs.{Devs, Write, changed_by, IsBeforeOrAfter}
 use Rattle.store_commit.specs.Agenda.{Runs}
-use Rattle.store_commit.specs.Standing.{devs, writes_of, IsReady, DevsLeave, Works, WorksOn, GoesOn}
-use Rattle.store_commit.proofs.Works.{rests_leave}
+use Rattle.store_commit.specs.Standing.{devs, writes_of, IsReady, DevsLeave, RowsLeave, Works, WorksOn, GoesOn}
+use Rattle.vault.proofs.Uppers.{runs_then, runs_weaker}
+use Rattle.row_store.specs.Data.{TableData, data_of}
+use Rattle.row_store.specs.Standing as rows
+use Rattle.store_commit.proofs.Works.{rests_leave, still_row}
 
 pub runs_now : (R : List Write → Devs → Type 0) (d : Devs) (ws : List Write) → Runs R d ws → R ws d
 runs_now R d [] r = r
@@ -23,6 +26,17 @@ module _ {D : Type 0} (state : D → DiskState) (images : D → ℕ → List ℕ
         (x.0, x.1, x.2, x.3, x.4, x.5, to _ x.6);
     later = run.later;
   }
+
+  -- of the rows alone: one run and then another, less that is promised, and while nothing is done
+  pub rows_then : (old mid new : TableDevs D) (P Q S : TableData → Type 0) → RowsLeave state images old mid P → RowsLeave state images mid new Q → ((h : TableData) → P h → S h) → ((h : TableData) → Q h → S h) → RowsLeave state images old new S
+  rows_then old mid new P Q S first second from_first from_second =
+      runs_then state images (rows.vault_of old.rows) (rows.vault_of mid.rows) (rows.vault_of new.rows) (λ l. P (data_of l)) (λ l. Q (data_of l)) (λ l. S (data_of l)) first second (λ l p. from_first (data_of l) p) (λ l q. from_second (data_of l) q)
+
+  pub rows_weaker : (old new : TableDevs D) (P Q : TableData → Type 0) → RowsLeave state images old new P → ((h : TableData) → P h → Q h) → RowsLeave state images old new Q
+  rows_weaker old new P Q run to = runs_weaker state images (rows.vault_of old.rows) (rows.vault_of new.rows) (λ l. P (data_of l)) (λ l. Q (data_of l)) run (λ l p. to (data_of l) p)
+
+  pub rows_rest : ((disk : D) (image : List ℕ) → images disk (state disk).moment image → IsImage (state disk).pending image) → (old : TableDevs D) (ws : List Write) → IsReady state old ws → RowsLeave state images old old (λ held. held ≡ (devs state old).held)
+  rows_rest only_now old ws r = still_row state images only_now old.rows r.row_looked.vault r.row_sound
 
   module _ (only_now : (disk : D) (image : List ℕ) → images disk (state disk).moment image → IsImage (state disk).pending image) (R : List Write → Devs → Type 0) (old new : TableDevs D) where
     worked : (w : Write) (ws : List Write) (result : Result Step CommitFault) → writes_of old ≡ w ∷ ws → writes_of new ≡ ws → Works state images w ws old new result → Runs R (devs state old) (w ∷ ws)

@@ -42,7 +42,7 @@ use Rattle.store_commit.specs.Fault.{chunk_cause, log_cause}
 use Rattle.store_commit.specs.Devs.{Devs, Write, OpenChunks, OpenRows, OpenLog, DropChunk, CloseEntry, changed_by}
 use Rattle.store_commit.specs.NamedChunks.{Among, AreDifferent, NamedChunks}
 use Rattle.store_commit.specs.Agenda.{drops, recovery_writes, AreLeftovers, Runs, IsRecovering}
-use Rattle.store_commit.specs.Standing.{devs, writes_of, all_faults, AreUp, IsOneDown, AreLookedAt, AreSound, HaveOpenings, IsReady, DevsLeave, MayDoAll}
+use Rattle.store_commit.specs.Standing.{devs, writes_of, all_faults, AreUp, IsOneDown, AreLookedAt, AreSound, HaveOpenings, IsReady, DevsLeave, RowsLeave, MayDoAll}
 use Rattle.store_commit.specs.Standing.{chunk_opens, chunk_puts, chunk_bytes, row_opens, row_puts, row_bytes, log_opens, log_puts, log_bytes}
 use Rattle.store_commit.specs.Recover.{IsStarting, StaysAtStart, MakesRoom, Recovers, IsRecovery, AreRecoveryWrites}
 use Rattle.store_commit.specs.declared.recovery.Recovery.{Recovery}
@@ -173,10 +173,14 @@ module _ {D : Type 0} (state : D → DiskState) (images : D → ℕ → List ℕ
       counted = let row_faults : faults state (rows.vault_of new.rows) ≡ faults state (rows.vault_of old.rows) = ap (λ (d : RowDev D). faults state (rows.vault_of d)) rs in omega arith;
     }
 
+    -- a crash leaves the rows that weren't touched
+    rows_rest : (new : TableDevs D) → new.rows ≡ old.rows → RowsLeave state images old new (λ held. held ≡ (devs state old).held)
+    rows_rest new rs = rw rs (row_rests old.rows s.looked.rows.vault s.sound.rows)
+
     -- a crash leaves what was there, where it does so of each device
     leaves : (new : TableDevs D) → new.rows ≡ old.rows → chunks.Leaves state images old.chunks new.chunks (λ here. here ≡ chunks.chunks state old.chunks)
         → logs.Leaves state images old.log new.log (λ here. here ≡ logs.entry_open state old.log) → DevsLeave state images old new (λ d. d ≡ devs state old)
-    leaves new rs cs ls = all_same state images only_now old new cs (rw rs (row_rests old.rows s.looked.rows.vault s.sound.rows)) ls
+    leaves new rs cs ls = all_same state images only_now old new cs (rows_rest new rs) ls
 
     -- memory was refused before a device was touched
     pub room_refused : (drops : ℕ) (new : TableDevs D) → new.rows ≡ old.rows → new.chunks ≡ old.chunks → new.log ≡ old.log → writes_of new ≡ [] → MakesRoom state images drops old new (Err Memory)
@@ -381,13 +385,14 @@ module _ {D : Type 0} (state : D → DiskState) (images : D → ℕ → List ℕ
       counted = tt;
       runs = tt;
       any_moment = still_leaves;
+      rows_left = rows_rest old s mid rs;
       idle = still_starting.starting.idle;
       memory = λ is. still_starting;
       disk = λ is. absurd cc;
       only = inr refl;
     }
 
-    module _ (new : TableDevs D) (drops : ℕ) where
+    module _ (new : TableDevs D) (drops : ℕ) (new_rows : new.rows ≡ mid.rows) where
       since : {r : Result (Unit {0}) CommitFault} → MakesRoom state images drops mid new r → DevsLeave state images old new (λ d. d ≡ devs state old)
       since m = from_before old mid new cs rs ls still_starting.same m.any_moment
 
@@ -405,6 +410,7 @@ module _ {D : Type 0} (state : D → DiskState) (images : D → ℕ → List ℕ
         counted = tt;
         runs = tt;
         any_moment = since m;
+        rows_left = rows_rest old s new (new_rows ∙ rs);
         idle = m.idle;
         memory = λ is. let kind : e ≡ Memory = cc in both_stay (m.memory (ap (λ (x : CommitFault). Err x) kind));
         disk = λ is. let kind : e ≡ Disk = cc in let d = m.disk (ap (λ (x : CommitFault). Err x) kind) in let counted = still_starting.counted in (d.0, omega (arith, d.1));
@@ -428,6 +434,7 @@ module _ {D : Type 0} (state : D → DiskState) (images : D → ℕ → List ℕ
             subst (λ (d : Devs). Runs (IsRecovering meaning (devs state old).held) d (writes_of end)) (sym end_same)
             (subst (Runs (IsRecovering meaning (devs state old).held) (devs state old)) (sym (all_writes ∙ ap (λ (ns : List ChunkName). recovery_writes ns (is_some (devs state old).pending)) (kept_is ∙ all_kept (λ (name : ChunkName). not (contains name_cmp (spared_of old) name)) names (λ name. ap not (none_in (spared_of old) (is_at (name_cmp name)) none))))) (recovery_runs meaning (devs state old) named names l));
         any_moment = record { each = rw (ce, re, le) (since m).each; later = record { chunks = rw ce (since m).later.chunks; rows = rw re (since m).later.rows; log = rw le (since m).later.log } };
+        rows_left = rows_rest old s end (re ∙ new_rows ∙ rs);
         idle = tt;
         memory = λ is. absurd cc;
         disk = λ is. absurd cc;

@@ -1,5 +1,5 @@
 -- What one write does to the three devices, from what it does to its own.
-use Rattle.std.proofs.Common.{◌≡◌, inl, inr, ⊎_elim, ℕ, ◌+◌, ◌<◌, ◌≤◌, List, [], ◌∷◌, length, Option, Some, None, Result, Ok, Err, refl, sym, ◌∙◌, ap, subst, arith}
+use Rattle.std.proofs.Common.{◌≡◌, inl, inr, ⊎_elim, ℕ, ◌+◌, ◌<◌, ◌≤◌, true, List, [], ◌∷◌, length, Option, Some, None, Result, Ok, Err, refl, sym, ◌∙◌, ap, subst, arith}
 use Rattle.std.specs.Prelude.{IsErrOf}
 use Rattle.std.specs.BTreeMap.{insert_entry}
 use Rattle.disk_trait.specs.Image.{IsImage, settled}
@@ -11,7 +11,7 @@ use Rattle.disk_trait.specs.Calls.{DiskState}
 use Rattle.vault.specs.declared.fault.VaultFault.{VaultFault}
 use Rattle.vault.specs.declared.fault.VaultFault.TheVariants as causes
 use Rattle.vault.specs.declared.vault.Vault.{Vault}
-use Rattle.vault.specs.Standing.{payloads, faults, disk_of, IsUp, IsDown, IsSound, IsSynced, IsBlank}
+use Rattle.vault.specs.Standing.{payloads, faults, stops, disk_of, IsUp, IsDown, IsSound, IsSynced, IsBlank, StopsWithin}
 use Rattle.vault.specs.Standing as vaults
 use Rattle.vault.specs.Calls.{IsEither, Refuses, RefusesOnly}
 use Rattle.vault.proofs.Uppers.{opened_sound, less_room, runs_weaker}
@@ -39,12 +39,15 @@ use Rattle.status_log.specs.Entry.{Entry, size_of}
 use Rattle.status_log.specs.Payload.{pending_of}
 use Rattle.status_log.specs.Standing as logs
 use Rattle.store_commit.specs.declared.devs.TableDevs.{TableDevs}
+use Rattle.store_commit.specs.declared.fused.Device.{Device}
+use Rattle.store_commit.specs.declared.fused.Device.TheVariants as devices
 use Rattle.store_commit.specs.Fault.{disk_or}
 use Rattle.store_commit.specs.declared.fault.CommitFault.{CommitFault}
 use Rattle.store_commit.specs.declared.fault.CommitFault.TheVariants.{Disk, Down}
 use Rattle.store_commit.specs.Devs.{Devs, Write, OpenChunks, OpenRows, OpenLog, OpenEntry, PutChunk, PutRow, DropChunk, CloseEntry, PutTable, PutSub, changed_by, IsBeforeOrAfter}
-use Rattle.store_commit.specs.Standing.{devs, AreUp, IsOneDown, chunk_opens, chunk_puts, chunk_bytes, row_opens, row_puts, row_bytes, log_opens, log_puts, log_bytes, chunk_opened, row_opened}
-use Rattle.store_commit.specs.Standing.{log_opened, MayDoAll, IsReady, DevsLeave, Works, AreSound, AreSynced, AreBlank, nothing}
+use Rattle.store_commit.specs.Fused.{vault_at, device_of}
+use Rattle.store_commit.specs.Standing.{devs, all_stops, AreUp, IsOneDown, chunk_opens, chunk_puts, chunk_bytes, row_opens, row_puts, row_bytes, log_opens, log_puts, log_bytes, chunk_opened, row_opened}
+use Rattle.store_commit.specs.Standing.{log_opened, MayDoAll, IsReady, DevsLeave, RowsLeave, Works, AreSound, AreSynced, AreBlank, nothing}
 
 -- a device that is up and takes no memory fails by its disk alone
 must_be_disk : {D X T E : Type 0} (state : D → DiskState) (fault : VaultFault → E) (old new : Vault D) (before after : X) (x : E) → Refuses {T = T} state fault old new before after (Err x) → RefusesOnly {T = T} fault (Err x) → (IsErrOf {T = T} (Err x) (fault causes.Memory) → ⊥) → IsUp old
@@ -125,6 +128,48 @@ module _ {D : Type 0} (state : D → DiskState) (images : D → ℕ → List ℕ
       → vaults.Leaves state images (logs.vault_of dev) (logs.vault_of dev) (λ l. pending_of l ≡ logs.entry_open state dev)
   still_log dev looked sound = runs_weaker state images (logs.vault_of dev) (logs.vault_of dev) (λ l. l ≡ payloads state (logs.vault_of dev)) (λ l. pending_of l ≡ logs.entry_open state dev) (looked_leaves state images only_now (logs.vault_of dev) looked sound) (λ l is. ap pending_of is)
 
+  pub all_same : (old new : TableDevs D) → vaults.Leaves state images (chunks.vault_of old.chunks) (chunks.vault_of new.chunks) (λ l. chunks_of l ≡ chunks.chunks state old.chunks)
+      → vaults.Leaves state images (rows.vault_of old.rows) (rows.vault_of new.rows) (λ l. data_of l ≡ rows.held state old.rows)
+      → vaults.Leaves state images (logs.vault_of old.log) (logs.vault_of new.log) (λ l. pending_of l ≡ logs.entry_open state old.log)
+      → DevsLeave state images old new (λ d. d ≡ devs state old)
+  all_same old new a b c = leave old new (λ here. here ≡ chunks.chunks state old.chunks) (λ here. here ≡ rows.held state old.rows) (λ here. here ≡ logs.entry_open state old.log) (λ d. d ≡ devs state old) a b c (λ x y z px py pz. cc)
+
+  -- a write of the chunks: what a crash leaves of the rest, and what a fuse that lets four calls pass stops
+  module _ (old : TableDevs D) (dev : ChunkDev D) where
+    chunk_late : {T E : Type 0} (r : Result T E) → vaults.Burns state 4 (chunks.vault_of old.chunks) (chunks.vault_of dev) r → (state (disk_of (chunks.vault_of old.chunks))).is_armed ≡ true → 4 ≤ (state (disk_of (chunks.vault_of old.chunks))).passes
+        → all_stops state (record old { chunks = dev }) ≡ all_stops state old
+    chunk_late r b armed passes = ap (λ (n : ℕ). n + (stops state (rows.vault_of old.rows) + stops state (logs.vault_of old.log))) (b.passed armed passes)
+
+    module _ (ws : List Write) (ready : IsReady state old ws) where
+      chunk_rows : (after : TableData) → RowsLeave state images old (record old { chunks = dev }) (IsEither (rows.held state old.rows) after)
+      chunk_rows after = runs_weaker state images (rows.vault_of old.rows) (rows.vault_of old.rows) (λ l. data_of l ≡ rows.held state old.rows) (λ l. IsEither (rows.held state old.rows) after (data_of l)) (still_row old.rows ready.row_looked.vault ready.row_sound) (λ l is. inl is)
+
+      chunk_undone : vaults.Leaves state images (chunks.vault_of old.chunks) (chunks.vault_of dev) (λ l. chunks_of l ≡ chunks.chunks state old.chunks) → DevsLeave state images old (record old { chunks = dev }) (λ d. d ≡ devs state old)
+      chunk_undone k = let new : TableDevs D = record old { chunks = dev } in all_same old new k (still_row old.rows ready.row_looked.vault ready.row_sound) (still_log old.log ready.log_looked.vault ready.log_sound)
+
+  -- a write of the rows
+  module _ (old : TableDevs D) (dev : RowDev D) where
+    row_late : {T E : Type 0} (r : Result T E) → vaults.Burns state 4 (rows.vault_of old.rows) (rows.vault_of dev) r → (state (disk_of (rows.vault_of old.rows))).is_armed ≡ true → 4 ≤ (state (disk_of (rows.vault_of old.rows))).passes
+        → all_stops state (record old { rows = dev }) ≡ all_stops state old
+    row_late r b armed passes = ap (λ (n : ℕ). stops state (chunks.vault_of old.chunks) + (n + stops state (logs.vault_of old.log))) (b.passed armed passes)
+
+    module _ (ws : List Write) (ready : IsReady state old ws) where
+      row_undone : vaults.Leaves state images (rows.vault_of old.rows) (rows.vault_of dev) (λ l. data_of l ≡ rows.held state old.rows) → DevsLeave state images old (record old { rows = dev }) (λ d. d ≡ devs state old)
+      row_undone k = let new : TableDevs D = record old { rows = dev } in all_same old new (still_chunk old.chunks ready.chunk_looked.vault ready.chunk_sound) k (still_log old.log ready.log_looked.vault ready.log_sound)
+
+  -- a write of the log
+  module _ (old : TableDevs D) (dev : StatusLog D) where
+    log_late : {T E : Type 0} (r : Result T E) → vaults.Burns state 4 (logs.vault_of old.log) (logs.vault_of dev) r → (state (disk_of (logs.vault_of old.log))).is_armed ≡ true → 4 ≤ (state (disk_of (logs.vault_of old.log))).passes
+        → all_stops state (record old { log = dev }) ≡ all_stops state old
+    log_late r b armed passes = ap (λ (n : ℕ). stops state (chunks.vault_of old.chunks) + (stops state (rows.vault_of old.rows) + n)) (b.passed armed passes)
+
+    module _ (ws : List Write) (ready : IsReady state old ws) where
+      log_rows : (after : TableData) → RowsLeave state images old (record old { log = dev }) (IsEither (rows.held state old.rows) after)
+      log_rows after = runs_weaker state images (rows.vault_of old.rows) (rows.vault_of old.rows) (λ l. data_of l ≡ rows.held state old.rows) (λ l. IsEither (rows.held state old.rows) after (data_of l)) (still_row old.rows ready.row_looked.vault ready.row_sound) (λ l is. inl is)
+
+      log_undone : vaults.Leaves state images (logs.vault_of old.log) (logs.vault_of dev) (λ l. pending_of l ≡ logs.entry_open state old.log) → DevsLeave state images old (record old { log = dev }) (λ d. d ≡ devs state old)
+      log_undone k = let new : TableDevs D = record old { log = dev } in all_same old new (still_chunk old.chunks ready.chunk_looked.vault ready.chunk_sound) (still_row old.rows ready.row_looked.vault ready.row_sound) k
+
   module _ (old : TableDevs D) (dev : ChunkDev D) (ws : List Write) (up : AreUp old) (ready : IsReady state old (OpenChunks ∷ ws)) where
     open_chunks_moment : (r : Result (Unit {0}) ChunkFault) → chunks.OpensWrite state images old.chunks dev r → DevsLeave state images old (record old { chunks = dev }) (IsBeforeOrAfter (devs state old) OpenChunks)
     open_chunks_moment r k = let new : TableDevs D = record old { chunks = dev } in leave old new (λ here. here ≡ chunks.chunks state old.chunks) (λ here. here ≡ rows.held state old.rows) (λ here. here ≡ logs.entry_open state old.log) (IsBeforeOrAfter (devs state old) OpenChunks) (k.any_moment up.chunks ready.chunk_sound) (still_row old.rows ready.row_looked.vault ready.row_sound) (still_log old.log ready.log_looked.vault ready.log_sound) one
@@ -155,6 +200,10 @@ module _ {D : Type 0} (state : D → DiskState) (images : D → ℕ → List ℕ
           up = record { chunks = k.opened.vault.looked.up; rows = up.rows; log = up.log };
           counted = omega (arith, k.refuses.cause);
           any_moment = open_chunks_moment (Ok x) k;
+          rows_left = chunk_rows old dev (OpenChunks ∷ ws) ready (rows.held state old.rows);
+          early = λ _. chunk_undone old dev (OpenChunks ∷ ws) ready (k.any_moment up.chunks ready.chunk_sound);
+          stopped = λ within. (k.fuse up.chunks).stopped within.0 within.1;
+          late = chunk_late old dev {T = Unit {0}} {E = ChunkFault} (Ok x) (k.fuse up.chunks);
           disk = λ e is. absurd cc;
         }
     open_chunks_works (Err x) k =
@@ -165,6 +214,10 @@ module _ {D : Type 0} (state : D → DiskState) (images : D → ℕ → List ℕ
           up = tt;
           counted = tt;
           any_moment = open_chunks_moment (Err x) k;
+          rows_left = chunk_rows old dev (OpenChunks ∷ ws) ready (rows.held state old.rows);
+          early = λ _. chunk_undone old dev (OpenChunks ∷ ws) ready (k.any_moment up.chunks ready.chunk_sound);
+          stopped = λ _. tt;
+          late = chunk_late old dev {T = Unit {0}} {E = ChunkFault} (Err x) (k.fuse up.chunks);
           disk = λ e is. (cc, omega (arith, failed.1), inl failed.0);
         }
 
@@ -198,6 +251,10 @@ module _ {D : Type 0} (state : D → DiskState) (images : D → ℕ → List ℕ
           up = record { chunks = up.chunks; rows = k.opened.vault.looked.up; log = up.log };
           counted = omega (arith, k.refuses.cause);
           any_moment = open_rows_moment (Ok x) k;
+          rows_left = runs_weaker state images (rows.vault_of old.rows) (rows.vault_of dev) (λ l. data_of l ≡ rows.held state old.rows) (λ l. IsEither (rows.held state old.rows) (rows.held state old.rows) (data_of l)) (k.any_moment up.rows ready.row_sound) (λ l is. inl is);
+          early = λ _. row_undone old dev (OpenRows ∷ ws) ready (k.any_moment up.rows ready.row_sound);
+          stopped = λ within. (k.fuse up.rows).stopped within.0 within.1;
+          late = row_late old dev {T = Unit {0}} {E = RowFault} (Ok x) (k.fuse up.rows);
           disk = λ e is. absurd cc;
         }
     open_rows_works (Err x) k =
@@ -208,6 +265,10 @@ module _ {D : Type 0} (state : D → DiskState) (images : D → ℕ → List ℕ
           up = tt;
           counted = tt;
           any_moment = open_rows_moment (Err x) k;
+          rows_left = runs_weaker state images (rows.vault_of old.rows) (rows.vault_of dev) (λ l. data_of l ≡ rows.held state old.rows) (λ l. IsEither (rows.held state old.rows) (rows.held state old.rows) (data_of l)) (k.any_moment up.rows ready.row_sound) (λ l is. inl is);
+          early = λ _. row_undone old dev (OpenRows ∷ ws) ready (k.any_moment up.rows ready.row_sound);
+          stopped = λ _. tt;
+          late = row_late old dev {T = Unit {0}} {E = RowFault} (Err x) (k.fuse up.rows);
           disk = λ e is. (cc, omega (arith, failed.1), inr (inl failed.0));
         }
 
@@ -241,6 +302,10 @@ module _ {D : Type 0} (state : D → DiskState) (images : D → ℕ → List ℕ
           up = record { chunks = up.chunks; rows = up.rows; log = k.opened.vault.looked.up };
           counted = omega (arith, k.refuses.cause);
           any_moment = open_log_moment (Ok x) k;
+          rows_left = log_rows old dev (OpenLog ∷ ws) ready (rows.held state old.rows);
+          early = λ _. log_undone old dev (OpenLog ∷ ws) ready (k.any_moment up.log ready.log_sound);
+          stopped = λ within. (k.fuse up.log).stopped within.0 within.1;
+          late = log_late old dev {T = Unit {0}} {E = LogFault} (Ok x) (k.fuse up.log);
           disk = λ e is. absurd cc;
         }
     open_log_works (Err x) k =
@@ -251,6 +316,10 @@ module _ {D : Type 0} (state : D → DiskState) (images : D → ℕ → List ℕ
           up = tt;
           counted = tt;
           any_moment = open_log_moment (Err x) k;
+          rows_left = log_rows old dev (OpenLog ∷ ws) ready (rows.held state old.rows);
+          early = λ _. log_undone old dev (OpenLog ∷ ws) ready (k.any_moment up.log ready.log_sound);
+          stopped = λ _. tt;
+          late = log_late old dev {T = Unit {0}} {E = LogFault} (Err x) (k.fuse up.log);
           disk = λ e is. (cc, omega (arith, failed.1), inr (inr failed.0));
         }
 
@@ -284,6 +353,10 @@ module _ {D : Type 0} (state : D → DiskState) (images : D → ℕ → List ℕ
           up = record { chunks = up.chunks; rows = up.rows; log = k.opened.vault.looked.up };
           counted = omega (arith, k.refuses.cause);
           any_moment = open_entry_moment (Ok x) k;
+          rows_left = log_rows old dev (OpenEntry entry ∷ ws) ready (rows.held state old.rows);
+          early = λ within. log_undone old dev (OpenEntry entry ∷ ws) ready (k.early up.log within);
+          stopped = λ within. (k.fuse up.log).stopped within.0 within.1;
+          late = log_late old dev {T = Unit {0}} {E = LogFault} (Ok x) (k.fuse up.log);
           disk = λ e is. absurd cc;
         }
     open_entry_works (Err x) k =
@@ -294,6 +367,10 @@ module _ {D : Type 0} (state : D → DiskState) (images : D → ℕ → List ℕ
           up = tt;
           counted = tt;
           any_moment = open_entry_moment (Err x) k;
+          rows_left = log_rows old dev (OpenEntry entry ∷ ws) ready (rows.held state old.rows);
+          early = λ within. log_undone old dev (OpenEntry entry ∷ ws) ready (k.early up.log within);
+          stopped = λ _. tt;
+          late = log_late old dev {T = Unit {0}} {E = LogFault} (Err x) (k.fuse up.log);
           disk = λ e is. (cc, omega (arith, failed.1), inr (inr failed.0));
         }
 
@@ -327,6 +404,10 @@ module _ {D : Type 0} (state : D → DiskState) (images : D → ℕ → List ℕ
           up = record { chunks = k.opened.vault.looked.up; rows = up.rows; log = up.log };
           counted = omega (arith, k.refuses.cause);
           any_moment = put_chunk_moment (Ok x) k;
+          rows_left = chunk_rows old dev (PutChunk name bytes ∷ ws) ready (rows.held state old.rows);
+          early = λ within. chunk_undone old dev (PutChunk name bytes ∷ ws) ready (k.early up.chunks within);
+          stopped = λ within. (k.fuse up.chunks).stopped within.0 within.1;
+          late = chunk_late old dev {T = Unit {0}} {E = ChunkFault} (Ok x) (k.fuse up.chunks);
           disk = λ e is. absurd cc;
         }
     put_chunk_works (Err x) k =
@@ -337,6 +418,10 @@ module _ {D : Type 0} (state : D → DiskState) (images : D → ℕ → List ℕ
           up = tt;
           counted = tt;
           any_moment = put_chunk_moment (Err x) k;
+          rows_left = chunk_rows old dev (PutChunk name bytes ∷ ws) ready (rows.held state old.rows);
+          early = λ within. chunk_undone old dev (PutChunk name bytes ∷ ws) ready (k.early up.chunks within);
+          stopped = λ _. tt;
+          late = chunk_late old dev {T = Unit {0}} {E = ChunkFault} (Err x) (k.fuse up.chunks);
           disk = λ e is. (cc, omega (arith, failed.1), inl failed.0);
         }
 
@@ -370,6 +455,10 @@ module _ {D : Type 0} (state : D → DiskState) (images : D → ℕ → List ℕ
           up = record { chunks = up.chunks; rows = k.opened.vault.looked.up; log = up.log };
           counted = omega (arith, k.refuses.cause);
           any_moment = put_row_moment (Ok x) k;
+          rows_left = k.any_moment up.rows;
+          early = λ within. row_undone old dev (PutRow stored ∷ ws) ready (k.early up.rows within);
+          stopped = λ within. (k.fuse up.rows).stopped within.0 within.1;
+          late = row_late old dev {T = Unit {0}} {E = RowFault} (Ok x) (k.fuse up.rows);
           disk = λ e is. absurd cc;
         }
     put_row_works (Err x) k =
@@ -380,6 +469,10 @@ module _ {D : Type 0} (state : D → DiskState) (images : D → ℕ → List ℕ
           up = tt;
           counted = tt;
           any_moment = put_row_moment (Err x) k;
+          rows_left = k.any_moment up.rows;
+          early = λ within. row_undone old dev (PutRow stored ∷ ws) ready (k.early up.rows within);
+          stopped = λ _. tt;
+          late = row_late old dev {T = Unit {0}} {E = RowFault} (Err x) (k.fuse up.rows);
           disk = λ e is. (cc, omega (arith, failed.1), inr (inl failed.0));
         }
 
@@ -413,6 +506,10 @@ module _ {D : Type 0} (state : D → DiskState) (images : D → ℕ → List ℕ
           up = record { chunks = k.opened.vault.looked.up; rows = up.rows; log = up.log };
           counted = omega (arith, k.refuses.cause);
           any_moment = drop_chunk_moment (Ok x) k;
+          rows_left = chunk_rows old dev (DropChunk name ∷ ws) ready (rows.held state old.rows);
+          early = λ within. chunk_undone old dev (DropChunk name ∷ ws) ready (k.early up.chunks within);
+          stopped = λ within. (k.fuse up.chunks).stopped within.0 within.1;
+          late = chunk_late old dev {T = Unit {0}} {E = ChunkFault} (Ok x) (k.fuse up.chunks);
           disk = λ e is. absurd cc;
         }
     drop_chunk_works (Err x) k =
@@ -423,6 +520,10 @@ module _ {D : Type 0} (state : D → DiskState) (images : D → ℕ → List ℕ
           up = tt;
           counted = tt;
           any_moment = drop_chunk_moment (Err x) k;
+          rows_left = chunk_rows old dev (DropChunk name ∷ ws) ready (rows.held state old.rows);
+          early = λ within. chunk_undone old dev (DropChunk name ∷ ws) ready (k.early up.chunks within);
+          stopped = λ _. tt;
+          late = chunk_late old dev {T = Unit {0}} {E = ChunkFault} (Err x) (k.fuse up.chunks);
           disk = λ e is. (cc, omega (arith, failed.1), inl failed.0);
         }
 
@@ -456,6 +557,10 @@ module _ {D : Type 0} (state : D → DiskState) (images : D → ℕ → List ℕ
           up = record { chunks = up.chunks; rows = up.rows; log = k.opened.vault.looked.up };
           counted = omega (arith, k.refuses.cause);
           any_moment = close_entry_moment (Ok x) k;
+          rows_left = log_rows old dev (CloseEntry ∷ ws) ready (rows.held state old.rows);
+          early = λ within. log_undone old dev (CloseEntry ∷ ws) ready (k.early up.log within);
+          stopped = λ within. (k.fuse up.log).stopped within.0 within.1;
+          late = log_late old dev {T = Unit {0}} {E = LogFault} (Ok x) (k.fuse up.log);
           disk = λ e is. absurd cc;
         }
     close_entry_works (Err x) k =
@@ -466,6 +571,10 @@ module _ {D : Type 0} (state : D → DiskState) (images : D → ℕ → List ℕ
           up = tt;
           counted = tt;
           any_moment = close_entry_moment (Err x) k;
+          rows_left = log_rows old dev (CloseEntry ∷ ws) ready (rows.held state old.rows);
+          early = λ within. log_undone old dev (CloseEntry ∷ ws) ready (k.early up.log within);
+          stopped = λ _. tt;
+          late = log_late old dev {T = Unit {0}} {E = LogFault} (Err x) (k.fuse up.log);
           disk = λ e is. (cc, omega (arith, failed.1), inr (inr failed.0));
         }
 
@@ -499,6 +608,10 @@ module _ {D : Type 0} (state : D → DiskState) (images : D → ℕ → List ℕ
           up = record { chunks = up.chunks; rows = k.opened.vault.looked.up; log = up.log };
           counted = omega (arith, k.refuses.cause);
           any_moment = put_table_moment (Ok x) k;
+          rows_left = k.any_moment up.rows;
+          early = λ within. row_undone old dev (PutTable schema state_ ∷ ws) ready (k.early up.rows within);
+          stopped = λ within. (k.fuse up.rows).stopped within.0 within.1;
+          late = row_late old dev {T = Unit {0}} {E = RowFault} (Ok x) (k.fuse up.rows);
           disk = λ e is. absurd cc;
         }
     put_table_works (Err x) k =
@@ -509,6 +622,10 @@ module _ {D : Type 0} (state : D → DiskState) (images : D → ℕ → List ℕ
           up = tt;
           counted = tt;
           any_moment = put_table_moment (Err x) k;
+          rows_left = k.any_moment up.rows;
+          early = λ within. row_undone old dev (PutTable schema state_ ∷ ws) ready (k.early up.rows within);
+          stopped = λ _. tt;
+          late = row_late old dev {T = Unit {0}} {E = RowFault} (Err x) (k.fuse up.rows);
           disk = λ e is. (cc, omega (arith, failed.1), inr (inl failed.0));
         }
 
@@ -542,6 +659,10 @@ module _ {D : Type 0} (state : D → DiskState) (images : D → ℕ → List ℕ
           up = record { chunks = up.chunks; rows = k.opened.vault.looked.up; log = up.log };
           counted = omega (arith, k.refuses.cause);
           any_moment = put_sub_moment (Ok x) k;
+          rows_left = k.any_moment up.rows;
+          early = λ within. row_undone old dev (PutSub client terms ∷ ws) ready (k.early up.rows within);
+          stopped = λ within. (k.fuse up.rows).stopped within.0 within.1;
+          late = row_late old dev {T = Unit {0}} {E = RowFault} (Ok x) (k.fuse up.rows);
           disk = λ e is. absurd cc;
         }
     put_sub_works (Err x) k =
@@ -552,15 +673,19 @@ module _ {D : Type 0} (state : D → DiskState) (images : D → ℕ → List ℕ
           up = tt;
           counted = tt;
           any_moment = put_sub_moment (Err x) k;
+          rows_left = k.any_moment up.rows;
+          early = λ within. row_undone old dev (PutSub client terms ∷ ws) ready (k.early up.rows within);
+          stopped = λ _. tt;
+          late = row_late old dev {T = Unit {0}} {E = RowFault} (Err x) (k.fuse up.rows);
           disk = λ e is. (cc, omega (arith, failed.1), inr (inl failed.0));
         }
 
 -- the same, where the write's name is answered
 pub works_named : {D S : Type 0} (state : D → DiskState) (images : D → ℕ → List ℕ → Type 0) (w : Write) (ws : List Write) (old new : TableDevs D) (s : S) → Works {T = Unit {0}} state images w ws old new (Ok tt) → Works {T = S} state images w ws old new (Ok s)
-works_named state images w ws old new s k = record { devs_are = k.devs_are; ready = k.ready; up = k.up; counted = k.counted; any_moment = k.any_moment; disk = λ e is. absurd cc }
+works_named state images w ws old new s k = record { devs_are = k.devs_are; ready = k.ready; up = k.up; counted = k.counted; any_moment = k.any_moment; rows_left = k.rows_left; early = k.early; stopped = k.stopped; late = k.late; disk = λ e is. absurd cc }
 
 pub works_failed : {D S : Type 0} (state : D → DiskState) (images : D → ℕ → List ℕ → Type 0) (w : Write) (ws : List Write) (old new : TableDevs D) (x : CommitFault) → Works {T = Unit {0}} state images w ws old new (Err x) → Works {T = S} state images w ws old new (Err x)
-works_failed state images w ws old new x k = record { devs_are = tt; ready = tt; up = tt; counted = tt; any_moment = k.any_moment; disk = λ e is. let same : x ≡ e = cc in k.disk e (ap (λ (y : CommitFault). Err y) same) }
+works_failed state images w ws old new x k = record { devs_are = tt; ready = tt; up = tt; counted = tt; any_moment = k.any_moment; rows_left = k.rows_left; early = k.early; stopped = λ _. tt; late = k.late; disk = λ e is. let same : x ≡ e = cc in k.disk e (ap (λ (y : CommitFault). Err y) same) }
 
 -- what has failed wasn't down before
 pub not_down : {D : Type 0} (state : D → DiskState) (images : D → ℕ → List ℕ → Type 0) (w : Write) (ws : List Write) (old new : TableDevs D) (x : CommitFault) → Works {T = Unit {0}} state images w ws old new (Err x) → x ≡ Down → ⊥
@@ -592,6 +717,11 @@ module _ {D : Type 0} (state : D → DiskState) (images : D → ℕ → List ℕ
     log_room = rw log_same r.log_room;
   }
 
+  same_vault : (d : Device) → vault_at mid d ≡ vault_at old d
+  same_vault devices.Chunks = ap chunks.vault_of chunk_same
+  same_vault devices.Rows = ap rows.vault_of row_same
+  same_vault devices.Log = ap logs.vault_of log_same
+
   pub same_works : {T : Type 0} (w : Write) (ws : List Write) (new : TableDevs D) (r : Result T CommitFault) → Works state images w ws mid new r → Works state images w ws old new r
   same_works w ws new r k = record {
     devs_are = rw (← chunk_same, ← row_same, ← log_same) k.devs_are;
@@ -599,6 +729,14 @@ module _ {D : Type 0} (state : D → DiskState) (images : D → ℕ → List ℕ
     up = k.up;
     counted = rw (← chunk_same, ← row_same, ← log_same) k.counted;
     any_moment = record { each = rw (← chunk_same, ← row_same, ← log_same) k.any_moment.each; later = record { chunks = rw (← chunk_same) k.any_moment.later.chunks; rows = rw (← row_same) k.any_moment.later.rows; log = rw (← log_same) k.any_moment.later.log } };
+    rows_left = rw (← chunk_same, ← row_same, ← log_same) k.rows_left;
+    early = λ within.
+        let run = k.early (subst (λ (v : Vault D). StopsWithin state v 2) (sym (same_vault (device_of w))) within) in
+        record { each = rw (← chunk_same, ← row_same, ← log_same) run.each; later = record { chunks = rw (← chunk_same) run.later.chunks; rows = rw (← row_same) run.later.rows; log = rw (← log_same) run.later.log } };
+    stopped = λ within. k.stopped (subst (λ (v : Vault D). StopsWithin state v 4) (sym (same_vault (device_of w))) within);
+    late = λ armed passes.
+        let same : all_stops state new ≡ all_stops state mid = k.late (subst (λ (v : Vault D). (state (disk_of v)).is_armed ≡ true) (sym (same_vault (device_of w))) armed) (subst (λ (v : Vault D). 4 ≤ (state (disk_of v)).passes) (sym (same_vault (device_of w))) passes) in
+        rw (← chunk_same, ← row_same, ← log_same) same;
     disk = rw (← chunk_same, ← row_same, ← log_same) k.disk;
   }
 
@@ -614,7 +752,7 @@ module _ {D : Type 0} (state : D → DiskState) (images : D → ℕ → List ℕ
       let here : P file = (payloads state vault, sound, refl) in
       started state images (disk_of vault) P (λ image left. subst P (sym (settled_only file image (subst (λ q. IsImage q image) synced (only_now (disk_of vault) image left)))) here)
 
-  synced_rows : (dev : RowDev D) → IsUp (rows.vault_of dev) → IsSynced state (rows.vault_of dev) → IsSound state (rows.vault_of dev)
+  pub synced_rows : (dev : RowDev D) → IsUp (rows.vault_of dev) → IsSynced state (rows.vault_of dev) → IsSound state (rows.vault_of dev)
       → vaults.Leaves state images (rows.vault_of dev) (rows.vault_of dev) (λ l. data_of l ≡ rows.held state dev)
   synced_rows dev up synced sound = runs_weaker state images (rows.vault_of dev) (rows.vault_of dev) (λ l. l ≡ payloads state (rows.vault_of dev)) (λ l. data_of l ≡ rows.held state dev) (synced_leaves (rows.vault_of dev) (synced up) sound) (λ l is. ap data_of is)
 
@@ -622,27 +760,21 @@ module _ {D : Type 0} (state : D → DiskState) (images : D → ℕ → List ℕ
       → vaults.Leaves state images (logs.vault_of dev) (logs.vault_of dev) (λ l. pending_of l ≡ logs.entry_open state dev)
   synced_log dev up synced sound = runs_weaker state images (logs.vault_of dev) (logs.vault_of dev) (λ l. l ≡ payloads state (logs.vault_of dev)) (λ l. pending_of l ≡ logs.entry_open state dev) (synced_leaves (logs.vault_of dev) (synced up) sound) (λ l is. ap pending_of is)
 
-  pub all_same : (old new : TableDevs D) → vaults.Leaves state images (chunks.vault_of old.chunks) (chunks.vault_of new.chunks) (λ l. chunks_of l ≡ chunks.chunks state old.chunks)
-      → vaults.Leaves state images (rows.vault_of old.rows) (rows.vault_of new.rows) (λ l. data_of l ≡ rows.held state old.rows)
-      → vaults.Leaves state images (logs.vault_of old.log) (logs.vault_of new.log) (λ l. pending_of l ≡ logs.entry_open state old.log)
-      → DevsLeave state images old new (λ d. d ≡ devs state old)
-  all_same old new a b c = leave state images only_now old new (λ here. here ≡ chunks.chunks state old.chunks) (λ here. here ≡ rows.held state old.rows) (λ here. here ≡ logs.entry_open state old.log) (λ d. d ≡ devs state old) a b c (λ x y z px py pz. cc)
-
   -- where the look at the chunks alone was tried
   pub one_looked : (old : TableDevs D) (cs : ChunkDev D) → AreUp old → AreSynced state old → AreSound state old → vaults.Leaves state images (chunks.vault_of old.chunks) (chunks.vault_of cs) (λ l. chunks_of l ≡ chunks.chunks state old.chunks) → DevsLeave state images old (record old { chunks = cs }) (λ d. d ≡ devs state old)
-  one_looked old cs up synced sound a = let new : TableDevs D = record old { chunks = cs } in all_same old new a (synced_rows old.rows up.rows synced.rows sound.rows) (synced_log old.log up.log synced.log sound.log)
+  one_looked old cs up synced sound a = let new : TableDevs D = record old { chunks = cs } in all_same state images only_now old new a (synced_rows old.rows up.rows synced.rows sound.rows) (synced_log old.log up.log synced.log sound.log)
 
   -- where that at the rows was tried too
   pub two_looked : (old : TableDevs D) (cs : ChunkDev D) (rs : RowDev D) → AreUp old → AreSynced state old → AreSound state old
       → vaults.Leaves state images (chunks.vault_of old.chunks) (chunks.vault_of cs) (λ l. chunks_of l ≡ chunks.chunks state old.chunks)
       → vaults.Leaves state images (rows.vault_of old.rows) (rows.vault_of rs) (λ l. data_of l ≡ rows.held state old.rows)
       → DevsLeave state images old (record old { chunks = cs; rows = rs }) (λ d. d ≡ devs state old)
-  two_looked old cs rs up synced sound a b = let new : TableDevs D = record old { chunks = cs; rows = rs } in all_same old new a b (synced_log old.log up.log synced.log sound.log)
+  two_looked old cs rs up synced sound a b = let new : TableDevs D = record old { chunks = cs; rows = rs } in all_same state images only_now old new a b (synced_log old.log up.log synced.log sound.log)
 
   -- while nothing is done, a crash of devices at rest leaves what they hold
   pub rests_leave : (old : TableDevs D) (ws : List Write) → IsReady state old ws → DevsLeave state images old old (λ d. d ≡ devs state old)
   rests_leave old ws r =
-      all_same old old
+      all_same state images only_now old old
       (still_chunk state images only_now old.chunks r.chunk_looked.vault r.chunk_sound)
       (still_row state images only_now old.rows r.row_looked.vault r.row_sound)
       (still_log state images only_now old.log r.log_looked.vault r.log_sound)

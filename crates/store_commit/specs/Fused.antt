@@ -1,7 +1,10 @@
 -- What is promised where the fuse of a table's disk is set.
 use Rattle.std.specs.Prelude.{◌≡◌, ℕ, List, [], ◌∷◌}
 use Rattle.disk_trait.specs.Calls.{DiskState}
+use Rattle.disk_trait.specs.Fuse.{inner_of}
 use Rattle.disk_trait.specs.declared.fuse.FuseDisk.{FuseDisk}
+use Rattle.vault.specs.declared.vault.Vault.{Vault}
+use Rattle.vault.specs.Standing.{disk_of}
 use Rattle.chunk_store.specs.Standing as chunks
 use Rattle.row_store.specs.Standing as rows
 use Rattle.status_log.specs.Standing as logs
@@ -24,6 +27,12 @@ device_of CloseEntry = Log
 device_of (PutTable schema state) = Rows
 device_of (PutSub client terms) = Rows
 
+-- the vault of this device
+abbrev pub vault_at : {D : Type 0} → TableDevs D → Device → Vault D
+vault_at table Chunks = chunks.vault_of table.chunks
+vault_at table Rows = rows.vault_of table.rows
+vault_at table Log = logs.vault_of table.log
+
 -- the fuse of this device's disk is set, and the other devices are as they were
 abbrev pub StopsOne : {D : Type 0} → (D → DiskState) → (D → ℕ → List ℕ → Type 0) → ℕ → ℕ → Device
     → TableDevs (FuseDisk D) → TableDevs (FuseDisk D) → Type 0
@@ -39,3 +48,9 @@ abbrev pub StopsNext : {D : Type 0} → (D → DiskState) → (D → ℕ → Lis
     → TableDevs (FuseDisk D) → TableDevs (FuseDisk D) → Type 0
 StopsNext state images calls pick [] old new = new ≡ old
 StopsNext state images calls pick (w ∷ ws) old new = StopsOne state images calls pick (device_of w) old new
+
+-- the disks behind the fuses are the same
+pub record SameDisks {D : Type 0} (old new : TableDevs (FuseDisk D)) : Type 0 where
+  pub chunks : inner_of (disk_of (chunks.vault_of new.chunks)) ≡ inner_of (disk_of (chunks.vault_of old.chunks))
+  pub rows : inner_of (disk_of (rows.vault_of new.rows)) ≡ inner_of (disk_of (rows.vault_of old.rows))
+  pub log : inner_of (disk_of (logs.vault_of new.log)) ≡ inner_of (disk_of (logs.vault_of old.log))

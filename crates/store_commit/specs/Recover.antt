@@ -22,7 +22,7 @@ use Rattle.store_commit.specs.NamedChunks.{Among, NamedChunks}
 use Rattle.store_commit.specs.Agenda.{Runs, IsRecovering, recovery_writes, AreLeftovers}
 use Rattle.store_commit.specs.Standing.{devs, writes_of, all_faults, AreUp, IsOneDown, AreLookedAt, AreSound}
 use Rattle.store_commit.specs.Standing.{HaveOpenings}
-use Rattle.store_commit.specs.Standing.{IsReady, DevsLeave, NothingSpared, spared_of}
+use Rattle.store_commit.specs.Standing.{IsReady, DevsLeave, RowsLeave, NothingSpared, spared_of}
 
 -- What was cut short: nothing; the entry of an update whose row was put; or the version of one whose row wasn't.
 abbrev pub IsRecovery : Devs → Recovery → Type 0
@@ -83,6 +83,7 @@ pub record Recovers {D : Type 0} (state : D → DiskState) (images : D → ℕ �
       → Runs (IsRecovering meaning (devs state old).held) (devs state new) (writes_of new))
   -- a crash at any moment of the call leaves what was there
   pub any_moment : DevsLeave state images old new (λ d. d ≡ devs state old)
+  pub rows_left : RowsLeave state images old new (λ held. held ≡ (devs state old).held)
   pub idle : OnErr result (writes_of new ≡ [])
   pub memory : IsErrOf result Memory → StaysAtStart state old new
   pub disk : IsErrOf result Disk → IsOneDown new × (all_faults state old < all_faults state new)

@@ -1,12 +1,13 @@
 -- A table's devices between calls, as what they hold and the writes that are still to come.
 use Rattle.std.specs.Prelude.{◌≡◌, ◌⊎◌, ℕ, ◌+◌, ◌<◌, ◌≤◌, List, [], ◌∷◌, length, map, drop, None, IsSome, Result, Ok}
-use Rattle.std.specs.Prelude.{Err}
+use Rattle.std.specs.Prelude.{Err, true}
 use Rattle.std.specs.Prelude.{OnOk, IfOk}
 use Rattle.std.specs.BTreeSet.{BTreeSet, keys, contains}
 use Rattle.disk_trait.specs.Calls.{DiskState}
 use Rattle.vault.specs.Limit.{payload_most}
 use Rattle.vault.specs.File.{StandsFor}
-use Rattle.vault.specs.Standing.{faults, disk_of, IsUp, IsDown, IsSound, IsSynced, IsBlank}
+use Rattle.vault.specs.Standing.{faults, stops, disk_of, IsUp, IsDown, IsSound, IsSynced, IsBlank, StopsWithin}
+use Rattle.vault.specs.Calls.{IsEither}
 use Rattle.stab_base.specs.declared.limits.TheConstants.{NUMBER_MAX}
 use Rattle.stab_base.specs.declared.chunk_name.ChunkName.{ChunkName}
 use Rattle.value_codec.specs.SchemaSpelling.{HasSchemaSpelling}
@@ -14,7 +15,7 @@ use Rattle.chunk_store.specs.Payload.{chunks_of}
 use Rattle.chunk_store.specs.Standing.{chunk_in}
 use Rattle.chunk_store.specs.Standing as chunks
 use Rattle.row_store.specs.Spelling.{HasStoredSpelling, row_payload, IsState, table_payload, IsClient}
-use Rattle.row_store.specs.Data.{data_of, nothing_held, id_cmp, row_of}
+use Rattle.row_store.specs.Data.{TableData, data_of, nothing_held, id_cmp, row_of}
 use Rattle.row_store.specs.Standing as rows
 use Rattle.status_log.specs.Entry.{entry_of, size_of, HasSpelling}
 use Rattle.status_log.specs.Payload.{pending_of}
@@ -30,6 +31,7 @@ use Rattle.store_commit.specs.declared.fault.CommitFault.TheVariants as faults_o
 use Rattle.store_commit.specs.Devs.{Devs, Write, OpenChunks, OpenRows, OpenLog, OpenEntry, PutChunk, PutRow, DropChunk}
 use Rattle.store_commit.specs.Devs.{CloseEntry, PutTable, PutSub, changed_by, IsBeforeOrAfter}
 use Rattle.store_commit.specs.Agenda.{Runs}
+use Rattle.store_commit.specs.Fused.{device_of, vault_at}
 use Rattle.store_commit.specs.There.{shown}
 
 -- what the devices hold
@@ -109,6 +111,11 @@ IsOneDown table = IsDown (chunks.vault_of table.chunks)
 abbrev pub all_faults : {D : Type 0} → (D → DiskState) → TableDevs D → ℕ
 all_faults state table = faults state (chunks.vault_of table.chunks)
     + (faults state (rows.vault_of table.rows) + faults state (logs.vault_of table.log))
+
+-- how many calls of the three disks a fuse has stopped
+abbrev pub all_stops : {D : Type 0} → (D → DiskState) → TableDevs D → ℕ
+all_stops state table = stops state (chunks.vault_of table.chunks)
+    + (stops state (rows.vault_of table.rows) + stops state (logs.vault_of table.log))
 
 -- ---- what the writes need
 
@@ -242,6 +249,11 @@ pub record DevsLeave {D : Type 0} (state : D → DiskState) (images : D → ℕ 
       × R (record { chunks = chunks_of cs; held = data_of rs; pending = pending_of ls })
   pub later : IsLater state old new
 
+-- At every moment since the old one, whatever a crash leaves of the disk of the rows stands for rows with R.
+abbrev pub RowsLeave : {D : Type 0} → (D → DiskState) → (D → ℕ → List ℕ → Type 0) → TableDevs D → TableDevs D
+    → (TableData → Type 0) → Type 0
+RowsLeave state images old new R = rows.Leaves state images old.rows new.rows R
+
 -- This write was done, and these are still to come; or a disk failed, and its device is down.
 pub record Works {D T : Type 0} (state : D → DiskState) (images : D → ℕ → List ℕ → Type 0) (w : Write) (ws : List Write)
     (old new : TableDevs D) (result : Result T CommitFault) : Type 0 where
@@ -251,6 +263,14 @@ pub record Works {D T : Type 0} (state : D → DiskState) (images : D → ℕ �
   pub counted : OnOk result (all_faults state new ≡ all_faults state old)
   -- a crash at any moment of the call leaves what was there before the write or what is there after it
   pub any_moment : DevsLeave state images old new (IsBeforeOrAfter (devs state old) w)
+  pub rows_left : RowsLeave state images old new (IsEither (devs state old).held (changed_by (devs state old) w).held)
+  -- a fuse that stops one of the first two calls of the write's disk leaves it undone, whatever a crash leaves
+  pub early : StopsWithin state (vault_at old (device_of w)) 2 → DevsLeave state images old new (λ d. d ≡ devs state old)
+  -- one that stops one of its four calls stops the write
+  pub stopped : StopsWithin state (vault_at old (device_of w)) 4 → OnOk result ⊥
+  -- one that lets four calls pass stops none of them
+  pub late : (state (disk_of (vault_at old (device_of w)))).is_armed ≡ true
+      → 4 ≤ (state (disk_of (vault_at old (device_of w)))).passes → all_stops state new ≡ all_stops state old
   pub disk : (e : CommitFault) → result ≡ Err e → (e ≡ faults_of.Disk) × (all_faults state old < all_faults state new)
       × IsOneDown new
 

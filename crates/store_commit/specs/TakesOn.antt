@@ -17,7 +17,7 @@ use Rattle.store_commit.specs.declared.devs.TableDevs.{TableDevs}
 use Rattle.store_commit.specs.declared.fault.CommitFault.{CommitFault}
 use Rattle.store_commit.specs.declared.fault.CommitFault.TheVariants.{Busy, Spent, Disk, Down, Memory}
 use Rattle.store_commit.specs.Devs.{Devs, Write}
-use Rattle.store_commit.specs.Standing.{devs, writes_of, AreUp, IsOneDown, all_faults, IsReady, DevsLeave}
+use Rattle.store_commit.specs.Standing.{devs, writes_of, AreUp, IsOneDown, all_faults, IsReady, DevsLeave, RowsLeave}
 use Rattle.store_commit.specs.Update.{at_work, chunk_most}
 use Rattle.store_commit.specs.Unset.{KeepsUnset}
 
@@ -28,7 +28,7 @@ IsNotDisk result = IsErrOf result Disk → ⊥
 pub record AllLeave {D : Type 0} (state : D → DiskState) (images : D → ℕ → List ℕ → Type 0)
     (old new : TableDevs D) : Type 0 where
   pub chunks : chunks.Leaves state images old.chunks new.chunks (λ here. here ≡ chunks.chunks state old.chunks)
-  pub rows : rows.Leaves state images old.rows new.rows (λ here. here ≡ rows.held state old.rows)
+  pub rows : RowsLeave state images old new (λ held. held ≡ (devs state old).held)
   pub log : logs.Leaves state images old.log new.log (λ here. here ≡ logs.entry_open state old.log)
 
 -- Nothing has changed but room that was added; or a disk has failed, and its device is down. A crash at any moment

@@ -1,5 +1,5 @@
 //! The three devices of a table.
-ghost use Rattle.std.specs.Prelude.{◌≡◌, ◌↔◌, ℕ, List, [], ◌∷◌, IsErrOf, OnOk};
+ghost use Rattle.std.specs.Prelude.{◌≡◌, ◌↔◌, ◌+◌, ◌≤◌, ℕ, List, [], ◌∷◌, IsErrOf, OnOk};
 ghost use Rattle.std.specs.Bool.{MatchBool};
 ghost use Rattle.vault.specs.Standing.{disk_of};
 ghost use Rattle.vault.specs.Calls.{IsEither};
@@ -15,8 +15,8 @@ ghost use Rattle.store_commit.specs.Devs.{Write, OpenChunks, OpenRows, OpenLog, 
 ghost use Rattle.store_commit.specs.Devs.{CloseEntry, PutTable, PutSub, Devs};
 ghost use Rattle.store_commit.specs.Agenda.{Runs, IsMoment, IsRecovering, IsKeeping, IsKeepingWhole, IsStill};
 ghost use Rattle.store_commit.specs.Standing.{write_of, writes_of, AreUp, IsOneDown, IsReady, Works, WorksOn, devs};
-ghost use Rattle.store_commit.specs.Standing.{DevsLeave, AreLookedAt, AreSound, AreSynced, AreBlank, HaveOpenings};
-ghost use Rattle.store_commit.specs.Standing.{nothing, GoesOn, NothingHidden, NothingSpared, seen, spared_of};
+ghost use Rattle.store_commit.specs.Standing.{DevsLeave, RowsLeave, AreLookedAt, AreSound, AreSynced, AreBlank, HaveOpenings};
+ghost use Rattle.store_commit.specs.Standing.{all_stops, nothing, GoesOn, NothingHidden, NothingSpared, seen, spared_of};
 ghost use Rattle.store_commit.specs.Shows.{behind_first, ShowsAlike};
 ghost use Rattle.store_commit.specs.Unset.{KeepsUnset, HasCause};
 
@@ -101,6 +101,7 @@ impl<D: Disk + Drop> TableDevs<D> {
         requires up { AreUp self.old }
         requires ready { IsReady D.state self.old (OpenChunks ∷ writes_of self.old) }
         ensures fuse { KeepsUnset D.state self.old self.new }
+        ensures once { all_stops D.state self.new ≤ all_stops D.state self.old + 1 }
         ensures works { Works D.state D.images OpenChunks (writes_of self.old) self.old self.new result }
         ensures agenda { self.new.agenda ≡ self.old.agenda }
         ensures scanned { self.new.scanned ≡ self.old.scanned }
@@ -112,6 +113,7 @@ impl<D: Disk + Drop> TableDevs<D> {
         requires up { AreUp self.old }
         requires ready { IsReady D.state self.old (OpenRows ∷ writes_of self.old) }
         ensures fuse { KeepsUnset D.state self.old self.new }
+        ensures once { all_stops D.state self.new ≤ all_stops D.state self.old + 1 }
         ensures works { Works D.state D.images OpenRows (writes_of self.old) self.old self.new result }
         ensures agenda { self.new.agenda ≡ self.old.agenda }
         ensures scanned { self.new.scanned ≡ self.old.scanned }
@@ -123,6 +125,7 @@ impl<D: Disk + Drop> TableDevs<D> {
         requires up { AreUp self.old }
         requires ready { IsReady D.state self.old (OpenLog ∷ writes_of self.old) }
         ensures fuse { KeepsUnset D.state self.old self.new }
+        ensures once { all_stops D.state self.new ≤ all_stops D.state self.old + 1 }
         ensures works { Works D.state D.images OpenLog (writes_of self.old) self.old self.new result }
         ensures agenda { self.new.agenda ≡ self.old.agenda }
         ensures scanned { self.new.scanned ≡ self.old.scanned }
@@ -134,6 +137,7 @@ impl<D: Disk + Drop> TableDevs<D> {
         requires up { AreUp self.old }
         requires ready { IsReady D.state self.old (OpenEntry (entry_of entry.now) ∷ writes_of self.old) }
         ensures fuse { KeepsUnset D.state self.old self.new }
+        ensures once { all_stops D.state self.new ≤ all_stops D.state self.old + 1 }
         ensures works { Works D.state D.images (OpenEntry (entry_of entry.now))
             (writes_of self.old) self.old self.new result }
         ensures agenda { self.new.agenda ≡ self.old.agenda }
@@ -146,6 +150,7 @@ impl<D: Disk + Drop> TableDevs<D> {
         requires up { AreUp self.old }
         requires ready { IsReady D.state self.old (PutChunk name bytes.now ∷ writes_of self.old) }
         ensures fuse { KeepsUnset D.state self.old self.new }
+        ensures once { all_stops D.state self.new ≤ all_stops D.state self.old + 1 }
         ensures works { Works D.state D.images (PutChunk name bytes.now) (writes_of self.old) self.old self.new result }
         ensures agenda { self.new.agenda ≡ self.old.agenda }
         ensures scanned { self.new.scanned ≡ self.old.scanned }
@@ -157,6 +162,7 @@ impl<D: Disk + Drop> TableDevs<D> {
         requires up { AreUp self.old }
         requires ready { IsReady D.state self.old (PutRow stored ∷ writes_of self.old) }
         ensures fuse { KeepsUnset D.state self.old self.new }
+        ensures once { all_stops D.state self.new ≤ all_stops D.state self.old + 1 }
         ensures works { Works D.state D.images (PutRow stored) (writes_of self.old) self.old self.new result }
         ensures agenda { self.new.agenda ≡ self.old.agenda }
         ensures scanned { self.new.scanned ≡ self.old.scanned }
@@ -168,6 +174,7 @@ impl<D: Disk + Drop> TableDevs<D> {
         requires up { AreUp self.old }
         requires ready { IsReady D.state self.old (DropChunk name ∷ writes_of self.old) }
         ensures fuse { KeepsUnset D.state self.old self.new }
+        ensures once { all_stops D.state self.new ≤ all_stops D.state self.old + 1 }
         ensures works { Works D.state D.images (DropChunk name) (writes_of self.old) self.old self.new result }
         ensures agenda { self.new.agenda ≡ self.old.agenda }
         ensures scanned { self.new.scanned ≡ self.old.scanned }
@@ -179,6 +186,7 @@ impl<D: Disk + Drop> TableDevs<D> {
         requires up { AreUp self.old }
         requires ready { IsReady D.state self.old (CloseEntry ∷ writes_of self.old) }
         ensures fuse { KeepsUnset D.state self.old self.new }
+        ensures once { all_stops D.state self.new ≤ all_stops D.state self.old + 1 }
         ensures works { Works D.state D.images CloseEntry (writes_of self.old) self.old self.new result }
         ensures agenda { self.new.agenda ≡ self.old.agenda }
         ensures scanned { self.new.scanned ≡ self.old.scanned }
@@ -190,6 +198,7 @@ impl<D: Disk + Drop> TableDevs<D> {
         requires up { AreUp self.old }
         requires ready { IsReady D.state self.old (PutTable schema.now state ∷ writes_of self.old) }
         ensures fuse { KeepsUnset D.state self.old self.new }
+        ensures once { all_stops D.state self.new ≤ all_stops D.state self.old + 1 }
         ensures works { Works D.state D.images (PutTable schema.now state)
             (writes_of self.old) self.old self.new result }
         ensures agenda { self.new.agenda ≡ self.old.agenda }
@@ -211,6 +220,7 @@ impl<D: Disk + Drop> TableDevs<D> {
             (PutSub client (terms_if on (record { gate = gate; period = period; tolerance = tolerance }))
             ∷ writes_of self.old) }
         ensures fuse { KeepsUnset D.state self.old self.new }
+        ensures once { all_stops D.state self.new ≤ all_stops D.state self.old + 1 }
         ensures works { Works D.state D.images
             (PutSub client (terms_if on (record { gate = gate; period = period; tolerance = tolerance })))
             (writes_of self.old)
@@ -226,6 +236,7 @@ impl<D: Disk + Drop> TableDevs<D> {
         requires up { AreUp self.old }
         requires ready { IsReady D.state self.old (write_of task ∷ writes_of self.old) }
         ensures fuse { KeepsUnset D.state self.old self.new }
+        ensures once { all_stops D.state self.new ≤ all_stops D.state self.old + 1 }
         ensures works { Works D.state D.images (write_of task) (writes_of self.old) self.old self.new result }
         ensures agenda { self.new.agenda ≡ self.old.agenda }
         ensures scanned { self.new.scanned ≡ self.old.scanned }
@@ -255,6 +266,8 @@ impl<D: Disk + Drop> TableDevs<D> {
         requires ready { AreUp self.old → IsReady D.state self.old (writes_of self.old) }
         // A fuse that isn't set stops nothing.
         ensures fuse { KeepsUnset D.state self.old self.new }
+        // It stops one call at most.
+        ensures once { all_stops D.state self.new ≤ all_stops D.state self.old + 1 }
         ensures works { AreUp self.old → WorksOn D.state D.images self.old self.new result (writes_of self.old) }
         ensures down { IsErrOf result CommitFault.Down ↔ IsOneDown self.old }
         ensures unchanged { IsErrOf result CommitFault.Down → self.new ≡ self.old }
@@ -318,6 +331,9 @@ impl<D: Disk + Drop> TableDevs<D> {
         // Where nothing was at work, all is as it was.
         ensures rests { AreUp self.old → AreSynced D.state self.old → AreSound D.state self.old
             → (devs D.state self.new ≡ devs D.state self.old) × AreSound D.state self.new }
+        ensures rows_left { (start : TableDevs D) (a b : TableData)
+            → RowsLeave D.state D.images start self.old (IsEither a b)
+            → IsEither a b (devs D.state self.new).held × RowsLeave D.state D.images start self.new (IsEither a b) }
     {
         self.agenda.clear();
         self.scanned = Scanned::nothing(self.alloc);
@@ -339,6 +355,8 @@ impl<D: Disk + Drop> TableDevs<D> {
         // Where the files stand for what is held, each crash at any moment leaves it.
         ensures any_moment { AreUp self.old → AreSound D.state self.old
             → DevsLeave D.state D.images self.old self.new (λ d. d ≡ devs D.state self.old) }
+        ensures rows_left { AreUp self.old → AreSound D.state self.old
+            → RowsLeave D.state D.images self.old self.new (λ held. held ≡ (devs D.state self.old).held) }
         ensures agenda { self.new.agenda ≡ self.old.agenda }
         ensures hidden { OnOk result (NothingHidden self.new) }
         ensures spared { OnOk result (NothingSpared self.new) }

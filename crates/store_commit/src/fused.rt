@@ -1,10 +1,13 @@
 //! Devices whose disks can be stopped in mid-stream.
 ghost use Rattle.std.specs.Prelude.{◌≡◌, List};
 ghost use Rattle.disk_trait.specs.Fuse.{behind, inner_of};
-ghost use Rattle.store_commit.specs.Devs.{Write};
+ghost use Rattle.vault.specs.Calls.{IsEither};
+ghost use Rattle.row_store.specs.Data.{TableData};
+ghost use Rattle.store_commit.specs.Devs.{Devs, Write};
 ghost use Rattle.store_commit.specs.Standing.{devs, write_of, writes_of, AreUp, AreSynced, AreSound, IsReady};
-ghost use Rattle.store_commit.specs.Standing.{DevsLeave};
-ghost use Rattle.store_commit.specs.Fused.{device_of, StopsNext};
+ghost use Rattle.store_commit.specs.Standing.{DevsLeave, RowsLeave};
+ghost use Rattle.store_commit.specs.Fused.{device_of, StopsNext, SameDisks};
+ghost use Rattle.store_commit.specs.Unset.{AreFresh};
 
 use crate::devs::TableDevs;
 use crate::task::Task;
@@ -48,6 +51,9 @@ impl<D: Disk + Drop> TableDevs<FuseDisk<D>> {
         ensures any_moment { AreUp self.old → AreSynced (behind D.state) self.old → AreSound (behind D.state) self.old
             → DevsLeave (behind D.state) (λ f. D.images (inner_of f)) self.old self.new
             (λ d. d ≡ devs (behind D.state) self.old) }
+        ensures rows_left { AreUp self.old → AreSynced (behind D.state) self.old → AreSound (behind D.state) self.old
+            → RowsLeave (behind D.state) (λ f. D.images (inner_of f)) self.old self.new
+            (λ held. held ≡ (devs (behind D.state) self.old).held) }
     {
         let Some(task) = self.agenda.front() else {
             return;
@@ -57,5 +63,30 @@ impl<D: Disk + Drop> TableDevs<FuseDisk<D>> {
             Device::Rows => self.rows.stop_after(calls, pick),
             Device::Log => self.log.stop_after(calls, pick),
         }
+    }
+
+    /// The fuses of the three disks are unset, and have stopped nothing: as new.
+    pub fn renew(&mut self)
+        ensures fresh { AreFresh (behind D.state) self.new }
+        ensures devs { devs (behind D.state) self.new ≡ devs (behind D.state) self.old }
+        ensures agenda { self.new.agenda ≡ self.old.agenda }
+        ensures scanned { self.new.scanned ≡ self.old.scanned }
+        ensures up { AreUp self.old → AreUp self.new }
+        ensures synced { AreSynced (behind D.state) self.old → AreSynced (behind D.state) self.new }
+        ensures sound { AreSound (behind D.state) self.old → AreSound (behind D.state) self.new }
+        ensures ready { (ws : List Write) → IsReady (behind D.state) self.old ws
+            → IsReady (behind D.state) self.new ws }
+        ensures inner { SameDisks self.old self.new }
+        // What was promised of each crash since an earlier moment still is.
+        ensures left { (start : TableDevs (FuseDisk D)) (a b : Devs)
+            → DevsLeave (behind D.state) (λ f. D.images (inner_of f)) start self.old (IsEither a b)
+            → DevsLeave (behind D.state) (λ f. D.images (inner_of f)) start self.new (IsEither a b) }
+        ensures rows_left { (start : TableDevs (FuseDisk D)) (a b : TableData)
+            → RowsLeave (behind D.state) (λ f. D.images (inner_of f)) start self.old (IsEither a b)
+            → RowsLeave (behind D.state) (λ f. D.images (inner_of f)) start self.new (IsEither a b) }
+    {
+        self.chunks.renew();
+        self.rows.renew();
+        self.log.renew();
     }
 }

@@ -76,6 +76,7 @@ impl<D: Disk + Drop> TableDevs<D> {
         requires { IsStarting D.state self.old }
         ensures fuse { KeepsUnset D.state self.old self.new }
         ensures makes { MakesRoom D.state D.images drops self.old self.new result }
+        ensures rows { self.new.rows ≡ self.old.rows }
         ensures scanned { self.new.scanned ≡ self.old.scanned }
     {
         if drops > DROPS_MAX {

@@ -1,13 +1,12 @@
 -- While a blank file is wiped, it stays short.
-use Rattle.std.proofs.Common.{◌≡◌, inl, inr, ℕ, ◌+◌, ◌-◌, ◌<◌, ◌≤◌, max, min, List, [], ◌∷◌, ◌++◌, length, get_or, take, drop, slice_index, false, refl, sym, ◌∙◌, ap, subst, arith, length-append}
+use Rattle.std.proofs.Common.{◌≡◌, inl, inr, ℕ, ◌<◌, ◌≤◌, List, [], ◌++◌, length, get_or, take, refl, subst, arith, length-append}
 use Rattle.std.proofs.Common.{length-take}
 use Rattle.std.proofs.lemmas.List.{places, length-replicate}
 use Rattle.std.proofs.Math.ListN.{replicate}
 use Rattle.std.proofs.lemmas.Bool.{cases_lt}
 use Rattle.disk_trait.specs.Image.{Pending, IsImage, LeavesLess, settled, touched, shortened}
-use Rattle.disk_trait.specs.Calls.{DiskState, Elapses, LeavesOnly}
-use Rattle.disk_trait.proofs.Moments.{started, goes_on, leaves_weaker}
-use Rattle.vault.specs.File.{payloads_of, StandsFor, StandsForOne}
+use Rattle.disk_trait.specs.Calls.{DiskState}
+use Rattle.vault.specs.File.{StandsForOne}
 use Rattle.vault.proofs.Lists.{stands_at}
 
 abbrev pub IsShort : List ℕ → Type 0

@@ -1,6 +1,6 @@
 -- From what a vault promises of its payloads to what a device promises of what it reads them as.
-use Rattle.std.proofs.Common.{◌≡◌, inl, inr, ⊎_elim, ℕ, ◌+◌, ◌<◌, ◌≤◌, false, true, List, [], ◌∷◌, ◌++◌, length, Result, Ok, Err, refl, sym, ◌∙◌, ap, subst, arith}
-use Rattle.std.specs.Prelude.{◌↔◌, OnOk, OnErr, IsErrOf}
+use Rattle.std.proofs.Common.{◌≡◌, inl, inr, ⊎_elim, ℕ, ◌+◌, ◌≤◌, List, [], ◌∷◌, ◌++◌, length, Result, Ok, Err, refl, sym, ◌∙◌, ap, subst}
+use Rattle.std.specs.Prelude.{OnOk, OnErr, IsErrOf}
 use Rattle.std.specs.Vec.{vec_capacity}
 use Rattle.disk_trait.specs.Image.{IsImage}
 use Rattle.disk_trait.specs.Calls.{DiskState, IsCounted, Elapses}
@@ -9,11 +9,9 @@ use Rattle.vault.specs.declared.fault.VaultFault.{VaultFault}
 use Rattle.vault.specs.declared.fault.VaultFault.TheVariants.{Disk, Down, Memory}
 use Rattle.vault.specs.declared.vault.Vault.{Vault}
 use Rattle.vault.specs.declared.folded.Folded.{Folded}
-use Rattle.vault.specs.File.{IsBeforeOrAfter}
 use Rattle.vault.specs.Standing.{payloads, faults, IsDown, IsUp, IsSound, IsSynced, Burns}
 use Rattle.vault.specs.Standing as vaults
-use Rattle.vault.specs.Folded.{IsLookedAt, IsOpened, HasRoom, Stays}
-use Rattle.vault.specs.Calls.{IsEither, AreApart, Refuses, RefusesOnly, Views, seen, Restarts, Formats, Looks, OpensWrite, Reserves, Appends, Reads, answer_as}
+use Rattle.vault.specs.Calls.{IsEither, AreApart, Refuses, RefusesOnly, Views, Restarts, Formats, Looks, OpensWrite, Reserves, Appends, Reads, answer_as}
 use Rattle.vault.proofs.Uppers.{runs_weaker, restarted, restarted_leaves}
 use Rattle.vault.proofs.Rooms.{room_written}
 use Rattle.vault.proofs.Stayings.{same_fuse, looked_leaves}

@@ -6,6 +6,7 @@ mod Quiet
 mod Openings
 mod Spots
 pub mod Uppers
+pub mod Renewals
 mod Blanks
 mod Noting
 pub mod Stayings

@@ -1,5 +1,5 @@
 //! A folded vault whose disk can be stopped in mid-stream.
-ghost use Rattle.vault.specs.Stops.{Stops};
+ghost use Rattle.vault.specs.Stops.{Stops, Renews};
 
 use crate::fold::Fold;
 use crate::folded::Folded;
@@ -13,5 +13,12 @@ impl<D: Disk + Drop, F: Fold + Drop> Folded<FuseDisk<D>, F> {
         ensures { Stops D.state D.images F.fits F.has_spare (λ list. list) calls pick self.old self.new }
     {
         self.vault.stop_after(calls, pick);
+    }
+
+    /// The fuse of the disk is unset, and has stopped nothing: as new.
+    pub fn renew(&mut self)
+        ensures { Renews D.state D.images F.fits F.has_spare (λ list. list) self.old self.new }
+    {
+        self.vault.renew();
     }
 }

@@ -1,4 +1,4 @@
-use Rattle.std.proofs.Common.{◌≡◌, ◌∙◌, ap, sym, length, ◌≤◌, subst, List, ℕ}
+use Rattle.std.proofs.Common.{◌∙◌, ap, sym, length, ◌≤◌, subst, List, ℕ}
 use Rattle.disk_trait.specs.Image.{settled}
 use Rattle.disk_trait.proofs.Moments.{leaves_then}
 use Rattle.vault.proofs.Blanks.{IsShort}

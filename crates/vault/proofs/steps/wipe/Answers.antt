@@ -1,6 +1,3 @@
-use Rattle.std.proofs.Common.{List, ℕ}
-use Rattle.disk_trait.specs.Image.{IsImage}
-use Rattle.disk_trait.specs.Calls.{LeavesOnly}
 use Rattle.disk_trait.proofs.Moments.{started, goes_on}
 use Rattle.vault.proofs.Blanks.{IsShort, short_settled, short_cut, short_write, short_less}
 use Rattle.vault.proofs.steps.wipe.Goals as goal

@@ -1,3 +1,4 @@
+use Rattle.std.proofs.Common.{arith}
 use Rattle.store_commit.specs.Standing.{writes_of}
 use Rattle.store_commit.proofs.Works.{close_entry_works}
 use Rattle.store_commit.proofs.Fusing.{log_burns}
@@ -11,3 +12,6 @@ pub returns-clause-fuse : goal.returns-clause-fuse
 returns-clause-fuse g c =
     let burns = c.close_entry.ensures.fuse c.requires.up.log in
     log_burns g.D.Disk.state c.args.self.now c.close_entry.new.self 4 c.close_entry.result burns
+
+pub returns-clause-once : goal.returns-clause-once
+returns-clause-once g c = let burns = c.close_entry.ensures.fuse c.requires.up.log in let one = burns.one in omega (arith, one)

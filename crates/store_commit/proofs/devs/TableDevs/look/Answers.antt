@@ -1,4 +1,4 @@
-use Rattle.store_commit.proofs.Works.{one_looked, two_looked, all_same}
+use Rattle.store_commit.proofs.Works.{one_looked, two_looked, all_same, synced_rows}
 use Rattle.std.proofs.Common.{Ok, Err, refl}
 use Rattle.std.proofs.lemmas.Result.{err_from_is_err_and}
 use Rattle.store_commit.proofs.Fusing.{keeps_then, keeps_same, cause_then, chunk_same, row_same, log_same, chunk_caused, row_caused, log_caused}
@@ -89,3 +89,16 @@ returns-clause-cause g c up =
     let three = record two { log = c.look-3.new.self } in
     let k = cause_then s old two three tt (Ok tt) (cause_then s old one two tt (Ok tt) (chunk_caused s old c.look.new.self old.chunks c.look.new.self (Ok tt) c.in_ok-look.ensures.refuses c.in_ok-look.ensures.only up.chunks) (row_caused s one c.look-2.new.self old.rows c.look-2.new.self (Ok tt) c.in_ok-look-2.ensures.looks.refuses c.in_ok-look-2.ensures.looks.only up.rows)) (log_caused s two c.look-3.new.self old.log c.look-3.new.self (Ok tt) c.in_ok-look-3.ensures.refuses c.in_ok-look-3.ensures.only up.log) in
     record { cause = k.cause; only = k.only }
+
+pub returns-in_err-look-clause-rows_left : goal.returns-in_err-look-clause-rows_left
+returns-in_err-look-clause-rows_left g c up sound =
+    synced_rows g.D.Disk.state g.D.Disk.images g.met.D.Disk.only_now c.args.self.now.rows up.rows c.requires.synced.rows sound.rows
+
+pub returns-in_err-look-2-clause-rows_left : goal.returns-in_err-look-2-clause-rows_left
+returns-in_err-look-2-clause-rows_left g c up sound = c.look-2.ensures.looks.any_moment up.rows sound.rows
+
+pub returns-in_err-look-3-clause-rows_left : goal.returns-in_err-look-3-clause-rows_left
+returns-in_err-look-3-clause-rows_left g c up sound = c.look-2.ensures.looks.any_moment up.rows sound.rows
+
+pub returns-clause-rows_left : goal.returns-clause-rows_left
+returns-clause-rows_left g c up sound = c.look-2.ensures.looks.any_moment up.rows sound.rows

@@ -1,3 +1,4 @@
+use Rattle.std.proofs.Common.{arith}
 use Rattle.status_log.specs.Entry.{entry_of}
 use Rattle.store_commit.specs.Standing.{writes_of}
 use Rattle.store_commit.proofs.Works.{open_entry_works}
@@ -12,3 +13,6 @@ pub returns-clause-fuse : goal.returns-clause-fuse
 returns-clause-fuse g c =
     let burns = (c.open_entry.ensures.opens c.requires.ready.may.0.1).fuse c.requires.up.log in
     log_burns g.D.Disk.state c.args.self.now c.open_entry.new.self 4 c.open_entry.result burns
+
+pub returns-clause-once : goal.returns-clause-once
+returns-clause-once g c = let burns = (c.open_entry.ensures.opens c.requires.ready.may.0.1).fuse c.requires.up.log in let one = burns.one in omega (arith, one)

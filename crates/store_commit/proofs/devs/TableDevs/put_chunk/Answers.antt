@@ -1,3 +1,4 @@
+use Rattle.std.proofs.Common.{arith}
 use Rattle.store_commit.specs.Standing.{writes_of}
 use Rattle.store_commit.proofs.Works.{put_chunk_works}
 use Rattle.store_commit.proofs.Fusing.{chunk_burns}
@@ -11,3 +12,6 @@ pub returns-clause-fuse : goal.returns-clause-fuse
 returns-clause-fuse g c =
     let burns = c.put.ensures.fuse c.requires.up.chunks in
     chunk_burns g.D.Disk.state c.args.self.now c.put.new.self 4 c.put.result burns
+
+pub returns-clause-once : goal.returns-clause-once
+returns-clause-once g c = let burns = c.put.ensures.fuse c.requires.up.chunks in let one = burns.one in omega (arith, one)

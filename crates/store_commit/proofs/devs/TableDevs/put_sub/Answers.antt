@@ -1,3 +1,4 @@
+use Rattle.std.proofs.Common.{arith}
 use Rattle.row_store.specs.Reading.{terms_if}
 use Rattle.store_commit.specs.Standing.{writes_of}
 use Rattle.store_commit.proofs.Works.{put_sub_works}
@@ -12,3 +13,6 @@ pub returns-clause-fuse : goal.returns-clause-fuse
 returns-clause-fuse g c =
     let burns = c.put_sub.ensures.puts.fuse c.requires.up.rows in
     row_burns g.D.Disk.state c.args.self.now c.put_sub.new.self 4 c.put_sub.result burns
+
+pub returns-clause-once : goal.returns-clause-once
+returns-clause-once g c = let burns = c.put_sub.ensures.puts.fuse c.requires.up.rows in let one = burns.one in omega (arith, one)

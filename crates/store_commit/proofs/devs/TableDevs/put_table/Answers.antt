@@ -1,3 +1,4 @@
+use Rattle.std.proofs.Common.{arith}
 use Rattle.store_commit.specs.Standing.{writes_of}
 use Rattle.store_commit.proofs.Works.{put_table_works}
 use Rattle.store_commit.proofs.Fusing.{row_burns}
@@ -11,3 +12,6 @@ pub returns-clause-fuse : goal.returns-clause-fuse
 returns-clause-fuse g c =
     let burns = c.put_table.ensures.puts.fuse c.requires.up.rows in
     row_burns g.D.Disk.state c.args.self.now c.put_table.new.self 4 c.put_table.result burns
+
+pub returns-clause-once : goal.returns-clause-once
+returns-clause-once g c = let burns = c.put_table.ensures.puts.fuse c.requires.up.rows in let one = burns.one in omega (arith, one)

@@ -24,7 +24,7 @@ pub returns-in_err-make_room-clause-recovers : goal.returns-in_err-make_room-cla
 returns-in_err-make_room-clause-recovers g c up =
     let p = err_from_is_err_and c.from_residual-in_err-make_room.result c.from_residual-in_err-make_room.ensures.1 in
     let k = c.left_over.ensures in
-    rw (p.1, p.2) (no_room g.D.Disk.state g.D.Disk.images g.met.D.Disk.only_now c.args.self.now c.left_over.new.self (c.requires up) k.vault k.rows k.log k.agenda k.stays c.make_room.new.self c.len.result _ c.in_err-make_room.ensures.makes)
+    rw (p.1, p.2) (no_room g.D.Disk.state g.D.Disk.images g.met.D.Disk.only_now c.args.self.now c.left_over.new.self (c.requires up) k.vault k.rows k.log k.agenda k.stays c.make_room.new.self c.len.result c.make_room.ensures.rows _ c.in_err-make_room.ensures.makes)
 
 pub returns-in_err-names-clause-recovers : goal.returns-in_err-names-clause-recovers
 returns-in_err-names-clause-recovers g c up =
@@ -41,7 +41,7 @@ returns-clause-recovers g c up =
     let kept_is : c.in_ok-names.names.items ≡ filter (λ (name : ChunkName). not (contains name_cmp (spared_of old) name)) c.as_slice.result.now =
     c.in_ok-names.ensures ∙ ap (λ (x : Scanned). filter (λ (name : ChunkName). not (contains name_cmp x.spared name)) c.as_slice.result.now) k.scanned in
     let size : c.len.result ≡ length c.in_ok-names.names.items = omega (arith, c.len.ensures, c.deref.ensures.len, ap (λ (l : List ChunkName). length l) c.deref.ensures.value) in
-    recovered g.D.Disk.state g.D.Disk.images g.met.D.Disk.only_now c.args.self.now c.left_over.new.self (c.requires up) k.vault k.rows k.log k.agenda k.stays c.make_room.new.self c.len.result c.take_on.new.self c.take_on.ensures.chunks c.take_on.ensures.rows c.take_on.ensures.log
+    recovered g.D.Disk.state g.D.Disk.images g.met.D.Disk.only_now c.args.self.now c.left_over.new.self (c.requires up) k.vault k.rows k.log k.agenda k.stays c.make_room.new.self c.len.result c.make_room.ensures.rows c.take_on.new.self c.take_on.ensures.chunks c.take_on.ensures.rows c.take_on.ensures.log
     c.in_ok-recovery.recovery c.in_ok-recovery.ensures.recovery c.as_slice.result.now c.in_ok-names.names.items left kept_is c.is_open-is_open.result (c.is_open-is_open.ensures d c.in_ok-recovery.ensures.recovery) (c.take_on.ensures.writes ∙ ap (λ (l : List ChunkName). recovery_writes l c.is_open-is_open.result) c.deref.ensures.value) size c.in_ok-make_room.ensures.makes
 
 pub returns-in_err-recovery-clause-fuse : goal.returns-in_err-recovery-clause-fuse

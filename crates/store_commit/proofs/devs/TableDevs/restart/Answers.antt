@@ -17,3 +17,8 @@ returns-clause-since g c start a b run =
     let two = c.restart-2.ensures in
     let three = c.restart-3.ensures in
     since_restarted g.D.Disk.state g.D.Disk.images g.met.D.Disk.counts_now c.args.self.now _ start (IsEither a b) one.restarts two.restarts three.restarts one.image two.image three.image one.time two.time three.time run
+
+pub returns-clause-rows_left : goal.returns-clause-rows_left
+returns-clause-rows_left g c start a b run =
+    let k = c.restart-2.ensures.restarts in
+    (k.left start.rows.inner a b run, k.since start.rows.inner a b run)

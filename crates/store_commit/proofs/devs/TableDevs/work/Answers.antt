@@ -188,3 +188,15 @@ returns-in-Ok-clause-hidden g c none =
 pub returns-in-Err-clause-hidden : goal.returns-in-Err-clause-hidden
 returns-in-Err-clause-hidden g c none =
     ap (λ (x : Scanned). keys x.hidden) c.perform.ensures.scanned ∙ still_hidden (write_of c.unwrap-task.result) (hidden_of c.args.self.now) c.put.new.self.hidden c.put.ensures.hidden none
+
+pub returns-then-is_down-clause-once : goal.returns-then-is_down-clause-once
+returns-then-is_down-clause-once g c = omega arith
+
+pub returns-then-is_empty-clause-once : goal.returns-then-is_empty-clause-once
+returns-then-is_empty-clause-once g c = omega arith
+
+pub returns-in-Ok-clause-once : goal.returns-in-Ok-clause-once
+returns-in-Ok-clause-once g c = c.perform.ensures.once
+
+pub returns-in-Err-clause-once : goal.returns-in-Err-clause-once
+returns-in-Err-clause-once g c = c.perform.ensures.once

@@ -1,4 +1,4 @@
-use Rattle.std.proofs.Common.{◌≡◌, ◌+◌, ◌++◌, ◌∷◌, [], ℕ, List, length, refl, sym, ◌∙◌, ap, subst, arith}
+use Rattle.std.proofs.Common.{◌≡◌, ◌++◌, ◌∷◌, [], ℕ, List, length, refl, sym, ◌∙◌, ap, subst, arith}
 use Rattle.vault.specs.File.{payloads_of, places_from, records, EndsAt, StandsFor, StandsForOne}
 use Rattle.vault.proofs.Openings.{one_gate}
 use Rattle.disk_trait.specs.Image.{settled}

@@ -1,5 +1,6 @@
 -- What a call promises that takes writes on, at each of its ends.
-use Rattle.std.proofs.Common.{◌≡◌, ⊎_elim, ℕ, List, [], Ok, Err, refl, ap}
+use Rattle.std.proofs.Common.{◌≡◌, ⊎_elim, ℕ, List, [], Ok, Err, refl, sym, ◌∙◌, ap, subst}
+use Rattle.std.specs.Prelude.{IsErrOf}
 use Rattle.disk_trait.specs.Image.{IsImage}
 use Rattle.disk_trait.specs.Calls.{DiskState}
 use Rattle.stab_base.specs.declared.limits.TheConstants.{NUMBER_MAX}
@@ -20,6 +21,7 @@ module _ {D T : Type 0} (state : D → DiskState) (images : D → ℕ → List �
     up = tt;
     refused = refl;
     same = λ n. refl;
+    rests = λ n up none rests. (up, subst (λ (l : List Write). IsReady state old l) (sym none) rests);
     any_moment = λ up. rests_leave state images only_now old (writes_of old) (ready up);
     down = (λ is. f.down.0 (let same : e ≡ Down = cc in ap (λ (x : JournalFault). Err x) same), λ down. let is = f.down.1 down in let same : e ≡ Down = cc in ap (λ (x : JournalFault). Err x) same);
     busy = λ version. (λ is. (f.busy version).0 (let same : e ≡ Busy version = cc in ap (λ (x : JournalFault). Err x) same), λ is. let was = (f.busy version).1 is in let same : e ≡ Busy version = cc in ap (λ (x : JournalFault). Err x) same);
@@ -40,6 +42,7 @@ module _ {D T : Type 0} (state : D → DiskState) (images : D → ℕ → List �
       up = tt;
       refused = refl;
       same = λ n. refl;
+      rests = λ n up none rests. (up, subst (λ (l : List Write). IsReady state old l) (sym none) rests);
       any_moment = λ up. rests_leave state images only_now old [] rests;
       down = (λ is. cc, λ down. absurd (up_or_down old up down));
       busy = λ version. (λ is. cc, λ is. absurd (is.1 idle));
@@ -51,12 +54,15 @@ module _ {D T : Type 0} (state : D → DiskState) (images : D → ℕ → List �
 
     module _ (not_spent : is_spent → ⊥) (new : Journal D) where
       pub wasnt_taken : {S : Type 0} (e : JournalFault) → Waits {T = S} state images old new (Err e) → TakesOn {T = T} state images is_spent writes old new (Err e)
-      wasnt_taken e w = record {
+      wasnt_taken {S = S} e w = record {
         taken = tt;
         ready = tt;
         up = tt;
         refused = w.agenda;
         same = λ n. w.same (λ is. n (let same : e ≡ Disk = cc in ap (λ (x : JournalFault). Err x) same));
+        rests = λ n up none rests.
+            let not_disk : IsErrOf {T = S} (Err e) Disk → ⊥ = λ is. n (let same : e ≡ Disk = cc in ap (λ (x : JournalFault). Err x) same) in
+            (w.up not_disk, subst (λ (l : List Write). IsReady state new l) (sym (w.agenda ∙ none)) (w.rests not_disk));
         any_moment = λ up. all_same state images only_now old new w.chunks w.slots w.journal;
         down = (λ is. let same : e ≡ Down = cc in absurd (⊎_elim (λ x. cc) (λ x. cc) w.only), λ down. absurd (up_or_down old up down));
         busy = λ version. (λ is. let same : e ≡ Busy version = cc in absurd (⊎_elim (λ x. cc) (λ x. cc) w.only), λ is. absurd (is.1 idle));
@@ -74,6 +80,7 @@ module _ {D T : Type 0} (state : D → DiskState) (images : D → ℕ → List �
         up = let u = w.up (λ is. cc) in record { chunks = rw cs u.chunks; slots = rw rs u.slots; journal = rw ls u.journal };
         refused = tt;
         same = λ n. rw (cs, rs, ls) (w.same (λ is. cc));
+        rests = λ n up none rests. (let u = w.up (λ is. cc) in record { chunks = rw cs u.chunks; slots = rw rs u.slots; journal = rw ls u.journal }, ready);
         any_moment = λ up. all_same state images only_now old new (rw cs w.chunks) (rw rs w.slots) (rw ls w.journal);
         down = (λ is. cc, λ down. absurd (up_or_down old up down));
         busy = λ version. (λ is. cc, λ is. absurd (is.1 idle));

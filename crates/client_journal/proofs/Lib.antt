@@ -7,6 +7,8 @@ pub mod Works
 pub mod Moments
 pub mod Fuses
 pub mod Restarts
+pub mod Sinces
+pub mod Stopping
 pub mod Tasks
 pub mod Numbers
 pub mod Planned
@@ -26,3 +28,4 @@ pub mod Scans
 pub mod Wholes
 pub mod ShownRows
 pub mod Sparing
+pub mod Renewing

@@ -1,5 +1,5 @@
 -- What one write does to the three devices, from what it does to its own.
-use Rattle.std.proofs.Common.{◌≡◌, inl, inr, ⊎_elim, ℕ, ◌+◌, ◌<◌, ◌≤◌, List, [], ◌∷◌, length, Result, Ok, Err, refl, sym, ◌∙◌, ap, subst, arith}
+use Rattle.std.proofs.Common.{◌≡◌, inl, inr, ⊎_elim, ℕ, ◌+◌, ◌<◌, ◌≤◌, true, List, [], ◌∷◌, length, Result, Ok, Err, refl, sym, ◌∙◌, ap, subst, arith}
 use Rattle.std.specs.Prelude.{IsErrOf}
 use Rattle.std.specs.BTreeMap.{insert_entry}
 use Rattle.disk_trait.specs.Image.{IsImage, settled}
@@ -11,7 +11,7 @@ use Rattle.disk_trait.specs.Calls.{DiskState}
 use Rattle.vault.specs.declared.fault.VaultFault.{VaultFault}
 use Rattle.vault.specs.declared.fault.VaultFault.TheVariants as causes
 use Rattle.vault.specs.declared.vault.Vault.{Vault}
-use Rattle.vault.specs.Standing.{payloads, faults, disk_of, IsUp, IsDown, IsSound, IsSynced, IsBlank}
+use Rattle.vault.specs.Standing.{payloads, faults, stops, disk_of, IsUp, IsDown, IsSound, IsSynced, IsBlank, StopsWithin}
 use Rattle.vault.specs.Standing as vaults
 use Rattle.vault.specs.Calls.{IsEither, Refuses, RefusesOnly}
 use Rattle.vault.proofs.Uppers.{opened_sound, less_room, runs_weaker}
@@ -41,11 +41,14 @@ use Rattle.plan_log.specs.Spelling.{commit_payload}
 use Rattle.plan_log.specs.Journal.{Journal as Planned, journal_of, nothing_planned, with_intend, with_commit, with_done}
 use Rattle.plan_log.specs.Standing as journals
 use Rattle.client_journal.specs.declared.devs.Journal.{Journal}
+use Rattle.client_journal.specs.declared.fused.Device.{Device}
+use Rattle.client_journal.specs.declared.fused.Device.TheVariants as devices
 use Rattle.client_journal.specs.Fault.{disk_or}
 use Rattle.client_journal.specs.declared.fault.JournalFault.{JournalFault}
 use Rattle.client_journal.specs.declared.fault.JournalFault.TheVariants.{Disk, Down}
 use Rattle.client_journal.specs.Devs.{ClientDevs, Write, OpenJournal, OpenSlots, OpenChunks, PutIntend, PutChunk, PutCommit, PutSlots, PutRecord, DropChunk, PutDone, changed_by, IsBeforeOrAfter, chunk_of}
-use Rattle.client_journal.specs.Standing.{devs, AreUp, IsOneDown, chunk_opens, chunk_puts, chunk_bytes, slot_opens, slot_puts, slot_bytes, journal_opens, journal_puts, journal_bytes, chunk_opened, slot_opened}
+use Rattle.client_journal.specs.Fused.{vault_at, device_of}
+use Rattle.client_journal.specs.Standing.{devs, all_stops, AreUp, IsOneDown, chunk_opens, chunk_puts, chunk_bytes, slot_opens, slot_puts, slot_bytes, journal_opens, journal_puts, journal_bytes, chunk_opened, slot_opened}
 use Rattle.client_journal.specs.Standing.{journal_opened, MayDoAll, IsReady, DevsLeave, Works, AreSound, AreSynced, AreBlank, nothing}
 
 -- a device that is up and takes no memory fails by its disk alone
@@ -127,6 +130,39 @@ module _ {D : Type 0} (state : D → DiskState) (images : D → ℕ → List ℕ
       → vaults.Leaves state images (journals.vault_of dev) (journals.vault_of dev) (λ l. journal_of l ≡ journals.held state dev)
   still_journal dev looked sound = runs_weaker state images (journals.vault_of dev) (journals.vault_of dev) (λ l. l ≡ payloads state (journals.vault_of dev)) (λ l. journal_of l ≡ journals.held state dev) (looked_leaves state images only_now (journals.vault_of dev) looked sound) (λ l is. ap journal_of is)
 
+  pub all_same : (old new : Journal D) → vaults.Leaves state images (chunks.vault_of old.chunks) (chunks.vault_of new.chunks) (λ l. chunks_of l ≡ chunks.chunks state old.chunks)
+      → vaults.Leaves state images (slots.vault_of old.slots) (slots.vault_of new.slots) (λ l. data_of l ≡ slots.held state old.slots)
+      → vaults.Leaves state images (journals.vault_of old.journal) (journals.vault_of new.journal) (λ l. journal_of l ≡ journals.held state old.journal)
+      → DevsLeave state images old new (λ d. d ≡ devs state old)
+  all_same old new a b c = leave old new (λ here. here ≡ chunks.chunks state old.chunks) (λ here. here ≡ slots.held state old.slots) (λ here. here ≡ journals.held state old.journal) (λ d. d ≡ devs state old) a b c (λ x y z px py pz. cc)
+
+  -- a write of the chunks: what stands where it is undone, and what a fuse that lets four calls pass stops
+  module _ (old : Journal D) (dev : ChunkDev D) where
+    chunk_late : {T E : Type 0} (r : Result T E) → vaults.Burns state 4 (chunks.vault_of old.chunks) (chunks.vault_of dev) r → (state (disk_of (chunks.vault_of old.chunks))).is_armed ≡ true → 4 ≤ (state (disk_of (chunks.vault_of old.chunks))).passes
+        → all_stops state (record old { chunks = dev }) ≡ all_stops state old
+    chunk_late r b armed passes = ap (λ (n : ℕ). n + (stops state (slots.vault_of old.slots) + stops state (journals.vault_of old.journal))) (b.passed armed passes)
+
+    chunk_undone : (ws : List Write) → IsReady state old ws → vaults.Leaves state images (chunks.vault_of old.chunks) (chunks.vault_of dev) (λ l. chunks_of l ≡ chunks.chunks state old.chunks) → DevsLeave state images old (record old { chunks = dev }) (λ d. d ≡ devs state old)
+    chunk_undone ws ready k = let new : Journal D = record old { chunks = dev } in all_same old new k (still_slot old.slots ready.slot_looked.vault ready.slot_sound) (still_journal old.journal ready.journal_looked.vault ready.journal_sound)
+
+  -- a write of the slots
+  module _ (old : Journal D) (dev : SlotDev D) where
+    slot_late : {T E : Type 0} (r : Result T E) → vaults.Burns state 4 (slots.vault_of old.slots) (slots.vault_of dev) r → (state (disk_of (slots.vault_of old.slots))).is_armed ≡ true → 4 ≤ (state (disk_of (slots.vault_of old.slots))).passes
+        → all_stops state (record old { slots = dev }) ≡ all_stops state old
+    slot_late r b armed passes = ap (λ (n : ℕ). stops state (chunks.vault_of old.chunks) + (n + stops state (journals.vault_of old.journal))) (b.passed armed passes)
+
+    slot_undone : (ws : List Write) → IsReady state old ws → vaults.Leaves state images (slots.vault_of old.slots) (slots.vault_of dev) (λ l. data_of l ≡ slots.held state old.slots) → DevsLeave state images old (record old { slots = dev }) (λ d. d ≡ devs state old)
+    slot_undone ws ready k = let new : Journal D = record old { slots = dev } in all_same old new (still_chunk old.chunks ready.chunk_looked.vault ready.chunk_sound) k (still_journal old.journal ready.journal_looked.vault ready.journal_sound)
+
+  -- a write of the journal
+  module _ (old : Journal D) (dev : PlanLog D) where
+    journal_late : {T E : Type 0} (r : Result T E) → vaults.Burns state 4 (journals.vault_of old.journal) (journals.vault_of dev) r → (state (disk_of (journals.vault_of old.journal))).is_armed ≡ true → 4 ≤ (state (disk_of (journals.vault_of old.journal))).passes
+        → all_stops state (record old { journal = dev }) ≡ all_stops state old
+    journal_late r b armed passes = ap (λ (n : ℕ). stops state (chunks.vault_of old.chunks) + (stops state (slots.vault_of old.slots) + n)) (b.passed armed passes)
+
+    journal_undone : (ws : List Write) → IsReady state old ws → vaults.Leaves state images (journals.vault_of old.journal) (journals.vault_of dev) (λ l. journal_of l ≡ journals.held state old.journal) → DevsLeave state images old (record old { journal = dev }) (λ d. d ≡ devs state old)
+    journal_undone ws ready k = let new : Journal D = record old { journal = dev } in all_same old new (still_chunk old.chunks ready.chunk_looked.vault ready.chunk_sound) (still_slot old.slots ready.slot_looked.vault ready.slot_sound) k
+
   module _ (old : Journal D) (dev : PlanLog D) (ws : List Write) (up : AreUp old) (ready : IsReady state old (OpenJournal ∷ ws)) where
     open_journal_moment : (r : Result (Unit {0}) PlanFault) → journals.OpensWrite state images old.journal dev r → DevsLeave state images old (record old { journal = dev }) (IsBeforeOrAfter (devs state old) OpenJournal)
     open_journal_moment r k = let new : Journal D = record old { journal = dev } in leave old new (λ here. here ≡ chunks.chunks state old.chunks) (λ here. here ≡ slots.held state old.slots) (λ here. here ≡ journals.held state old.journal) (IsBeforeOrAfter (devs state old) OpenJournal) (still_chunk old.chunks ready.chunk_looked.vault ready.chunk_sound) (still_slot old.slots ready.slot_looked.vault ready.slot_sound) (k.any_moment up.journal ready.journal_sound) one
@@ -157,6 +193,9 @@ module _ {D : Type 0} (state : D → DiskState) (images : D → ℕ → List ℕ
           up = record { chunks = up.chunks; slots = up.slots; journal = k.opened.vault.looked.up };
           counted = omega (arith, k.refuses.cause);
           any_moment = open_journal_moment (Ok x) k;
+          early = λ _. journal_undone old dev (OpenJournal ∷ ws) ready (k.any_moment up.journal ready.journal_sound);
+          stopped = λ within. (k.fuse up.journal).stopped within.0 within.1;
+          late = journal_late old dev {T = Unit {0}} {E = PlanFault} (Ok x) (k.fuse up.journal);
           disk = λ e is. absurd cc;
         }
     open_journal_works (Err x) k =
@@ -167,6 +206,9 @@ module _ {D : Type 0} (state : D → DiskState) (images : D → ℕ → List ℕ
           up = tt;
           counted = tt;
           any_moment = open_journal_moment (Err x) k;
+          early = λ _. journal_undone old dev (OpenJournal ∷ ws) ready (k.any_moment up.journal ready.journal_sound);
+          stopped = λ _. tt;
+          late = journal_late old dev {T = Unit {0}} {E = PlanFault} (Err x) (k.fuse up.journal);
           disk = λ e is. (cc, omega (arith, failed.1), inr (inr failed.0));
         }
 
@@ -200,6 +242,9 @@ module _ {D : Type 0} (state : D → DiskState) (images : D → ℕ → List ℕ
           up = record { chunks = up.chunks; slots = k.opened.vault.looked.up; journal = up.journal };
           counted = omega (arith, k.refuses.cause);
           any_moment = open_slots_moment (Ok x) k;
+          early = λ _. slot_undone old dev (OpenSlots ∷ ws) ready (k.any_moment up.slots ready.slot_sound);
+          stopped = λ within. (k.fuse up.slots).stopped within.0 within.1;
+          late = slot_late old dev {T = Unit {0}} {E = SlotFault} (Ok x) (k.fuse up.slots);
           disk = λ e is. absurd cc;
         }
     open_slots_works (Err x) k =
@@ -210,6 +255,9 @@ module _ {D : Type 0} (state : D → DiskState) (images : D → ℕ → List ℕ
           up = tt;
           counted = tt;
           any_moment = open_slots_moment (Err x) k;
+          early = λ _. slot_undone old dev (OpenSlots ∷ ws) ready (k.any_moment up.slots ready.slot_sound);
+          stopped = λ _. tt;
+          late = slot_late old dev {T = Unit {0}} {E = SlotFault} (Err x) (k.fuse up.slots);
           disk = λ e is. (cc, omega (arith, failed.1), inr (inl failed.0));
         }
 
@@ -243,6 +291,9 @@ module _ {D : Type 0} (state : D → DiskState) (images : D → ℕ → List ℕ
           up = record { chunks = k.opened.vault.looked.up; slots = up.slots; journal = up.journal };
           counted = omega (arith, k.refuses.cause);
           any_moment = open_chunks_moment (Ok x) k;
+          early = λ _. chunk_undone old dev (OpenChunks ∷ ws) ready (k.any_moment up.chunks ready.chunk_sound);
+          stopped = λ within. (k.fuse up.chunks).stopped within.0 within.1;
+          late = chunk_late old dev {T = Unit {0}} {E = ChunkFault} (Ok x) (k.fuse up.chunks);
           disk = λ e is. absurd cc;
         }
     open_chunks_works (Err x) k =
@@ -253,6 +304,9 @@ module _ {D : Type 0} (state : D → DiskState) (images : D → ℕ → List ℕ
           up = tt;
           counted = tt;
           any_moment = open_chunks_moment (Err x) k;
+          early = λ _. chunk_undone old dev (OpenChunks ∷ ws) ready (k.any_moment up.chunks ready.chunk_sound);
+          stopped = λ _. tt;
+          late = chunk_late old dev {T = Unit {0}} {E = ChunkFault} (Err x) (k.fuse up.chunks);
           disk = λ e is. (cc, omega (arith, failed.1), inl failed.0);
         }
 
@@ -286,6 +340,9 @@ module _ {D : Type 0} (state : D → DiskState) (images : D → ℕ → List ℕ
           up = record { chunks = up.chunks; slots = up.slots; journal = k.opened.vault.looked.up };
           counted = omega (arith, k.refuses.cause);
           any_moment = intend_moment (Ok x) k;
+          early = λ within. journal_undone old dev (PutIntend intend ∷ ws) ready (k.early up.journal within);
+          stopped = λ within. (k.fuse up.journal).stopped within.0 within.1;
+          late = journal_late old dev {T = Unit {0}} {E = PlanFault} (Ok x) (k.fuse up.journal);
           disk = λ e is. absurd cc;
         }
     intend_works (Err x) k =
@@ -296,6 +353,9 @@ module _ {D : Type 0} (state : D → DiskState) (images : D → ℕ → List ℕ
           up = tt;
           counted = tt;
           any_moment = intend_moment (Err x) k;
+          early = λ within. journal_undone old dev (PutIntend intend ∷ ws) ready (k.early up.journal within);
+          stopped = λ _. tt;
+          late = journal_late old dev {T = Unit {0}} {E = PlanFault} (Err x) (k.fuse up.journal);
           disk = λ e is. (cc, omega (arith, failed.1), inr (inr failed.0));
         }
 
@@ -329,6 +389,9 @@ module _ {D : Type 0} (state : D → DiskState) (images : D → ℕ → List ℕ
           up = record { chunks = k.opened.vault.looked.up; slots = up.slots; journal = up.journal };
           counted = omega (arith, k.refuses.cause);
           any_moment = put_chunk_moment (Ok x) k;
+          early = λ within. chunk_undone old dev (PutChunk name bytes ∷ ws) ready (k.early up.chunks within);
+          stopped = λ within. (k.fuse up.chunks).stopped within.0 within.1;
+          late = chunk_late old dev {T = Unit {0}} {E = ChunkFault} (Ok x) (k.fuse up.chunks);
           disk = λ e is. absurd cc;
         }
     put_chunk_works (Err x) k =
@@ -339,6 +402,9 @@ module _ {D : Type 0} (state : D → DiskState) (images : D → ℕ → List ℕ
           up = tt;
           counted = tt;
           any_moment = put_chunk_moment (Err x) k;
+          early = λ within. chunk_undone old dev (PutChunk name bytes ∷ ws) ready (k.early up.chunks within);
+          stopped = λ _. tt;
+          late = chunk_late old dev {T = Unit {0}} {E = ChunkFault} (Err x) (k.fuse up.chunks);
           disk = λ e is. (cc, omega (arith, failed.1), inl failed.0);
         }
 
@@ -372,6 +438,9 @@ module _ {D : Type 0} (state : D → DiskState) (images : D → ℕ → List ℕ
           up = record { chunks = up.chunks; slots = up.slots; journal = k.opened.vault.looked.up };
           counted = omega (arith, k.refuses.cause);
           any_moment = commit_moment (Ok x) k;
+          early = λ within. journal_undone old dev (PutCommit commit ∷ ws) ready (k.early up.journal within);
+          stopped = λ within. (k.fuse up.journal).stopped within.0 within.1;
+          late = journal_late old dev {T = Unit {0}} {E = PlanFault} (Ok x) (k.fuse up.journal);
           disk = λ e is. absurd cc;
         }
     commit_works (Err x) k =
@@ -382,6 +451,9 @@ module _ {D : Type 0} (state : D → DiskState) (images : D → ℕ → List ℕ
           up = tt;
           counted = tt;
           any_moment = commit_moment (Err x) k;
+          early = λ within. journal_undone old dev (PutCommit commit ∷ ws) ready (k.early up.journal within);
+          stopped = λ _. tt;
+          late = journal_late old dev {T = Unit {0}} {E = PlanFault} (Err x) (k.fuse up.journal);
           disk = λ e is. (cc, omega (arith, failed.1), inr (inr failed.0));
         }
 
@@ -415,6 +487,9 @@ module _ {D : Type 0} (state : D → DiskState) (images : D → ℕ → List ℕ
           up = record { chunks = up.chunks; slots = k.opened.vault.looked.up; journal = up.journal };
           counted = omega (arith, k.refuses.cause);
           any_moment = put_slots_moment (Ok x) k;
+          early = λ within. slot_undone old dev (PutSlots row ∷ ws) ready (k.early up.slots within);
+          stopped = λ within. (k.fuse up.slots).stopped within.0 within.1;
+          late = slot_late old dev {T = Unit {0}} {E = SlotFault} (Ok x) (k.fuse up.slots);
           disk = λ e is. absurd cc;
         }
     put_slots_works (Err x) k =
@@ -425,6 +500,9 @@ module _ {D : Type 0} (state : D → DiskState) (images : D → ℕ → List ℕ
           up = tt;
           counted = tt;
           any_moment = put_slots_moment (Err x) k;
+          early = λ within. slot_undone old dev (PutSlots row ∷ ws) ready (k.early up.slots within);
+          stopped = λ _. tt;
+          late = slot_late old dev {T = Unit {0}} {E = SlotFault} (Err x) (k.fuse up.slots);
           disk = λ e is. (cc, omega (arith, failed.1), inr (inl failed.0));
         }
 
@@ -458,6 +536,9 @@ module _ {D : Type 0} (state : D → DiskState) (images : D → ℕ → List ℕ
           up = record { chunks = up.chunks; slots = k.opened.vault.looked.up; journal = up.journal };
           counted = omega (arith, k.refuses.cause);
           any_moment = put_record_moment (Ok x) k;
+          early = λ within. slot_undone old dev (PutRecord table ∷ ws) ready (k.early up.slots within);
+          stopped = λ within. (k.fuse up.slots).stopped within.0 within.1;
+          late = slot_late old dev {T = Unit {0}} {E = SlotFault} (Ok x) (k.fuse up.slots);
           disk = λ e is. absurd cc;
         }
     put_record_works (Err x) k =
@@ -468,6 +549,9 @@ module _ {D : Type 0} (state : D → DiskState) (images : D → ℕ → List ℕ
           up = tt;
           counted = tt;
           any_moment = put_record_moment (Err x) k;
+          early = λ within. slot_undone old dev (PutRecord table ∷ ws) ready (k.early up.slots within);
+          stopped = λ _. tt;
+          late = slot_late old dev {T = Unit {0}} {E = SlotFault} (Err x) (k.fuse up.slots);
           disk = λ e is. (cc, omega (arith, failed.1), inr (inl failed.0));
         }
 
@@ -501,6 +585,9 @@ module _ {D : Type 0} (state : D → DiskState) (images : D → ℕ → List ℕ
           up = record { chunks = k.opened.vault.looked.up; slots = up.slots; journal = up.journal };
           counted = omega (arith, k.refuses.cause);
           any_moment = drop_chunk_moment (Ok x) k;
+          early = λ within. chunk_undone old dev (DropChunk name ∷ ws) ready (k.early up.chunks within);
+          stopped = λ within. (k.fuse up.chunks).stopped within.0 within.1;
+          late = chunk_late old dev {T = Unit {0}} {E = ChunkFault} (Ok x) (k.fuse up.chunks);
           disk = λ e is. absurd cc;
         }
     drop_chunk_works (Err x) k =
@@ -511,6 +598,9 @@ module _ {D : Type 0} (state : D → DiskState) (images : D → ℕ → List ℕ
           up = tt;
           counted = tt;
           any_moment = drop_chunk_moment (Err x) k;
+          early = λ within. chunk_undone old dev (DropChunk name ∷ ws) ready (k.early up.chunks within);
+          stopped = λ _. tt;
+          late = chunk_late old dev {T = Unit {0}} {E = ChunkFault} (Err x) (k.fuse up.chunks);
           disk = λ e is. (cc, omega (arith, failed.1), inl failed.0);
         }
 
@@ -544,6 +634,9 @@ module _ {D : Type 0} (state : D → DiskState) (images : D → ℕ → List ℕ
           up = record { chunks = up.chunks; slots = up.slots; journal = k.opened.vault.looked.up };
           counted = omega (arith, k.refuses.cause);
           any_moment = done_moment (Ok x) k;
+          early = λ within. journal_undone old dev (PutDone ∷ ws) ready (k.early up.journal within);
+          stopped = λ within. (k.fuse up.journal).stopped within.0 within.1;
+          late = journal_late old dev {T = Unit {0}} {E = PlanFault} (Ok x) (k.fuse up.journal);
           disk = λ e is. absurd cc;
         }
     done_works (Err x) k =
@@ -554,15 +647,18 @@ module _ {D : Type 0} (state : D → DiskState) (images : D → ℕ → List ℕ
           up = tt;
           counted = tt;
           any_moment = done_moment (Err x) k;
+          early = λ within. journal_undone old dev (PutDone ∷ ws) ready (k.early up.journal within);
+          stopped = λ _. tt;
+          late = journal_late old dev {T = Unit {0}} {E = PlanFault} (Err x) (k.fuse up.journal);
           disk = λ e is. (cc, omega (arith, failed.1), inr (inr failed.0));
         }
 
 -- the same, where the write's name is answered
 pub works_named : {D S : Type 0} (state : D → DiskState) (images : D → ℕ → List ℕ → Type 0) (w : Write) (ws : List Write) (old new : Journal D) (s : S) → Works {T = Unit {0}} state images w ws old new (Ok tt) → Works {T = S} state images w ws old new (Ok s)
-works_named state images w ws old new s k = record { devs_are = k.devs_are; ready = k.ready; up = k.up; counted = k.counted; any_moment = k.any_moment; disk = λ e is. absurd cc }
+works_named state images w ws old new s k = record { devs_are = k.devs_are; ready = k.ready; up = k.up; counted = k.counted; any_moment = k.any_moment; early = k.early; stopped = k.stopped; late = k.late; disk = λ e is. absurd cc }
 
 pub works_failed : {D S : Type 0} (state : D → DiskState) (images : D → ℕ → List ℕ → Type 0) (w : Write) (ws : List Write) (old new : Journal D) (x : JournalFault) → Works {T = Unit {0}} state images w ws old new (Err x) → Works {T = S} state images w ws old new (Err x)
-works_failed state images w ws old new x k = record { devs_are = tt; ready = tt; up = tt; counted = tt; any_moment = k.any_moment; disk = λ e is. let same : x ≡ e = cc in k.disk e (ap (λ (y : JournalFault). Err y) same) }
+works_failed state images w ws old new x k = record { devs_are = tt; ready = tt; up = tt; counted = tt; any_moment = k.any_moment; early = k.early; stopped = λ _. tt; late = k.late; disk = λ e is. let same : x ≡ e = cc in k.disk e (ap (λ (y : JournalFault). Err y) same) }
 
 -- what has failed wasn't down before
 pub not_down : {D : Type 0} (state : D → DiskState) (images : D → ℕ → List ℕ → Type 0) (w : Write) (ws : List Write) (old new : Journal D) (x : JournalFault) → Works {T = Unit {0}} state images w ws old new (Err x) → x ≡ Down → ⊥
@@ -594,6 +690,11 @@ module _ {D : Type 0} (state : D → DiskState) (images : D → ℕ → List ℕ
     journal_room = rw log_same r.journal_room;
   }
 
+  same_vault : (d : Device) → vault_at mid d ≡ vault_at old d
+  same_vault devices.Chunks = ap chunks.vault_of chunk_same
+  same_vault devices.Slots = ap slots.vault_of row_same
+  same_vault devices.Plans = ap journals.vault_of log_same
+
   pub same_works : {T : Type 0} (w : Write) (ws : List Write) (new : Journal D) (r : Result T JournalFault) → Works state images w ws mid new r → Works state images w ws old new r
   same_works w ws new r k = record {
     devs_are = rw (← chunk_same, ← row_same, ← log_same) k.devs_are;
@@ -601,6 +702,13 @@ module _ {D : Type 0} (state : D → DiskState) (images : D → ℕ → List ℕ
     up = k.up;
     counted = rw (← chunk_same, ← row_same, ← log_same) k.counted;
     any_moment = record { each = rw (← chunk_same, ← row_same, ← log_same) k.any_moment.each; later = record { chunks = rw (← chunk_same) k.any_moment.later.chunks; slots = rw (← row_same) k.any_moment.later.slots; journal = rw (← log_same) k.any_moment.later.journal } };
+    early = λ within.
+        let run = k.early (subst (λ (v : Vault D). StopsWithin state v 2) (sym (same_vault (device_of w))) within) in
+        record { each = rw (← chunk_same, ← row_same, ← log_same) run.each; later = record { chunks = rw (← chunk_same) run.later.chunks; slots = rw (← row_same) run.later.slots; journal = rw (← log_same) run.later.journal } };
+    stopped = λ within. k.stopped (subst (λ (v : Vault D). StopsWithin state v 4) (sym (same_vault (device_of w))) within);
+    late = λ armed passes.
+        let same : all_stops state new ≡ all_stops state mid = k.late (subst (λ (v : Vault D). (state (disk_of v)).is_armed ≡ true) (sym (same_vault (device_of w))) armed) (subst (λ (v : Vault D). 4 ≤ (state (disk_of v)).passes) (sym (same_vault (device_of w))) passes) in
+        rw (← chunk_same, ← row_same, ← log_same) same;
     disk = rw (← chunk_same, ← row_same, ← log_same) k.disk;
   }
 
@@ -624,27 +732,21 @@ module _ {D : Type 0} (state : D → DiskState) (images : D → ℕ → List ℕ
       → vaults.Leaves state images (journals.vault_of dev) (journals.vault_of dev) (λ l. journal_of l ≡ journals.held state dev)
   synced_journal dev up synced sound = runs_weaker state images (journals.vault_of dev) (journals.vault_of dev) (λ l. l ≡ payloads state (journals.vault_of dev)) (λ l. journal_of l ≡ journals.held state dev) (synced_leaves (journals.vault_of dev) (synced up) sound) (λ l is. ap journal_of is)
 
-  pub all_same : (old new : Journal D) → vaults.Leaves state images (chunks.vault_of old.chunks) (chunks.vault_of new.chunks) (λ l. chunks_of l ≡ chunks.chunks state old.chunks)
-      → vaults.Leaves state images (slots.vault_of old.slots) (slots.vault_of new.slots) (λ l. data_of l ≡ slots.held state old.slots)
-      → vaults.Leaves state images (journals.vault_of old.journal) (journals.vault_of new.journal) (λ l. journal_of l ≡ journals.held state old.journal)
-      → DevsLeave state images old new (λ d. d ≡ devs state old)
-  all_same old new a b c = leave state images only_now old new (λ here. here ≡ chunks.chunks state old.chunks) (λ here. here ≡ slots.held state old.slots) (λ here. here ≡ journals.held state old.journal) (λ d. d ≡ devs state old) a b c (λ x y z px py pz. cc)
-
   -- where the look at the chunks alone was tried
   pub one_looked : (old : Journal D) (cs : ChunkDev D) → AreUp old → AreSynced state old → AreSound state old → vaults.Leaves state images (chunks.vault_of old.chunks) (chunks.vault_of cs) (λ l. chunks_of l ≡ chunks.chunks state old.chunks) → DevsLeave state images old (record old { chunks = cs }) (λ d. d ≡ devs state old)
-  one_looked old cs up synced sound a = let new : Journal D = record old { chunks = cs } in all_same old new a (synced_slots old.slots up.slots synced.slots sound.slots) (synced_journal old.journal up.journal synced.journal sound.journal)
+  one_looked old cs up synced sound a = let new : Journal D = record old { chunks = cs } in all_same state images only_now old new a (synced_slots old.slots up.slots synced.slots sound.slots) (synced_journal old.journal up.journal synced.journal sound.journal)
 
   -- where that at the slots was tried too
   pub two_looked : (old : Journal D) (cs : ChunkDev D) (rs : SlotDev D) → AreUp old → AreSynced state old → AreSound state old
       → vaults.Leaves state images (chunks.vault_of old.chunks) (chunks.vault_of cs) (λ l. chunks_of l ≡ chunks.chunks state old.chunks)
       → vaults.Leaves state images (slots.vault_of old.slots) (slots.vault_of rs) (λ l. data_of l ≡ slots.held state old.slots)
       → DevsLeave state images old (record old { chunks = cs; slots = rs }) (λ d. d ≡ devs state old)
-  two_looked old cs rs up synced sound a b = let new : Journal D = record old { chunks = cs; slots = rs } in all_same old new a b (synced_journal old.journal up.journal synced.journal sound.journal)
+  two_looked old cs rs up synced sound a b = let new : Journal D = record old { chunks = cs; slots = rs } in all_same state images only_now old new a b (synced_journal old.journal up.journal synced.journal sound.journal)
 
   -- while nothing is done, a crash of devices at rest leaves what they hold
   pub rests_leave : (old : Journal D) (ws : List Write) → IsReady state old ws → DevsLeave state images old old (λ d. d ≡ devs state old)
   rests_leave old ws r =
-      all_same old old
+      all_same state images only_now old old
       (still_chunk state images only_now old.chunks r.chunk_looked.vault r.chunk_sound)
       (still_slot state images only_now old.slots r.slot_looked.vault r.slot_sound)
       (still_journal state images only_now old.journal r.journal_looked.vault r.journal_sound)

@@ -1,7 +1,10 @@
 -- What is promised where the fuse of a client's disk is set.
 use Rattle.std.specs.Prelude.{◌≡◌, ℕ, List, [], ◌∷◌}
 use Rattle.disk_trait.specs.Calls.{DiskState}
+use Rattle.disk_trait.specs.Fuse.{inner_of}
 use Rattle.disk_trait.specs.declared.fuse.FuseDisk.{FuseDisk}
+use Rattle.vault.specs.declared.vault.Vault.{Vault}
+use Rattle.vault.specs.Standing.{disk_of}
 use Rattle.chunk_store.specs.Standing as chunks
 use Rattle.slot_store.specs.Standing as slots
 use Rattle.plan_log.specs.Standing as journals
@@ -24,6 +27,12 @@ device_of (PutRecord table) = devices.Slots
 device_of (DropChunk name) = devices.Chunks
 device_of PutDone = devices.Plans
 
+-- the vault of this device
+abbrev pub vault_at : {D : Type 0} → Journal D → Device → Vault D
+vault_at client devices.Chunks = chunks.vault_of client.chunks
+vault_at client devices.Slots = slots.vault_of client.slots
+vault_at client devices.Plans = journals.vault_of client.journal
+
 -- the fuse of this device's disk is set, and the other devices are as they were
 abbrev pub StopsOne : {D : Type 0} → (D → DiskState) → (D → ℕ → List ℕ → Type 0) → ℕ → ℕ → Device
     → Journal (FuseDisk D) → Journal (FuseDisk D) → Type 0
@@ -42,3 +51,9 @@ abbrev pub StopsNext : {D : Type 0} → (D → DiskState) → (D → ℕ → Lis
     → Journal (FuseDisk D) → Journal (FuseDisk D) → Type 0
 StopsNext state images calls pick [] old new = new ≡ old
 StopsNext state images calls pick (w ∷ ws) old new = StopsOne state images calls pick (device_of w) old new
+
+-- the disks behind the fuses are the same
+pub record SameDisks {D : Type 0} (old new : Journal (FuseDisk D)) : Type 0 where
+  pub chunks : inner_of (disk_of (chunks.vault_of new.chunks)) ≡ inner_of (disk_of (chunks.vault_of old.chunks))
+  pub slots : inner_of (disk_of (slots.vault_of new.slots)) ≡ inner_of (disk_of (slots.vault_of old.slots))
+  pub journal : inner_of (disk_of (journals.vault_of new.journal)) ≡ inner_of (disk_of (journals.vault_of old.journal))

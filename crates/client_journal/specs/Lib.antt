@@ -15,3 +15,4 @@ pub mod There
 pub mod Scan
 pub mod Spare
 pub mod Small
+pub mod Unset

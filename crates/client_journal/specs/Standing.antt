@@ -1,11 +1,11 @@
 -- A client's devices between calls, as what they hold and the writes that are still to come.
 use Rattle.std.specs.Prelude.{◌≡◌, ◌⊎◌, ℕ, ◌+◌, ◌<◌, ◌≤◌, List, [], ◌∷◌, length, map, drop, IsSome, IsTrue, Result, Ok}
-use Rattle.std.specs.Prelude.{Err}
+use Rattle.std.specs.Prelude.{Err, true}
 use Rattle.std.specs.Prelude.{OnOk, IfOk}
 use Rattle.disk_trait.specs.Calls.{DiskState}
 use Rattle.vault.specs.Limit.{payload_most}
 use Rattle.vault.specs.File.{StandsFor}
-use Rattle.vault.specs.Standing.{faults, disk_of, IsUp, IsDown, IsSound, IsSynced, IsBlank}
+use Rattle.vault.specs.Standing.{faults, stops, disk_of, IsUp, IsDown, IsSound, IsSynced, IsBlank, StopsWithin}
 use Rattle.stab_base.specs.declared.limits.TheConstants.{NUMBER_MAX}
 use Rattle.stab_base.specs.declared.step.Step.{Step}
 use Rattle.stab_base.specs.declared.step.Step.TheVariants as steps
@@ -26,6 +26,7 @@ use Rattle.client_journal.specs.Devs.{ClientDevs, local_in, Write, OpenJournal, 
 use Rattle.client_journal.specs.Devs.{PutChunk, PutCommit, PutSlots, PutRecord, DropChunk, PutDone, changed_by}
 use Rattle.client_journal.specs.Devs.{IsBeforeOrAfter}
 use Rattle.client_journal.specs.Agenda.{Runs}
+use Rattle.client_journal.specs.Fused.{device_of, vault_at}
 
 -- what the devices hold
 abbrev pub devs : {D : Type 0} → (D → DiskState) → Journal D → ClientDevs
@@ -79,6 +80,11 @@ IsOneDown client = IsDown (chunks.vault_of client.chunks)
 abbrev pub all_faults : {D : Type 0} → (D → DiskState) → Journal D → ℕ
 all_faults state client = faults state (chunks.vault_of client.chunks)
     + (faults state (slots.vault_of client.slots) + faults state (journals.vault_of client.journal))
+
+-- how many calls of the three disks a fuse has stopped
+abbrev pub all_stops : {D : Type 0} → (D → DiskState) → Journal D → ℕ
+all_stops state client = stops state (chunks.vault_of client.chunks)
+    + (stops state (slots.vault_of client.slots) + stops state (journals.vault_of client.journal))
 
 -- ---- what the writes need
 
@@ -221,6 +227,13 @@ pub record Works {D T : Type 0} (state : D → DiskState) (images : D → ℕ �
   pub counted : OnOk result (all_faults state new ≡ all_faults state old)
   -- a crash at any moment of the call leaves what was there before the write or what is there after it
   pub any_moment : DevsLeave state images old new (IsBeforeOrAfter (devs state old) w)
+  -- a fuse that stops one of the first two calls of the write's disk leaves it undone, whatever a crash leaves
+  pub early : StopsWithin state (vault_at old (device_of w)) 2 → DevsLeave state images old new (λ d. d ≡ devs state old)
+  -- one that stops one of its four calls stops the write
+  pub stopped : StopsWithin state (vault_at old (device_of w)) 4 → OnOk result ⊥
+  -- one that lets four calls pass stops none of them
+  pub late : (state (disk_of (vault_at old (device_of w)))).is_armed ≡ true
+      → 4 ≤ (state (disk_of (vault_at old (device_of w)))).passes → all_stops state new ≡ all_stops state old
   pub disk : (e : JournalFault) → result ≡ Err e → (e ≡ faults_of.Disk) × (all_faults state old < all_faults state new)
       × IsOneDown new
 

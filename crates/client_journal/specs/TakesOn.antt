@@ -49,6 +49,9 @@ pub record TakesOn {D T : Type 0} (state : D → DiskState) (images : D → ℕ 
   pub up : OnOk result (AreUp new)
   pub refused : OnErr result (writes_of new ≡ writes_of old)
   pub same : IsNotDisk result → devs state new ≡ devs state old
+  -- devices that were at rest still are where nothing was taken on
+  pub rests : IsNotDisk result → AreUp old → writes_of old ≡ [] → IsReady state old []
+      → AreUp new × IsReady state new (writes_of new)
   pub any_moment : AreUp old → DevsLeave state images old new (λ d. d ≡ devs state old)
   pub down : IsErrOf result Down ↔ IsOneDown old
   pub busy : (plan : ℕ) → IsErrOf result (Busy plan) ↔ (AreUp old × (writes_of old ≡ [] → ⊥)

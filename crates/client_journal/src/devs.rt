@@ -249,6 +249,10 @@ impl<D: Disk + Drop> Journal<D> {
         ensures left { (start : Journal D) (a b : ClientDevs)
             → DevsLeave D.state D.images start self.old (IsEither a b)
             → IsEither a b (devs D.state self.new) × AreSound D.state self.new }
+        // And each crash since then leaves one of them.
+        ensures since { (start : Journal D) (a b : ClientDevs)
+            → DevsLeave D.state D.images start self.old (IsEither a b)
+            → DevsLeave D.state D.images start self.new (IsEither a b) }
         // Where nothing was at work, all is as it was.
         ensures rests { AreUp self.old → AreSynced D.state self.old → AreSound D.state self.old
             → (devs D.state self.new ≡ devs D.state self.old) × AreSound D.state self.new }

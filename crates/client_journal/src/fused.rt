@@ -1,10 +1,12 @@
 //! Devices whose disks can be stopped in mid-stream.
 ghost use Rattle.std.specs.Prelude.{◌≡◌, List};
 ghost use Rattle.disk_trait.specs.Fuse.{behind, inner_of};
-ghost use Rattle.client_journal.specs.Devs.{Write};
+ghost use Rattle.vault.specs.Calls.{IsEither};
+ghost use Rattle.client_journal.specs.Devs.{ClientDevs, Write};
 ghost use Rattle.client_journal.specs.Standing.{devs, write_of, writes_of, AreUp, AreSynced, AreSound, IsReady};
 ghost use Rattle.client_journal.specs.Standing.{DevsLeave};
-ghost use Rattle.client_journal.specs.Fused.{device_of, StopsNext};
+ghost use Rattle.client_journal.specs.Fused.{device_of, StopsNext, SameDisks};
+ghost use Rattle.client_journal.specs.Unset.{AreFresh};
 
 use crate::devs::Journal;
 use crate::task::Task;
@@ -56,5 +58,26 @@ impl<D: Disk + Drop> Journal<FuseDisk<D>> {
             Device::Slots => self.slots.stop_after(calls, pick),
             Device::Plans => self.journal.stop_after(calls, pick),
         }
+    }
+
+    /// The fuses of the three disks are unset, and have stopped nothing: as new.
+    pub fn renew(&mut self)
+        ensures fresh { AreFresh (behind D.state) self.new }
+        ensures devs { devs (behind D.state) self.new ≡ devs (behind D.state) self.old }
+        ensures agenda { self.new.agenda ≡ self.old.agenda }
+        ensures up { AreUp self.old → AreUp self.new }
+        ensures synced { AreSynced (behind D.state) self.old → AreSynced (behind D.state) self.new }
+        ensures sound { AreSound (behind D.state) self.old → AreSound (behind D.state) self.new }
+        ensures ready { (ws : List Write) → IsReady (behind D.state) self.old ws
+            → IsReady (behind D.state) self.new ws }
+        ensures inner { SameDisks self.old self.new }
+        // What was promised of each crash since an earlier moment still is.
+        ensures left { (start : Journal (FuseDisk D)) (a b : ClientDevs)
+            → DevsLeave (behind D.state) (λ f. D.images (inner_of f)) start self.old (IsEither a b)
+            → DevsLeave (behind D.state) (λ f. D.images (inner_of f)) start self.new (IsEither a b) }
+    {
+        self.chunks.renew();
+        self.slots.renew();
+        self.journal.renew();
     }
 }

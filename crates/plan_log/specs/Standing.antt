@@ -89,3 +89,8 @@ abbrev pub Stops :
     → PlanLog (FuseDisk D) →
     Type 0
 Stops state images count pick old new = stops.Stops state images Fits HasSpare journal_of count pick old.inner new.inner
+
+-- the fuse of its disk is as new, and all else is as it was
+abbrev pub Renews :
+    {D : Type 0} → (D → DiskState) → (D → ℕ → List ℕ → Type 0) → PlanLog (FuseDisk D) → PlanLog (FuseDisk D) → Type 0
+Renews state images old new = stops.Renews state images Fits HasSpare journal_of old.inner new.inner

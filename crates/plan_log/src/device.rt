@@ -2,6 +2,7 @@
 ghost use Rattle.std.specs.Prelude.{◌≡◌, ◌*◌, ◌<◌, ◌≤◌, false, ℕ, List, length, None, Some, OnOk, IfOk, IsTrue, Ok};
 ghost use Rattle.std.specs.Prelude.{IsSome, option_map};
 ghost use Rattle.std.specs.Bool.{MatchBool};
+ghost use Rattle.disk_trait.specs.Calls.{Elapses};
 ghost use Rattle.vault.specs.Limit.{payload_most};
 ghost use Rattle.vault.specs.Standing.{gets, one_more, disk_of, IsDown, IsUp, IsSynced, IsRestarted};
 ghost use Rattle.stab_base.specs.declared.limits.TheConstants.{NUMBER_MAX};
@@ -119,6 +120,8 @@ impl<D: Disk + Drop> PlanLog<D> {
     pub fn restart(&mut self, pick: u64)
         ensures restarts { Restarts D.state D.images self.old self.new }
         ensures image { IsRestarted D.state (vault_of self.old) (vault_of self.new) }
+        ensures time { Elapses (D.state (disk_of (vault_of self.old))) (D.state (disk_of (vault_of self.new)))
+            (D.images (disk_of (vault_of self.old))) (D.images (disk_of (vault_of self.new))) }
     {
         self.inner.restart(pick);
     }

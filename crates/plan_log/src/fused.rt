@@ -1,5 +1,5 @@
 //! A journal whose disk can be stopped in mid-stream.
-ghost use Rattle.plan_log.specs.Standing.{Stops};
+ghost use Rattle.plan_log.specs.Standing.{Stops, Renews};
 
 use crate::PlanLog;
 use disk_trait::{Disk, FuseDisk};
@@ -12,5 +12,12 @@ impl<D: Disk + Drop> PlanLog<FuseDisk<D>> {
         ensures { Stops D.state D.images calls pick self.old self.new }
     {
         self.inner.stop_after(calls, pick);
+    }
+
+    /// The fuse of the disk is unset, and has stopped nothing: as new.
+    pub fn renew(&mut self)
+        ensures { Renews D.state D.images self.old self.new }
+    {
+        self.inner.renew();
     }
 }

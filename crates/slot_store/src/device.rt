@@ -4,6 +4,7 @@ ghost use Rattle.std.specs.Prelude.{OnErr, IfOk, IfSome, IfNone, IsErrOf, Ok};
 ghost use Rattle.std.specs.Bool.{MatchBool};
 ghost use Rattle.std.specs.Map.{keys_of};
 ghost use Rattle.std.specs.List.Sorted.{IsStrictlySortedBy};
+ghost use Rattle.disk_trait.specs.Calls.{Elapses};
 ghost use Rattle.vault.specs.Limit.{payload_most};
 ghost use Rattle.vault.specs.Standing.{payloads, gets, disk_of, IsDown, IsUp, IsSynced, IsRestarted};
 ghost use Rattle.stab_base.specs.declared.limits.TheConstants.{NUMBER_MAX};
@@ -111,6 +112,8 @@ impl<D: Disk + Drop> SlotDev<D> {
     pub fn restart(&mut self, pick: u64)
         ensures restarts { Restarts D.state D.images self.old self.new }
         ensures image { IsRestarted D.state (vault_of self.old) (vault_of self.new) }
+        ensures time { Elapses (D.state (disk_of (vault_of self.old))) (D.state (disk_of (vault_of self.new)))
+            (D.images (disk_of (vault_of self.old))) (D.images (disk_of (vault_of self.new))) }
         ensures reads { slot_reads self.new ≡ slot_reads self.old }
     {
         self.inner.restart(pick);

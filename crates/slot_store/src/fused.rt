@@ -1,6 +1,6 @@
 //! A device whose disk can be stopped in mid-stream.
 ghost use Rattle.std.specs.Prelude.{◌≡◌};
-ghost use Rattle.slot_store.specs.Standing.{slot_reads, Stops};
+ghost use Rattle.slot_store.specs.Standing.{slot_reads, Stops, Renews};
 
 use crate::SlotDev;
 use disk_trait::{Disk, FuseDisk};
@@ -14,5 +14,13 @@ impl<D: Disk + Drop> SlotDev<FuseDisk<D>> {
         ensures reads { slot_reads self.new ≡ slot_reads self.old }
     {
         self.inner.stop_after(calls, pick);
+    }
+
+    /// The fuse of the disk is unset, and has stopped nothing: as new.
+    pub fn renew(&mut self)
+        ensures renews { Renews D.state D.images self.old self.new }
+        ensures reads { slot_reads self.new ≡ slot_reads self.old }
+    {
+        self.inner.renew();
     }
 }

@@ -199,13 +199,13 @@ module _ (schema : Schema) (d : Devs) (disk : StoreDisk) (st : Stands schema d d
       pick false le = omega (arith, le)
 
   stands_there : (x : Named) → Among x before → Among x.0 (names_if (row_of d.held request.row))
-  stands_there x a = subst (λ (l : List ChunkName). Among x.0 l) (sym (row_names size disk.items d.held st.numbered st.rows request.row)) (mapped_among (λ (c : Named). c.0) x before a)
+  stands_there x a = subst (λ (l : List ChunkName). Among x.0 l) (sym (row_names size disk.items d.held st.held.numbered st.held.rows request.row)) (mapped_among (λ (c : Named). c.0) x before a)
 
   piece_spelled : (x : Named) → Among x now → HasPieceSpelling (piece_of v x)
-  piece_spelled x a = pick (is_of_version v x.0) refl (now_from size disk.items item st.numbered refl x a)
+  piece_spelled x a = pick (is_of_version v x.0) refl (now_from size disk.items item st.held.numbered refl x a)
     where
       pick : (b : Bool) → is_of_version v x.0 ≡ b → Among x before ⊎ IsBetween v 0 (0 + count_new v now) x.0 → HasPieceSpelling (if b then Fresh x.0.ordinal else Keep x.0)
-      pick true is (inl kept) = absurd (let low = before_below size disk.items item st.numbered refl x kept in let same : x.0.version ≡ v = grind (arith, nat_tests) in omega arith)
+      pick true is (inl kept) = absurd (let low = before_below size disk.items item st.held.numbered refl x kept in let same : x.0.version ≡ v = grind (arith, nat_tests) in omega arith)
       pick true is (inr new) = let most = count_most now in omega (arith, new.most, most, few)
       pick false is (inl kept) = standing_spelled (row_of d.held request.row) row x.0 (stands_there x kept)
       pick false is (inr new) = absurd (let same = new.version_is in let test : is_of_version v x.0 ≡ true = grind (arith, nat_tests) in true≢false (sym test ∙ is))
@@ -223,14 +223,14 @@ module _ (schema : Schema) (d : Devs) (disk : StoreDisk) (st : Stands schema d d
       let is : name.version ≡ v = ap (λ (n : ChunkName). n.version) x.2 ∙ new.version_is in
       let test : is_of_version v name ≡ true = grind (arith, nat_tests) in
       absurd (true≢false (sym k.0 ∙ ap not test)))
-      (now_from size disk.items item st.numbered refl x.0 x.1)
+      (now_from size disk.items item st.held.numbered refl x.0 x.1)
 
   pub update_is : IsClient request.client → IsUpdate d update
   update_is client = record {
     client = client;
-    content = has_spelling schema valid v held request.content fits cells cut many piece_spelled (news_next size disk.items item st.numbered refl);
+    content = has_spelling schema valid v held request.content fits cells cut many piece_spelled (news_next size disk.items item st.held.numbered refl);
     short = is_short schema valid v held request.content fits cut;
-    different = subst AreDifferent (sym kept_names) (different_filter (is_kept v) (names now) (now_different size disk.items item st.numbered refl));
+    different = subst AreDifferent (sym kept_names) (different_filter (is_kept v) (names now) (now_different size disk.items item st.held.numbered refl));
     kept = kept_stands;
     fresh = fresh_count schema valid v held request.content many;
     chunks = all_filtered (λ (bytes : List ℕ). length bytes ≤ chunk_most) (is_new v) now (λ x a. omega (arith, all_short size (objects_of request.content) held cut x a, most_size schema valid));

@@ -123,12 +123,12 @@ module _ (schema : Schema) (d : Devs) (disk : StoreDisk) (st : Stands schema d d
 
   pub update_fits : fit_of schema request.content ≡ Ok tt → misfits d.held.table (update_for size disk.items request).content ≡ false
   update_fits fits =
-      subst (λ (o : Option (Schema × ℕ)). misfits o (pieced_content v request.content held) ≡ false) (sym st.table)
+      subst (λ (o : Option (Schema × ℕ)). misfits o (pieced_content v request.content held) ≡ false) (sym st.held.table)
       (ap not (content_fits schema v request.content held fits))
 
   pub update_lens : 0 < schema.chunk → lacks stands d.held.table (update_for size disk.items request).content ≡ false
   update_lens some =
-      subst (λ (o : Option (Schema × ℕ)). lacks stands o (pieced_content v request.content held) ≡ false) (sym st.table)
+      subst (λ (o : Option (Schema × ℕ)). lacks stands o (pieced_content v request.content held) ≡ false) (sym st.held.table)
       (ap not (content_long stands size v request.content held some (all_cut size v 0 (chunks_of size disk.items request.row) (objects_of request.content))
       (pieces_stand schema d disk st request stands (λ name. refl) (λ ordinal. refl))))
 
@@ -149,13 +149,13 @@ module _ (schema : Schema) (d : Devs) (disk : StoreDisk) (some : 0 < schema.chun
   item_whole item stored is fits s =
       let own = (current_row disk.items row item is).1 in
       let chunks = chunks_of schema.chunk disk.items row in
-      let last = last_chunks schema.chunk disk.items st.numbered row item is in
+      let last = last_chunks schema.chunk disk.items st.held.numbered row item is in
       let c : AreCut schema.chunk (objects_of item.content) chunks = subst (AreCut schema.chunk (objects_of item.content)) (sym last.is) (all_cut schema.chunk item.entry.version 0 last.before (objects_of item.content)) in
       let content : stored.content ≡ kept_content item.content chunks = subst (λ (r : List ℕ). stored.content ≡ kept_content item.content (chunks_of schema.chunk disk.items r)) own s.content in
       let there : (x : Named) → Among x (flat chunks) → Some (means x.0) ≡ Some x.1 =
       λ x a. let found = st.chunks.held x.0 x.1 (record { row = row; among = a }) in found_means (chunk_in d.chunks x.0) x.1 found ∙ found in
       subst (λ (k : PieceContent). (misfits d.held.table k ≡ false) × (lacks (kept (λ name. Some (means name))) d.held.table k ≡ false)) (sym content)
-      (subst (λ (o : Option (Schema × ℕ)). (misfits o (kept_content item.content chunks) ≡ false) × (lacks (kept (λ name. Some (means name))) o (kept_content item.content chunks) ≡ false)) (sym st.table)
+      (subst (λ (o : Option (Schema × ℕ)). (misfits o (kept_content item.content chunks) ≡ false) × (lacks (kept (λ name. Some (means name))) o (kept_content item.content chunks) ≡ false)) (sym st.held.table)
       (ap not (kept_fits schema item.content chunks fits), ap not (content_kept (kept (λ name. Some (means name))) schema.chunk 0 item.content chunks some c there)))
 
   one_row : (a b : StoredRow) → Some a ≡ Some b → a ≡ b
@@ -166,4 +166,4 @@ module _ (schema : Schema) (d : Devs) (disk : StoreDisk) (some : 0 < schema.chun
       ⊎_elim
       (λ none. let no_ : Some stored ≡ None = sym there ∙ none.1 in absurd cc)
       (λ found. subst Whole (one_row found.1 stored (sym found.3 ∙ there)) (item_whole found.0 found.1 found.2 (fits found.0 found.2) found.4))
-      (at_row schema.chunk disk.items d.held st.numbered st.rows row)
+      (at_row schema.chunk disk.items d.held st.held.numbered st.held.rows row)

@@ -6,9 +6,11 @@ use Rattle.device_laws.specs.Worked.{nothing_in, nothing_there}
 
 pub nothing_stands : (schema : Schema) → Stands schema (nothing_in schema) nothing_there
 nothing_stands schema = record {
-  table = refl;
-  numbered = tt;
-  rows = λ row. tt;
+  held = record {
+    table = refl;
+    numbered = tt;
+    rows = λ row. tt;
+  };
   chunks = record {
     held = λ name bytes h. absurd h.among;
     left = λ name a. absurd a;

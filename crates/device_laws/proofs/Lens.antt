@@ -89,11 +89,11 @@ module _ (schema : Schema) (d : Devs) (disk : StoreDisk) (st : Stands schema d d
 
   -- a piece stands for the bytes of its chunk
   pub pieces_stand : (x : Named) → Among x now → stands (piece_of v x) ≡ Some x.1
-  pieces_stand x a = pick (is_of_version v x.0) refl (now_from size disk.items item st.numbered refl x a)
+  pieces_stand x a = pick (is_of_version v x.0) refl (now_from size disk.items item st.held.numbered refl x a)
     where
       pick : (b : Bool) → is_of_version v x.0 ≡ b → Among x before ⊎ IsBetween v 0 (0 + count_new v now) x.0 → stands (if b then Fresh x.0.ordinal else Keep x.0) ≡ Some x.1
-      pick true is (inl kept) = absurd (let low = before_below size disk.items item st.numbered refl x kept in let same : x.0.version ≡ v = grind (arith, nat_tests) in omega arith)
+      pick true is (inl kept) = absurd (let low = before_below size disk.items item st.held.numbered refl x kept in let same : x.0.version ≡ v = grind (arith, nat_tests) in omega arith)
       pick true is (inr new) =
-          brings x.0.ordinal ∙ at_ordinal v 0 x.0.ordinal (filter (is_new v) now) (news_next size disk.items item st.numbered refl) x (filter_among (is_new v) x now is a) (omega arith)
+          brings x.0.ordinal ∙ at_ordinal v 0 x.0.ordinal (filter (is_new v) now) (news_next size disk.items item st.held.numbered refl) x (filter_among (is_new v) x now is a) (omega arith)
       pick false is (inl kept) = keeps x.0 ∙ st.chunks.held x.0 x.1 (record { row = request.row; among = kept })
       pick false is (inr new) = absurd (let same = new.version_is in let test : is_of_version v x.0 ≡ true = grind (arith, nat_tests) in true≢false (sym test ∙ is))

@@ -94,7 +94,7 @@ module _ (schema : Schema) (d : Devs) (disk : StoreDisk) (st : Stands schema d d
 
   pub named_among : (name : ChunkName) (a : IsNamed d.held name) → Among name (names_of (chunks_of size disk.items a.row))
   named_among name a =
-      subst (λ (l : List ChunkName). Among name l) (row_names size disk.items d.held st.numbered st.rows a.row) (is_standing d.held a.row name a.stored a.there a.among)
+      subst (λ (l : List ChunkName). Among name l) (row_names size disk.items d.held st.held.numbered st.held.rows a.row) (is_standing d.held a.row name a.stored a.there a.among)
 
   abbrev pub named_is_held : (name : ChunkName) → IsNamed d.held name → (bytes : List ℕ) × IsHeld size disk.items name bytes
   named_is_held name a = held_with size disk.items a.row name (named_among name a)
@@ -102,7 +102,7 @@ module _ (schema : Schema) (d : Devs) (disk : StoreDisk) (st : Stands schema d d
   pub held_is_named : (name : ChunkName) (bytes : List ℕ) → IsHeld size disk.items name bytes → IsNamed d.held name
   held_is_named name bytes h =
       let inside : Among name (names_of (chunks_of size disk.items h.row)) = mapped_among (λ (c : Named). c.0) (name, bytes) (flat (chunks_of size disk.items h.row)) h.among in
-      let r = row_standing d.held h.row name (subst (λ (l : List ChunkName). Among name l) (sym (row_names size disk.items d.held st.numbered st.rows h.row)) inside) in
+      let r = row_standing d.held h.row name (subst (λ (l : List ChunkName). Among name l) (sym (row_names size disk.items d.held st.held.numbered st.held.rows h.row)) inside) in
       record { row = h.row; stored = r.0; there = r.1; among = r.2 }
 
   -- ---- the open entry
@@ -141,8 +141,8 @@ module _ (schema : Schema) (d : Devs) (disk : StoreDisk) (st : Stands schema d d
     where
       to_come : (disk.items ≡ b.before) × ((q : ChunkName) → Among q disk.left → Among q (new_names size b.before item)) → Leaves item entry name
       to_come s =
-          let numbered : AreNumbered 0 b.before = subst (AreNumbered 0) s.0 st.numbered in
-          let most = none_or_less size disk.items d.held st.numbered st.rows entry.row in
+          let numbered : AreNumbered 0 b.before = subst (AreNumbered 0) s.0 st.held.numbered in
+          let most = none_or_less size disk.items d.held st.held.numbered st.held.rows entry.row in
           let count : length disk.items ≡ length b.before = ap length s.0 in
           let version = b.entry_of.version in
           let next = b.next in
@@ -151,7 +151,7 @@ module _ (schema : Schema) (d : Devs) (disk : StoreDisk) (st : Stands schema d d
             λ a. subst (λ (t : Bool). left_of t entry name) (sym test) (new_of size b.before item numbered b.next entry b.entry_of name (s.1 name a)),
             λ left bytes h.
                 let new : IsNewOf entry name = subst (λ (t : Bool). left_of t entry name) test left in
-                let low = held_below size disk.items st.numbered name bytes h in
+                let low = held_below size disk.items st.held.numbered name bytes h in
                 let is = new.version in
                 absurd (omega arith),
           )
@@ -160,12 +160,12 @@ module _ (schema : Schema) (d : Devs) (disk : StoreDisk) (st : Stands schema d d
       put s =
           let current : current_of disk.items entry.row ≡ Some item =
           subst (λ (l : List Stored). current_of l entry.row ≡ Some item) (sym s.0) (current_own b.before item entry.row (sym b.entry_of.row)) in
-          let version : version_of d.held entry.row ≡ entry.version = is_at_version size disk.items d.held st.numbered st.rows entry.row item current ∙ sym b.entry_of.version in
+          let version : version_of d.held entry.row ≡ entry.version = is_at_version size disk.items d.held st.held.numbered st.held.rows entry.row item current ∙ sym b.entry_of.version in
           let test : (version_of d.held entry.row == entry.version) ≡ true = grind (arith, nat_tests) in (
             λ a. subst (λ (t : Bool). left_of t entry name) (sym test) (subst (λ (l : List ChunkName). Among name l) (sym b.entry_of.old) (s.1 name a)),
             λ left bytes h.
                 let old : Among name (old_names size b.before item) = subst (λ (l : List ChunkName). Among name l) b.entry_of.old (subst (λ (t : Bool). left_of t entry name) test left) in
-                old_apart size b.before item (numbered_front 0 b.before (item ∷ []) (subst (AreNumbered 0) s.0 st.numbered)) name old bytes
+                old_apart size b.before item (numbered_front 0 b.before (item ∷ []) (subst (AreNumbered 0) s.0 st.held.numbered)) name old bytes
                 (subst (λ (l : List Stored). IsHeld size l name bytes) s.0 h),
           )
 
@@ -201,21 +201,21 @@ module _ (schema : Schema) (d : Devs) (disk : StoreDisk) (st : Stands schema d d
       (λ none. let both : Some a.stored ≡ None = sym a.there ∙ none.1 in absurd cc)
       (λ some.
       let same = one_version_of some.1 a.stored (sym some.3 ∙ a.there) in
-      let last = last_chunks size disk.items st.numbered a.row some.0 some.2 in
+      let last = last_chunks size disk.items st.held.numbered a.row some.0 some.2 in
       let whole = with_sound size last.most last.before some.0 last.sound last.above in
       let inside : Among name (names_of (chunks_with size last.before some.0)) = subst (λ (l : List (List Named)). Among name (names_of l)) last.is (named_among name a) in
       let low = names_below some.0.entry.version (flat (chunks_with size last.before some.0)) whole.below name inside in
       let version : some.1.version ≡ some.0.entry.version = some.4.version in
       omega arith)
-      (at_row size disk.items d.held st.numbered st.rows a.row)
+      (at_row size disk.items d.held st.held.numbered st.held.rows a.row)
 
   pub named_chunks : NamedChunks meaning d
   named_chunks = record {
     there = λ name a. let h = named_is_held name a in found_meaning (chunk_in d.chunks name) h.0 (st.chunks.held name h.0 h.1);
     different = λ row stored there.
-        let names_are : devices.names_of stored.content ≡ names_of (chunks_of size disk.items row) = ap names_if (sym there) ∙ row_names size disk.items d.held st.numbered st.rows row in
-        subst AreDifferent (sym names_are) (row_sound size disk.items st.numbered row).different;
-    once = λ name a b. let h = named_is_held name a in let k = named_is_held name b in held_once size disk.items st.numbered name h.0 k.0 h.1 k.1;
+        let names_are : devices.names_of stored.content ≡ names_of (chunks_of size disk.items row) = ap names_if (sym there) ∙ row_names size disk.items d.held st.held.numbered st.held.rows row in
+        subst AreDifferent (sym names_are) (row_sound size disk.items st.held.numbered row).different;
+    once = λ name a b. let h = named_is_held name a in let k = named_is_held name b in held_once size disk.items st.held.numbered name h.0 k.0 h.1 k.1;
     below = row_below;
     others = λ name bytes found. ⊎_elim (λ h. inl (held_is_named name bytes h)) (λ left. inr (left_has_entry name left)) (st.chunks.only name bytes found);
     apart = λ entry name is left a. let h = named_is_held name a in left_apart entry is name h.0 left h.1;

@@ -113,7 +113,7 @@ module _ (position : ℕ) where
         let same : Some some.1.version ≡ Some n = sym (ap (option_map (λ (s : StoredRow). s.version)) some.3) ∙ is in
         let one : some.1.version ≡ n = cc in
         (some.0, some.2, sym some.4.version ∙ one, (current_row disk.items row some.0 some.2).1))
-        (at_row schema.chunk disk.items d.held st.numbered st.rows row)
+        (at_row schema.chunk disk.items d.held st.held.numbered st.held.rows row)
 
     version_is : (j : Stored) → current_of disk.items j.entry.row ≡ Some j → version_if d.held j.entry.row ≡ Some j.entry.version
     version_is j is =
@@ -123,7 +123,7 @@ module _ (position : ℕ) where
         let both : Some some.0 ≡ Some j = sym some.2 ∙ is in
         let one : some.0 ≡ j = cc in
         ap (option_map (λ (s : StoredRow). s.version)) some.3 ∙ ap (λ (n : ℕ). Some n) (some.4.version ∙ ap (λ (x : Stored). x.entry.version) one))
-        (at_row schema.chunk disk.items d.held st.numbered st.rows j.entry.row)
+        (at_row schema.chunk disk.items d.held st.held.numbered st.held.rows j.entry.row)
 
     -- the last item of its row, where one is
     last_too : (row : List ℕ) (j : Stored) → current_of disk.items row ≡ Some j → j.entry.row ≡ row → current_of disk.items j.entry.row ≡ Some j
@@ -141,15 +141,15 @@ module _ (position : ℕ) where
         let least = k.2 i.entry.row i.entry.version (version_is i h.0) h.1 in
         let most = h.2 j.0 (last_too r.row j.0 j.1 j.3) (omega (arith, k.0, j.2)) in
         let version : j.0.entry.version ≡ i.entry.version = omega (arith, least, most, j.2) in
-        let one : j.0 ≡ i = one_version 0 disk.items j.0 i st.numbered (current_row disk.items r.row j.0 j.1).0 (current_row disk.items i.entry.row i h.0).0 version in
+        let one : j.0 ≡ i = one_version 0 disk.items j.0 i st.held.numbered (current_row disk.items r.row j.0 j.1).0 (current_row disk.items i.entry.row i h.0).0 version in
         ap (λ (x : RowVersion). Some x) (made r (ap (λ (x : Stored). x.entry.row) (sym one) ∙ j.3) (sym j.2 ∙ version))
       where
         made : (x : RowVersion) → i.entry.row ≡ x.row → x.version ≡ i.entry.version → x ≡ row_version_of i
         made x row version = rw (sym row, version) refl
 
     pub changed_is : (next : Option RowVersion) → IsNextChanged d.held position next → next ≡ option_map row_version_of (next_changed position disk.items)
-    changed_is next k = same_change (next_changed position disk.items) next (next_item 0 disk.items st.numbered) k
+    changed_is next k = same_change (next_changed position disk.items) next (next_item 0 disk.items st.held.numbered) k
 
     -- it is the last item of its row
     pub next_stands : (i : Stored) → next_changed position disk.items ≡ Some i → current_of disk.items i.entry.row ≡ Some i
-    next_stands i is = (subst (IsNextItem disk.items) is (next_item 0 disk.items st.numbered)).0
+    next_stands i is = (subst (IsNextItem disk.items) is (next_item 0 disk.items st.held.numbered)).0

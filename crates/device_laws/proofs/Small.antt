@@ -55,7 +55,7 @@ pub not_too_few : Stands small (holding second_row chunks_too_few) second_disk �
 not_too_few st = absurd (let e : None ≡ Some (5 ∷ []) = st.chunks.held (name 2 0) (5 ∷ []) (record { row = row_id; among = inr (inl refl) }) in cc)
 
 pub not_older : (chunks : List (ChunkName × List ℕ)) → Stands small (holding first_row chunks) second_disk → ⊥
-not_older chunks st = absurd (let e : 1 ≡ 2 = (st.rows row_id).version in omega (arith, e))
+not_older chunks st = absurd (let e : 1 ≡ 2 = (st.held.rows row_id).version in omega (arith, e))
 
 pub not_without_last : Stands small (holding without_last second_chunks) second_disk → ⊥
-not_without_last st = absurd (let e : 0 ≡ 2 = ap (λ (p : Pair). p.number) ((st.rows row_id).lasts 3) in omega (arith, e))
+not_without_last st = absurd (let e : 0 ≡ 2 = ap (λ (p : Pair). p.number) ((st.held.rows row_id).lasts 3) in omega (arith, e))

@@ -44,9 +44,7 @@ entry_less size items pending left less sub (Some item) (Some entry) h = record 
 pub dropped : (schema : Schema) (d : Devs) (disk : StoreDisk) (name : ChunkName) → Stands schema d disk → Among name disk.left
     → Stands schema (changed_by d (devs.DropChunk name)) (changed disk (moves.DropChunk name))
 dropped schema d disk name st a = record {
-  table = st.table;
-  numbered = st.numbered;
-  rows = st.rows;
+  held = record { table = st.held.table; numbered = st.held.numbered; rows = st.held.rows };
   chunks = record {
     held = λ q bytes h. chunk_dropped_other d.chunks name q (λ same. st.chunks.apart q bytes (subst (λ (n : ChunkName). Among n disk.left) same a) h) ∙ st.chunks.held q bytes h;
     left = λ q b.
@@ -71,9 +69,7 @@ dropped schema d disk name st a = record {
 
 pub closed : (schema : Schema) (d : Devs) (disk : StoreDisk) → Stands schema d disk → disk.left ≡ [] → Stands schema (changed_by d devs.CloseEntry) (changed disk moves.Close)
 closed schema d disk st none = record {
-  table = st.table;
-  numbered = st.numbered;
-  rows = st.rows;
+  held = record { table = st.held.table; numbered = st.held.numbered; rows = st.held.rows };
   chunks = record { held = st.chunks.held; left = st.chunks.left; only = st.chunks.only; apart = st.chunks.apart };
   entry = none;
 }
@@ -81,9 +77,7 @@ closed schema d disk st none = record {
 pub opened : (schema : Schema) (d : Devs) (disk : StoreDisk) (item : Stored) (entry : Entry) → Stands schema d disk → disk.pending ≡ None → IsEntryOf schema.chunk disk.items item entry
     → item.entry.version ≡ length disk.items + 1 → Stands schema (changed_by d (devs.OpenEntry entry)) (changed disk (moves.Open item))
 opened schema d disk item entry st is e next = record {
-  table = st.table;
-  numbered = st.numbered;
-  rows = st.rows;
+  held = record { table = st.held.table; numbered = st.held.numbered; rows = st.held.rows };
   chunks = record { held = st.chunks.held; left = st.chunks.left; only = st.chunks.only; apart = st.chunks.apart };
   entry = record {
     before = disk.items;

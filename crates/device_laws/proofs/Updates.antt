@@ -76,7 +76,7 @@ module _ (schema : Schema) (d : Devs) (disk : StoreDisk) (st : Stands schema d d
   now = flat held
 
   abbrev new : List Named
-  new = news size items item st.numbered refl
+  new = news size items item st.held.numbered refl
 
   many : length held ≡ length (objects_of request.content)
   many = as_many size v 0 (chunks_of size items request.row) (objects_of request.content)
@@ -91,9 +91,9 @@ module _ (schema : Schema) (d : Devs) (disk : StoreDisk) (st : Stands schema d d
     client = refl;
     number = refl;
     base = refl;
-    fresh = length-map new (λ (chunk : Named). chunk.1) ∙ sym (new_count size items item st.numbered refl);
-    old = ap (λ (l : List ChunkName). unmet (λ name. is_some (chunk_in d.chunks name)) (devices.names_of update.content) l) (row_names size items d.held st.numbered st.rows request.row)
-        ∙ old_is size items item st.numbered refl (λ name. is_some (chunk_in d.chunks name)) (devices.names_of update.content) before_there (content_kept v request.content held many);
+    fresh = length-map new (λ (chunk : Named). chunk.1) ∙ sym (new_count size items item st.held.numbered refl);
+    old = ap (λ (l : List ChunkName). unmet (λ name. is_some (chunk_in d.chunks name)) (devices.names_of update.content) l) (row_names size items d.held st.held.numbered st.held.rows request.row)
+        ∙ old_is size items item st.held.numbered refl (λ name. is_some (chunk_in d.chunks name)) (devices.names_of update.content) before_there (content_kept v request.content held many);
   }
 
   -- ---- the new chunks are put
@@ -112,25 +112,23 @@ module _ (schema : Schema) (d : Devs) (disk : StoreDisk) (st : Stands schema d d
 
   putting_stands : (cs : List (ChunkName × List ℕ)) (left : List ChunkName) (more : List Named) → IsPutting cs left more → Stands schema (putting cs) (at_work left)
   putting_stands cs left more p = record {
-    table = st.table;
-    numbered = st.numbered;
-    rows = st.rows;
+    held = record { table = st.held.table; numbered = st.held.numbered; rows = st.held.rows };
     chunks = p.chunks;
     entry = record {
       before = items;
       entry_of = entry_is;
       next = refl;
-      stage = inl (refl, λ q a. subst (λ (l : List ChunkName). Among q l) (sym (news_names size items item st.numbered refl)) (p.only_new q a));
+      stage = inl (refl, λ q a. subst (λ (l : List ChunkName). Among q l) (sym (news_names size items item st.held.numbered refl)) (p.only_new q a));
     };
   }
 
   new_different : AreDifferent (names new)
-  new_different = subst AreDifferent (names_filter v now) (different_filter (is_of_version v) (names now) (now_different size items item st.numbered refl))
+  new_different = subst AreDifferent (names_filter v now) (different_filter (is_of_version v) (names now) (now_different size items item st.held.numbered refl))
 
   put_next : (cs : List (ChunkName × List ℕ)) (left : List ChunkName) (x : Named) (more : List Named) → IsPutting cs left (x ∷ more)
       → IsPutting (insert_entry name_cmp cs x.0 x.1) (left ++ x.0 ∷ []) more
   put_next cs left x more p = record {
-    chunks = let is = (next_within v 0 new (news_next size items item st.numbered refl) x here).0 in put_chunk size cs items (Some item) left x.0 x.1 st.numbered (omega arith) p.chunks;
+    chunks = let is = (next_within v 0 new (news_next size items item st.held.numbered refl) x here).0 in put_chunk size cs items (Some item) left x.0 x.1 st.held.numbered (omega arith) p.chunks;
     within = λ y a. p.within y (inr a);
     only_new = λ q a. ⊎_elim
         (λ old. p.only_new q old)
@@ -200,7 +198,7 @@ module _ (schema : Schema) (d : Devs) (disk : StoreDisk) (st : Stands schema d d
     held = held_now;
     left = λ q a. old_there q (left_is_old left p.only_new q a);
     only = λ q bytes found. ⊎_elim (λ h. was_held q bytes h (row_tells request.row h.row)) (λ l. was_new q bytes found l) (p.chunks.only q bytes found);
-    apart = λ q bytes a h. old_apart size items item st.numbered q (left_is_old left p.only_new q a) bytes h;
+    apart = λ q bytes a h. old_apart size items item st.held.numbered q (left_is_old left p.only_new q a) bytes h;
   }
     where
       new_there : (x : Named) → Among x new → chunk_in cs x.0 ≡ Some x.1
@@ -215,7 +213,7 @@ module _ (schema : Schema) (d : Devs) (disk : StoreDisk) (st : Stands schema d d
           let is = b.version_is in
           let test : (q.version == v) ≡ true = grind (arith, nat_tests) in
           new_there (q, bytes) (filter_among (is_new v) (q, bytes) now test own.1))
-          (now_from size items item st.numbered refl (q, bytes) own.1))
+          (now_from size items item st.held.numbered refl (q, bytes) own.1))
           (λ other. p.chunks.held q bytes (record { row = h.row; among = other.1 }))
           (held_cases size items item q bytes h)
 
@@ -228,13 +226,13 @@ module _ (schema : Schema) (d : Devs) (disk : StoreDisk) (st : Stands schema d d
       kept_or_old : (q : ChunkName) (bytes : List ℕ) → Among (q, bytes) before → Among q named ⊎ (Among q named → ⊥) → IsHeld size with_item q bytes ⊎ Among q (left_behind left)
       kept_or_old q bytes a (inl inside) =
           let x = among_mapped (λ (c : Named). c.0) q now inside in
-          let low = before_below size items item st.numbered refl (q, bytes) a in
+          let low = before_below size items item st.held.numbered refl (q, bytes) a in
           ⊎_elim
           (λ kept.
-          let one : x.0 ≡ (q, bytes) = one_named before (before_different size items item st.numbered refl) x.0 (q, bytes) kept a (sym x.2) in
+          let one : x.0 ≡ (q, bytes) = one_named before (before_different size items item st.held.numbered refl) x.0 (q, bytes) kept a (sym x.2) in
           inl (own_held (q, bytes) (subst (λ (y : Named). Among y now) one x.1)))
           (λ b. let is = b.version_is in let same : q.version ≡ x.0.0.version = ap (λ (n : ChunkName). n.version) x.2 in absurd (omega arith))
-          (now_from size items item st.numbered refl x.0 x.1)
+          (now_from size items item st.held.numbered refl x.0 x.1)
       kept_or_old q bytes a (inr outside) =
           inr (right_among q (without_names named left) old (without_among named (names_before size items item) q (mapped_among (λ (c : Named). c.0) (q, bytes) before a) outside))
 
@@ -253,14 +251,16 @@ module _ (schema : Schema) (d : Devs) (disk : StoreDisk) (st : Stands schema d d
 
   module _ (client : IsClient request.client) (number : request.number < 2 ^ 64) (fits : length items + 1 < 2 ^ 64) where
     stored_is : IsStoredAs size with_item item stored
-    stored_is = stored_as size items d.held st.numbered st.rows item stored refl refl (content_named v request.content held) refl client number fits
+    stored_is = stored_as size items d.held st.held.numbered st.held.rows item stored refl refl (content_named v request.content held) refl client number fits
 
     row_put : (cs : List (ChunkName × List ℕ)) (left : List ChunkName) → IsPutting cs left []
         → Stands schema (changed_by (putting cs) (devs.PutRow stored)) (changed (at_work left) (moves.Put item named old))
     row_put cs left p = record {
-      table = st.table;
-      numbered = numbered_push 0 items item st.numbered (omega arith);
-      rows = rows_with size items d.held st.numbered st.rows item stored stored_is;
+      held = record {
+        table = st.held.table;
+        numbered = numbered_push 0 items item st.held.numbered (omega arith);
+        rows = rows_with size items d.held st.held.numbered st.held.rows item stored stored_is;
+      };
       chunks = put_chunks cs left p;
       entry = record {
         before = items;
@@ -286,7 +286,7 @@ module _ (schema : Schema) (d : Devs) (disk : StoreDisk) (st : Stands schema d d
     behind_row from cs left p =
         let all = drops_follow schema old (changed_by (putting cs) (devs.PutRow stored)) (changed (at_work left) (moves.Put item named old))
         [] (responded from request (messages.Accepted v) ∷ []) (row_put cs left p)
-        (different_filter (λ (q : ChunkName). not (chunks.is_among named q)) (names before) (before_different size items item st.numbered refl))
+        (different_filter (λ (q : ChunkName). not (chunks.is_among named q)) (names before) (before_different size items item st.held.numbered refl))
         (λ q a. right_among q (without_names named left) old a) (λ q a. left_is_old left p.only_new q a) in
         subst
         (λ (l : List ChunkName). Follows schema (changed_by (putting cs) (devs.PutRow stored)) (drops l ++ devs.CloseEntry ∷ [])
@@ -302,10 +302,10 @@ module _ (schema : Schema) (d : Devs) (disk : StoreDisk) (st : Stands schema d d
           only_new = λ q a. absurd (subst (λ (l : List ChunkName). Among q l) nothing_left a);
           there = λ x a. inl a;
         } in
-        let all = puts_follow 0 new d.chunks disk.left last_writes (last_tasks from table) (news_next size items item st.numbered refl) start
+        let all = puts_follow 0 new d.chunks disk.left last_writes (last_tasks from table) (news_next size items item st.held.numbered refl) start
         (λ cs left p. (putting_stands cs left [] p, (refl, refl), behind_row from cs left p)) in (
           st,
           entry_is,
           subst (λ (l : List ChunkName). Follows schema (putting d.chunks) (puts v 0 (map (λ (chunk : Named). chunk.1) new) ++ last_writes) (at_work disk.left) (moves.puts l ++ last_tasks from table))
-              (sym (news_names size items item st.numbered refl)) all,
+              (sym (news_names size items item st.held.numbered refl)) all,
         )

@@ -57,7 +57,7 @@ module _ (schema : Schema) (d : Devs) (disk : StoreDisk) (some : 0 < schema.chun
 
   chunks_cut : (item : Stored) → current_of disk.items row ≡ Some item → AreCut schema.chunk (objects_of item.content) (chunks_of schema.chunk disk.items row)
   chunks_cut item is =
-      let last = last_chunks schema.chunk disk.items st.numbered row item is in
+      let last = last_chunks schema.chunk disk.items st.held.numbered row item is in
       subst (AreCut schema.chunk (objects_of item.content)) (sym last.is) (all_cut schema.chunk item.entry.version 0 last.before (objects_of item.content))
 
   found_reads : (item : Stored) (stored : StoredRow) → current_of disk.items row ≡ Some item → row_of d.held row ≡ Some stored → IsStoredAs schema.chunk disk.items item stored → Given item
@@ -82,9 +82,9 @@ module _ (schema : Schema) (d : Devs) (disk : StoreDisk) (some : 0 < schema.chun
       ⊎_elim
       (λ none. let both : Some item ≡ None = sym is ∙ none.0 in absurd cc)
       (λ found. subst Given (one_item found.0 item (sym found.2 ∙ is)) (found_reads found.0 found.1 found.2 found.3 found.4))
-      (at_row schema.chunk disk.items d.held st.numbered st.rows row)
+      (at_row schema.chunk disk.items d.held st.held.numbered st.held.rows row)
 
   pub no_row : current_of disk.items row ≡ None → row_of d.held row ≡ None
   no_row is =
       ⊎_elim (λ none. none.1) (λ found. let both : Some found.0 ≡ None = sym found.2 ∙ is in absurd cc)
-      (at_row schema.chunk disk.items d.held st.numbered st.rows row)
+      (at_row schema.chunk disk.items d.held st.held.numbered st.held.rows row)

@@ -17,7 +17,7 @@ use Rattle.row_value.specs.declared.pieces.PieceContent.TheVariants.{Gone, Row}
 use Rattle.chunk_store.specs.Standing.{chunk_in}
 use Rattle.row_store.specs.declared.stored.LastWrite.{LastWrite}
 use Rattle.row_store.specs.declared.stored.StoredRow.{StoredRow}
-use Rattle.row_store.specs.Data.{row_of}
+use Rattle.row_store.specs.Data.{TableData, row_of}
 use Rattle.row_store.specs.Spelling.{AreLasts}
 use Rattle.status_log.specs.Entry.{Entry}
 use Rattle.store_commit.specs.declared.update.Update.{Update}
@@ -121,12 +121,17 @@ abbrev pub AreNumbered : ℕ → List Stored → Type 0
 AreNumbered n [] = Unit {0}
 AreNumbered n (item ∷ items) = (item.entry.version ≡ n + 1) × AreNumbered (n + 1) items
 
--- What the devices of a live table hold is this disk: each row by its last item, with the names of its chunks and the
--- last write of each client on it; each chunk of a row, and what is left; and the open entry.
-pub record Stands (schema : Schema) (d : Devs) (disk : StoreDisk) : Type 0 where
-  pub table : d.held.table ≡ Some (schema, 2)
+-- What the device of the rows holds is that of a disk: each row by its last item, with the names of its chunks and the
+-- last write of each client on it.
+pub record HasRows (schema : Schema) (held : TableData) (disk : StoreDisk) : Type 0 where
+  pub table : held.table ≡ Some (schema, 2)
   pub numbered : AreNumbered 0 disk.items
-  pub rows : (row : List ℕ) → StandsRow schema.chunk disk.items (current_of disk.items row) (row_of d.held row)
+  pub rows : (row : List ℕ) → StandsRow schema.chunk disk.items (current_of disk.items row) (row_of held row)
+
+-- What the devices of a live table hold is this disk: its rows; each chunk of a row, and what is left; and the open
+-- entry.
+pub record Stands (schema : Schema) (d : Devs) (disk : StoreDisk) : Type 0 where
+  pub held : HasRows schema d.held disk
   pub chunks : StandChunks schema.chunk d.chunks disk
   pub entry : StandsEntry schema.chunk disk disk.pending d.pending
 

@@ -28,6 +28,7 @@ use Rattle.store_host.specs.declared.hosted.Hosted.{Hosted}
 use Rattle.store_host.specs.declared.host.StoreHost.{StoreHost}
 use Rattle.store_host.specs.Holds.{HoldsStore, SameFaults, outs_of, says_something, said_by}
 use Rattle.store_host.specs.Calls.{IsMoved, HasCause}
+use Rattle.store_host.proofs.Froms.{IsFrom, GoesOn, from_itself, from_then, goes_itself, goes_then, write_from}
 use Rattle.store_host.proofs.Maps.{keys_kept, at_same}
 use Rattle.store_host.proofs.Moving.{put_before, later_cause}
 
@@ -155,6 +156,7 @@ pub record Drains {D : Type 0} (state : D → DiskState) (w : World) (old new : 
   pub told : List Outbox
   pub held : HoldsStore state here new
   pub outs : outs_of new ≡ outs_of old ++ filter says_something told
+  pub from : IsFrom GoesOn w here
   pub left : length (tasks_of w owner) ≡ count + length (tasks_of here owner)
   pub goes : (lucks : List Luck) → (more : List Luck) × (store_until_idle owner more w ≡ put_before told (store_works owner (length (tasks_of here owner)) lucks here))
 
@@ -175,7 +177,7 @@ fails_there v table luck fails busy =
 
 module _ {D : Type 0} (state : D → DiskState) (w : World) (old : StoreHost D) where
   pub drains : HoldsStore state w old → Drains state w old old 0
-  drains h = record { here = w; told = []; held = h; outs = sym (append-nil (outs_of old)); left = omega arith; goes = λ lucks. (lucks, refl) }
+  drains h = record { here = w; told = []; held = h; outs = sym (append-nil (outs_of old)); from = from_itself GoesOn goes_itself w; left = omega arith; goes = λ lucks. (lucks, refl) }
 
   joins : (told : List Outbox) (m : Moved) (f : World → Moved) → m.failed ≡ false → put_before told (if m.failed then m else and_then m f) ≡ put_before (told ++ m.outs) (f m.world)
   joins told m f well =
@@ -199,6 +201,8 @@ module _ {D : Type 0} (state : D → DiskState) (w : World) (old : StoreHost D) 
           held = k.held;
           outs = k.outs ∙ (ap (λ (l : List Outbox). l ++ said_by m) d.outs
               ∙ (append_assoc (outs_of old) (filter says_something d.told) (said_by m) ∙ ap (λ (l : List Outbox). outs_of old ++ l) (sym (filter-append says_something d.told m.outs))));
+          from = from_then GoesOn GoesOn GoesOn goes_then w d.here m.world d.from
+              (subst (λ (o : Option ℕ). IsFrom GoesOn d.here (write_next owner messages.Done o d.here).world) busy (write_from d.here table (write_less d.here table sorted (sym busy)).0));
           left = let a = d.left in let b = less.1 in omega (arith, a, b);
           goes = λ lucks.
               let g = d.goes (messages.Done ∷ lucks) in (

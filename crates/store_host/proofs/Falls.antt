@@ -1,6 +1,6 @@
 -- A Store that falls where one of its tables fell before is where it falls from at once.
-use Rattle.std.proofs.Common.{◌≡◌, ◌≢◌, ◌⊎◌, ℕ, ◌++◌, Bool, true, false, List, [], ◌∷◌, Option, Some, None, refl, sym, ap, ◌∙◌, subst, arith, ⊎_elim, append-nil}
-use Rattle.std.specs.Prelude.{◌==◌, ◌||◌, filter, if◌then◌else◌}
+use Rattle.std.proofs.Common.{◌≡◌, ◌≢◌, ℕ, ◌++◌, Bool, true, false, List, [], ◌∷◌, Option, Some, None, refl, sym, ap, ◌∙◌, subst, arith, ⊎_elim}
+use Rattle.std.specs.Prelude.{◌==◌, ◌||◌, if◌then◌else◌}
 use Rattle.std.proofs.lemmas.Bool.Decides.{nat_tests}
 use Rattle.std.specs.Ordering.{nat_cmp}
 use Rattle.std.specs.Cmp.{unsigned_tied}
@@ -13,11 +13,11 @@ use Rattle.row_value.specs.declared.schema.Schema.{Schema}
 use Rattle.table_model.specs.declared.entry.Entry.{Entry}
 use Rattle.step_tables.specs.Messages as messages
 use Rattle.step_tables.specs.StoreMoves.{StoreDisk, StoreTask, Crash}
-use Rattle.world_tables.specs.World.{World, Outbox, Packet, Hosted, Moved, schema_at, hosted_at, owner, the_store, still, and_then, move_hosted, move_table, table_falls, tables_fall, with_down, store_falls}
+use Rattle.world_tables.specs.World.{World, Outbox, Packet, Hosted, schema_at, hosted_at, owner, the_store, still, and_then, move_hosted, table_falls, tables_fall, with_down, store_falls}
 use Rattle.store_host.specs.declared.hosted.Hosted as here
 use Rattle.store_host.specs.declared.host.StoreHost.{StoreHost}
 use Rattle.store_host.specs.Holds.{HostedThere, HoldsTables, HoldsStore, outs_of, said_by}
-use Rattle.store_host.specs.Calls.{AreMoved, IsMoved}
+use Rattle.store_host.specs.Calls.{IsMoved}
 use Rattle.store_host.proofs.Maps.{keys_kept}
 use Rattle.store_host.proofs.Moving.{falls_silent}
 use Rattle.store_host.proofs.Stores.{said_both}

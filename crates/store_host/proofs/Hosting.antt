@@ -1,5 +1,5 @@
 -- A table behind a step of its node, and what it tells put behind what was told.
-use Rattle.std.proofs.Common.{◌≡◌, ◌⊎◌, inl, inr, ℕ, ◌<◌, ◌++◌, length, map, Bool, true, false, cond, List, [], ◌∷◌, Option, Some, None, Result, Ok, Err, refl, sym, ◌∙◌, ap, subst, append-nil}
+use Rattle.std.proofs.Common.{◌≡◌, inl, inr, ℕ, ◌<◌, ◌++◌, length, map, Bool, true, false, cond, List, [], ◌∷◌, Option, Some, None, Result, Ok, Err, refl, sym, ◌∙◌, ap, subst, append-nil}
 use Rattle.std.specs.Prelude.{filter, ◌==◌, nat_lt, ◌↔◌, IfErr, IsErrOf, if◌then◌else◌}
 use Rattle.std.proofs.lemmas.List.{map-append}
 use Rattle.disk_trait.specs.Calls.{DiskState}
@@ -153,16 +153,16 @@ module _ {D : Type 0} (state : D → DiskState) (schema : Option Schema) (table 
       (subst (λ (n : ℕ). IsBehind state old new
       (record { store = record { disk = nothing_stored; agenda = Some [] }; answer = facts.Done; facts = facts.StoreRecovered n old.table ∷ []; sends = [] })) store b)
 
-  pub starting : (s : TableStore) (history : List Entry) (made : Bool) (old : Hosted D) (node : TableNode D)
+  pub starting : (images : D → ℕ → List ℕ → Type 0) (s : TableStore) (history : List Entry) (made : Bool) (old : Hosted D) (node : TableNode D)
       → IsHosted state schema table (record { store = s; history = history; made = made }) old
-      → Starts state s old.node node (Ok tt) → node.is_up ≡ true
+      → Starts state images s old.node node (Ok tt) → node.is_up ≡ true
       → IsTelling state schema table (record { store = s; history = history; made = true }) (started_by schema table (record { store = s; history = history; made = made }) made)
       (record { node = node; history = old.history })
-  starting s history true old node h k up =
+  starting images s history true old node h k up =
       let b = stands_at old.node node s (k.started h.made) h.store h.number in
       telling state schema table (record { store = s; history = history; made = true }) (started owner table s.disk s.agenda) old (record { node = node; history = old.history }) h b true
       (up_declared node (started owner table s.disk s.agenda).store.disk (started owner table s.disk s.agenda).store.agenda b.table up) refl
-  starting s history false old node h k up =
+  starting images s history false old node h k up =
       let b = late_at old.node node (k.declared h.made) h.store h.number in
       telling state schema table (record { store = s; history = history; made = false }) (declared_late table) old (record { node = node; history = old.history }) h b true
       (up_declared node nothing_stored (Some []) b.table up) refl

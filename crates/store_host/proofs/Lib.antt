@@ -8,3 +8,6 @@ pub mod Falls
 pub mod Serving
 pub mod Named
 pub mod Draining
+pub mod Froms
+pub mod Lefts
+pub mod Crashed

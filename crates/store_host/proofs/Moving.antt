@@ -1,7 +1,7 @@
 -- What a move of one table makes of all, and what the moves of all make of them.
 use Rattle.std.proofs.Common.{◌≡◌, ℕ, zero, suc, ◌+◌, ◌<◌, ◌≤◌, ◌++◌, length, drop, Bool, true, false, cond, List, [], ◌∷◌, Option, Some, None, Result, Ok, Err, inl, inr, refl, sym, ap, ◌∙◌, subst, arith}
 use Rattle.std.proofs.Common.{◌≢◌, rules, append-nil, append_assoc}
-use Rattle.std.specs.Prelude.{filter, not, ◌||◌, ◌==◌, nat_lt, IfOk, IsErrOf, IsSome, option_map, slice_index_or, if◌then◌else◌}
+use Rattle.std.specs.Prelude.{filter, ◌||◌, ◌==◌, nat_lt, IfOk, IsSome, option_map, slice_index_or, if◌then◌else◌}
 use Rattle.std.proofs.lemmas.Result.{on_ok_weaker, on_err_weaker}
 use Rattle.std.specs.List.{find}
 use Rattle.std.specs.declared.cmp.Ordering.{Ordering}
@@ -44,6 +44,7 @@ use Rattle.store_host.specs.declared.hosted.Hosted.{Hosted}
 use Rattle.store_host.specs.Holds.{IsHosted, HostedThere, HoldsTables, AreUpTables, behind_step, outs_in, says_something, said_by, faults_in, faults_at, SameFaults, RisenFaults}
 use Rattle.store_host.specs.Steps.{HasTold, HasNodeCause, moved_at, started_by, HasTaken, HasNodeTakeCause, HasShown}
 use Rattle.store_host.specs.Calls.{AreMoved, HasCause, FitsIn, AreTaken, HasTakeCause, AreShown, table_in}
+use Rattle.store_host.proofs.Froms.{IsFrom, SameDisk, from_itself, from_then, same_then, start_from}
 use Rattle.store_host.proofs.Hosting.{up_node}
 use Rattle.store_host.proofs.Maps.{moved_tables, found, not_found, at_same}
 
@@ -151,7 +152,7 @@ nothing_moved state w numbers tables outs h = record { held = h; outs = sym (app
 
 module _ {D : Type 0} (state : D → DiskState) (old new : tree.BTreeMap ℕ (Hosted D)) (table : ℕ) (it : Hosted D) (was : Hosted D) (at : Some was ≡ tree.get nat_cmp old table)
     (u : (q : ℕ) → tree.get nat_cmp new q ≡ cond (is_at (nat_cmp table) q) (Some it) (tree.get nat_cmp old q)) where
-  faults_there : (q : ℕ) (b : Bool) → is_at (nat_cmp table) q ≡ b → (faults_at state new q ≡ cond b (own_faults state it.node) (faults_at state old q))
+  pub faults_there : (q : ℕ) (b : Bool) → is_at (nat_cmp table) q ≡ b → (faults_at state new q ≡ cond b (own_faults state it.node) (faults_at state old q))
       × (b ≡ true → faults_at state old q ≡ own_faults state was.node)
   faults_there q true is = (
     ap (λ (o : Option (Hosted D)). faults_in state o) (u q ∙ ap (λ (b : Bool). cond b (Some it) (tree.get nat_cmp old q)) is),
@@ -266,11 +267,12 @@ pub record Begins {D : Type 0} (state : D → DiskState) (w : World) (all : List
   pub held : HoldsTables state here all tables
   pub outs : outs_in after ≡ outs_in before ++ filter says_something told
   pub downs : here.downs ≡ w.downs
+  pub from : IsFrom SameDisk w here
   pub goes : (lucks : List Luck) → (more : List Luck) × (tables_start ns more w ≡ put_before told (tables_start rest lucks here))
 
 module _ {D : Type 0} (state : D → DiskState) (w : World) (all ns : List ℕ) (before : List StoreOut) where
   pub begins : (tables : tree.BTreeMap ℕ (Hosted D)) → HoldsTables state w all tables → Begins state w all tables before before ns ns
-  begins tables h = record { here = w; told = []; held = h; outs = sym (append-nil (outs_in before)); downs = refl; goes = λ lucks. (lucks, refl) }
+  begins tables h = record { here = w; told = []; held = h; outs = sym (append-nil (outs_in before)); downs = refl; from = from_itself SameDisk (λ s. refl) w; goes = λ lucks. (lucks, refl) }
 
   start_goes : (table : ℕ) (rest : List ℕ) (lucks : List Luck) (v : World) → (table_starts table messages.Done v).failed ≡ false
       → tables_start (table ∷ rest) (messages.Done ∷ lucks) v ≡ and_then (table_starts table messages.Done v) (tables_start rest lucks)
@@ -291,6 +293,7 @@ module _ {D : Type 0} (state : D → DiskState) (w : World) (all ns : List ℕ) 
         ∙ (append_assoc (outs_in before) (filter says_something b.told) (said_by (table_starts table messages.Done b.here))
         ∙ ap (λ (l : List Outbox). outs_in before ++ l) (sym (filter-append says_something b.told (table_starts table messages.Done b.here).outs))));
     downs = m.downs ∙ b.downs;
+    from = from_then SameDisk SameDisk SameDisk same_then w b.here (table_starts table messages.Done b.here).world b.from (start_from b.here table);
     goes = λ lucks.
         let g = b.goes (messages.Done ∷ lucks) in (
           g.0,
@@ -326,7 +329,7 @@ module _ {D : Type 0} (state : D → DiskState) (w : World) (all ns : List ℕ) 
       → HoldsTables state b.here all new → after ≡ mid → Ends new after true
   ends_badly old new mid after table left rest is b held same =
       ends_at new after left (messages.FailedBefore ∷ []) true
-      (record { here = b.here; told = b.told; held = held; outs = ap outs_in same ∙ b.outs; downs = b.downs; goes = b.goes })
+      (record { here = b.here; told = b.told; held = held; outs = ap outs_in same ∙ b.outs; downs = b.downs; from = b.from; goes = b.goes })
       (ap (λ (l : List ℕ). tables_start l (messages.FailedBefore ∷ []) b.here) is)
 
 -- ---- a start of one table

@@ -1,6 +1,6 @@
 -- Where a Store is up, each of its tables is: what the moves that no device call of fails make of that.
 use Rattle.std.proofs.Common.{◌≡◌, ◌≢◌, ◌⊎◌, inl, inr, ℕ, Bool, true, false, List, [], ◌∷◌, Option, Some, None, refl, sym, ap, ◌∙◌, subst, arith, ⊎_elim, true≢false}
-use Rattle.std.specs.Prelude.{◌==◌, ◌||◌, not, nat_lt, if◌then◌else◌}
+use Rattle.std.specs.Prelude.{◌==◌, ◌||◌, nat_lt, if◌then◌else◌}
 use Rattle.std.proofs.lemmas.Bool.Decides.{nat_tests}
 use Rattle.std.specs.Ordering.{nat_cmp}
 use Rattle.std.specs.Cmp.{unsigned_tied}
@@ -17,8 +17,8 @@ use Rattle.step_tables.specs.Messages as messages
 use Rattle.step_tables.specs.StoreMoves as store
 use Rattle.step_tables.specs.StoreMoves.{StoreDisk, StoreTask, StoreMove, StoreStep}
 use Rattle.step_tables.proofs.Lists.{among_none, among_cons, among_here, among_next, lookup-insert_nat}
-use Rattle.world_tables.specs.World.{World, Hosted, Moved, schema_at, hosted_at, scheme_in, chunk_in, owner, the_store, is_down, still, and_then, and_unless, first_luck, other_lucks}
-use Rattle.world_tables.specs.World.{history_on, after_table, table_step, move_hosted, move_table, declared_late, start_hosted, table_starts, tables_start, agenda_of, with_table, write_next, busy_table, or_falls, store_falls}
+use Rattle.world_tables.specs.World.{World, Hosted, Moved, schema_at, hosted_at, scheme_in, chunk_in, owner, and_then, and_unless, first_luck, other_lucks}
+use Rattle.world_tables.specs.World.{history_on, after_table, table_step, move_hosted, move_table, declared_late, start_hosted, table_starts, tables_start, agenda_of, with_table}
 use Rattle.store_host.specs.Holds.{IsUpAt, AllUp}
 
 -- ---- a table's moves

@@ -1,6 +1,6 @@
 -- What the calls of a Store with its tables promise, in the moves of the world.
-use Rattle.std.specs.Prelude.{◌≡◌, ◌⊎◌, ◌↔◌, ℕ, Bool, false, true, List, [], ◌++◌, Option, Some, option_map, Result, Ok}
-use Rattle.std.specs.Prelude.{OnOk, OnErr, IfOk, IfErr, IsErrOf}
+use Rattle.std.specs.Prelude.{◌≡◌, ◌⊎◌, ◌↔◌, ℕ, Bool, false, List, [], ◌++◌, Option, Some, None}
+use Rattle.std.specs.Prelude.{option_map, Result, Ok, OnOk, OnErr, IfOk, IfErr, IsErrOf}
 use Rattle.std.specs.BTreeMap as tree
 use Rattle.disk_trait.specs.Calls.{DiskState}
 use Rattle.stab_base.specs.declared.limits.TheConstants.{NUMBER_MAX}
@@ -8,7 +8,8 @@ use Rattle.stab_base.specs.declared.node.Node.{Node}
 use Rattle.row_value.specs.declared.schema.Schema.{Schema}
 use Rattle.row_value.specs.Fit.{fit_of}
 use Rattle.row_store.specs.Spelling.{IsClient}
-use Rattle.step_tables.specs.Messages.{table_of}
+use Rattle.step_tables.specs.Messages.{Luck, table_of}
+use Rattle.step_tables.specs.Messages as messages
 use Rattle.step_tables.specs.Store.{current_of}
 use Rattle.step_tables.specs.StoreMoves.{Take}
 use Rattle.step_tables.specs.Travels.{message_of}
@@ -21,6 +22,7 @@ use Rattle.store_node.specs.declared.showing.ShownRow.{ShownRow}
 use Rattle.store_node.specs.Calls.{IsAtWork, IsSpent}
 use Rattle.store_node.specs.Reading.{shown_of}
 use Rattle.world_tables.specs.World.{World, Moved, owner, schema_at, hosted_at, move_table, table_falls, store_falls}
+use Rattle.world_tables.specs.World.{table_crashes, crash_luck, first_luck, other_lucks, busy_table}
 use Rattle.world_tables.specs.World as world
 use Rattle.store_host.specs.declared.hosted.Hosted.{Hosted}
 use Rattle.store_host.specs.declared.host.StoreHost.{StoreHost}
@@ -47,6 +49,24 @@ pub record HasCause {D T : Type 0} (state : D → DiskState) (old new : tree.BTr
   pub counted : (IsErrOf result Disk → ⊥) → SameFaults state old new
   pub cause : IsErrOf result Disk → RisenFaults state old new
   pub only : IfErr result (λ e. (e ≡ Disk) ⊎ (e ≡ Memory))
+
+-- ---- crashes
+
+-- What the first luck of a crash says of the disks: where it is that no device call fails, none has failed by itself;
+-- else one has. A Store with no writes to do has no such fault.
+pub record HasLuck {D : Type 0} (state : D → DiskState) (w : World) (old new : tree.BTreeMap ℕ (Hosted D))
+    (lucks : List Luck) : Type 0 where
+  pub done : SameFaults state old new → first_luck lucks ≡ messages.Done
+  pub counted : first_luck lucks ≡ messages.Done → SameFaults state old new
+  pub cause : (first_luck lucks ≡ messages.Done → ⊥) → RisenFaults state old new
+  pub idle : busy_table w owner ≡ None → first_luck lucks ≡ messages.Done
+
+-- What a crash makes of the tables, with some lucks.
+abbrev pub AreCrashed : {D : Type 0} → (D → DiskState) → World → List ℕ → ℕ → (old new : tree.BTreeMap ℕ (Hosted D))
+    → Type 0
+AreCrashed state w numbers calls old new = (lucks : List Luck) × AreMoved state w numbers new [] [] false
+    (table_crashes (crash_luck calls (other_lucks lucks) (first_luck lucks)) (busy_table w owner) w)
+    × HasLuck state w old new lucks
 
 -- ---- messages
 

@@ -1,26 +1,30 @@
 -- What a Store with its tables holds of the world of the laws: of its tables, their schemas, and whether the Store is
 -- down. Packets, clients and holds are whoever's.
-use Rattle.std.specs.Prelude.{◌≡◌, ℕ, ◌≤◌, ◌<◌, Bool, true, false, not, ◌&&◌, List, [], ◌∷◌, map, filter, Option, Some}
-use Rattle.std.specs.Prelude.{None}
+use Rattle.std.specs.Prelude.{◌≡◌, ℕ, ◌≤◌, ◌<◌, Bool, true, false, not, ◌&&◌, List, [], ◌∷◌, map, filter}
+use Rattle.std.specs.Prelude.{Option, Some, None}
 use Rattle.std.specs.Ordering.{nat_cmp}
 use Rattle.std.specs.BTreeMap as tree
 use Rattle.std.specs.Map.{keys_of}
 use Rattle.std.specs.List.Sorted.{IsStrictlySortedBy}
 use Rattle.disk_trait.specs.Calls.{DiskState}
-use Rattle.disk_trait.specs.Fuse.{inner_of}
+use Rattle.disk_trait.specs.Fuse.{behind, inner_of}
 use Rattle.vault.specs.Standing.{disk_of}
 use Rattle.chunk_store.specs.Standing as chunks
+use Rattle.row_store.specs.Data.{TableData}
 use Rattle.row_store.specs.Standing as rows
 use Rattle.status_log.specs.Standing as logs
 use Rattle.row_value.specs.declared.schema.Schema.{Schema}
+use Rattle.store_commit.specs.Standing.{RowsLeave}
 use Rattle.step_tables.specs.StoreMoves.{StoreStep, StoreTask}
+use Rattle.device_laws.specs.Stands.{HasRows}
 use Rattle.store_node.specs.declared.node.StoreOut.{StoreOut}
 use Rattle.step_tables.specs.Travels.{send_of}
 use Rattle.store_node.specs.Due.{fact_of}
 use Rattle.store_node.specs.Node.{IsTable, told_by, sent_by, own_faults}
 use Rattle.world_tables.specs.World.{World, Outbox, Moved, schema_at, hosted_at, owner, the_store, is_down, history_on}
-use Rattle.world_tables.specs.World.{packets_from}
+use Rattle.world_tables.specs.World.{packets_from, tasks_in}
 use Rattle.world_tables.specs.World as world
+use Rattle.world_tables.specs.Passed.{after_tasks}
 use Rattle.store_host.specs.declared.hosted.Hosted.{Hosted}
 use Rattle.store_host.specs.declared.host.StoreHost.{StoreHost}
 
@@ -130,6 +134,10 @@ faults_in state (Some it) = own_faults state it.node
 abbrev pub faults_at : {D : Type 0} → (D → DiskState) → tree.BTreeMap ℕ (Hosted D) → ℕ → ℕ
 faults_at state tables table = faults_in state (tree.get nat_cmp tables table)
 
+-- none of them has failed less often
+abbrev pub LaterFaults : {D : Type 0} → (D → DiskState) → (old new : tree.BTreeMap ℕ (Hosted D)) → Type 0
+LaterFaults state old new = (table : ℕ) → faults_at state old table ≤ faults_at state new table
+
 abbrev pub SameFaults : {D : Type 0} → (D → DiskState) → (old new : tree.BTreeMap ℕ (Hosted D)) → Type 0
 SameFaults state old new = (table : ℕ) → faults_at state new table ≡ faults_at state old table
 
@@ -150,3 +158,25 @@ disks_at e = (
     inner_of (disk_of (logs.vault_of e.1.node.devs.log)),
   ),
 )
+
+-- ---- rows at every moment
+
+-- of each table that was declared before: at every moment since the old tables a crash leaves rows with R
+abbrev pub LeftBy : {D : Type 0} → (D → DiskState) → (D → ℕ → List ℕ → Type 0) → World → (old new : tree.BTreeMap ℕ
+    (Hosted D)) → (world.Hosted → Schema → TableData → Type 0) → Type 0
+LeftBy {D} state images w old new R = (table : ℕ) (hosted : world.Hosted) (before after : Hosted D)
+    → hosted_at w table ≡ Some hosted → hosted.made ≡ true → tree.get nat_cmp old table ≡ Some before
+    → tree.get nat_cmp new table ≡ Some after
+    → RowsLeave (behind state) (λ f. images (inner_of f)) before.node.devs after.node.devs
+    (R hosted before.node.schema)
+
+-- and these are those of the table's disk behind some of its next writes
+pub record AreLeft {D : Type 0} (state : D → DiskState) (images : D → ℕ → List ℕ → Type 0) (w : World)
+    (old new : tree.BTreeMap ℕ (Hosted D)) : Type 0 where
+  pub rows : LeftBy state images w old new (λ hosted schema held. (k : ℕ)
+      × HasRows schema held (after_tasks k hosted.store.disk (tasks_in hosted.store.agenda)))
+
+-- or those of its disk as it was
+pub record AreStill {D : Type 0} (state : D → DiskState) (images : D → ℕ → List ℕ → Type 0) (w : World)
+    (old new : tree.BTreeMap ℕ (Hosted D)) : Type 0 where
+  pub rows : LeftBy state images w old new (λ hosted schema held. HasRows schema held hosted.store.disk)

@@ -1,10 +1,11 @@
 -- A table's step, what it tells put behind what was told, and the causes of its calls.
-use Rattle.std.specs.Prelude.{◌≡◌, ◌⊎◌, ◌↔◌, ℕ, ◌+◌, ◌<◌, ◌++◌, Bool, true, false, List, [], ◌∷◌, filter, Option, Some}
-use Rattle.std.specs.Prelude.{None, option_map, Result, OnOk, OnErr, IfOk, IfErr, IsErrOf}
+use Rattle.std.specs.Prelude.{◌≡◌, ◌⊎◌, ◌↔◌, ℕ, ◌+◌, ◌<◌, ◌≤◌, ◌++◌, Bool, true, false, List, [], ◌∷◌, filter}
+use Rattle.std.specs.Prelude.{Option, Some, None, option_map, Result, OnOk, OnErr, IfOk, IfErr, IsErrOf}
 use Rattle.disk_trait.specs.Calls.{DiskState}
 use Rattle.stab_base.specs.declared.limits.TheConstants.{NUMBER_MAX}
 use Rattle.stab_base.specs.declared.node.Node.{Node}
 use Rattle.row_value.specs.declared.schema.Schema.{Schema}
+use Rattle.step_tables.specs.Messages.{Luck}
 use Rattle.step_tables.specs.Messages as messages
 use Rattle.step_tables.specs.Store.{current_of}
 use Rattle.step_tables.specs.StoreMoves.{StoreStep, StoreMove, Take, Crash, Start, store_step}
@@ -19,10 +20,10 @@ use Rattle.store_node.specs.Calls.{IsTaken, IsAtWork, IsSpent}
 use Rattle.store_node.specs.Node.{IsTable, told_by, sent_by, own_faults}
 use Rattle.store_node.specs.Reading.{shown_of}
 use Rattle.world_tables.specs.World.{Outbox, owner, the_store, scheme_in, chunk_in, packets_from, declared_late}
-use Rattle.world_tables.specs.World.{agenda_of}
+use Rattle.world_tables.specs.World.{agenda_of, crash_luck, first_luck, other_lucks}
 use Rattle.world_tables.specs.World as world
 use Rattle.store_host.specs.declared.hosted.Hosted.{Hosted}
-use Rattle.store_host.specs.Holds.{IsHosted, IsUpAt, behind_step, outs_in, says_something}
+use Rattle.store_host.specs.Holds.{IsHosted, behind_step, outs_in, says_something}
 
 -- what a move makes of the table
 abbrev pub moved_at : Option Schema → ℕ → world.Hosted → StoreMove → StoreStep
@@ -76,6 +77,17 @@ pub record HasNodeCause {D T : Type 0} (state : D → DiskState) (old new : Tabl
   pub counted : (IsErrOf result Disk → ⊥) → own_faults state new ≡ own_faults state old
   pub cause : IsErrOf result Disk → own_faults state old < own_faults state new
   pub only : IfErr result (λ e. (e ≡ Disk) ⊎ (e ≡ Memory))
+
+-- What a crash makes of a table, with some lucks: where the first of these is that no device call fails, no disk has
+-- failed by itself; else one has.
+pub record HasCrashed {D : Type 0} (state : D → DiskState) (declared : Option Schema) (table : ℕ)
+    (hosted : world.Hosted) (calls : ℕ) (old new : Hosted D) : Type 0 where
+  pub lucks : List Luck
+  pub told : HasTold state declared table hosted (moved_at declared table hosted
+      (Crash (crash_luck calls (other_lucks lucks) (first_luck lucks)))) new [] []
+  pub done : own_faults state new.node ≡ own_faults state old.node → first_luck lucks ≡ messages.Done
+  pub counted : first_luck lucks ≡ messages.Done → own_faults state new.node ≡ own_faults state old.node
+  pub later : own_faults state old.node ≤ own_faults state new.node
 
 -- ---- messages and rows
 

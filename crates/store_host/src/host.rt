@@ -1,7 +1,7 @@
 //! A Store with its tables.
 ghost use Rattle.std.specs.Prelude.{◌≡◌, ◌⊎◌, ◌<◌, ◌≤◌, ◌≢◌, ◌+◌, ℕ, [], List, Option, None, Some, not, false, true};
 ghost use Rattle.std.specs.Prelude.{IfOk, IfErr, OnOk, OnErr, IsErrOf, IsSome, option_copied, option_map, is_some, map};
-ghost use Rattle.std.specs.Prelude.{length};
+ghost use Rattle.std.specs.Prelude.{length, drop, slice_get};
 ghost use Rattle.std.specs.Prelude.{Bool, if◌then◌else◌};
 ghost use Rattle.std.specs.Ordering.{nat_cmp};
 ghost use Rattle.std.specs.BTreeMap as tree;
@@ -19,9 +19,10 @@ ghost use Rattle.world_tables.specs.World.{busy_table, busy_step, write_next, st
 ghost use Rattle.world_tables.specs.World.{tasks_of, store_until_idle, is_at_work, schema_at, chunk_in, names_on};
 ghost use Rattle.world_tables.specs.World.{tables_start, tables_fall, and_then, still, without_down, with_table};
 ghost use Rattle.store_host.specs.Holds.{IsHosted, HoldsParts, HoldsStore, AreParts, IsStore, SameFaults};
+ghost use Rattle.store_host.specs.Holds.{LaterFaults, AreLeft, AreStill};
 ghost use Rattle.store_host.specs.Holds.{faults_at, disks_at};
 ghost use Rattle.store_host.specs.Steps.{new_table, faults_of};
-ghost use Rattle.store_host.specs.Calls.{IsMoved, HasCause, Takes, HasTakeCause, ShowsRow};
+ghost use Rattle.store_host.specs.Calls.{IsMoved, HasCause, HasLuck, Takes, HasTakeCause, ShowsRow};
 
 use crate::hosted::Hosted;
 use crate::tables::{
@@ -158,6 +159,10 @@ impl<D: Disk + Drop> StoreHost<D> {
             → OnOk result (faults_at D.state self.new.tables q ≡ faults_at D.state self.old.tables q) }
         ensures others_failed { (q : ℕ) → q ≢ table → IsErrOf result DiskFailed
             → faults_at D.state self.new.tables q ≡ faults_at D.state self.old.tables q }
+        ensures left { (w : AWorld) → HoldsStore D.state w self.old
+            → OnOk result (AreStill D.state D.images w self.old.tables self.new.tables) }
+        ensures left_failed { (w : AWorld) → HoldsStore D.state w self.old → IsErrOf result DiskFailed
+            → AreStill D.state D.images w self.old.tables self.new.tables }
         ensures only { IfErr result (λ e. (e ≡ DiskFailed) ⊎ (e ≡ Memory)) }
     {
         let mut hosted = Hosted::new(
@@ -186,6 +191,8 @@ impl<D: Disk + Drop> StoreHost<D> {
         ensures fallen { (w : AWorld) → HoldsParts D.state w self.old
             → IsMoved D.state self.old self.new (store_falls owner w) }
         ensures counted { SameFaults D.state self.old.tables self.new.tables }
+        ensures left { (w : AWorld) → HoldsParts D.state w self.old
+            → AreStill D.state D.images w self.old.tables self.new.tables }
         ensures down { self.new.is_up ≡ false }
         ensures outs { self.new.outs ≡ self.old.outs }
         ensures numbers { self.new.numbers ≡ self.old.numbers }
@@ -211,6 +218,8 @@ impl<D: Disk + Drop> StoreHost<D> {
             × ((write_next owner messages.FailedAfter (busy_table w owner) w).failed ≡ true) }
         ensures up { OnOk result (self.new.is_up ≡ true) }
         ensures cause { HasCause D.state self.old.tables self.new.tables result }
+        ensures left { (w : AWorld) → HoldsStore D.state w self.old
+            → AreLeft D.state D.images w self.old.tables self.new.tables }
     {
         let Some(table) = first_busy(self.numbers.as_slice(), &self.tables) else {
             return Ok(Step::Idle);
@@ -239,6 +248,8 @@ impl<D: Disk + Drop> StoreHost<D> {
             → (lucks : List Luck) × ((store_until_idle owner lucks w).failed ≡ true)
             × IsMoved D.state self.old self.new (store_until_idle owner lucks w) }
         ensures cause { HasCause D.state self.old.tables self.new.tables result }
+        ensures left { (w : AWorld) → HoldsStore D.state w self.old
+            → AreLeft D.state D.images w self.old.tables self.new.tables }
     {
         for count in 0..u64::MAX {
             let Some(_table) = first_busy(self.numbers.as_slice(), &self.tables) else {
@@ -265,6 +276,8 @@ impl<D: Disk + Drop> StoreHost<D> {
         ensures down { IsErrOf result DiskFailed → self.new.is_up ≡ false }
         ensures numbers { self.new.numbers ≡ self.old.numbers }
         ensures cause { HasTakeCause D.state self.old.tables self.new.tables result }
+        ensures left { (w : AWorld) → HoldsStore D.state w self.old
+            → AreLeft D.state D.images w self.old.tables self.new.tables }
     {
         match deliver_to(self.alloc, &mut self.tables, &mut self.outs, from, message) {
             Ok(()) => Ok(()),
@@ -291,6 +304,8 @@ impl<D: Disk + Drop> StoreHost<D> {
         ensures down { IsErrOf result DiskFailed → self.new.is_up ≡ false }
         ensures numbers { self.new.numbers ≡ self.old.numbers }
         ensures cause { HasCause D.state self.old.tables self.new.tables result }
+        ensures left { (w : AWorld) → HoldsStore D.state w self.old
+            → AreLeft D.state D.images w self.old.tables self.new.tables }
     {
         match show_at(&mut self.tables, table, row) {
             Ok(shown) => Ok(shown),
@@ -317,12 +332,17 @@ impl<D: Disk + Drop> StoreHost<D> {
     }
 
     /// Crashes the Store: of the disk of the next write the first `calls` calls pass, and a write that follows lands
-    /// its first `pick` bytes. The Store is then down with all its tables. It takes no memory.
+    /// its first `pick` bytes. The Store is then down with all its tables. It takes no memory. Unless a disk fails by
+    /// itself, the write is undone where `calls` is 0 or 1, and done where it is 4 or more.
     pub fn crash(&mut self, calls: u32, pick: u64)
         requires held { IsStore D.state self.old }
         requires up { self.old.is_up ≡ true }
         ensures crashed { (w : AWorld) → HoldsStore D.state w self.old
-            → (lucks : List Luck) × IsMoved D.state self.old self.new (store_crashes owner calls lucks w) }
+            → (lucks : List Luck) × IsMoved D.state self.old self.new (store_crashes owner calls lucks w)
+            × HasLuck D.state w self.old.tables self.new.tables lucks }
+        ensures later { LaterFaults D.state self.old.tables self.new.tables }
+        ensures left { (w : AWorld) → HoldsStore D.state w self.old
+            → AreLeft D.state D.images w self.old.tables self.new.tables }
         ensures down { self.new.is_up ≡ false }
         ensures outs { self.new.outs ≡ self.old.outs }
     {
@@ -346,6 +366,8 @@ impl<D: Disk + Drop> StoreHost<D> {
             (tables_fall (tables_of w owner))) }
         ensures up { OnOk result (self.new.is_up ≡ true) }
         ensures cause { HasCause D.state self.old.tables self.new.tables result }
+        ensures left { (w : AWorld) → HoldsStore D.state w self.old
+            → AreLeft D.state D.images w self.old.tables self.new.tables }
     {
         match start_all(self.numbers.as_slice(), &mut self.tables, &mut self.outs) {
             Ok(()) => {
@@ -357,6 +379,18 @@ impl<D: Disk + Drop> StoreHost<D> {
                 Err(NodeFault::Disk)
             }
             Err(fault) => Err(fault),
+        }
+    }
+
+    /// Takes away the table of least number, if there is one, and gives back its disks: those of the chunks, the rows
+    /// and the log. It takes no memory.
+    pub fn take_disks(&mut self) -> Option<(TableNo, (D, D, D))>
+        ensures disks { result ≡ option_map disks_at (slice_get self.old.tables.entries 0) }
+        ensures others { self.new.tables.entries ≡ drop 1 self.old.tables.entries }
+    {
+        match self.tables.pop_first() {
+            Some((table, hosted)) => Some((table, hosted.into_disks())),
+            None => None,
         }
     }
 

@@ -13,12 +13,12 @@ ghost use Rattle.step_tables.specs.StoreMoves.{StoreStep, TableStore, Work, Cras
 ghost use Rattle.step_tables.specs.Messages as messages;
 ghost use Rattle.store_node.specs.declared.fault.NodeFault.TheVariants.{Disk as DiskFailed, Memory};
 ghost use Rattle.store_node.specs.Due.{fact_of};
-ghost use Rattle.store_node.specs.Node.{IsNode, IsTable, has_task, own_faults};
+ghost use Rattle.store_node.specs.Node.{IsNode, IsTable, has_task, own_faults, behind_next, LeavesRows};
 ghost use Rattle.world_tables.specs.World.{owner, goes_on, history_on, next_step, tasks_in};
 ghost use Rattle.world_tables.specs.World as world;
 ghost use Rattle.store_host.specs.Holds.{IsHosted, outs_in, outbox_of, says_something, disks_at};
 ghost use Rattle.store_host.specs.Steps.{IsTelling, HasTold, moved_at, started_at, new_table, faults_of, HasNodeCause};
-ghost use Rattle.store_host.specs.Steps.{HasTaken, HasNodeTakeCause, HasShown};
+ghost use Rattle.store_host.specs.Steps.{HasCrashed, HasTaken, HasNodeTakeCause, HasShown};
 
 use disk_trait::Disk;
 use row_value::Schema;
@@ -169,6 +169,10 @@ impl<D: Disk + Drop> Hosted<D> {
             ⊎ HasTold D.state schema table hosted (moved_at schema table hosted (Work messages.FailedAfter))
             self.new outs.old outs.new }
         ensures cause { HasNodeCause D.state self.old.node self.new.node result }
+        ensures left { (schema : Option ASchema) (table : ℕ) (hosted : world.Hosted)
+            → IsHosted D.state schema table hosted self.old → hosted.made ≡ true
+            → LeavesRows D.state D.images self.old.node self.new.node hosted.store.disk
+            (behind_next hosted.store.disk hosted.store.agenda) }
     {
         if !self.node.is_up() {
             return Ok(Step::Idle);
@@ -187,10 +191,11 @@ impl<D: Disk + Drop> Hosted<D> {
         requires { IsNode D.state self.old.node }
         ensures crashed { (schema : Option ASchema) (table : ℕ) (hosted : world.Hosted)
             → IsHosted D.state schema table hosted self.old
-            → HasTold D.state schema table hosted (moved_at schema table hosted (Crash messages.FailedBefore))
-            self.new [] []
-            ⊎ HasTold D.state schema table hosted (moved_at schema table hosted (Crash messages.FailedAfter))
-            self.new [] [] }
+            → HasCrashed D.state schema table hosted calls self.old self.new }
+        ensures left { (schema : Option ASchema) (table : ℕ) (hosted : world.Hosted)
+            → IsHosted D.state schema table hosted self.old → hosted.made ≡ true
+            → LeavesRows D.state D.images self.old.node self.new.node hosted.store.disk
+            (behind_next hosted.store.disk hosted.store.agenda) }
     {
         if self.node.is_up() {
             self.node.crash(calls, pick);
@@ -205,6 +210,9 @@ impl<D: Disk + Drop> Hosted<D> {
             → HasTold D.state schema table hosted (moved_at schema table hosted (Crash messages.FailedBefore))
             self.new [] [] }
         ensures counted { own_faults D.state self.new.node ≡ own_faults D.state self.old.node }
+        ensures left { (schema : Option ASchema) (table : ℕ) (hosted : world.Hosted)
+            → IsHosted D.state schema table hosted self.old → hosted.made ≡ true
+            → LeavesRows D.state D.images self.old.node self.new.node hosted.store.disk hosted.store.disk }
     {
         self.node.halt();
     }
@@ -220,6 +228,9 @@ impl<D: Disk + Drop> Hosted<D> {
             → IsHosted D.state schema table hosted self.old → IsErrOf result DiskFailed
             → IsHosted D.state schema table hosted self.new × (outs.new ≡ outs.old) }
         ensures cause { HasNodeCause D.state self.old.node self.new.node result }
+        ensures left { (schema : Option ASchema) (table : ℕ) (hosted : world.Hosted)
+            → IsHosted D.state schema table hosted self.old → hosted.made ≡ true
+            → LeavesRows D.state D.images self.old.node self.new.node hosted.store.disk hosted.store.disk }
     {
         match self.node.start() {
             Ok(()) => self.tell(outs),
@@ -242,6 +253,9 @@ impl<D: Disk + Drop> Hosted<D> {
             → HasTaken D.state schema table hosted from message.now self.old self.new outs.old.items outs.new.items
             result }
         ensures cause { HasNodeTakeCause D.state self.old.node self.new.node result }
+        ensures left { (schema : Option ASchema) (table : ℕ) (hosted : world.Hosted)
+            → IsHosted D.state schema table hosted self.old → hosted.made ≡ true
+            → LeavesRows D.state D.images self.old.node self.new.node hosted.store.disk hosted.store.disk }
     {
         outs.reserve(1)?;
         self.node.deliver(from, message)?;
@@ -265,6 +279,9 @@ impl<D: Disk + Drop> Hosted<D> {
             → IsHosted D.state schema table hosted self.old
             → HasTaken D.state schema table hosted from message.now self.old self.new outs.old outs.new result }
         ensures cause { HasNodeTakeCause D.state self.old.node self.new.node result }
+        ensures left { (schema : Option ASchema) (table : ℕ) (hosted : world.Hosted)
+            → IsHosted D.state schema table hosted self.old → hosted.made ≡ true
+            → LeavesRows D.state D.images self.old.node self.new.node hosted.store.disk hosted.store.disk }
     {
         if self.node.is_busy() {
             return self.node.deliver(from, message);
@@ -283,6 +300,9 @@ impl<D: Disk + Drop> Hosted<D> {
             → IsHosted D.state schema table hosted self.old
             → HasShown D.state schema table hosted row.now self.new result }
         ensures cause { HasNodeCause D.state self.old.node self.new.node result }
+        ensures left { (schema : Option ASchema) (table : ℕ) (hosted : world.Hosted)
+            → IsHosted D.state schema table hosted self.old → hosted.made ≡ true
+            → LeavesRows D.state D.images self.old.node self.new.node hosted.store.disk hosted.store.disk }
     {
         self.node.show(row)
     }

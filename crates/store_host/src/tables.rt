@@ -1,5 +1,5 @@
 //! Moves of a Store's tables, one by one and of all.
-ghost use Rattle.std.specs.Prelude.{◌≡◌, ◌⊎◌, ℕ, List, false, true, [], Some, IfOk, IfErr, OnOk, IsErrOf};
+ghost use Rattle.std.specs.Prelude.{◌≡◌, ◌⊎◌, ℕ, List, false, true, Some, IfOk, IfErr, OnOk, IsErrOf};
 ghost use Rattle.std.specs.Prelude.{IsSome};
 ghost use Rattle.std.specs.BTreeMap as tree;
 ghost use Rattle.std.specs.Ordering.{nat_cmp};
@@ -9,9 +9,9 @@ ghost use Rattle.step_tables.specs.Messages as messages;
 ghost use Rattle.step_tables.specs.Messages.{Luck};
 ghost use Rattle.store_node.specs.declared.fault.NodeFault.TheVariants.{Disk as DiskFailed, Memory};
 ghost use Rattle.world_tables.specs.World.{World as AWorld, owner, is_at_work, busy_table, busy_step, move_table};
-ghost use Rattle.world_tables.specs.World.{table_falls, tables_fall, table_crashes, table_starts, tables_start};
-ghost use Rattle.store_host.specs.Holds.{HoldsTables, AreTables, AreUpTables, AllUp, SameFaults};
-ghost use Rattle.store_host.specs.Calls.{AreMoved, HasCause, AreTaken, HasTakeCause, AreShown};
+ghost use Rattle.world_tables.specs.World.{table_falls, tables_fall, table_starts, tables_start};
+ghost use Rattle.store_host.specs.Holds.{HoldsTables, AreTables, AreUpTables, AllUp, SameFaults, AreLeft, AreStill};
+ghost use Rattle.store_host.specs.Calls.{AreMoved, HasCause, AreCrashed, AreTaken, HasTakeCause, AreShown};
 
 use crate::hosted::Hosted;
 use disk_trait::Disk;
@@ -56,6 +56,8 @@ fn halt_at<D: Disk + Drop>(tables: &mut BTreeMap<TableNo, Hosted<D>>, table: Tab
     ensures fallen { (w : AWorld) (numbers : List ℕ) → HoldsTables D.state w numbers tables.old
         → HoldsTables D.state (table_falls table w).world numbers tables.new }
     ensures counted { SameFaults D.state tables.old tables.new }
+    ensures left { (w : AWorld) (numbers : List ℕ) → HoldsTables D.state w numbers tables.old
+        → AreStill D.state D.images w tables.old tables.new }
 {
     if let Some(hosted) = tables.get_mut(&table) {
         hosted.halt();
@@ -71,6 +73,8 @@ pub(crate) fn halt_all<D: Disk + Drop>(
     ensures fallen { (w : AWorld) (all : List ℕ) → HoldsTables D.state w all tables.old
         → HoldsTables D.state (tables_fall numbers.now w).world all tables.new }
     ensures counted { SameFaults D.state tables.old tables.new }
+    ensures left { (w : AWorld) (all : List ℕ) → HoldsTables D.state w all tables.old
+        → AreStill D.state D.images w tables.old tables.new }
 {
     for table in numbers {
         halt_at(tables, *table);
@@ -94,6 +98,8 @@ pub(crate) fn work_at<D: Disk + Drop>(
         ⊎ AreMoved D.state w numbers tables.new outs.old outs.new true
         (move_table table (Work messages.FailedAfter) w) }
     ensures cause { HasCause D.state tables.old tables.new result }
+    ensures left { (w : AWorld) (numbers : List ℕ) → HoldsTables D.state w numbers tables.old
+        → AreLeft D.state D.images w tables.old tables.new }
 {
     match tables.get_mut(&table) {
         Some(hosted) => hosted.work(outs),
@@ -109,8 +115,9 @@ fn crash_at<D: Disk + Drop>(
 )
     requires { AreTables D.state tables.old }
     ensures crashed { (w : AWorld) (numbers : List ℕ) → HoldsTables D.state w numbers tables.old
-        → AreMoved D.state w numbers tables.new [] [] false (table_crashes messages.FailedBefore (Some table) w)
-        ⊎ AreMoved D.state w numbers tables.new [] [] false (table_crashes messages.FailedAfter (Some table) w) }
+        → busy_table w owner ≡ Some table → AreCrashed D.state w numbers calls tables.old tables.new }
+    ensures left { (w : AWorld) (numbers : List ℕ) → HoldsTables D.state w numbers tables.old
+        → AreLeft D.state D.images w tables.old tables.new }
 {
     if let Some(hosted) = tables.get_mut(&table) {
         hosted.crash(calls, pick);
@@ -126,10 +133,9 @@ pub(crate) fn crash_busy<D: Disk + Drop>(
 )
     requires { AreTables D.state tables.old }
     ensures crashed { (w : AWorld) → HoldsTables D.state w numbers.now tables.old
-        → AreMoved D.state w numbers.now tables.new [] [] false
-        (table_crashes messages.FailedBefore (busy_table w owner) w)
-        ⊎ AreMoved D.state w numbers.now tables.new [] [] false
-        (table_crashes messages.FailedAfter (busy_table w owner) w) }
+        → AreCrashed D.state w numbers.now calls tables.old tables.new }
+    ensures left { (w : AWorld) → HoldsTables D.state w numbers.now tables.old
+        → AreLeft D.state D.images w tables.old tables.new }
 {
     if let Some(table) = first_busy(numbers, tables) {
         crash_at(tables, table, calls, pick);
@@ -148,6 +154,8 @@ fn start_at<D: Disk + Drop>(
     ensures refused { (w : AWorld) (numbers : List ℕ) → HoldsTables D.state w numbers tables.old
         → IsErrOf result DiskFailed → HoldsTables D.state w numbers tables.new × (outs.new ≡ outs.old) }
     ensures cause { HasCause D.state tables.old tables.new result }
+    ensures left { (w : AWorld) (numbers : List ℕ) → HoldsTables D.state w numbers tables.old
+        → AreStill D.state D.images w tables.old tables.new }
 {
     match tables.get_mut(&table) {
         Some(hosted) => hosted.start(outs),
@@ -169,6 +177,8 @@ pub(crate) fn start_all<D: Disk + Drop>(
         → IsErrOf result DiskFailed → (lucks : List Luck) × AreMoved D.state w all tables.new outs.old outs.new true
         (tables_start numbers.now lucks w) }
     ensures cause { HasCause D.state tables.old tables.new result }
+    ensures left { (w : AWorld) (all : List ℕ) → HoldsTables D.state w all tables.old
+        → AreStill D.state D.images w tables.old tables.new }
 {
     for table in numbers {
         start_at(tables, outs, *table)?;
@@ -188,6 +198,8 @@ pub(crate) fn deliver_to<D: Disk + Drop>(
     ensures taken { (w : AWorld) (numbers : List ℕ) → HoldsTables D.state w numbers tables.old → AllUp w
         → AreTaken D.state w numbers from message.now tables.new outs.old outs.new result }
     ensures cause { HasTakeCause D.state tables.old tables.new result }
+    ensures left { (w : AWorld) (numbers : List ℕ) → HoldsTables D.state w numbers tables.old
+        → AreStill D.state D.images w tables.old tables.new }
 {
     let table = table_of(message);
     match tables.get_mut(&table) {
@@ -207,6 +219,8 @@ pub(crate) fn show_at<D: Disk + Drop>(
     ensures shown { (w : AWorld) (numbers : List ℕ) → HoldsTables D.state w numbers tables.old → AllUp w
         → AreShown D.state w numbers table row.now tables.new result }
     ensures cause { HasCause D.state tables.old tables.new result }
+    ensures left { (w : AWorld) (numbers : List ℕ) → HoldsTables D.state w numbers tables.old
+        → AreStill D.state D.images w tables.old tables.new }
 {
     match tables.get_mut(&table) {
         Some(hosted) => hosted.show(row),

@@ -1,11 +1,10 @@
 -- The tasks of an update, as they tell and send.
-use Rattle.std.proofs.Common.{◌≡◌, ℕ, ◌+◌, ◌≤◌, ◌++◌, length, Bool, List, [], ◌∷◌, Some, None, Ok, refl, sym, ◌∙◌, ap, subst, arith}
+use Rattle.std.proofs.Common.{◌≡◌, ℕ, ◌++◌, Bool, List, [], ◌∷◌, Some, None, Ok, refl, sym, ◌∙◌, ap, subst, arith}
 use Rattle.stab_base.specs.declared.chunk_name.ChunkName.{ChunkName}
 use Rattle.stab_base.specs.declared.node.Node.{Node}
 use Rattle.row_value.specs.declared.schema.Schema.{Schema}
 use Rattle.row_value.specs.Fit.{fit_of}
 use Rattle.store_commit.specs.Devs.{Devs, Write, changed_by}
-use Rattle.store_commit.specs.Standing.{step_of}
 use Rattle.step_tables.specs.Chunks.{names_with, new_names, old_names, without_names}
 use Rattle.step_tables.specs.Messages.{Request}
 use Rattle.step_tables.specs.Store.{Stored}

@@ -1,7 +1,7 @@
 -- What a start promises of a node in any of its states.
-use Rattle.std.proofs.Common.{◌≡◌, ◌⊎◌, inl, inr, ⊎_elim, ℕ, ◌+◌, ◌<◌, ◌≤◌, ◌++◌, length, map, Bool, true, false, List, [], ◌∷◌, Option, Some, None, Result, Ok, Err, refl, sym, ◌∙◌, ap, subst, arith, append-nil}
-use Rattle.std.specs.Prelude.{IsErrOf, OnOk, OnErr, IfErr}
+use Rattle.std.proofs.Common.{◌≡◌, inr, ℕ, ◌++◌, map, true, false, List, [], ◌∷◌, Option, Some, None, Result, Ok, Err, refl, sym, ◌∙◌, ap, append-nil}
 use Rattle.std.proofs.lemmas.List.{map-append}
+use Rattle.disk_trait.specs.Image.{IsImage}
 use Rattle.disk_trait.specs.Calls.{DiskState}
 use Rattle.disk_trait.specs.Fuse.{behind, inner_of}
 use Rattle.disk_trait.specs.declared.fuse.FuseDisk.{FuseDisk}
@@ -14,9 +14,8 @@ use Rattle.store_commit.specs.There.{WholeRows}
 use Rattle.store_commit.specs.Standing.{devs, writes_of, AreUp, AreSound, AreSynced}
 use Rattle.step_tables.specs.Facts.{Fact}
 use Rattle.step_tables.specs.Facts as facts_of
-use Rattle.step_tables.specs.StoreMoves.{StoreDisk, StoreTask, TableStore, Start}
+use Rattle.step_tables.specs.StoreMoves.{StoreDisk, StoreTask, TableStore}
 use Rattle.store_node.specs.Devices.{BeginsStart}
-use Rattle.step_tables.specs.Travels.{send_of}
 use Rattle.store_node.specs.Due.{fact_of, facts_found}
 use Rattle.store_node.specs.Fault.{fault_of}
 use Rattle.store_node.specs.Gathered.{HasRoom}
@@ -27,10 +26,10 @@ use Rattle.store_node.specs.declared.owed.Owed.TheVariants as owed
 use Rattle.store_node.specs.declared.fault.NodeFault.{NodeFault}
 use Rattle.store_node.specs.declared.fault.NodeFault.TheVariants as node_faults
 use Rattle.store_node.specs.declared.node.TableNode.{TableNode}
-use Rattle.store_node.specs.Node.{IsWorking, IsResting, IsTable, IsNode, IsSame, told_by, sent_by, own_faults, nothing_stored, facts_in}
-use Rattle.store_node.specs.Calls.{Falls, IsBehind, Stays, Declares, DeclaresLate, Recovers, Starts, step_at, late}
+use Rattle.store_node.specs.Node.{IsTable, told_by, sent_by, nothing_stored}
+use Rattle.store_node.specs.Calls.{Falls, Stays, Declares, DeclaresLate, Recovers, Starts}
 use Rattle.store_node.proofs.Recovering.{recovered_at, unrecovered_at}
-use Rattle.store_node.proofs.Working.{IsKept}
+use Rattle.store_node.proofs.Working.{IsKept, still_rows, down_rows}
 use Rattle.store_node.proofs.Whole.{whole_stands}
 
 module _ {D : Type 0} (state : D → DiskState) (images : D → ℕ → List ℕ → Type 0) where
@@ -69,25 +68,34 @@ module _ {D : Type 0} (state : D → DiskState) (images : D → ℕ → List ℕ
         scheme = t.scheme;
         spelled = t.spelled;
         short = t.short;
-        at = (t.at.0, record { up = r.up; unset = r.unset; idle = r.idle; synced = r.synced; sound = r.sound; stands = r.stands; fit = r.fit; nothing = r.nothing });
+        at = (t.at.0, record { up = r.up; fresh = r.fresh; idle = r.idle; synced = r.synced; sound = r.sound; stands = r.stands; fit = r.fit; nothing = r.nothing });
       }
 
   still : (node : TableNode D) (facts : Gathered StoreFact) (disk : StoreDisk) → facts.items.items ≡ node.facts.items.items → IsTable state node (at disk None) → Stays state node (record node { facts = facts }) (at disk None)
   still node facts disk same t = record { table = facts_at node facts disk t; told = ap (map fact_of) same; sent = refl; same = record { store = refl; table = refl; schema = refl } }
 
-  pub recover_short : (node : TableNode D) (facts : Gathered StoreFact) (disk : StoreDisk) (agenda : Option (List StoreTask)) → facts.items.items ≡ node.facts.items.items → IsTable state node (at disk agenda) → node.is_up ≡ false
-      → Recovers state (at disk agenda) node (record node { facts = facts }) (Err node_faults.Memory)
-  recover_short node facts disk None same t down = record { started = tt; refused = still node facts disk same t; counted = λ _. refl; cause = λ is. absurd cc; only = inr refl }
-  recover_short node facts disk (Some tasks) same t down = let up = t.at.0 in absurd cc
+  pub recover_short : ((disk : FuseDisk D) (image : List ℕ) → images (inner_of disk) (behind state disk).moment image → IsImage (behind state disk).pending image)
+      → (node : TableNode D) (facts : Gathered StoreFact) (disk : StoreDisk) (agenda : Option (List StoreTask)) → facts.items.items ≡ node.facts.items.items → IsTable state node (at disk agenda)
+      → node.is_declared ≡ true → node.is_up ≡ false
+      → Recovers state images (at disk agenda) node (record node { facts = facts }) (Err node_faults.Memory)
+  recover_short only_now node facts disk None same t declared down = record {
+    started = tt;
+    refused = still node facts disk same t;
+    counted = λ _. refl;
+    cause = λ is. absurd cc;
+    only = inr refl;
+    rows_left = down_rows state images only_now node disk t.at.1 declared;
+  }
+  recover_short only_now node facts disk (Some tasks) same t declared down = let up = t.at.0 in absurd cc
 
   pub recover_done : (old : TableNode D) (reserved facts : Gathered StoreFact) (disk : StoreDisk) (agenda : Option (List StoreTask)) → IsTable state old (at disk agenda) → old.is_declared ≡ true → old.is_up ≡ false
       → (table : TableDevs (FuseDisk D)) (recovery : Recovery) → BeginsStart st im old.devs table (Ok recovery) → HasRoom facts 1 → map fact_of facts.items.items ≡ told_by old ++ facts_found old.table recovery
-      → Recovers state (at disk agenda) old (record old { is_up = true; devs = table; owed = owed.Start; facts = facts }) (Ok tt)
+      → Recovers state images (at disk agenda) old (record old { is_up = true; devs = table; owed = owed.Start; facts = facts }) (Ok tt)
   recover_done old reserved facts disk None t declared down table recovery k room told = recovered_at state images old disk t declared table recovery k facts room told
   recover_done old reserved facts disk (Some tasks) t declared down table recovery k room told = let up = t.at.0 in absurd cc
 
   pub recover_failed : (old : TableNode D) (disk : StoreDisk) (agenda : Option (List StoreTask)) → IsTable state old (at disk agenda) → old.is_declared ≡ true → old.is_up ≡ false → (mid new : TableNode D) (e : CommitFault)
-      → BeginsStart st im old.devs mid.devs (Err e) → Falls state images mid new → IsKept old new → new.is_up ≡ false → Recovers state (at disk agenda) old new (Err (fault_of e))
+      → BeginsStart st im old.devs mid.devs (Err e) → Falls state images mid new → IsKept old new → new.is_up ≡ false → Recovers state images (at disk agenda) old new (Err (fault_of e))
   recover_failed old disk None t declared down mid new e k falls kept down_now = unrecovered_at state images old disk t declared mid new e k falls kept down_now
   recover_failed old disk (Some tasks) t declared down mid new e k falls kept down_now = let up = t.at.0 in absurd cc
 
@@ -116,7 +124,7 @@ module _ {D : Type 0} (state : D → DiskState) (images : D → ℕ → List ℕ
           record {
             declared = h.declared;
             up = h.up;
-            unset = h.unset;
+            fresh = h.fresh;
             hidden = h.hidden;
             ready = h.ready;
             follows = h.follows;
@@ -161,19 +169,31 @@ module _ {D : Type 0} (state : D → DiskState) (images : D → ℕ → List ℕ
 
   -- ---- a start
 
-  pub start_up : (node : TableNode D) (disk : StoreDisk) (agenda : Option (List StoreTask)) → IsTable state node (at disk agenda) → node.is_up ≡ true → Starts state (at disk agenda) node node (Ok tt)
-  start_up node disk None t up = let no = t.at.0 in absurd cc
-  start_up node disk (Some tasks) t up = record {
+  pub start_up : ((disk : FuseDisk D) (image : List ℕ) → images (inner_of disk) (behind state disk).moment image → IsImage (behind state disk).pending image)
+      → (node : TableNode D) (disk : StoreDisk) (agenda : Option (List StoreTask)) → IsTable state node (at disk agenda) → node.is_up ≡ true → Starts state images (at disk agenda) node node (Ok tt)
+  start_up only_now node disk None t up = let no = t.at.0 in absurd cc
+  start_up only_now node disk (Some tasks) t up = record {
     started = λ _. record { table = t; told = sym (append-nil (told_by node)); sent = sym (append-nil (sent_by node)); same = record { store = refl; table = refl; schema = refl } };
     declared = λ isnt. let is = t.at.1.declared in absurd cc;
     refused = tt;
     counted = λ _. refl;
     cause = λ is. absurd cc;
     only = tt;
+    rows_left = λ _. still_rows state images only_now node disk tasks t.at.1;
   }
 
-  pub start_recovers : (old new : TableNode D) (s : TableStore) (r : Result (Unit {0}) NodeFault) → old.is_declared ≡ true → Recovers state s old new r → Starts state s old new r
-  start_recovers old new s r is k = record { started = λ _. k.started; declared = λ isnt. absurd cc; refused = k.refused; counted = k.counted; cause = k.cause; only = k.only }
+  pub start_recovers : (old new : TableNode D) (s : TableStore) (r : Result (Unit {0}) NodeFault) → old.is_declared ≡ true → Recovers state images s old new r → Starts state images s old new r
+  start_recovers old new s r is k = record {
+    started = λ _. k.started;
+    declared = λ isnt. absurd cc;
+    refused = k.refused;
+    counted = k.counted;
+    cause = k.cause;
+    only = k.only;
+    rows_left = λ _.
+        k.rows_left;
+  }
 
-  pub start_declares : (old new : TableNode D) (s : TableStore) (r : Result (Unit {0}) NodeFault) → old.is_declared ≡ false → DeclaresLate state s old new r → Starts state s old new r
-  start_declares old new s r isnt k = record { started = λ is. absurd cc; declared = λ _. k.declared; refused = k.refused; counted = k.counted; cause = k.cause; only = k.only }
+  pub start_declares : (old new : TableNode D) (s : TableStore) (r : Result (Unit {0}) NodeFault) → old.is_declared ≡ false → DeclaresLate state s old new r → Starts state images s old new r
+  start_declares old new s r isnt k = record
+      { started = λ is. absurd cc; declared = λ _. k.declared; refused = k.refused; counted = k.counted; cause = k.cause; only = k.only; rows_left = λ is. absurd cc }

@@ -28,6 +28,7 @@ use Rattle.store_node.specs.declared.node.TableNode.{TableNode}
 use Rattle.store_node.specs.Node.{IsWorking, IsTable, IsNode, told_by, sent_by, LeavesEither}
 use Rattle.store_node.specs.Calls.{IsBehind, Stays, Answers, Delivers, IsTaken, IsSpent, version_at, version_in, step_at}
 use Rattle.store_node.proofs.Following.{follows_now, no_task, no_write}
+use Rattle.store_node.proofs.Working.{still_rows}
 
 -- ---- the version at work
 
@@ -88,6 +89,7 @@ module _ {D : Type 0} (state : D → DiskState) (images : D → ℕ → List ℕ
     cause = λ e. absurd cc;
     only = inl (version, refl);
     any_moment = rests node disk (task ∷ tasks) t.at.1;
+    rows_left = still_rows state images only_now node disk (task ∷ tasks) t.at.1;
   }
     where
       work : version ≡ version_at disk task.change
@@ -116,6 +118,7 @@ module _ {D : Type 0} (state : D → DiskState) (images : D → ℕ → List ℕ
     cause = λ e. absurd cc;
     only = tt;
     any_moment = rests node disk [] t.at.1;
+    rows_left = still_rows state images only_now node disk [] t.at.1;
   }
 
   pub drops : (node : TableNode D) (disk : StoreDisk) (agenda : Option (List StoreTask)) → agenda ≡ Some [] → IsTable state node (at disk agenda) → (from : Node) (message : Message) → (IsTaken node message → ⊥)
@@ -171,6 +174,7 @@ module _ {D : Type 0} (state : D → DiskState) (images : D → ℕ → List ℕ
     cause = a.cause;
     only = wider r a.only;
     any_moment = a.any_moment;
+    rows_left = a.rows_left;
   }
 
   -- ---- a node behind it

@@ -1,22 +1,20 @@
 -- A node whose disks were restarted holds what a crash might have left.
-use Rattle.std.proofs.Common.{◌≡◌, ◌⊎◌, inl, inr, ⊎_elim, ℕ, ◌≤◌, ◌++◌, length, false, true, List, [], ◌∷◌, Option, Some, None, Result, Ok, Err, refl, sym, ◌∙◌, ap, subst, append-nil}
-use Rattle.disk_trait.specs.Image.{IsImage}
+use Rattle.std.proofs.Common.{◌≡◌, ◌⊎◌, inl, inr, ⊎_elim, ℕ, false, true, List, None, sym, subst}
 use Rattle.disk_trait.specs.Calls.{DiskState}
 use Rattle.disk_trait.specs.Fuse.{behind, inner_of}
 use Rattle.disk_trait.specs.declared.fuse.FuseDisk.{FuseDisk}
 use Rattle.vault.specs.Calls.{IsEither}
-use Rattle.stab_base.specs.declared.step.Step.{Step}
 use Rattle.row_value.specs.declared.schema.Schema.{Schema}
 use Rattle.store_commit.specs.declared.devs.TableDevs.{TableDevs}
-use Rattle.store_commit.specs.declared.fault.CommitFault.{CommitFault}
-use Rattle.store_commit.specs.Devs.{Devs, Write, changed_by, IsBeforeOrAfter}
-use Rattle.store_commit.specs.Standing.{devs, writes_of, AreUp, AreSound, AreSynced, IsReady, DevsLeave, WorksOn}
-use Rattle.store_commit.proofs.Moments.{devs_weaker}
-use Rattle.step_tables.specs.StoreMoves.{StoreDisk, StoreTask, TableStore, changed}
-use Rattle.device_laws.specs.Stands.{Stands}
+use Rattle.store_commit.specs.Devs.{Devs, Write}
+use Rattle.store_commit.specs.Standing.{devs, AreSound, AreSynced, IsReady, DevsLeave, RowsLeave}
+use Rattle.store_commit.proofs.Moments.{devs_weaker, rows_weaker}
+use Rattle.step_tables.specs.StoreMoves.{StoreDisk, TableStore}
+use Rattle.device_laws.specs.Stands.{Stands, HasRows}
 use Rattle.store_node.specs.declared.node.TableNode.{TableNode}
-use Rattle.store_node.specs.Node.{AreFit, IsResting, IsTable, IsSame, LeavesEither}
+use Rattle.store_node.specs.Node.{AreFit, IsTable, IsSame}
 use Rattle.store_node.specs.Calls.{Falls}
+use Rattle.store_node.proofs.RowsLeft.{has_either}
 
 -- what the disks may hold, as disks of the step table
 pub record MayHold (schema : Schema) (a b : Devs) (before after : StoreDisk) : Type 0 where
@@ -31,6 +29,14 @@ module _ {D : Type 0} (state : D → DiskState) (images : D → ℕ → List ℕ
 
   abbrev im : FuseDisk D → ℕ → List ℕ → Type 0
   im f = images (inner_of f)
+
+  -- of the disk of the rows a crash leaves these rows or those
+  pub fallen_rows : (mid new : TableNode D) (f : Falls state images mid new) (schema : Schema) (start : TableDevs (FuseDisk D)) (a b : Devs) (before after : StoreDisk)
+      (may : MayHold schema a b before after)
+      → RowsLeave st im start mid.devs (IsEither a.held b.held) → RowsLeave st im start new.devs (λ held. HasRows schema held before ⊎ HasRows schema held after)
+  fallen_rows mid new f schema start a b before after may run =
+      rows_weaker st im start new.devs (IsEither a.held b.held) (λ held. HasRows schema held before ⊎ HasRows schema held after) (f.rows_left start a.held b.held run).1
+      (has_either schema a b before after may.first may.second)
 
   -- ready devices are synced and sound
   pub ready_synced : (table : TableDevs (FuseDisk D)) (ws : List Write) → IsReady st table ws → AreSynced st table
@@ -52,7 +58,7 @@ module _ {D : Type 0} (state : D → DiskState) (images : D → ℕ → List ℕ
         down,
         record {
           up = f.up;
-          unset = f.unset;
+          fresh = f.fresh;
           idle = f.idle;
           synced = λ _. f.synced;
           sound = λ _. sound;

@@ -1,5 +1,5 @@
 -- Writes and tasks side by side, and what a done write makes of a node.
-use Rattle.std.proofs.Common.{◌≡◌, ◌⊎◌, inl, inr, ⊎_elim, ℕ, ◌+◌, ◌<◌, ◌≤◌, ◌++◌, length, map, Bool, true, false, List, [], ◌∷◌, Option, Some, None, Result, Ok, Err, refl, sym, ◌∙◌, ap, subst, arith, append-nil}
+use Rattle.std.proofs.Common.{◌≡◌, inl, inr, ⊎_elim, ℕ, ◌+◌, ◌<◌, Bool, true, false, List, [], ◌∷◌, Option, Ok, refl, sym, ap, subst, arith}
 use Rattle.std.specs.Bool.{MatchBool}
 use Rattle.disk_trait.specs.Calls.{DiskState}
 use Rattle.disk_trait.specs.Fuse.{behind, inner_of}
@@ -13,21 +13,19 @@ use Rattle.store_commit.specs.Devs as devs_of
 use Rattle.store_commit.specs.Standing.{devs, writes_of, step_of, all_faults, AreUp, AreSound, AreSynced, IsReady}
 use Rattle.store_commit.specs.Standing.{NothingHidden}
 use Rattle.store_commit.specs.Standing as commits
-use Rattle.store_commit.specs.Unset.{AreUnset, KeepsUnset, all_stops}
+use Rattle.store_commit.specs.Fused.{SameDisks}
+use Rattle.store_commit.specs.Unset.{KeepsUnset, all_stops}
 use Rattle.step_tables.specs.declared.message.Message.{Message}
-use Rattle.step_tables.specs.Facts.{Fact}
 use Rattle.step_tables.specs.Store.{Stored}
 use Rattle.step_tables.specs.StoreMoves.{StoreDisk, StoreTask, StoreChange, TableStore, changed}
 use Rattle.step_tables.specs.StoreMoves as moves
 use Rattle.device_laws.specs.Stands.{Stands, Follows, IsWriteOf}
-use Rattle.step_tables.specs.Travels.{send_of}
-use Rattle.store_node.specs.Due.{fact_of, told_at, sent_at, is_last_of}
+use Rattle.store_node.specs.Due.{is_last_of}
 use Rattle.store_node.specs.Gathered.{HasRoom}
 use Rattle.store_node.specs.declared.gathered.Gathered.{Gathered}
 use Rattle.store_node.specs.declared.told.StoreFact.{StoreFact}
-use Rattle.store_node.specs.declared.owed.Owed.{Owed}
 use Rattle.store_node.specs.declared.node.TableNode.{TableNode}
-use Rattle.store_node.specs.Node.{AreOwed, AreFit, facts_in, sends_in, GoesWell, own_faults, IsWorking, IsTable}
+use Rattle.store_node.specs.Node.{AreOwed, AreFit, facts_in, sends_in, GoesWell, own_faults, IsWorking}
 
 -- ---- writes and tasks
 
@@ -85,6 +83,11 @@ module _ {D : Type 0} (state : D → DiskState) where
   pub own_stays : (old new : TableNode D) → all_faults (behind state) new.devs ≡ all_faults (behind state) old.devs → all_stops (behind state) new.devs ≡ all_stops (behind state) old.devs → own_faults state new ≡ own_faults state old
   own_stays old new faults stops = let a = own_is old in let b = own_is new in omega (arith, a, b, faults, stops)
 
+  -- the same disks behind other fuses
+  pub own_same : (old new : TableNode D) → SameDisks old.devs new.devs → own_faults state new ≡ own_faults state old
+  own_same old new same =
+      let a = ap (λ d. (state d).faults) same.chunks in let b = ap (λ d. (state d).faults) same.rows in let c = ap (λ d. (state d).faults) same.log in omega (arith, a, b, c)
+
   pub own_rises : (old new : TableNode D) → all_faults (behind state) old.devs < all_faults (behind state) new.devs → all_stops (behind state) new.devs ≡ all_stops (behind state) old.devs → own_faults state old < own_faults state new
   own_rises old new faults stops = let a = own_is old in let b = own_is new in omega (arith, a, b, faults, stops)
 
@@ -107,7 +110,7 @@ module _ {D : Type 0} (state : D → DiskState) where
     done_working table facts messages step k rest keeps hidden fact_room message_room = record {
       declared = h.declared;
       up = k.up;
-      unset = keeps.unset h.unset;
+      fresh = keeps.fresh h.fresh;
       hidden = hidden;
       ready = subst (λ (l : List Write). IsReady (behind state) table l) (sym rest) k.ready;
       follows = subst (λ (l : List Write). Follows old.schema (devs (behind state) table) l (changed disk task.change) tasks) (sym rest) (subst (λ (d : Devs). Follows old.schema d ws (changed disk task.change) tasks) (sym k.devs_are) follows_w.2);

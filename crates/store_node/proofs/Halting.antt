@@ -1,25 +1,22 @@
 -- What a node's halt promises, and when its devices have no write to do.
-use Rattle.std.proofs.Common.{◌≡◌, ◌⊎◌, inl, inr, ⊎_elim, ℕ, ◌++◌, Bool, true, false, List, [], ◌∷◌, Option, Some, None, refl, sym, ◌∙◌, ap, subst, append-nil}
-use Rattle.std.specs.Prelude.{MatchBool}
+use Rattle.std.proofs.Common.{◌≡◌, inl, ⊎_elim, ℕ, true, false, List, [], ◌∷◌, Option, Some, None, refl, sym, ◌∙◌, append-nil}
 use Rattle.disk_trait.specs.Image.{IsImage}
 use Rattle.disk_trait.specs.Calls.{DiskState}
 use Rattle.disk_trait.specs.Fuse.{behind, inner_of}
 use Rattle.disk_trait.specs.declared.fuse.FuseDisk.{FuseDisk}
 use Rattle.vault.specs.Calls.{IsEither}
-use Rattle.store_commit.specs.Devs.{Devs, Write}
-use Rattle.store_commit.specs.Standing.{devs, writes_of, DevsLeave}
+use Rattle.store_commit.specs.Standing.{devs, writes_of, DevsLeave, RowsLeave}
 use Rattle.store_commit.proofs.Works.{rests_leave}
-use Rattle.store_commit.proofs.Moments.{devs_weaker}
-use Rattle.step_tables.specs.StoreMoves.{StoreDisk, StoreTask, TableStore, Crash, crashed}
+use Rattle.store_commit.proofs.Moments.{devs_weaker, rows_weaker, rows_rest}
+use Rattle.step_tables.specs.StoreMoves.{StoreDisk, StoreTask, TableStore, Crash}
 use Rattle.step_tables.specs.Messages.{FailedBefore}
-use Rattle.device_laws.specs.Stands.{Stands, Follows}
 use Rattle.store_node.specs.declared.node.TableNode.{TableNode}
-use Rattle.store_node.specs.Node.{IsTable, IsNode, IsSame, told_by, sent_by, own_faults, LeavesEither}
+use Rattle.store_node.specs.Node.{IsTable, IsNode, told_by, sent_by}
 use Rattle.store_node.specs.Calls.{Falls, IsBehind, step_at}
 use Rattle.store_node.specs.Halts.{Halts}
 use Rattle.store_node.proofs.Following.{follows_now, well_now}
-use Rattle.store_node.proofs.Falling.{MayHold, fallen, fallen_leaves}
-use Rattle.store_node.proofs.Working.{IsKept}
+use Rattle.store_node.proofs.Falling.{MayHold, fallen, fallen_leaves, fallen_rows}
+use Rattle.store_node.proofs.Working.{IsKept, down_rows}
 
 module _ {D : Type 0} (state : D → DiskState) (images : D → ℕ → List ℕ → Type 0) where
   abbrev at : StoreDisk → Option (List StoreTask) → TableStore
@@ -46,6 +43,9 @@ module _ {D : Type 0} (state : D → DiskState) (images : D → ℕ → List ℕ
         let run : DevsLeave (λ f. behind state f) (λ f. images (inner_of f)) old.devs old.devs (IsEither here here) =
         devs_weaker (λ f. behind state f) (λ f. images (inner_of f)) old.devs old.devs (λ d. d ≡ here) (IsEither here here)
         (rests_leave (λ f. behind state f) (λ f. images (inner_of f)) only_now old.devs (writes_of old.devs) h.ready) (λ d same. inl same) in
+        let rows_run : RowsLeave (λ f. behind state f) (λ f. images (inner_of f)) old.devs old.devs (IsEither here.held here.held) =
+        rows_weaker (λ f. behind state f) (λ f. images (inner_of f)) old.devs old.devs (λ held. held ≡ here.held) (IsEither here.held here.held)
+        (rows_rest (λ f. behind state f) (λ f. images (inner_of f)) only_now old.devs (writes_of old.devs) h.ready) (λ held same. inl same) in
         record {
           halted = behind_crash s.disk tasks (⊎_elim (λ t. t) (λ t. t)
               (fallen state images old old new (at s.disk (Some tasks)) t kept.same declared is_down falls old.devs here here s.disk s.disk may run));
@@ -53,19 +53,22 @@ module _ {D : Type 0} (state : D → DiskState) (images : D → ℕ → List ℕ
           counted = falls.counted;
           still = λ down. absurd cc;
           any_moment = λ _. fallen_leaves state images old old new (at s.disk (Some tasks)) t kept.same declared is_down falls old.devs here here s.disk s.disk may run;
+          rows_left = λ _. fallen_rows state images old new falls old.schema old.devs here here s.disk s.disk may rows_run;
         }
 
   -- ---- a node that is down
 
-  pub halts_down : (node : TableNode D) (disk : StoreDisk) (agenda : Option (List StoreTask)) → IsTable state node (at disk agenda) → node.is_up ≡ false
+  pub halts_down : ((disk : FuseDisk D) (image : List ℕ) → images (inner_of disk) (behind state disk).moment image → IsImage (behind state disk).pending image)
+      → (node : TableNode D) (disk : StoreDisk) (agenda : Option (List StoreTask)) → IsTable state node (at disk agenda) → node.is_up ≡ false
       → Halts state images (at disk agenda) node node
-  halts_down node disk (Some tasks) t down = let no = t.at.0 in absurd cc
-  halts_down node disk None t down = record {
+  halts_down only_now node disk (Some tasks) t down = let no = t.at.0 in absurd cc
+  halts_down only_now node disk None t down = record {
     halted = record { table = t; told = sym (append-nil (told_by node)); sent = sym (append-nil (sent_by node)); same = record { store = refl; table = refl; schema = refl } };
     declared = refl;
     counted = refl;
     still = λ _. refl;
     any_moment = λ up. absurd cc;
+    rows_left = λ declared. down_rows state images only_now node disk t.at.1 declared;
   }
 
   pub halted_node : (s : TableStore) (old new : TableNode D) → Halts state images s old new → IsNode state new

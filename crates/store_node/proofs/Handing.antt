@@ -1,5 +1,5 @@
 -- What is gathered, and the node in any of its states.
-use Rattle.std.proofs.Common.{◌≡◌, inl, inr, ⊎_elim, ℕ, ◌+◌, ◌≤◌, ◌++◌, length, map, Bool, true, false, List, [], ◌∷◌, Option, Some, None, Result, Ok, Err, refl, sym, ◌∙◌, ap, subst, arith}
+use Rattle.std.proofs.Common.{◌≡◌, ℕ, ◌+◌, ◌≤◌, ◌++◌, length, map, Bool, true, false, List, [], ◌∷◌, Option, Some, None, Ok, refl, sym, ◌∙◌, ap, subst}
 use Rattle.std.specs.Prelude.{option_to_list, not}
 use Rattle.std.specs.Bool.{MatchBool}
 use Rattle.std.proofs.lemmas.List.{length-map, map-append}
@@ -10,7 +10,6 @@ use Rattle.stab_base.specs.declared.node.Node.{Node}
 use Rattle.stab_base.specs.declared.step.Step.{Step}
 use Rattle.step_tables.specs.declared.message.Message.{Message}
 use Rattle.store_commit.specs.declared.devs.TableDevs.{TableDevs}
-use Rattle.store_commit.specs.declared.fault.CommitFault.{CommitFault}
 use Rattle.store_commit.specs.Devs.{Write}
 use Rattle.store_commit.specs.Standing.{devs, writes_of, step_of, AreUp, IsReady, WorksOn, NothingHidden}
 use Rattle.step_tables.specs.StoreMoves.{StoreDisk, StoreTask, TableStore}
@@ -22,7 +21,7 @@ use Rattle.store_node.specs.Gathered.{HasRoom}
 use Rattle.store_node.specs.declared.gathered.Gathered.{Gathered}
 use Rattle.store_node.specs.declared.told.StoreFact.{StoreFact}
 use Rattle.store_node.specs.declared.node.TableNode.{TableNode}
-use Rattle.store_node.specs.Node.{IsWorking, IsTable, IsNode, facts_in, sends_in, has_task}
+use Rattle.store_node.specs.Node.{IsTable, facts_in, sends_in, has_task}
 use Rattle.store_node.proofs.Following.{less_room, owed_w, no_write}
 
 -- ---- what is gathered
@@ -97,7 +96,7 @@ module _ {D : Type 0} (state : D → DiskState) (images : D → ℕ → List ℕ
         scheme = t.scheme;
         spelled = t.spelled;
         short = t.short;
-        at = (t.at.0, record { up = r.up; unset = r.unset; idle = r.idle; synced = r.synced; sound = r.sound; stands = r.stands; fit = r.fit; nothing = r.nothing });
+        at = (t.at.0, record { up = r.up; fresh = r.fresh; idle = r.idle; synced = r.synced; sound = r.sound; stands = r.stands; fit = r.fit; nothing = r.nothing });
       }
   taken_out node facts messages fr mr disk (Some tasks) t =
       let h = t.at.1 in
@@ -111,7 +110,7 @@ module _ {D : Type 0} (state : D → DiskState) (images : D → ℕ → List ℕ
           record {
             declared = h.declared;
             up = h.up;
-            unset = h.unset;
+            fresh = h.fresh;
             hidden = h.hidden;
             ready = h.ready;
             follows = h.follows;

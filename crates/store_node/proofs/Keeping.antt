@@ -1,6 +1,6 @@
 -- The chunks on the devices are those of the rows, and those that are left.
-use Rattle.std.proofs.Common.{◌≡◌, inl, inr, ⊎_elim, ◌⊎◌, ℕ, List, Bool, true, false, Option, Some, None, Result, Ok, Err, refl, sym, ◌∙◌, ap, subst}
-use Rattle.std.specs.Prelude.{◌↔◌, IsSome, IsErrOf, IfErr}
+use Rattle.std.proofs.Common.{◌≡◌, inl, inr, ⊎_elim, ◌⊎◌, ℕ, List, true, Option, Some, None, Err, refl, sym, ap, subst}
+use Rattle.std.specs.Prelude.{IsSome, IsErrOf}
 use Rattle.std.specs.Map.{keys_of}
 use Rattle.std.specs.List.Sorted.{IsStrictlySortedBy}
 use Rattle.disk_trait.specs.Calls.{DiskState}
@@ -25,7 +25,6 @@ use Rattle.device_laws.proofs.NamedDevices.{held_with}
 use Rattle.device_laws.proofs.Steps.{some_is}
 use Rattle.store_node.specs.Kept.{IsKept, AreKept}
 use Rattle.store_node.specs.Fault.{fault_of}
-use Rattle.store_node.specs.declared.fault.NodeFault.{NodeFault}
 use Rattle.store_node.specs.declared.fault.NodeFault.TheVariants as node_faults
 use Rattle.store_node.specs.declared.node.TableNode.{TableNode}
 use Rattle.store_node.specs.Node.{IsTable}

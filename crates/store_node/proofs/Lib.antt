@@ -1,6 +1,8 @@
+pub mod RowsLeft
 pub mod Following
 pub mod Falling
 pub mod Working
+pub mod Crashing
 pub mod Starting
 pub mod Recovering
 pub mod Handing

@@ -1,10 +1,9 @@
 -- What a declaration and a start do to a table's devices, call by call.
-use Rattle.std.proofs.Common.{◌≡◌, ◌⊎◌, inl, inr, ⊎_elim, ℕ, ◌<◌, List, [], ◌∷◌, Result, Ok, Err, refl, sym, ◌∙◌, ap, subst, arith}
-use Rattle.std.specs.Prelude.{IsErrOf, OnOk}
+use Rattle.std.proofs.Common.{◌≡◌, inl, inr, ⊎_elim, ℕ, List, [], ◌∷◌, Result, Ok, Err, refl, ◌∙◌, ap, subst, arith}
+use Rattle.std.specs.Prelude.{OnOk}
 use Rattle.std.specs.BTreeSet.{keys}
 use Rattle.disk_trait.specs.Calls.{DiskState}
 use Rattle.row_value.specs.declared.schema.Schema.{Schema}
-use Rattle.row_store.specs.Data.{nothing_held, with_table}
 use Rattle.store_commit.specs.declared.devs.TableDevs.{TableDevs}
 use Rattle.store_commit.specs.declared.recovery.Recovery.{Recovery}
 use Rattle.store_commit.specs.declared.fault.CommitFault.{CommitFault}
@@ -18,8 +17,9 @@ use Rattle.store_commit.specs.TakesOn.{TakesOn}
 use Rattle.store_commit.specs.Scan.{AllStay, Asks}
 use Rattle.store_commit.specs.Unset.{KeepsUnset, HasCause}
 use Rattle.store_commit.proofs.Fusing.{keeps_then, cause_then}
-use Rattle.store_commit.specs.Standing.{NothingHidden}
-use Rattle.store_node.specs.Devices.{MakesTable, BeginsStart, no_rows}
+use Rattle.store_commit.specs.Standing.{RowsLeave, NothingHidden}
+use Rattle.store_commit.proofs.Moments.{rows_then}
+use Rattle.store_node.specs.Devices.{MakesTable, BeginsStart}
 
 module _ {D : Type 0} (state : D → DiskState) (images : D → ℕ → List ℕ → Type 0) where
   pub ready_up : (table : TableDevs D) (ws : List Write) → IsReady state table ws → AreUp table
@@ -118,9 +118,18 @@ module _ {D : Type 0} (state : D → DiskState) (images : D → ℕ → List ℕ
 
   -- ---- a start
 
+  -- the rows are left as they were, and so again
+  pub rows_go_on : (old mid new : TableDevs D) → devs state mid ≡ devs state old → RowsLeave state images old mid (λ held. held ≡ (devs state old).held)
+      → RowsLeave state images mid new (λ held. held ≡ (devs state mid).held)
+      → RowsLeave state images old new (λ held. held ≡ (devs state old).held)
+  rows_go_on old mid new same first second =
+      rows_then state images old mid new (λ held. held ≡ (devs state old).held) (λ held. held ≡ (devs state mid).held) (λ held. held ≡ (devs state old).held) first second
+      (λ held is. is) (λ held is. is ∙ ap (λ (d : Devs). d.held) same)
+
   pub begun_start : (old looked new : TableDevs D) (r : Result Recovery CommitFault) → KeepsUnset state old looked → HasCause {T = Unit {0}} state old looked (Ok tt) → devs state looked ≡ devs state old
-      → KeepsUnset state looked new → Recovers state images looked new r → OnOk r (AreRisingWrites (devs state looked) (writes_of new)) → NothingHidden new → BeginsStart state images old new r
-  begun_start old looked new (Ok recovery) keeps cause same more k rising hidden = record {
+      → KeepsUnset state looked new → RowsLeave state images old looked (λ held. held ≡ (devs state old).held) → Recovers state images looked new r
+      → OnOk r (AreRisingWrites (devs state looked) (writes_of new)) → NothingHidden new → BeginsStart state images old new r
+  begun_start old looked new (Ok recovery) keeps cause same more rows k rising hidden = record {
     answer = subst (λ (d : Devs). IsRecovery d recovery) same k.answer;
     writes = subst (λ (d : Devs). AreRisingWrites d (writes_of new)) same rising;
     ready = k.ready;
@@ -130,8 +139,9 @@ module _ {D : Type 0} (state : D → DiskState) (images : D → ℕ → List ℕ
     fuse = keeps_then state old looked new keeps more;
     cause = record { cause = k.counted ∙ cause.cause; only = tt };
     left = (looked, subst (λ (d : Devs). DevsLeave state images looked new (λ x. x ≡ d)) same k.any_moment);
+    rows_left = rows_go_on old looked new same rows k.rows_left;
   }
-  begun_start old looked new (Err e) keeps cause same more k rising hidden = record {
+  begun_start old looked new (Err e) keeps cause same more rows k rising hidden = record {
     answer = tt;
     writes = tt;
     ready = tt;
@@ -144,4 +154,5 @@ module _ {D : Type 0} (state : D → DiskState) (images : D → ℕ → List ℕ
       only = k.only;
     });
     left = (looked, subst (λ (d : Devs). DevsLeave state images looked new (λ x. x ≡ d)) same k.any_moment);
+    rows_left = rows_go_on old looked new same rows k.rows_left;
   }

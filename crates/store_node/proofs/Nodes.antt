@@ -1,5 +1,5 @@
 -- A node is one behind each of its calls.
-use Rattle.std.proofs.Common.{◌≡◌, ◌⊎◌, ⊎_elim, ℕ, List, Bool, true, false, Result, Ok, Err, refl}
+use Rattle.std.proofs.Common.{◌≡◌, ⊎_elim, ℕ, List, Bool, true, false, Result, Ok, Err, refl}
 use Rattle.disk_trait.specs.Calls.{DiskState}
 use Rattle.stab_base.specs.declared.step.Step.{Step}
 use Rattle.step_tables.specs.StoreMoves.{TableStore}
@@ -13,14 +13,14 @@ module _ {D : Type 0} (state : D → DiskState) (images : D → ℕ → List ℕ
   works_node s old new (Ok step) k = (_, k.done.0.table)
   works_node s old new (Err e) k = ⊎_elim (λ a. (_, a.table)) (λ a. (_, a.table)) k.failed
 
-  pub crashes_node : (s : TableStore) (old new : TableNode D) → Crashes state images s old new → IsNode state new
-  crashes_node s old new k = ⊎_elim (λ a. (_, a.table)) (λ a. (_, a.table)) k.crashed
+  pub crashes_node : (calls : ℕ) (s : TableStore) (old new : TableNode D) → Crashes state images calls s old new → IsNode state new
+  crashes_node calls s old new k = ⊎_elim (λ a. (_, a.table)) (λ a. (_, a.table)) k.crashed
 
   pub declares_node : (s : TableStore) (old new : TableNode D) (r : Result (Unit {0}) NodeFault) → Declares state s old new r → IsNode state new
   declares_node s old new (Ok x) k = (_, k.declared.table)
   declares_node s old new (Err e) k = (_, k.refused.table)
 
-  pub starts_node : (s : TableStore) (old new : TableNode D) (r : Result (Unit {0}) NodeFault) → Starts state s old new r → IsNode state new
+  pub starts_node : (s : TableStore) (old new : TableNode D) (r : Result (Unit {0}) NodeFault) → Starts state images s old new r → IsNode state new
   starts_node s old new (Err e) k = (_, k.refused.table)
   starts_node s old new (Ok x) k = split old.is_declared (λ is. (_, (k.started is).table)) (λ is. (_, (k.declared is).table))
     where

@@ -1,35 +1,30 @@
 -- What a node's start and its declaration promise, from what its devices do.
-use Rattle.std.proofs.Common.{◌≡◌, ◌⊎◌, inl, inr, ⊎_elim, ℕ, ◌+◌, ◌<◌, ◌≤◌, ◌++◌, length, map, Bool, true, false, List, [], ◌∷◌, Option, Some, None, Result, Ok, Err, refl, sym, ◌∙◌, ap, subst, arith, append-nil}
-use Rattle.std.specs.Prelude.{is_some, IsErrOf}
+use Rattle.std.proofs.Common.{◌≡◌, ◌⊎◌, inl, inr, ⊎_elim, ℕ, ◌<◌, ◌++◌, map, Bool, true, false, List, [], Option, Some, None, Ok, Err, refl, sym, ◌∙◌, ap, subst, arith, append-nil}
+use Rattle.std.specs.Prelude.{is_some}
 use Rattle.disk_trait.specs.Calls.{DiskState}
 use Rattle.disk_trait.specs.Fuse.{behind, inner_of}
 use Rattle.disk_trait.specs.declared.fuse.FuseDisk.{FuseDisk}
 use Rattle.vault.specs.Calls.{IsEither}
 use Rattle.stab_base.specs.declared.chunk_name.ChunkName.{ChunkName}
-use Rattle.row_value.specs.declared.schema.Schema.{Schema}
 use Rattle.store_commit.specs.declared.devs.TableDevs.{TableDevs}
 use Rattle.store_commit.specs.declared.recovery.Recovery.{Recovery}
 use Rattle.store_commit.specs.declared.fault.CommitFault.{CommitFault}
 use Rattle.store_commit.specs.declared.fault.CommitFault.TheVariants as commits
 use Rattle.store_commit.specs.Devs.{Devs, Write}
 use Rattle.store_commit.specs.Agenda.{recovery_writes}
-use Rattle.store_commit.specs.Recover.{IsRecovery}
-use Rattle.store_commit.specs.Rising.{AreRisingWrites}
-use Rattle.store_commit.specs.Standing.{devs, writes_of, all_faults, IsReady, DevsLeave}
-use Rattle.store_commit.specs.Unset.{KeepsUnset, HasCause, all_stops}
-use Rattle.store_commit.proofs.Moments.{devs_weaker}
+use Rattle.store_commit.specs.Standing.{devs, writes_of, IsReady, DevsLeave}
+use Rattle.store_commit.specs.Unset.{HasCause, all_stops}
+use Rattle.store_commit.proofs.Moments.{devs_weaker, rows_weaker}
 use Rattle.step_tables.specs.Chunks.{rising}
 use Rattle.step_tables.specs.Facts.{Fact}
 use Rattle.step_tables.specs.Messages.{Send}
 use Rattle.step_tables.specs.Store.{Stored}
-use Rattle.step_tables.specs.StoreMoves.{StoreDisk, StoreTask, StoreStep, TableStore, Start, recover, recovering, reopening}
-use Rattle.step_tables.specs.StoreMoves as moves
+use Rattle.step_tables.specs.StoreMoves.{StoreDisk, StoreTask, TableStore, recover, recovering, reopening}
 use Rattle.device_laws.specs.Stands.{Stands, Follows}
 use Rattle.device_laws.proofs.Empty.{nothing_stands}
 use Rattle.device_laws.proofs.NamedDevices.{one_list_left, none_open, open_entry}
 use Rattle.device_laws.proofs.Recoveries.{open_follows, closed_follows}
-use Rattle.store_node.specs.Devices.{MakesTable, BeginsStart, no_rows}
-use Rattle.step_tables.specs.Travels.{send_of}
+use Rattle.store_node.specs.Devices.{MakesTable, BeginsStart}
 use Rattle.store_node.specs.Due.{fact_of, facts_found}
 use Rattle.store_node.specs.Fault.{fault_of}
 use Rattle.store_node.specs.Gathered.{HasRoom}
@@ -39,10 +34,11 @@ use Rattle.store_node.specs.declared.owed.Owed.TheVariants as owed
 use Rattle.store_node.specs.declared.fault.NodeFault.{NodeFault}
 use Rattle.store_node.specs.declared.fault.NodeFault.TheVariants as node_faults
 use Rattle.store_node.specs.declared.node.TableNode.{TableNode}
-use Rattle.store_node.specs.Node.{AreOwed, AreFit, GoesWell, facts_in, sends_in, IsWorking, IsResting, IsTable, IsSame, told_by, sent_by, own_faults, nothing_stored}
-use Rattle.store_node.specs.Calls.{Falls, IsBehind, Stays, Declares, Recovers, step_at}
+use Rattle.store_node.specs.Node.{AreOwed, GoesWell, facts_in, sends_in, IsTable, told_by, sent_by, own_faults, nothing_stored}
+use Rattle.store_node.specs.Calls.{Falls, IsBehind, Declares, Recovers}
 use Rattle.store_node.proofs.Following.{own_stays, own_rises}
-use Rattle.store_node.proofs.Falling.{MayHold, fallen}
+use Rattle.store_node.proofs.RowsLeft.{rows_of_disk}
+use Rattle.store_node.proofs.Falling.{MayHold, fallen, fallen_rows}
 use Rattle.store_node.proofs.Starting.{recovering_owed, reopening_owed, recovering_facts, recovering_sends, recovering_well, reopening_well, step_store, step_sends, found_is, found_none, no_room}
 use Rattle.store_node.proofs.Working.{IsKept}
 
@@ -96,7 +92,7 @@ module _ {D : Type 0} (state : D → DiskState) (images : D → ℕ → List ℕ
                 record {
                   declared = refl;
                   up = k.up;
-                  unset = k.fuse.unset r.unset;
+                  fresh = k.fuse.fresh r.fresh;
                   hidden = k.hidden;
                   ready = subst (λ (l : List Write). IsReady st table l) (sym k.idle) k.ready;
                   follows = subst (λ (l : List Write). Follows old.schema (devs st table) l nothing_stored []) (sym k.idle) (subst (λ (d : Devs). Stands old.schema d nothing_stored) (sym k.held) (nothing_stands old.schema));
@@ -114,7 +110,7 @@ module _ {D : Type 0} (state : D → DiskState) (images : D → ℕ → List ℕ
             same = record { store = refl; table = refl; schema = refl };
           };
           refused = tt;
-          counted = λ _. own_stays state old new k.cause.cause (k.fuse.stopped r.unset);
+          counted = λ _. own_stays state old new k.cause.cause (k.fuse.stopped r.fresh.unset);
           cause = λ is. absurd cc;
           only = tt;
         }
@@ -124,7 +120,7 @@ module _ {D : Type 0} (state : D → DiskState) (images : D → ℕ → List ℕ
         → Declares state (at disk None) old new (Err (fault_of e))
     undeclared_at mid new e isnt k falls kept down =
         let r = t.at.1 in
-        let c = caused_by old mid new e k.cause (k.fuse.stopped r.unset) falls.counted in
+        let c = caused_by old mid new e k.cause (k.fuse.stopped r.fresh.unset) falls.counted in
         record {
           declared = tt;
           refused = record {
@@ -137,7 +133,7 @@ module _ {D : Type 0} (state : D → DiskState) (images : D → ℕ → List ℕ
                 down,
                 record {
                   up = falls.up;
-                  unset = falls.unset;
+                  fresh = falls.fresh;
                   idle = falls.idle;
                   synced = λ is. let no = kept.declared ∙ isnt in absurd cc;
                   sound = λ is. let no = kept.declared ∙ isnt in absurd cc;
@@ -195,7 +191,7 @@ module _ {D : Type 0} (state : D → DiskState) (images : D → ℕ → List ℕ
         record {
           declared = is_declared;
           up = k.up;
-          unset = k.fuse.unset t.at.1.unset;
+          fresh = k.fuse.fresh t.at.1.fresh;
           hidden = k.hidden;
           ready = k.ready;
           follows = subst (λ (l : List Write). Follows old.schema (devs st table) l disk tasks) (sym writes) (subst (λ (d : Devs). Follows old.schema d (recovery_writes (rising disk.left) (is_some (devs st old.devs).pending)) disk tasks) (sym k.same) follows);
@@ -246,26 +242,28 @@ module _ {D : Type 0} (state : D → DiskState) (images : D → ℕ → List ℕ
         pick None is = closed_step facts is room told
         pick (Some pending) is = open_step facts pending is room told
 
-    pub recovered_at : (facts : Gathered StoreFact) → HasRoom facts 1 → map fact_of facts.items.items ≡ told_by old ++ facts_found old.table recovery → Recovers state (at disk None) old (new facts) (Ok tt)
+    pub recovered_at : (facts : Gathered StoreFact) → HasRoom facts 1 → map fact_of facts.items.items ≡ told_by old ++ facts_found old.table recovery
+        → Recovers state images (at disk None) old (new facts) (Ok tt)
     recovered_at facts room told = record {
       started = behind_start facts room told;
       refused = tt;
-      counted = λ _. own_stays state old (new facts) k.cause.cause (k.fuse.stopped t.at.1.unset);
+      counted = λ _. own_stays state old (new facts) k.cause.cause (k.fuse.stopped t.at.1.fresh.unset);
       cause = λ is. absurd cc;
       only = tt;
+      rows_left = rows_of_disk st im old.schema (devs st old.devs) disk stands old.devs table k.rows_left;
     }
 
   -- it isn't taken on, and the disks were restarted
   pub unrecovered_at : (old : TableNode D) (disk : StoreDisk) (t : IsTable state old (at disk None)) (is_declared : old.is_declared ≡ true) (mid new : TableNode D) (e : CommitFault)
       → BeginsStart st im old.devs mid.devs (Err e) → Falls state images mid new → IsKept old new → new.is_up ≡ false
-      → Recovers state (at disk None) old new (Err (fault_of e))
+      → Recovers state images (at disk None) old new (Err (fault_of e))
   unrecovered_at old disk t is_declared mid new e k falls kept down =
       let r = t.at.1 in
       let here = devs st old.devs in
       let stands = r.stands is_declared in
       let may : MayHold old.schema here here disk disk = record { first = stands; second = stands; first_fit = r.fit; second_fit = r.fit } in
       let run : DevsLeave st im k.left.0 mid.devs (IsEither here here) = devs_weaker st im k.left.0 mid.devs (λ d. d ≡ here) (IsEither here here) k.left.1 (λ d is. inl is) in
-      let c = caused_by old mid new e k.cause (k.fuse.stopped r.unset) falls.counted in
+      let c = caused_by old mid new e k.cause (k.fuse.stopped r.fresh.unset) falls.counted in
       record {
         started = tt;
         refused = record {
@@ -277,4 +275,6 @@ module _ {D : Type 0} (state : D → DiskState) (images : D → ℕ → List ℕ
         counted = λ is. c.other (λ was. is (ap (λ (f : NodeFault). Err f) was));
         cause = λ is. c.disk cc;
         only = c.only;
+        rows_left = fallen_rows state images mid new falls old.schema old.devs here here disk disk may
+            (rows_weaker st im old.devs mid.devs (λ held. held ≡ here.held) (IsEither here.held here.held) k.rows_left (λ held is. inl is));
       }

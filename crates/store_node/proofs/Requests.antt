@@ -86,7 +86,8 @@ module _ {D : Type 0} (state : D → DiskState) (images : D → ℕ → List ℕ
 
     module _ (disk : StoreDisk) (some : 0 < schema.chunk) (st : Stands schema d disk) where
       pub last_of_old : (v : ℕ) → IsTableVersion (seen state old).held v → v ≡ length disk.items
-      last_of_old v is = one_version d.held v (length disk.items) (subst (λ (x : Devs). IsTableVersion x.held v) seen_old is) (table_version schema.chunk disk.items d.held st.numbered st.rows)
+      last_of_old v is = one_version d.held v (length disk.items) (subst (λ (x : Devs). IsTableVersion x.held v) seen_old is)
+          (table_version schema.chunk disk.items d.held st.held.numbered st.held.rows)
 
       module _ (standing : Option StoredRow) (stands : row_of d.held request.row ≡ standing) where
         pub update_for_is : (held : List (List Named)) → held ≡ held_if d standing → (update : Update) → ((v : ℕ) → AreAllOlder v held → update ≡ update_with schema.chunk v held (request_of request))
@@ -106,7 +107,8 @@ module _ {D : Type 0} (state : D → DiskState) (images : D → ℕ → List ℕ
       seen_mid = seen_all state mid (only_hidden state images old mid x o hidden) ∙ only_same state images old mid x o
 
       pub last_of_mid : (disk : StoreDisk) → Stands schema d disk → (v : ℕ) → IsTableVersion (seen state mid).held v → v ≡ length disk.items
-      last_of_mid disk st v is = one_version d.held v (length disk.items) (subst (λ (x : Devs). IsTableVersion x.held v) seen_mid is) (table_version schema.chunk disk.items d.held st.numbered st.rows)
+      last_of_mid disk st v is = one_version d.held v (length disk.items) (subst (λ (x : Devs). IsTableVersion x.held v) seen_mid is)
+          (table_version schema.chunk disk.items d.held st.held.numbered st.held.rows)
 
       pub asked : (disk : StoreDisk) → Stands schema d disk → HasSchemaSpelling schema → fit_of schema request.content ≡ Ok tt → HaveWords request.content → IsClient request.client
           → (standing : Option StoredRow) → row_of d.held request.row ≡ standing → IfSome standing HasStoredSpelling

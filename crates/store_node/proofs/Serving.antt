@@ -24,7 +24,7 @@ use Rattle.store_commit.specs.Devs.{Devs, Write}
 use Rattle.store_commit.specs.Standing.{devs, writes_of, DevsLeave}
 use Rattle.store_commit.specs.TakesOn.{AllLeave}
 use Rattle.store_commit.proofs.Works.{all_same}
-use Rattle.store_commit.proofs.Moments.{devs_weaker}
+use Rattle.store_commit.proofs.Moments.{devs_weaker, rows_weaker}
 use Rattle.store_commit.specs.Agenda.{update_writes}
 use Rattle.store_commit.specs.Update.{entry_for, stored_for}
 use Rattle.device_laws.specs.Stands.{Stands, Follows, update_for}
@@ -44,11 +44,12 @@ use Rattle.store_node.specs.declared.node.TableNode.{TableNode}
 use Rattle.store_node.specs.Node.{AreOwed, IsWorking, IsTable, IsSame, told_by, sent_by, own_faults, facts_in, sends_in, LeavesEither}
 use Rattle.store_node.specs.Calls.{Fell, Stays, Answers}
 use Rattle.store_node.proofs.Accepting.{tell_owed, accepting_tells, accepting_facts, accepting_sends, accepting_well}
-use Rattle.store_node.proofs.Falling.{MayHold, fallen, fallen_leaves}
+use Rattle.store_node.proofs.RowsLeft.{rows_of_disk}
+use Rattle.store_node.proofs.Falling.{MayHold, fallen, fallen_leaves, fallen_rows}
 use Rattle.store_node.proofs.Following.{own_stays, own_rises, follows_now}
 use Rattle.store_node.proofs.Making.{same_hidden, ready_up}
 use Rattle.store_node.proofs.Starting.{no_room}
-use Rattle.store_node.proofs.Working.{still_leaves}
+use Rattle.store_node.proofs.Working.{still_leaves, still_rows}
 
 -- ---- a request, as it is decided
 
@@ -97,7 +98,7 @@ module _ {D : Type 0} (state : D → DiskState) (images : D → ℕ → List ℕ
       record {
         declared = h.declared;
         up = ready_up st im table (writes_of table) ready;
-        unset = k.fuse.unset h.unset;
+        fresh = k.fuse.fresh h.fresh;
         hidden = same_hidden st im node.devs table k.scanned h.hidden;
         ready = ready;
         follows = subst (λ (l : List Write). Follows node.schema (devs st table) l disk tasks) (sym writes) (subst (λ (d : Devs). Follows node.schema d (writes_of node.devs) disk tasks) (sym (k.same not_disk)) h.follows);
@@ -131,7 +132,7 @@ module _ {D : Type 0} (state : D → DiskState) (images : D → ℕ → List ℕ
 
     counted_at : (table : TableDevs (FuseDisk D)) (facts : Gathered StoreFact) (messages : Gathered (Option Node × Message)) {T : Type 0} (r : Result T CommitFault) → (IsErrOf r commits.Disk → ⊥) → Serves st im old.devs table r
         → own_faults state (with_all old table facts messages) ≡ own_faults state old
-    counted_at table facts messages r not_disk k = own_stays state old (with_all old table facts messages) (k.counted not_disk) (k.fuse.stopped h.unset)
+    counted_at table facts messages r not_disk k = own_stays state old (with_all old table facts messages) (k.counted not_disk) (k.fuse.stopped h.fresh.unset)
 
     -- a message is sent at once
     pub sends_one : (is_spent : Type 0) → (is_spent → ⊥) → (table : TableDevs (FuseDisk D)) (facts : Gathered StoreFact) (messages : Gathered (Option Node × Message)) {T : Type 0} (x : T) (send : Send) → Serves st im old.devs table (Ok x) → writes_of table ≡ writes_of old.devs
@@ -152,6 +153,7 @@ module _ {D : Type 0} (state : D → DiskState) (images : D → ℕ → List ℕ
       cause = λ is. absurd cc;
       only = tt;
       any_moment = leaves old table disk stands k.leave;
+      rows_left = rows_of_disk st im old.schema (devs st old.devs) disk stands old.devs table k.leave.rows;
     }
 
     stays_at : (table : TableDevs (FuseDisk D)) (facts : Gathered StoreFact) (messages : Gathered (Option Node × Message)) {T : Type 0} (r : Result T CommitFault) → (IsErrOf r commits.Disk → ⊥) → Serves st im old.devs table r → writes_of table ≡ writes_of old.devs
@@ -193,7 +195,7 @@ module _ {D : Type 0} (state : D → DiskState) (images : D → ℕ → List ℕ
                 record {
                   declared = h.declared;
                   up = ready_up st im table (writes_of table) ready;
-                  unset = k.fuse.unset h.unset;
+                  fresh = k.fuse.fresh h.fresh;
                   hidden = same_hidden st im old.devs table k.scanned h.hidden;
                   ready = ready;
                   follows = subst (λ (d : Devs). Follows old.schema d (writes_of table) disk (accepting size old.table disk.items from q item)) (sym (k.same (λ is. cc))) now;
@@ -215,10 +217,11 @@ module _ {D : Type 0} (state : D → DiskState) (images : D → ℕ → List ℕ
           spent = λ is. absurd cc;
           refused = λ _. tt;
           fallen = λ is. absurd cc;
-          counted = λ _. own_stays state old (with_all old table facts messages) (k.counted (λ is. cc)) (k.fuse.stopped h.unset);
+          counted = λ _. own_stays state old (with_all old table facts messages) (k.counted (λ is. cc)) (k.fuse.stopped h.fresh.unset);
           cause = λ is. absurd cc;
           only = tt;
           any_moment = leaves old table disk stands k.leave;
+          rows_left = rows_of_disk st im old.schema (devs st old.devs) disk stands old.devs table k.leave.rows;
         }
 
     -- ---- refusals
@@ -237,6 +240,7 @@ module _ {D : Type 0} (state : D → DiskState) (images : D → ℕ → List ℕ
       cause = λ is. absurd (not_failed is);
       only = ⊎_elim (λ was. inl (ap fault_of was)) (λ was. inr (inr (ap fault_of was))) which;
       any_moment = leaves old table disk stands k.leave;
+      rows_left = rows_of_disk st im old.schema (devs st old.devs) disk stands old.devs table k.leave.rows;
     }
       where
         not_disk : IsErrOf {T = T} {E = CommitFault} (Err e) commits.Disk → ⊥
@@ -269,9 +273,11 @@ module _ {D : Type 0} (state : D → DiskState) (images : D → ℕ → List ℕ
             same = same;
           };
           counted = λ n. absurd (n refl);
-          cause = λ _. let r = own_rises state old mid (k.disk refl) (k.fuse.stopped h.unset) in let c = f.falls.counted in omega (arith, r, c);
+          cause = λ _. let r = own_rises state old mid (k.disk refl) (k.fuse.stopped h.fresh.unset) in let c = f.falls.counted in omega (arith, r, c);
           only = inr (inl refl);
           any_moment = fallen_leaves state images old mid new s t same declared f.down f.falls old.devs here here disk disk may run;
+          rows_left = fallen_rows state images mid new f.falls old.schema old.devs here here disk disk may
+              (rows_weaker st im old.devs table (λ held. held ≡ here.held) (IsEither here.held here.held) k.leave.rows (λ held is. inl is));
         }
 
     -- what the devices were refused is handed on
@@ -308,7 +314,7 @@ module _ {D : Type 0} (state : D → DiskState) (images : D → ℕ → List ℕ
             record {
               declared = h.declared;
               up = h.up;
-              unset = h.unset;
+              fresh = h.fresh;
               hidden = h.hidden;
               ready = h.ready;
               follows = h.follows;
@@ -330,6 +336,7 @@ module _ {D : Type 0} (state : D → DiskState) (images : D → ℕ → List ℕ
       cause = λ is. absurd cc;
       only = inr (inr refl);
       any_moment = still;
+      rows_left = still_rows state images only_now old disk [] h;
     }
       where
         still : LeavesEither state images old (record old { facts = facts; messages = messages }) disk disk

@@ -12,9 +12,9 @@ use Rattle.store_commit.specs.declared.devs.TableDevs.{TableDevs}
 use Rattle.store_commit.specs.declared.fault.CommitFault.{CommitFault}
 use Rattle.store_commit.specs.declared.fault.CommitFault.TheVariants as commits
 use Rattle.store_commit.specs.Devs.{Devs, Write}
-use Rattle.store_commit.specs.Standing.{devs, writes_of, IsReady, DevsLeave}
+use Rattle.store_commit.specs.Standing.{devs, writes_of, IsReady, DevsLeave, RowsLeave}
 use Rattle.store_commit.proofs.Works.{up_or_down}
-use Rattle.store_commit.proofs.Moments.{devs_weaker}
+use Rattle.store_commit.proofs.Moments.{devs_weaker, rows_weaker}
 use Rattle.device_laws.specs.Stands.{Stands, Follows}
 use Rattle.store_node.specs.Fault.{fault_of}
 use Rattle.store_node.specs.Reading.{Only, whole_at, shown_row}
@@ -27,9 +27,10 @@ use Rattle.store_node.specs.declared.showing.WholeRow.{WholeRow}
 use Rattle.store_node.specs.declared.showing.ShownRow.{ShownRow}
 use Rattle.step_tables.specs.Travels.{send_of}
 use Rattle.store_node.specs.Due.{fact_of}
-use Rattle.store_node.specs.Node.{AreOwed, IsWorking, IsTable, IsNode, IsSame, own_faults, LeavesEither}
+use Rattle.store_node.specs.Node.{AreOwed, IsWorking, IsTable, IsNode, IsSame, own_faults, LeavesEither, LeavesRows}
 use Rattle.store_node.specs.Calls.{Fell, Stays, Shows}
-use Rattle.store_node.proofs.Falling.{MayHold, fallen, fallen_leaves, ready_sound}
+use Rattle.store_node.proofs.RowsLeft.{rows_of_disk}
+use Rattle.store_node.proofs.Falling.{MayHold, fallen, fallen_leaves, fallen_rows, ready_sound}
 use Rattle.store_node.proofs.Following.{own_stays, own_rises, follows_now, well_now}
 use Rattle.store_node.proofs.Making.{same_hidden, ready_up}
 use Rattle.store_node.proofs.Onlys.{ready_stays}
@@ -71,6 +72,12 @@ module _ {D : Type 0} (state : D → DiskState) (images : D → ℕ → List ℕ
       leaves : LeavesEither state images old (with_devs old table) disk disk
       leaves = devs_weaker st im old.devs table (λ d. d ≡ devs st old.devs) (λ d. Stands old.schema d disk ⊎ Stands old.schema d disk) leaves_here (λ d is. inl (subst (λ (x : Devs). Stands old.schema x disk) (sym is) stands))
 
+      rows_are : RowsLeave st im old.devs table (λ held. held ≡ (devs st old.devs).held)
+      rows_are = (o.asks.leave (ready_up st im old.devs (writes_of old.devs) h.ready) (ready_sound state images old.devs (writes_of old.devs) h.ready)).rows
+
+      rows_here : LeavesRows state images old (with_devs old table) disk disk
+      rows_here = rows_of_disk st im old.schema (devs st old.devs) disk stands old.devs table rows_are
+
       module _ (not_disk : IsErrOf r commits.Disk → ⊥) where
         ready : IsReady st table (writes_of table)
         ready = subst (λ (l : List Write). IsReady st table l) (sym o.asks.agenda) (ready_stays st im old.devs table (writes_of old.devs) (o.asks.stay not_disk) h.ready)
@@ -79,7 +86,7 @@ module _ {D : Type 0} (state : D → DiskState) (images : D → ℕ → List ℕ
         working = record {
           declared = h.declared;
           up = ready_up st im table (writes_of table) ready;
-          unset = o.asks.fuse.unset h.unset;
+          fresh = o.asks.fuse.fresh h.fresh;
           hidden = same_hidden st im old.devs table o.scanned h.hidden;
           ready = ready;
           follows = subst (λ (l : List Write). Follows old.schema (devs st table) l disk tasks) (sym o.asks.agenda) (subst (λ (d : Devs). Follows old.schema d (writes_of old.devs) disk tasks) (sym (o.asks.same not_disk)) h.follows);
@@ -100,7 +107,7 @@ module _ {D : Type 0} (state : D → DiskState) (images : D → ℕ → List ℕ
         }
 
         counted_here : own_faults state (with_devs old table) ≡ own_faults state old
-        counted_here = own_stays state old (with_devs old table) (o.asks.counted not_disk) (o.asks.fuse.stopped h.unset)
+        counted_here = own_stays state old (with_devs old table) (o.asks.counted not_disk) (o.asks.fuse.stopped h.fresh.unset)
 
     -- the row was read
     shows_found : (found : Option WholeRow) (x : Option ShownRow) → Only st im old.devs table (Ok found) → found ≡ whole_at (devs st old.devs) row → x ≡ option_map shown_row found → Shows state images s row old (with_devs old table) (Ok x)
@@ -112,6 +119,7 @@ module _ {D : Type 0} (state : D → DiskState) (images : D → ℕ → List ℕ
       cause = λ is. absurd cc;
       only = tt;
       any_moment = leaves (Ok found) o;
+      rows_left = rows_here (Ok found) o;
     }
 
     -- memory was refused
@@ -126,6 +134,7 @@ module _ {D : Type 0} (state : D → DiskState) (images : D → ℕ → List ℕ
           cause = λ is. absurd cc;
           only = inr refl;
           any_moment = leaves r o;
+          rows_left = rows_here r o;
         }
 
     -- a disk has failed
@@ -149,9 +158,11 @@ module _ {D : Type 0} (state : D → DiskState) (images : D → ℕ → List ℕ
             same = same;
           };
           counted = λ n. absurd (n refl);
-          cause = λ _. let rises = own_rises state old mid (o.asks.disk refl).0 (o.asks.fuse.stopped h.unset) in let c = f.falls.counted in omega (arith, rises, c);
+          cause = λ _. let rises = own_rises state old mid (o.asks.disk refl).0 (o.asks.fuse.stopped h.fresh.unset) in let c = f.falls.counted in omega (arith, rises, c);
           only = inl refl;
           any_moment = fallen_leaves state images old mid new s t same declared f.down f.falls old.devs here here disk disk may run;
+          rows_left = fallen_rows state images mid new f.falls old.schema old.devs here here disk disk may
+              (rows_weaker st im old.devs table (λ held. held ≡ here.held) (IsEither here.held here.held) (rows_are r o) (λ held is. inl is));
         }
 
     -- what the devices were refused is handed on

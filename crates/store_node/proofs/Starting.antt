@@ -1,12 +1,7 @@
 -- What a start finds, and the tasks that it takes on.
-use Rattle.std.proofs.Common.{◌≡◌, ◌⊎◌, inl, inr, ⊎_elim, ℕ, ◌+◌, ◌<◌, ◌≤◌, ◌==◌, ◌++◌, length, map, Bool, true, false, cond, List, [], ◌∷◌, Option, Some, None, Result, Ok, Err, refl, sym, ◌∙◌, ap, subst, arith, append-nil}
-use Rattle.std.specs.Prelude.{option_to_list, is_some}
-use Rattle.std.specs.List.{find}
+use Rattle.std.proofs.Common.{◌≡◌, inl, inr, ⊎_elim, ℕ, ◌+◌, ◌<◌, ◌≤◌, ◌++◌, length, true, false, List, [], ◌∷◌, Option, Some, None, refl, sym, ◌∙◌, ap, subst, arith}
+use Rattle.std.specs.Prelude.{option_to_list}
 use Rattle.std.proofs.lemmas.Bool.Decides.{nat_tests}
-use Rattle.disk_trait.specs.Image.{IsImage}
-use Rattle.disk_trait.specs.Calls.{DiskState}
-use Rattle.disk_trait.specs.Fuse.{behind, inner_of}
-use Rattle.disk_trait.specs.declared.fuse.FuseDisk.{FuseDisk}
 use Rattle.stab_base.specs.declared.chunk_name.ChunkName.{ChunkName}
 use Rattle.row_value.specs.declared.schema.Schema.{Schema}
 use Rattle.row_store.specs.Data.{version_of}
@@ -14,7 +9,7 @@ use Rattle.status_log.specs.Entry.{Entry, entry_of}
 use Rattle.stab_base.specs.declared.step.Step.TheVariants as steps
 use Rattle.store_commit.specs.declared.recovery.Recovery.{Recovery}
 use Rattle.store_commit.specs.declared.recovery.Recovery.TheVariants.{Nothing, Forward, Back}
-use Rattle.store_commit.specs.Devs.{Devs, Write, DropChunk, CloseEntry, OpenChunks, OpenRows, OpenLog}
+use Rattle.store_commit.specs.Devs.{Devs, CloseEntry}
 use Rattle.store_commit.specs.Agenda.{recovery_writes}
 use Rattle.store_commit.specs.Agenda as agendas
 use Rattle.store_commit.specs.Recover.{IsRecovery}
@@ -22,15 +17,12 @@ use Rattle.step_tables.specs.Chunks.{rising, without_names}
 use Rattle.step_tables.specs.Facts.{Fact}
 use Rattle.step_tables.specs.Facts as facts
 use Rattle.step_tables.specs.Store.{Stored, current_of}
-use Rattle.step_tables.specs.Members.{Among}
-use Rattle.step_tables.specs.StoreMoves.{StoreDisk, StoreTask, StoreStep, recovering, reopening, recovered, item_at, drops, only, ends_with, Close, DropChunk as DropTask}
-use Rattle.step_tables.specs.StoreMoves as moves
-use Rattle.step_tables.proofs.Lists.{among_cons, among_push}
-use Rattle.device_laws.specs.Stands.{Stands, IsBegun, IsEntryOf, AreNumbered}
-use Rattle.device_laws.proofs.Numbered.{numbered_most, current_own}
+use Rattle.step_tables.specs.StoreMoves.{StoreDisk, StoreStep, recovering, reopening, recovered, item_at, drops, ends_with, Close}
+use Rattle.device_laws.specs.Stands.{Stands, IsBegun, AreNumbered}
+use Rattle.device_laws.proofs.Numbered.{current_own}
 use Rattle.device_laws.proofs.NamedDevices.{open_entry, none_open}
 use Rattle.device_laws.proofs.Rows.{is_at_version, none_or_less}
-use Rattle.store_node.specs.Due.{told_at, sent_at, is_last_of, facts_found}
+use Rattle.store_node.specs.Due.{told_at, is_last_of, facts_found}
 use Rattle.store_node.specs.declared.owed.Owed.TheVariants as owed
 use Rattle.store_node.specs.Gathered.{HasRoom}
 use Rattle.store_node.specs.declared.gathered.Gathered.{Gathered}
@@ -118,13 +110,14 @@ module _ (schema : Schema) (d : Devs) (disk : StoreDisk) (st : Stands schema d d
   module _ (pending : Stored) (entry : Entry) (is : d.pending ≡ Some entry) (b : IsBegun schema.chunk disk pending entry) where
     isnt_put : disk.items ≡ b.before → (r : Recovery) → IsRecovery d r → facts_found table r ≡ (step pending).facts
     isnt_put same r rec =
-        let numbered : AreNumbered 0 b.before = subst (λ (l : List Stored). AreNumbered 0 l) same st.numbered in
+        let numbered : AreNumbered 0 b.before = subst (λ (l : List Stored). AreNumbered 0 l) same st.held.numbered in
         let next = b.next in
         let none : item_at pending.entry.version disk.items ≡ None = ap (item_at pending.entry.version) same ∙ no_item 0 b.before pending.entry.version numbered (omega arith) in
         by_recovery r rec ∙ sym (ap (λ (o : Option Stored). (recovered store table disk pending o).facts) none)
       where
         older : (row : List ℕ) → version_of d.held row ≡ pending.entry.version → ⊥
-        older row at = let most = none_or_less schema.chunk disk.items d.held st.numbered st.rows row in let n = b.next in let long : length disk.items ≡ length b.before = ap (λ (l : List Stored). length l) same in omega arith
+        older row at = let most = none_or_less schema.chunk disk.items d.held st.held.numbered st.held.rows row in let n = b.next in let long : length disk.items ≡ length b.before = ap
+            (λ (l : List Stored). length l) same in omega arith
 
         by_recovery : (r : Recovery) → IsRecovery d r → facts_found table r ≡ facts.Back table pending.entry.version ∷ []
         by_recovery Nothing rec = let both : Some entry ≡ None = sym is ∙ rec in absurd cc
@@ -140,7 +133,7 @@ module _ (schema : Schema) (d : Devs) (disk : StoreDisk) (st : Stands schema d d
     -- it is: the row has its version
     was_put : disk.items ≡ b.before ++ pending ∷ [] → (r : Recovery) → IsRecovery d r → facts_found table r ≡ (step pending).facts
     was_put same r rec =
-        let numbered : AreNumbered 0 b.before = numbered_front 0 b.before (pending ∷ []) (subst (λ (l : List Stored). AreNumbered 0 l) same st.numbered) in
+        let numbered : AreNumbered 0 b.before = numbered_front 0 b.before (pending ∷ []) (subst (λ (l : List Stored). AreNumbered 0 l) same st.held.numbered) in
         let next = b.next in
         let found : item_at pending.entry.version disk.items ≡ Some pending = ap (item_at pending.entry.version) same ∙ last_item_at 0 b.before pending numbered (omega arith) in
         by_recovery r rec ∙ sym (ap (λ (o : Option Stored). (recovered store table disk pending o).facts) found)
@@ -148,7 +141,7 @@ module _ (schema : Schema) (d : Devs) (disk : StoreDisk) (st : Stands schema d d
         newest : version_of d.held pending.entry.row ≡ pending.entry.version
         newest =
             let current : current_of disk.items pending.entry.row ≡ Some pending = ap (λ (l : List Stored). current_of l pending.entry.row) same ∙ current_own b.before pending pending.entry.row refl in
-            is_at_version schema.chunk disk.items d.held st.numbered st.rows pending.entry.row pending current
+            is_at_version schema.chunk disk.items d.held st.held.numbered st.held.rows pending.entry.row pending current
 
         by_recovery : (r : Recovery) → IsRecovery d r → facts_found table r ≡ facts.Forward table pending.entry ∷ []
         by_recovery Nothing rec = let both : Some entry ≡ None = sym is ∙ rec in absurd cc

@@ -89,7 +89,7 @@ module _ (schema : Schema) (d : Devs) (disk : StoreDisk) (some : 0 < schema.chun
 
     chunks_cut : (item : Stored) → current_of items row ≡ Some item → AreCut size (objects_of item.content) chunks
     chunks_cut item is =
-        let last = last_chunks size items st.numbered row item is in
+        let last = last_chunks size items st.held.numbered row item is in
         subst (AreCut size (objects_of item.content)) (sym last.is) (all_cut size item.entry.version 0 last.before (objects_of item.content))
 
     chunks_there : There d size some (flat chunks)
@@ -104,12 +104,12 @@ module _ (schema : Schema) (d : Devs) (disk : StoreDisk) (some : 0 < schema.chun
     pub held_is : held_if d (row_of d.held row) ≡ chunks
     held_is =
         ⊎_elim
-        (λ none. ap (held_if d) none.1 ∙ sym (no_chunks size items st.numbered row none.0))
+        (λ none. ap (held_if d) none.1 ∙ sym (no_chunks size items st.held.numbered row none.0))
         (λ found. ap (held_if d) found.3 ∙ held_now found.0 found.1 found.2 found.4)
-        (at_row size items d.held st.numbered st.rows row)
+        (at_row size items d.held st.held.numbered st.held.rows row)
 
     pub yours_is : (client : ℕ) → pair_in (lasts_if (row_of d.held row)) client ≡ yours_in items client row
-    yours_is client = row_lasts size items d.held st.numbered st.rows row client
+    yours_is client = row_lasts size items d.held st.held.numbered st.held.rows row client
 
     whole_now : (item : Stored) (stored : StoredRow) → current_of items row ≡ Some item → IsStoredAs size items item stored → whole_of stored.content (held_in d stored.content) ≡ item.content
     whole_now item stored is s =
@@ -128,7 +128,7 @@ module _ (schema : Schema) (d : Devs) (disk : StoreDisk) (some : 0 < schema.chun
         (λ none. ap (λ (o : Option StoredRow). option_map (header_by client) (option_map (whole_row d) o)) none.1 ∙ sym (ap (option_map (header_for items client)) none.0))
         (λ found. ap (λ (o : Option StoredRow). option_map (header_by client) (option_map (whole_row d) o)) found.3
         ∙ (ap (λ (h : Header). Some h) (header_now client found.0 found.1 found.2 found.4) ∙ sym (ap (option_map (header_for items client)) found.2)))
-        (at_row size items d.held st.numbered st.rows row)
+        (at_row size items d.held st.held.numbered st.held.rows row)
 
     shown_now : (item : Stored) (stored : StoredRow) → current_of items row ≡ Some item → IsStoredAs size items item stored → shown_row (whole_row d stored) ≡ shown_of item
     shown_now item stored is s = made (whole_now item stored is s) s.version
@@ -142,7 +142,7 @@ module _ (schema : Schema) (d : Devs) (disk : StoreDisk) (some : 0 < schema.chun
         (λ none. ap (λ (o : Option StoredRow). option_map shown_row (option_map (whole_row d) o)) none.1 ∙ sym (ap (option_map shown_of) none.0))
         (λ found. ap (λ (o : Option StoredRow). option_map shown_row (option_map (whole_row d) o)) found.3
         ∙ (ap (λ (x : ShownRow). Some x) (shown_now found.0 found.1 found.2 found.4) ∙ sym (ap (option_map shown_of) found.2)))
-        (at_row size items d.held st.numbered st.rows row)
+        (at_row size items d.held st.held.numbered st.held.rows row)
 
   -- the chunks of a row are older than the next version
   all_older : (v : ℕ) (held : List (List Named)) → ((x : Named) → Among x (flat held) → x.0.version < v) → AreAllOlder v held
@@ -154,7 +154,7 @@ module _ (schema : Schema) (d : Devs) (disk : StoreDisk) (some : 0 < schema.chun
       older (x ∷ now) each = (each x (inl refl), older now (λ y a. each y (inr a)))
 
   pub chunks_older : (request : Request) → AreAllOlder (length items + 1) (chunks_of size items request.row)
-  chunks_older request = all_older (length items + 1) (chunks_of size items request.row) (λ x a. before_below size items (item_for items request) st.numbered refl x a)
+  chunks_older request = all_older (length items + 1) (chunks_of size items request.row) (λ x a. before_below size items (item_for items request) st.held.numbered refl x a)
 
   -- ---- a pull
 
@@ -174,7 +174,7 @@ module _ (schema : Schema) (d : Devs) (disk : StoreDisk) (some : 0 < schema.chun
       let header : option_map header_of response.header ≡ option_map (header_for items request.client) o =
       k.header ∙ (ap (header_at d request.client) next ∙ header_next request.client o (λ i is. next_stands request.position schema d disk st i is)) in
       let to : response.to ≡ table.version_or request.position o = k.to ∙ (ap (version_or request.position) next ∙ to_next request.position o) in
-      let latest : response.latest ≡ length items = one_version d.held response.latest (length items) k.latest (table_version size items d.held st.numbered st.rows) in
+      let latest : response.latest ≡ length items = one_version d.held response.latest (length items) k.latest (table_version size items d.held st.held.numbered st.held.rows) in
       made response k.client k.table k.from to latest header
     where
       made : (r : PullResponse) → r.client ≡ request.client → r.table ≡ request.table → r.from ≡ request.position → r.to ≡ table.version_or request.position (next_changed request.position items) → r.latest ≡ length items

@@ -1,5 +1,5 @@
 -- What a node's write and its crash promise, from what its devices do.
-use Rattle.std.proofs.Common.{◌≡◌, ◌⊎◌, inl, inr, ⊎_elim, ℕ, ◌+◌, ◌<◌, ◌++◌, length, map, Bool, true, false, List, [], ◌∷◌, Option, Some, None, Result, Ok, Err, refl, sym, ◌∙◌, ap, subst, arith, append-nil}
+use Rattle.std.proofs.Common.{◌≡◌, ◌⊎◌, inl, inr, ⊎_elim, ℕ, ◌+◌, ◌++◌, length, map, Bool, true, false, List, [], ◌∷◌, Option, Some, None, Ok, Err, refl, sym, ◌∙◌, ap, subst, arith, append-nil}
 use Rattle.disk_trait.specs.Image.{IsImage}
 use Rattle.disk_trait.specs.Calls.{DiskState}
 use Rattle.disk_trait.specs.Fuse.{behind, inner_of}
@@ -11,33 +11,30 @@ use Rattle.stab_base.specs.declared.step.Step.TheVariants as steps
 use Rattle.step_tables.specs.declared.message.Message.{Message}
 use Rattle.store_commit.specs.declared.devs.TableDevs.{TableDevs}
 use Rattle.store_commit.specs.declared.fault.CommitFault.{CommitFault}
-use Rattle.store_commit.specs.declared.fault.CommitFault.TheVariants as commit_faults
 use Rattle.store_commit.specs.Devs.{Devs, Write, changed_by, IsBeforeOrAfter}
 use Rattle.store_commit.specs.Standing.{devs, writes_of, step_of, all_faults, IsReady, DevsLeave, WorksOn}
 use Rattle.store_commit.specs.Standing.{NothingHidden}
 use Rattle.store_commit.specs.Standing as commits
-use Rattle.store_commit.specs.Fused.{StopsNext}
 use Rattle.store_commit.specs.Unset.{KeepsUnset}
 use Rattle.store_commit.proofs.Works.{rests_leave}
-use Rattle.store_commit.proofs.Moments.{devs_weaker}
-use Rattle.store_commit.proofs.Stopping.{since_stopped}
-use Rattle.step_tables.specs.StoreMoves.{StoreDisk, StoreTask, TableStore, Work, Crash, changed}
-use Rattle.step_tables.specs.StoreMoves as moves
-use Rattle.step_tables.specs.Messages.{Send, FailedBefore, FailedAfter}
+use Rattle.store_commit.proofs.Moments.{devs_weaker, rows_weaker, rows_rest}
+use Rattle.store_commit.proofs.Fuses.{row_leaves}
+use Rattle.step_tables.specs.StoreMoves.{StoreDisk, StoreTask, TableStore, changed}
+use Rattle.step_tables.specs.Messages.{Send}
 use Rattle.step_tables.specs.Facts.{Fact}
-use Rattle.device_laws.specs.Stands.{Stands, Follows}
+use Rattle.device_laws.specs.Stands.{Stands, Follows, HasRows}
 use Rattle.step_tables.specs.Travels.{send_of}
 use Rattle.store_node.specs.Due.{fact_of, told_at, sent_at, is_last_of}
 use Rattle.store_node.specs.Gathered.{HasRoom}
 use Rattle.store_node.specs.declared.gathered.Gathered.{Gathered}
 use Rattle.store_node.specs.declared.told.StoreFact.{StoreFact}
-use Rattle.store_node.specs.declared.fault.NodeFault.{NodeFault}
 use Rattle.store_node.specs.declared.fault.NodeFault.TheVariants as node_faults
 use Rattle.store_node.specs.declared.node.TableNode.{TableNode}
-use Rattle.store_node.specs.Node.{IsWorking, IsTable, IsSame, told_by, sent_by, own_faults, facts_in, sends_in, LeavesEither, behind_next}
-use Rattle.store_node.specs.Calls.{Falls, Works, Crashes, IsBehind, named, step_at}
-use Rattle.store_node.proofs.Following.{follows_now, well_now, last_is, less_room, own_stays, own_rises, follows_w, owed_w, step_w, done_working}
-use Rattle.store_node.proofs.Falling.{MayHold, fallen, fallen_leaves}
+use Rattle.store_node.specs.Node.{IsWorking, IsResting, IsTable, IsSame, told_by, sent_by, facts_in, sends_in, LeavesEither, LeavesRows}
+use Rattle.store_node.specs.Calls.{Falls, Works}
+use Rattle.store_node.proofs.Following.{follows_now, well_now, own_stays, own_rises, follows_w, owed_w, step_w, done_working}
+use Rattle.store_node.proofs.RowsLeft.{rows_of_disk, has_either}
+use Rattle.store_node.proofs.Falling.{MayHold, fallen, fallen_leaves, fallen_rows}
 
 -- a table that goes on from the same
 pub record IsKept {D : Type 0} (old new : TableNode D) : Type 0 where
@@ -62,6 +59,22 @@ module _ {D : Type 0} (state : D → DiskState) (images : D → ℕ → List ℕ
       devs_weaker st im node.devs node.devs (λ d. d ≡ devs st node.devs) (λ d. Stands node.schema d disk ⊎ Stands node.schema d disk) (rests_leave st im only_now node.devs (writes_of node.devs) h.ready)
       (λ d is. inl (subst (λ (x : Devs). Stands node.schema x disk) (sym is) (follows_now node.schema (devs st node.devs) (writes_of node.devs) disk [] h.follows)))
 
+  pub still_rows : (node : TableNode D) (disk : StoreDisk) (tasks : List StoreTask) → IsWorking state node disk tasks → LeavesRows state images node node disk disk
+  still_rows node disk tasks h =
+      rows_of_disk st im node.schema (devs st node.devs) disk (follows_now node.schema (devs st node.devs) (writes_of node.devs) disk tasks h.follows) node.devs node.devs
+      (rows_rest st im only_now node.devs (writes_of node.devs) h.ready)
+
+  -- and of a node that is down, where it was declared
+  pub down_rows : (node : TableNode D) (disk : StoreDisk) → IsResting state node disk → node.is_declared ≡ true → LeavesRows state images node node disk disk
+  down_rows node disk h declared =
+      rows_of_disk st im node.schema (devs st node.devs) disk (h.stands declared) node.devs node.devs (row_leaves st im only_now node.devs h.up (h.synced declared) (h.sound declared))
+
+  -- of any node that was declared
+  pub node_rows : (node : TableNode D) (disk : StoreDisk) (agenda : Option (List StoreTask)) → IsTable state node (at disk agenda) → node.is_declared ≡ true
+      → LeavesRows state images node node disk disk
+  node_rows node disk None t declared = down_rows node disk t.at.1 declared
+  node_rows node disk (Some tasks) t declared = still_rows node disk tasks t.at.1
+
   pub idle_works : (node : TableNode D) (disk : StoreDisk) (agenda : Option (List StoreTask)) → IsTable state node (at disk agenda) → node.is_up ≡ true → writes_of node.devs ≡ [] → Works state images (at disk agenda) node node (Ok steps.Idle)
   idle_works node disk None t up none = let is = t.at.0 in absurd cc
   idle_works node disk (Some []) t up none = record {
@@ -71,13 +84,14 @@ module _ {D : Type 0} (state : D → DiskState) (images : D → ℕ → List ℕ
     cause = tt;
     only = tt;
     any_moment = still_leaves node disk t.at.1;
+    rows_left = still_rows node disk [] t.at.1;
   }
   idle_works node disk (Some (task ∷ tasks)) t up none = absurd (subst (λ (l : List Write). Follows node.schema (devs st node.devs) l disk (task ∷ tasks)) none t.at.1.follows)
 
   -- ---- a write
 
   module _ (old : TableNode D) (disk : StoreDisk) (task : StoreTask) (tasks : List StoreTask) (w : Write) (ws : List Write) (is : writes_of old.devs ≡ w ∷ ws) (t : IsTable state old (at disk (Some (task ∷ tasks)))) where
-    may : MayHold old.schema (devs st old.devs) (changed_by (devs st old.devs) w) disk (changed disk task.change)
+    pub may : MayHold old.schema (devs st old.devs) (changed_by (devs st old.devs) w) disk (changed disk task.change)
     may =
         let f = follows_w state images old disk task tasks w ws is t.at.1 in
         record {
@@ -118,11 +132,14 @@ module _ {D : Type 0} (state : D → DiskState) (images : D → ℕ → List ℕ
             name ∙ step_w state images old disk task tasks w ws is h,
           );
           failed = tt;
-          counted = own_stays state old (record old { devs = table; facts = facts; messages = messages }) k.counted (keeps.stopped h.unset);
+          counted = own_stays state old (record old { devs = table; facts = facts; messages = messages }) k.counted (keeps.stopped h.fresh.unset);
           cause = tt;
           only = tt;
           any_moment = devs_weaker st im old.devs table (IsBeforeOrAfter (devs st old.devs) w) (λ d. Stands old.schema d disk ⊎ Stands old.schema d (changed disk task.change)) k.any_moment
               (λ d either. ⊎_elim (λ same. inl (subst (λ (x : Devs). Stands old.schema x disk) (sym same) may.first)) (λ same. inr (subst (λ (x : Devs). Stands old.schema x (changed disk task.change)) (sym same) may.second)) either);
+          rows_left = rows_weaker st im old.devs table (IsEither (devs st old.devs).held (changed_by (devs st old.devs) w).held)
+              (λ held. HasRows old.schema held disk ⊎ HasRows old.schema held (changed disk task.change)) k.rows_left
+              (has_either old.schema (devs st old.devs) (changed_by (devs st old.devs) w) disk (changed disk task.change) may.first may.second);
         }
 
     failed_at : (mid new : TableNode D) (e : CommitFault) → commits.Works {T = Step} st im w ws old.devs mid.devs (Err e) → KeepsUnset st old.devs mid.devs → Falls state images mid new → IsKept old new → new.is_up ≡ false
@@ -138,25 +155,10 @@ module _ {D : Type 0} (state : D → DiskState) (images : D → ℕ → List ℕ
               (λ after. inr (record { table = after; told = kept.told ∙ sym (append-nil (told_by old)); sent = kept.sent ∙ sym (append-nil (sent_by old)); same = kept.same }))
               (fallen state images old mid new (at disk (Some (task ∷ tasks))) t kept.same declared down falls old.devs here (changed_by here w) disk (changed disk task.change) may k.any_moment);
           counted = tt;
-          cause = let r = own_rises state old mid d.1 (keeps.stopped t.at.1.unset) in let c = falls.counted in omega (arith, r, c);
+          cause = let r = own_rises state old mid d.1 (keeps.stopped t.at.1.fresh.unset) in let c = falls.counted in omega (arith, r, c);
           only = refl;
           any_moment = fallen_leaves state images old mid new (at disk (Some (task ∷ tasks))) t kept.same declared down falls old.devs here (changed_by here w) disk (changed disk task.change) may k.any_moment;
-        }
-
-    crashed_at : (stopped : TableDevs (FuseDisk D)) (mid new : TableNode D) (calls pick : ℕ) → StopsNext state images calls pick (w ∷ ws) old.devs stopped → devs st stopped ≡ devs st old.devs
-        → DevsLeave st im stopped mid.devs (IsBeforeOrAfter (devs st stopped) w) → Falls state images mid new → IsKept old new → new.is_up ≡ false
-        → Crashes state images (at disk (Some (task ∷ tasks))) old new
-    crashed_at stopped mid new calls pick stops still run falls kept down =
-        let declared : new.is_declared ≡ true = kept.declared ∙ t.at.1.declared in
-        let here = devs st old.devs in
-        let run_here : DevsLeave st im stopped mid.devs (IsEither here (changed_by here w)) = subst (λ (d : Devs). DevsLeave st im stopped mid.devs (IsEither d (changed_by d w))) still run in
-        let all : DevsLeave st im old.devs mid.devs (IsEither here (changed_by here w)) = since_stopped state images calls pick w ws old.devs stopped mid.devs (IsEither here (changed_by here w)) stops run_here in
-        record {
-          crashed = ⊎_elim
-              (λ before. inl (record { table = before; told = kept.told ∙ sym (append-nil (told_by old)); sent = kept.sent ∙ sym (append-nil (sent_by old)); same = kept.same }))
-              (λ after. inr (record { table = after; told = kept.told ∙ sym (append-nil (told_by old)); sent = kept.sent ∙ sym (append-nil (sent_by old)); same = kept.same }))
-              (fallen state images old mid new (at disk (Some (task ∷ tasks))) t kept.same declared down falls old.devs here (changed_by here w) disk (changed disk task.change) may all);
-          any_moment = fallen_leaves state images old mid new (at disk (Some (task ∷ tasks))) t kept.same declared down falls old.devs here (changed_by here w) disk (changed disk task.change) may all;
+          rows_left = fallen_rows state images mid new falls old.schema old.devs here (changed_by here w) disk (changed disk task.change) may k.rows_left;
         }
 
   -- ---- by what stands in the agenda
@@ -182,30 +184,3 @@ module _ {D : Type 0} (state : D → DiskState) (images : D → ℕ → List ℕ
   work_failed old [] is some disk (Some tasks) t up mid new e k keeps falls kept down = absurd (some is)
   work_failed old (w ∷ ws) is some disk (Some []) t up mid new e k keeps falls kept down = absurd (subst (λ (l : List Write). Follows old.schema (devs st old.devs) l disk []) is t.at.1.follows)
   work_failed old (w ∷ ws) is some disk (Some (task ∷ tasks)) t up mid new e k keeps falls kept down = failed_at old disk task tasks w ws is t mid new e k.0 keeps falls kept down
-
-  crash_idle : (old : TableNode D) (disk : StoreDisk) → IsTable state old (at disk (Some [])) → (mid new : TableNode D) → mid.devs ≡ old.devs → Falls state images mid new → IsKept old new → new.is_up ≡ false
-      → Crashes state images (at disk (Some [])) old new
-  crash_idle old disk t mid new same falls kept down =
-      let h = t.at.1 in
-      let declared : new.is_declared ≡ true = kept.declared ∙ h.declared in
-      let here = devs st old.devs in
-      let stands = follows_now old.schema here (writes_of old.devs) disk [] h.follows in
-      let may : MayHold old.schema here here disk disk = record { first = stands; second = stands; first_fit = h.well.0; second_fit = h.well.0 } in
-      let run : DevsLeave st im old.devs mid.devs (IsEither here here) = subst (λ (x : TableDevs (FuseDisk D)). DevsLeave st im old.devs x (IsEither here here)) (sym same) (devs_weaker st im old.devs old.devs (λ d. d ≡ here) (IsEither here here) (rests_leave st im only_now old.devs (writes_of old.devs) h.ready) (λ d is. inl is)) in
-      record {
-        crashed = ⊎_elim
-            (λ before. inl (record { table = before; told = kept.told ∙ sym (append-nil (told_by old)); sent = kept.sent ∙ sym (append-nil (sent_by old)); same = kept.same }))
-            (λ after. inr (record { table = after; told = kept.told ∙ sym (append-nil (told_by old)); sent = kept.sent ∙ sym (append-nil (sent_by old)); same = kept.same }))
-            (fallen state images old mid new (at disk (Some [])) t kept.same declared down falls old.devs here here disk disk may run);
-        any_moment = fallen_leaves state images old mid new (at disk (Some [])) t kept.same declared down falls old.devs here here disk disk may run;
-      }
-
-  pub crash_done : (old : TableNode D) (l : List Write) → writes_of old.devs ≡ l → (disk : StoreDisk) (agenda : Option (List StoreTask)) → IsTable state old (at disk agenda) → old.is_up ≡ true
-      → (stopped : TableDevs (FuseDisk D)) (mid new : TableNode D) (calls pick : ℕ) (r : Result Step CommitFault) → StopsNext state images calls pick l old.devs stopped → devs st stopped ≡ devs st old.devs
-      → WorksOn st im stopped mid.devs r l → Falls state images mid new → IsKept old new → new.is_up ≡ false
-      → Crashes state images (at disk agenda) old new
-  crash_done old l is disk None t up stopped mid new calls pick r stops still k falls kept down = let no = t.at.0 in absurd cc
-  crash_done old [] is disk (Some []) t up stopped mid new calls pick r stops still k falls kept down = crash_idle old disk t mid new (k.1 ∙ stops) falls kept down
-  crash_done old [] is disk (Some (task ∷ tasks)) t up stopped mid new calls pick r stops still k falls kept down = absurd (subst (λ (l : List Write). Follows old.schema (devs st old.devs) l disk (task ∷ tasks)) is t.at.1.follows)
-  crash_done old (w ∷ ws) is disk (Some []) t up stopped mid new calls pick r stops still k falls kept down = absurd (subst (λ (l : List Write). Follows old.schema (devs st old.devs) l disk []) is t.at.1.follows)
-  crash_done old (w ∷ ws) is disk (Some (task ∷ tasks)) t up stopped mid new calls pick r stops still k falls kept down = crashed_at old disk task tasks w ws is t stopped mid new calls pick stops still k.0.any_moment falls kept down

@@ -1,10 +1,11 @@
 -- What the calls of a table's node promise, in the moves of the Store's step table.
-use Rattle.std.specs.Prelude.{◌≡◌, ◌⊎◌, ◌↔◌, ℕ, ◌<◌, ◌++◌, List, [], ◌∷◌, length, Option, Some, None, Result, OnOk}
+use Rattle.std.specs.Prelude.{◌≡◌, ◌⊎◌, ◌↔◌, ℕ, ◌<◌, ◌≤◌, ◌++◌, List, [], ◌∷◌, length, Option, Some, None, Result, OnOk}
 use Rattle.std.specs.Prelude.{option_map, OnErr, IfOk, IfErr, IsErrOf, true, false}
 use Rattle.disk_trait.specs.Calls.{DiskState}
 use Rattle.disk_trait.specs.Fuse.{behind, inner_of}
 use Rattle.disk_trait.specs.declared.fuse.FuseDisk.{FuseDisk}
 use Rattle.vault.specs.Calls.{IsEither}
+use Rattle.row_store.specs.Data.{TableData}
 use Rattle.stab_base.specs.declared.limits.TheConstants.{NUMBER_MAX}
 use Rattle.stab_base.specs.declared.node.Node.{Node}
 use Rattle.stab_base.specs.declared.step.Step.{Step}
@@ -12,8 +13,8 @@ use Rattle.stab_base.specs.declared.step.Step.TheVariants as steps
 use Rattle.row_value.specs.declared.schema.Scheme.TheVariants.{Eventual}
 use Rattle.store_commit.specs.declared.devs.TableDevs.{TableDevs}
 use Rattle.store_commit.specs.Devs.{Devs}
-use Rattle.store_commit.specs.Standing.{devs, writes_of, AreUp, AreSound, AreSynced, DevsLeave}
-use Rattle.store_commit.specs.Unset.{AreUnset}
+use Rattle.store_commit.specs.Standing.{devs, writes_of, AreUp, AreSound, AreSynced, DevsLeave, RowsLeave}
+use Rattle.store_commit.specs.Unset.{AreFresh}
 use Rattle.step_tables.specs.StoreMoves.{StoreDisk, StoreChange, StoreTask, TableStore, StoreStep, StoreMove, Take}
 use Rattle.step_tables.specs.StoreMoves.{Work, Crash, Start, store_step}
 use Rattle.step_tables.specs.StoreMoves as moves
@@ -29,6 +30,7 @@ use Rattle.store_node.specs.declared.node.TableNode.{TableNode}
 use Rattle.store_node.specs.declared.showing.ShownRow.{ShownRow}
 use Rattle.store_node.specs.Reading.{shown_of}
 use Rattle.store_node.specs.Node.{IsTable, IsSame, told_by, sent_by, own_faults, behind_next, LeavesEither}
+use Rattle.store_node.specs.Node.{LeavesRows}
 use Rattle.store_node.specs.Node.{nothing_stored, Fits}
 use Rattle.store_node.specs.Messages.{IsFor}
 use Rattle.store_node.specs.Taking.{refused_by}
@@ -67,13 +69,21 @@ pub record Works {D : Type 0} (state : D → DiskState) (images : D → ℕ → 
   pub cause : OnErr result (own_faults state old < own_faults state new)
   pub only : IfErr result (λ e. e ≡ Disk)
   pub any_moment : LeavesEither state images old new s.disk (behind_next s.disk s.agenda)
+  pub rows_left : LeavesRows state images old new s.disk (behind_next s.disk s.agenda)
 
 -- The write at work is undone, or done.
-pub record Crashes {D : Type 0} (state : D → DiskState) (images : D → ℕ → List ℕ → Type 0) (s : TableStore)
-    (old new : TableNode D) : Type 0 where
+pub record Crashes {D : Type 0} (state : D → DiskState) (images : D → ℕ → List ℕ → Type 0) (calls : ℕ)
+    (s : TableStore) (old new : TableNode D) : Type 0 where
   pub crashed : IsBehind state old new (step_at old s (Crash FailedBefore))
       ⊎ IsBehind state old new (step_at old s (Crash FailedAfter))
+  -- where no disk failed by itself, 0 or 1 passing calls leave the write undone, and 4 leave it done
+  pub undone : own_faults state new ≡ own_faults state old → calls ≤ 1
+      → IsBehind state old new (step_at old s (Crash FailedBefore))
+  pub done : own_faults state new ≡ own_faults state old → 4 ≤ calls
+      → IsBehind state old new (step_at old s (Crash FailedAfter))
+  pub later : own_faults state old ≤ own_faults state new
   pub any_moment : LeavesEither state images old new s.disk (behind_next s.disk s.agenda)
+  pub rows_left : LeavesRows state images old new s.disk (behind_next s.disk s.agenda)
 
 -- A table that wasn't declared is, and holds nothing; else it isn't yet.
 pub record Declares {D : Type 0} (state : D → DiskState) (s : TableStore) (old new : TableNode D)
@@ -85,13 +95,14 @@ pub record Declares {D : Type 0} (state : D → DiskState) (s : TableStore) (old
   pub only : IfErr result (λ e. (e ≡ Disk) ⊎ (e ≡ Memory))
 
 -- The table is started; else it is still down.
-pub record Recovers {D : Type 0} (state : D → DiskState) (s : TableStore) (old new : TableNode D)
-    (result : Result (Unit {0}) NodeFault) : Type 0 where
+pub record Recovers {D : Type 0} (state : D → DiskState) (images : D → ℕ → List ℕ → Type 0) (s : TableStore)
+    (old new : TableNode D) (result : Result (Unit {0}) NodeFault) : Type 0 where
   pub started : OnOk result (IsBehind state old new (step_at old s Start))
   pub refused : OnErr result (Stays state old new s)
   pub counted : (IsErrOf result Disk → ⊥) → own_faults state new ≡ own_faults state old
   pub cause : IsErrOf result Disk → own_faults state old < own_faults state new
   pub only : IfErr result (λ e. (e ≡ Disk) ⊎ (e ≡ Memory))
+  pub rows_left : LeavesRows state images old new s.disk s.disk
 
 -- A table that is declared late has recovered, since it holds nothing.
 abbrev pub late : {D : Type 0} → TableNode D → StoreStep
@@ -111,14 +122,15 @@ pub record DeclaresLate {D : Type 0} (state : D → DiskState) (s : TableStore) 
   pub only : IfErr result (λ e. (e ≡ Disk) ⊎ (e ≡ Memory))
 
 -- The table is started, or was up; a table that was never declared is; else it is still down.
-pub record Starts {D : Type 0} (state : D → DiskState) (s : TableStore) (old new : TableNode D)
-    (result : Result (Unit {0}) NodeFault) : Type 0 where
+pub record Starts {D : Type 0} (state : D → DiskState) (images : D → ℕ → List ℕ → Type 0) (s : TableStore)
+    (old new : TableNode D) (result : Result (Unit {0}) NodeFault) : Type 0 where
   pub started : old.is_declared ≡ true → OnOk result (IsBehind state old new (step_at old s Start))
   pub declared : old.is_declared ≡ false → OnOk result (IsBehind state old new (late old))
   pub refused : OnErr result (Stays state old new s)
   pub counted : (IsErrOf result Disk → ⊥) → own_faults state new ≡ own_faults state old
   pub cause : IsErrOf result Disk → own_faults state old < own_faults state new
   pub only : IfErr result (λ e. (e ≡ Disk) ⊎ (e ≡ Memory))
+  pub rows_left : old.is_declared ≡ true → LeavesRows state images old new s.disk s.disk
 
 -- The node is down, and its disks were restarted: they hold what a crash since an earlier moment might have left.
 pub record Falls {D : Type 0} (state : D → DiskState) (images : D → ℕ → List ℕ → Type 0)
@@ -127,8 +139,12 @@ pub record Falls {D : Type 0} (state : D → DiskState) (images : D → ℕ → 
       → DevsLeave (behind state) (λ f. images (inner_of f)) start old.devs (IsEither a b)
       → IsEither a b (devs (behind state) new.devs) × AreSound (behind state) new.devs
       × DevsLeave (behind state) (λ f. images (inner_of f)) start new.devs (IsEither a b)
+  pub rows_left : (start : TableDevs (FuseDisk D)) (a b : TableData)
+      → RowsLeave (behind state) (λ f. images (inner_of f)) start old.devs (IsEither a b)
+      → IsEither a b (devs (behind state) new.devs).held
+      × RowsLeave (behind state) (λ f. images (inner_of f)) start new.devs (IsEither a b)
   pub up : AreUp new.devs
-  pub unset : AreUnset (behind state) new.devs
+  pub fresh : AreFresh (behind state) new.devs
   pub synced : AreSynced (behind state) new.devs
   pub idle : writes_of new.devs ≡ []
   pub counted : own_faults state new ≡ own_faults state old
@@ -154,6 +170,7 @@ pub record Shows {D : Type 0} (state : D → DiskState) (images : D → ℕ → 
   pub cause : IsErrOf result Disk → own_faults state old < own_faults state new
   pub only : IfErr result (λ e. (e ≡ Disk) ⊎ (e ≡ Memory))
   pub any_moment : LeavesEither state images old new s.disk s.disk
+  pub rows_left : LeavesRows state images old new s.disk s.disk
 
 -- ---- messages
 
@@ -194,6 +211,7 @@ pub record Answers {D : Type 0} (state : D → DiskState) (images : D → ℕ �
   pub cause : IsErrOf result Disk → own_faults state old < own_faults state new
   pub only : IfErr result (λ e. (e ≡ Spent NUMBER_MAX) ⊎ ((e ≡ Disk) ⊎ (e ≡ Memory)))
   pub any_moment : LeavesEither state images old new s.disk s.disk
+  pub rows_left : LeavesRows state images old new s.disk s.disk
 
 -- A message that is taken makes the table's step, and any other is dropped. Each refusal has its cause, and leaves all
 -- as it was; where a disk has failed the node is down, with the disk as it was. That no version is left is told before
@@ -214,3 +232,4 @@ pub record Delivers {D : Type 0} (state : D → DiskState) (images : D → ℕ �
   pub only : IfErr result (λ e. ((version : ℕ) × (e ≡ Busy version)) ⊎ ((e ≡ Spent NUMBER_MAX)
       ⊎ ((e ≡ Disk) ⊎ (e ≡ Memory))))
   pub any_moment : LeavesEither state images old new s.disk s.disk
+  pub rows_left : LeavesRows state images old new s.disk s.disk

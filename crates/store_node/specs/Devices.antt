@@ -10,7 +10,7 @@ use Rattle.store_commit.specs.Devs.{Devs}
 use Rattle.store_commit.specs.Recover.{IsRecovery}
 use Rattle.store_commit.specs.Rising.{AreRisingWrites}
 use Rattle.store_commit.specs.Standing.{devs, writes_of, AreUp, IsReady, DevsLeave}
-use Rattle.store_commit.specs.Standing.{NothingHidden}
+use Rattle.store_commit.specs.Standing.{RowsLeave, NothingHidden}
 use Rattle.store_commit.specs.Unset.{KeepsUnset, HasCause}
 
 -- what the devices of a live table hold that has no rows
@@ -28,7 +28,8 @@ pub record MakesTable {D : Type 0} (state : D → DiskState) (schema : Schema) (
   pub fuse : KeepsUnset state old new
   pub cause : HasCause state old new result
 
--- The writes of a start are taken on; else a crash since some moment leaves what was held.
+-- The writes of a start are taken on; else a crash since some moment leaves what was held. A crash at any moment leaves
+-- the rows.
 pub record BeginsStart {D : Type 0} (state : D → DiskState) (images : D → ℕ → List ℕ → Type 0) (old new : TableDevs D)
     (result : Result Recovery CommitFault) : Type 0 where
   pub answer : IfOk result (IsRecovery (devs state old))
@@ -40,3 +41,4 @@ pub record BeginsStart {D : Type 0} (state : D → DiskState) (images : D → �
   pub fuse : KeepsUnset state old new
   pub cause : HasCause state old new result
   pub left : (start : TableDevs D) × DevsLeave state images start new (λ d. d ≡ devs state old)
+  pub rows_left : RowsLeave state images old new (λ held. held ≡ (devs state old).held)

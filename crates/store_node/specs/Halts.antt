@@ -4,7 +4,7 @@ use Rattle.disk_trait.specs.Calls.{DiskState}
 use Rattle.step_tables.specs.StoreMoves.{TableStore, Crash}
 use Rattle.step_tables.specs.Messages.{FailedBefore}
 use Rattle.store_node.specs.declared.node.TableNode.{TableNode}
-use Rattle.store_node.specs.Node.{own_faults, LeavesEither}
+use Rattle.store_node.specs.Node.{own_faults, LeavesEither, LeavesRows}
 use Rattle.store_node.specs.Calls.{IsBehind, step_at}
 
 -- Nothing that was to be done is, and the disk is as it was. Of a node that is down nothing changes.
@@ -15,3 +15,4 @@ pub record Halts {D : Type 0} (state : D → DiskState) (images : D → ℕ → 
   pub counted : own_faults state new ≡ own_faults state old
   pub still : old.is_up ≡ false → new ≡ old
   pub any_moment : old.is_up ≡ true → LeavesEither state images old new s.disk s.disk
+  pub rows_left : old.is_declared ≡ true → LeavesRows state images old new s.disk s.disk

@@ -13,17 +13,17 @@ use Rattle.chunk_store.specs.Standing as chunks
 use Rattle.row_store.specs.Spelling.{IsClient, table_payload}
 use Rattle.row_store.specs.Standing as rows
 use Rattle.status_log.specs.Standing as logs
-use Rattle.store_commit.specs.Devs.{Devs, Write}
+use Rattle.store_commit.specs.Devs.{Write}
 use Rattle.store_commit.specs.Standing.{devs, writes_of, step_of, AreUp, AreSound, AreSynced, IsReady, DevsLeave}
-use Rattle.store_commit.specs.Standing.{NothingHidden}
-use Rattle.store_commit.specs.Unset.{AreUnset}
+use Rattle.store_commit.specs.Standing.{RowsLeave, NothingHidden}
+use Rattle.store_commit.specs.Unset.{AreFresh}
 use Rattle.step_tables.specs.Facts.{Fact}
 use Rattle.step_tables.specs.Messages.{Send}
 use Rattle.step_tables.specs.Store.{Stored}
 use Rattle.step_tables.specs.StoreMoves.{StoreDisk, StoreTask, TableStore, changed}
 use Rattle.step_tables.specs.declared.message.Message.{Message}
 use Rattle.step_tables.specs.declared.message.Message.TheVariants as kinds
-use Rattle.device_laws.specs.Stands.{Stands, Follows}
+use Rattle.device_laws.specs.Stands.{Stands, Follows, HasRows}
 use Rattle.step_tables.specs.Travels.{send_of}
 use Rattle.store_node.specs.Due.{fact_of, told_at, sent_at, is_last_of}
 use Rattle.store_node.specs.Gathered.{HasRoom}
@@ -85,7 +85,7 @@ pub record IsWorking {D : Type 0} (state : D → DiskState) (node : TableNode D)
     (tasks : List StoreTask) : Type 0 where
   pub declared : node.is_declared ≡ true
   pub up : AreUp node.devs
-  pub unset : AreUnset (behind state) node.devs
+  pub fresh : AreFresh (behind state) node.devs
   pub hidden : NothingHidden node.devs
   pub ready : IsReady (behind state) node.devs (writes_of node.devs)
   pub follows : Follows node.schema (devs (behind state) node.devs) (writes_of node.devs) disk tasks
@@ -99,7 +99,7 @@ pub record IsWorking {D : Type 0} (state : D → DiskState) (node : TableNode D)
 -- Down: its disks were restarted, and hold this. What wasn't declared holds nothing yet.
 pub record IsResting {D : Type 0} (state : D → DiskState) (node : TableNode D) (disk : StoreDisk) : Type 0 where
   pub up : AreUp node.devs
-  pub unset : AreUnset (behind state) node.devs
+  pub fresh : AreFresh (behind state) node.devs
   pub idle : writes_of node.devs ≡ []
   pub synced : node.is_declared ≡ true → AreSynced (behind state) node.devs
   pub sound : node.is_declared ≡ true → AreSound (behind state) node.devs
@@ -135,6 +135,13 @@ abbrev pub LeavesEither : {D : Type 0} → (D → DiskState) → (D → ℕ → 
 LeavesEither state images old new a b =
     DevsLeave (behind state) (λ f. images (inner_of f)) old.devs new.devs
     (λ d. Stands old.schema d a ⊎ Stands old.schema d b)
+
+-- and of the disk of the rows it leaves the rows of this one or of that one
+abbrev pub LeavesRows : {D : Type 0} → (D → DiskState) → (D → ℕ → List ℕ → Type 0) → TableNode D → TableNode D
+    → StoreDisk → StoreDisk → Type 0
+LeavesRows state images old new a b =
+    RowsLeave (behind state) (λ f. images (inner_of f)) old.devs new.devs
+    (λ held. HasRows old.schema held a ⊎ HasRows old.schema held b)
 
 -- the same table, of the same Store
 pub record IsSame {D : Type 0} (old new : TableNode D) : Type 0 where

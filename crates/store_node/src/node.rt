@@ -187,7 +187,7 @@ impl<D: Disk + Drop> TableNode<D> {
         }
     }
 
-    // Crashes the disks and starts them again. The node is down.
+    // Crashes the disks and starts them again, with fuses as new. The node is down.
     fn fall(&mut self, pick: u64)
         ensures falls { Falls D.state D.images self.old self.new }
         ensures down { self.new.is_up ≡ false }
@@ -197,6 +197,7 @@ impl<D: Disk + Drop> TableNode<D> {
         ensures messages { self.new.messages ≡ self.old.messages }
     {
         self.devs.restart(pick);
+        self.devs.renew();
         self.is_up = false;
         self.owed = Owed::Nothing;
     }
@@ -255,7 +256,8 @@ impl<D: Disk + Drop> TableNode<D> {
         requires node { IsNode D.state self.old }
         requires declared { self.old.is_declared ≡ true }
         requires down { self.old.is_up ≡ false }
-        ensures recovers { (s : TableStore) → IsTable D.state self.old s → Recovers D.state s self.old self.new result }
+        ensures recovers { (s : TableStore) → IsTable D.state self.old s
+            → Recovers D.state D.images s self.old self.new result }
         ensures kept { OnErr result (self.new.is_declared ≡ self.old.is_declared) }
         ensures up { OnOk result (self.new.is_up ≡ true) }
     {
@@ -297,7 +299,8 @@ impl<D: Disk + Drop> TableNode<D> {
     /// node is still down.
     pub fn start(&mut self) -> Result<(), NodeFault>
         requires { IsNode D.state self.old }
-        ensures starts { (s : TableStore) → IsTable D.state self.old s → Starts D.state s self.old self.new result }
+        ensures starts { (s : TableStore) → IsTable D.state self.old s
+            → Starts D.state D.images s self.old self.new result }
         ensures node { IsNode D.state self.new }
         ensures kept { OnErr result (self.new.is_declared ≡ self.old.is_declared) }
         ensures up { OnOk result (self.new.is_up ≡ true) }
@@ -424,12 +427,13 @@ impl<D: Disk + Drop> TableNode<D> {
     }
 
     /// Crashes the node: of the disk of the next write the first `calls` calls pass, and a write that follows lands its
-    /// first `pick` bytes. The node is then down. It takes no memory.
+    /// first `pick` bytes. The node is then down. It takes no memory. Unless a disk fails by itself, the write is
+    /// undone where `calls` is 0 or 1, and done where it is 4 or more.
     pub fn crash(&mut self, calls: u32, pick: u64)
         requires node { IsNode D.state self.old }
         requires up { self.old.is_up ≡ true }
         ensures crashes { (s : TableStore) → IsTable D.state self.old s
-            → Crashes D.state D.images s self.old self.new }
+            → Crashes D.state D.images calls s self.old self.new }
         ensures node { IsNode D.state self.new }
         ensures declared { self.new.is_declared ≡ self.old.is_declared }
         ensures down { self.new.is_up ≡ false }

@@ -10,4 +10,4 @@ pub returns-clause-follows : goal.returns-clause-follows
 returns-clause-follows c = λ schema d disk request from table some client number fits st none. update_follows schema d disk st none request client number fits from table
 
 pub returns-clause-version : goal.returns-clause-version
-returns-clause-version c = λ schema d disk st. table_version schema.chunk disk.items d.held st.numbered st.rows
+returns-clause-version c = λ schema d disk st. table_version schema.chunk disk.items d.held st.held.numbered st.held.rows

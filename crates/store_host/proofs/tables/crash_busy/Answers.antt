@@ -1,14 +1,19 @@
-use Rattle.std.proofs.Common.{◌⊎◌, ℕ, Option, [], false, subst}
-use Rattle.step_tables.specs.Messages as messages
-use Rattle.world_tables.specs.World.{table_crashes}
-use Rattle.store_host.specs.Calls.{AreMoved}
+use Rattle.std.proofs.Common.{None, refl, sym}
+use Rattle.disk_trait.specs.Fuse.{inner_of}
+use Rattle.store_host.proofs.Lefts.{still_left, none_still}
+use Rattle.store_host.proofs.Crashed.{none_crashed}
 use Rattle.store_host.proofs.tables.crash_busy.Goals as goal
 
-pub returns-in-Some : goal.returns-in-Some
-returns-in-Some g c = record {
-  crashed = λ w h.
-      let ns = c.args.numbers.now in
-      subst (λ (o : Option ℕ). AreMoved g.D.Disk.state w ns c.crash_at.new.tables [] [] false (table_crashes messages.FailedBefore o w)
-      ⊎ AreMoved g.D.Disk.state w ns c.crash_at.new.tables [] [] false (table_crashes messages.FailedAfter o w))
-      (c.in-Some.ensures w h) (c.crash_at.ensures.crashed w ns h);
-}
+pub returns-in-Some-clause-crashed : goal.returns-in-Some-clause-crashed
+returns-in-Some-clause-crashed g c w h = c.crash_at.ensures.crashed w c.args.numbers.now h (sym (c.in-Some.ensures w h))
+
+pub returns-in-Some-clause-left : goal.returns-in-Some-clause-left
+returns-in-Some-clause-left g c w h = c.crash_at.ensures.left w c.args.numbers.now h
+
+pub returns-in_default-clause-crashed : goal.returns-in_default-clause-crashed
+returns-in_default-clause-crashed g c w h = none_crashed g.D.Disk.state w c.args.numbers.now c.args.calls c.args.tables.now h None (sym (c.in_default.ensures w h)) (λ luck. refl)
+
+pub returns-in_default-clause-left : goal.returns-in_default-clause-left
+returns-in_default-clause-left g c w h =
+    still_left g.D.Disk.state g.D.Disk.images w c.args.tables.now c.args.tables.now
+    (none_still g.D.Disk.state g.D.Disk.images (λ d image left. g.met.D.Disk.only_now (inner_of d) image left) w c.args.numbers.now c.args.tables.now h)

@@ -3,6 +3,9 @@ use Rattle.std.specs.BTreeMap as tree
 use Rattle.store_host.specs.declared.hosted.Hosted.{Hosted}
 use Rattle.store_host.specs.Calls.{AreTaken, HasTakeCause}
 use Rattle.store_host.proofs.Moving.{tables_taken, tables_take_cause, lost, no_take_cause, found_is, found_up}
+use Rattle.disk_trait.specs.Fuse.{inner_of}
+use Rattle.store_host.specs.Holds.{AreStill}
+use Rattle.store_host.proofs.Lefts.{still_at, none_still}
 use Rattle.store_host.proofs.tables.deliver_to.Goals as goal
 
 pub deliver-requires-clause-node : goal.deliver-requires-clause-node
@@ -30,3 +33,14 @@ returns-in-None-clause-taken g c w numbers h up =
 pub returns-in-None-clause-cause : goal.returns-in-None-clause-cause
 returns-in-None-clause-cause g c =
     subst (λ (t : tree.BTreeMap ℕ (Hosted g.row.D.Denot)). HasTakeCause g.D.Disk.state c.args.tables.now t (Ok tt)) (sym c.get_mut.follows.holds-at-none) (no_take_cause g.D.Disk.state c.args.tables.now)
+
+pub returns-in-Some-clause-left : goal.returns-in-Some-clause-left
+returns-in-Some-clause-left g c w numbers h =
+    still_at g.D.Disk.state g.D.Disk.images (λ d image left. g.met.D.Disk.only_now (inner_of d) image left) w numbers c.args.tables.now h (c.get_mut.follows.lender c.deliver.new.self) _
+    c.deliver.new.self c.in-Some.hosted.now c.in-Some.ensures.value
+    (c.get_mut.follows.holds c.deliver.new.self) (λ hosted k made. c.deliver.ensures.left _ _ hosted k made)
+
+pub returns-in-None-clause-left : goal.returns-in-None-clause-left
+returns-in-None-clause-left g c w numbers h =
+    subst (λ (t : tree.BTreeMap ℕ (Hosted g.row.D.Denot)). AreStill g.D.Disk.state g.D.Disk.images w c.args.tables.now t) (sym c.get_mut.follows.holds-at-none)
+    (none_still g.D.Disk.state g.D.Disk.images (λ d image left. g.met.D.Disk.only_now (inner_of d) image left) w numbers c.args.tables.now h)

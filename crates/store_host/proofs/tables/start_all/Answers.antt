@@ -2,10 +2,18 @@ use Rattle.std.proofs.Common.{Err, ◌+◌, drop, refl, ◌∙◌, rules}
 use Rattle.std.proofs.lemmas.Result.{err_from_is_err_and}
 use Rattle.std.specs.Prelude.{slice_index_or}
 use Rattle.store_host.proofs.Moving.{later_cause, begins, begins_next, ends_well, ends_badly, drop_next, drop_done}
+use Rattle.disk_trait.specs.Fuse.{inner_of}
+use Rattle.store_host.proofs.Froms.{SameDisk}
+use Rattle.store_host.proofs.Lefts.{none_still, still_then}
 use Rattle.store_host.proofs.tables.start_all.Goals as goal
 
 pub loop-table-init : goal.loop-table-init
-loop-table-init g c = record { begun = λ w all h. begins g.D.Disk.state w all c.args.numbers.now c.args.outs.now c.args.tables.now h; counted = λ q. refl }
+loop-table-init g c = record {
+  begun = λ w all h. begins g.D.Disk.state w all c.args.numbers.now c.args.outs.now c.args.tables.now h;
+  left = λ w all h. none_still g.D.Disk.state g.D.Disk.images
+      (λ d image left. g.met.D.Disk.only_now (inner_of d) image left) w all c.args.tables.now h;
+  counted = λ q. refl;
+}
 
 pub start_at-requires : goal.start_at-requires
 start_at-requires g c = let n = c.requires in let b = c.loop-table.invariant.begun n.0 n.1 n.2 in (b.here, n.1, b.held)
@@ -20,6 +28,11 @@ loop-table-preserved g c =
           begins_next g.D.Disk.state w all ns c.args.outs.now c.loop-table.tables c.start_at.new.tables c.loop-table.outs c.start_at.new.outs (slice_index_or ns i 0) (drop i ns) (drop (i + 1) ns)
           (drop_next ns i (search rules)) b
           (c.in_ok-start_at.ensures.started b.here all b.held);
+      left = λ w all h.
+          let b = c.loop-table.invariant.begun w all h in
+          still_then g.D.Disk.state g.D.Disk.images SameDisk w b.here all all c.args.tables.now c.loop-table.tables c.start_at.new.tables h b.held b.from (λ s t q. q)
+          (c.loop-table.invariant.left w all h)
+          (c.in_ok-start_at.ensures.left b.here all b.held);
       counted = λ q. c.in_ok-start_at.ensures.cause.counted (λ e. absurd cc) q ∙ c.loop-table.invariant.counted q;
     }
 
@@ -44,3 +57,12 @@ returns-clause-started g c w all h =
     let ns = c.args.numbers.now in
     let i = c.loop-table.table-index in
     ends_well g.D.Disk.state w all ns c.args.outs.now c.loop-table.tables c.loop-table.outs (drop i ns) (drop_done ns i (search rules)) (c.loop-table.invariant.begun w all h)
+
+pub returns-in_err-start_at-clause-left : goal.returns-in_err-start_at-clause-left
+returns-in_err-start_at-clause-left g c w all h =
+    let b = c.loop-table.invariant.begun w all h in
+    still_then g.D.Disk.state g.D.Disk.images SameDisk w b.here all all c.args.tables.now c.loop-table.tables c.start_at.new.tables h b.held b.from (λ s t q. q) (c.loop-table.invariant.left w all h)
+    (c.in_err-start_at.ensures.left b.here all b.held)
+
+pub returns-clause-left : goal.returns-clause-left
+returns-clause-left g c w all h = c.loop-table.invariant.left w all h

@@ -1,7 +1,13 @@
+use Rattle.std.proofs.Common.{ℕ, sym, subst}
 use Rattle.std.proofs.lemmas.Result.{on_ok_weaker}
 use Rattle.world_tables.specs.World.{schema_at}
 use Rattle.store_host.proofs.Maps.{found}
 use Rattle.store_host.proofs.Moving.{some_there, same_tables, table_started, tables_cause}
+use Rattle.disk_trait.specs.Fuse.{inner_of}
+use Rattle.std.specs.BTreeMap as tree
+use Rattle.store_host.specs.declared.hosted.Hosted.{Hosted}
+use Rattle.store_host.specs.Holds.{AreStill}
+use Rattle.store_host.proofs.Lefts.{still_at, none_still}
 use Rattle.store_host.proofs.tables.start_at.Goals as goal
 
 pub returns-in-Some-clause-started : goal.returns-in-Some-clause-started
@@ -26,3 +32,14 @@ pub returns-in-Some-clause-cause : goal.returns-in-Some-clause-cause
 returns-in-Some-clause-cause g c =
     tables_cause g.D.Disk.state c.args.tables.now (c.get_mut.follows.lender c.start.new.self) c.args.table c.start.new.self c.in-Some.hosted.now c.in-Some.ensures.value
     ((c.get_mut.follows.holds c.start.new.self).3 (some_there _ _ c.in-Some.ensures.value)).0 c.start.result c.start.ensures.cause
+
+pub returns-in-Some-clause-left : goal.returns-in-Some-clause-left
+returns-in-Some-clause-left g c w numbers h =
+    still_at g.D.Disk.state g.D.Disk.images (λ d image left. g.met.D.Disk.only_now (inner_of d) image left) w numbers c.args.tables.now h (c.get_mut.follows.lender c.start.new.self) c.args.table
+    c.start.new.self c.in-Some.hosted.now c.in-Some.ensures.value
+    (c.get_mut.follows.holds c.start.new.self) (λ hosted k made. c.start.ensures.left _ _ hosted k made)
+
+pub returns-in-None-clause-left : goal.returns-in-None-clause-left
+returns-in-None-clause-left g c w numbers h =
+    subst (λ (t : tree.BTreeMap ℕ (Hosted g.row.D.Denot)). AreStill g.D.Disk.state g.D.Disk.images w c.args.tables.now t) (sym c.get_mut.follows.holds-at-none)
+    (none_still g.D.Disk.state g.D.Disk.images (λ d image left. g.met.D.Disk.only_now (inner_of d) image left) w numbers c.args.tables.now h)

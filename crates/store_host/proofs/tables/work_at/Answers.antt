@@ -1,9 +1,14 @@
-use Rattle.std.proofs.Common.{true, inl, inr, ⊎_elim, refl}
+use Rattle.std.proofs.Common.{true, inl, inr, ⊎_elim, refl, ℕ, sym, subst}
 use Rattle.step_tables.specs.Messages as messages
 use Rattle.step_tables.specs.StoreMoves.{Work}
 use Rattle.world_tables.specs.World.{schema_at}
 use Rattle.store_host.proofs.Maps.{found}
 use Rattle.store_host.proofs.Moving.{some_there, table_moved, work_done, tables_cause}
+use Rattle.disk_trait.specs.Fuse.{inner_of}
+use Rattle.std.specs.BTreeMap as tree
+use Rattle.store_host.specs.declared.hosted.Hosted.{Hosted}
+use Rattle.store_host.specs.Holds.{AreLeft}
+use Rattle.store_host.proofs.Lefts.{next_at, still_left, none_still}
 use Rattle.store_host.proofs.tables.work_at.Goals as goal
 
 pub returns-in-Some-clause-done : goal.returns-in-Some-clause-done
@@ -29,3 +34,15 @@ pub returns-in-Some-clause-cause : goal.returns-in-Some-clause-cause
 returns-in-Some-clause-cause g c =
     tables_cause g.D.Disk.state c.args.tables.now (c.get_mut.follows.lender c.work.new.self) c.args.table c.work.new.self c.in-Some.hosted.now c.in-Some.ensures.value
     ((c.get_mut.follows.holds c.work.new.self).3 (some_there _ _ c.in-Some.ensures.value)).0 c.work.result c.work.ensures.cause
+
+pub returns-in-Some-clause-left : goal.returns-in-Some-clause-left
+returns-in-Some-clause-left g c w numbers h =
+    next_at g.D.Disk.state g.D.Disk.images (λ d image left. g.met.D.Disk.only_now (inner_of d) image left) w numbers c.args.tables.now h (c.get_mut.follows.lender c.work.new.self) c.args.table
+    c.work.new.self c.in-Some.hosted.now c.in-Some.ensures.value
+    (c.get_mut.follows.holds c.work.new.self) (λ hosted k made. c.work.ensures.left _ _ hosted k made)
+
+pub returns-in-None-clause-left : goal.returns-in-None-clause-left
+returns-in-None-clause-left g c w numbers h =
+    subst (λ (t : tree.BTreeMap ℕ (Hosted g.row.D.Denot)). AreLeft g.D.Disk.state g.D.Disk.images w c.args.tables.now t) (sym c.get_mut.follows.holds-at-none)
+    (still_left g.D.Disk.state g.D.Disk.images w c.args.tables.now c.args.tables.now
+    (none_still g.D.Disk.state g.D.Disk.images (λ d image left. g.met.D.Disk.only_now (inner_of d) image left) w numbers c.args.tables.now h))

@@ -1,13 +1,13 @@
-use Rattle.std.proofs.Common.{◌≡◌, map, Ok, Err, sym, ◌∙◌, ap, subst}
+use Rattle.std.proofs.Common.{◌≡◌, map, Err, sym, ◌∙◌, ap, subst}
 use Rattle.std.proofs.lemmas.Result.{err_from_is_err_and}
 use Rattle.store_commit.specs.declared.recovery.Recovery.{Recovery}
 use Rattle.store_commit.specs.Devs.{Devs}
 use Rattle.store_commit.specs.NamedChunks.{NamedChunks}
 use Rattle.store_commit.specs.There.{WholeRows}
-use Rattle.store_commit.specs.Standing.{devs, write_of, DevsLeave}
+use Rattle.store_commit.specs.Standing.{write_of, DevsLeave}
 use Rattle.store_commit.specs.Unset.{HasCause}
 use Rattle.store_commit.proofs.Fusing.{keeps_then, cause_then}
-use Rattle.store_node.proofs.Making.{looked_up, still_looked, scanned_starts, same_hidden, asks_cause, begun_start}
+use Rattle.store_node.proofs.Making.{looked_up, still_looked, scanned_starts, same_hidden, asks_cause, rows_go_on, begun_start}
 use Rattle.store_node.proofs.devices.begin_start.Goals as goal
 
 pub scan-requires : goal.scan-requires
@@ -34,6 +34,7 @@ returns-in_err-look g c =
       fuse = l.fuse c.requires.up;
       cause = record { cause = k.cause; only = k.only };
       left = (c.args.table.now, l.any_moment c.requires.up c.requires.sound);
+      rows_left = l.rows_left c.requires.up c.requires.sound;
     })
 
 pub returns-in_err-scan : goal.returns-in_err-scan
@@ -58,6 +59,7 @@ returns-in_err-scan g c =
       fuse = keeps_then s old looked new (l.fuse c.requires.up) c.scan.ensures.fuse;
       cause = k;
       left = (looked, subst (λ (d : Devs). DevsLeave s images looked new (λ x. x ≡ d)) l.same (a.any_moment up (l.sound c.requires.sound)));
+      rows_left = rows_go_on s images old looked new l.same (l.rows_left c.requires.up c.requires.sound) (a.leave up (l.sound c.requires.sound)).rows;
     })
 
 pub returns : goal.returns
@@ -73,5 +75,7 @@ returns g c =
     let w = c.requires.whole in
     let none = c.in_ok-scan.ensures.whole w.0 (subst (λ (d : Devs). NamedChunks w.0 d) (sym l.same) w.1) (subst (λ (d : Devs). WholeRows w.0 d.held) (sym l.same) w.2) in
     begun_start s images old scanned c.recover.new.self c.recover.result (keeps_then s old looked scanned (l.fuse c.requires.up) c.scan.ensures.fuse)
-    (record { cause = a.counted (λ is. cc) ∙ (l.cause c.requires.up).cause; only = tt }) (a.same (λ is. cc) ∙ l.same) c.recover.ensures.fuse (c.recover.ensures.recovers up) (c.recover.ensures.rising up none.1)
+    (record { cause = a.counted (λ is. cc) ∙ (l.cause c.requires.up).cause; only = tt }) (a.same (λ is. cc) ∙ l.same) c.recover.ensures.fuse
+    (rows_go_on s images old looked scanned l.same (l.rows_left c.requires.up c.requires.sound) (a.leave (looked_up s images looked l.looked) (l.sound c.requires.sound)).rows)
+    (c.recover.ensures.recovers up) (c.recover.ensures.rising up none.1)
     (same_hidden s images scanned c.recover.new.self c.recover.ensures.scanned none.0)

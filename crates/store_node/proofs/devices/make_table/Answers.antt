@@ -1,8 +1,8 @@
-use Rattle.std.proofs.Common.{◌≡◌, List, [], Ok, Err, refl, sym, subst}
+use Rattle.std.proofs.Common.{List, refl, sym, subst}
 use Rattle.std.proofs.lemmas.Result.{err_from_is_err_and}
 use Rattle.store_commit.specs.Devs.{Write, PutTable}
-use Rattle.store_commit.specs.Standing.{writes_of, IsReady}
-use Rattle.store_node.proofs.Making.{same_hidden, ready_up, other_cause, begin_refused, work_refused, made}
+use Rattle.store_commit.specs.Standing.{IsReady}
+use Rattle.store_node.proofs.Making.{same_hidden, begin_refused, work_refused, made}
 use Rattle.store_node.proofs.devices.make_table.Goals as goal
 
 pub begin_table-requires-clause-ready : goal.begin_table-requires-clause-ready

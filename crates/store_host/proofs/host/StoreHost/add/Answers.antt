@@ -1,9 +1,12 @@
-use Rattle.std.proofs.Common.{◌≡◌, Bool, Some, true, false, ap, ◌∙◌, subst, arith}
+use Rattle.std.proofs.Common.{◌≡◌, ⊎_elim, Bool, Some, true, false, ap, ◌∙◌, subst, arith}
 use Rattle.std.specs.Prelude.{OnOk, not}
 use Rattle.std.proofs.lemmas.Result.{on_ok_weaker}
 use Rattle.world_tables.specs.World.{with_table, is_down, the_store}
 use Rattle.store_host.specs.Holds.{HoldsParts}
-use Rattle.store_host.proofs.Ups.{added_up}
+use Rattle.disk_trait.specs.Fuse.{inner_of}
+use Rattle.store_host.specs.Steps.{new_table}
+use Rattle.store_host.proofs.Lefts.{added_still, fallen_still}
+use Rattle.store_host.proofs.Ups.{added_up, look_cases}
 use Rattle.store_host.proofs.Moving.{added_faults, other_faults}
 use Rattle.store_host.proofs.host.StoreHost.add.Goals as goal
 
@@ -54,3 +57,18 @@ pub returns-in_ok-put-in-Err-Disk-clause-others_failed : goal.returns-in_ok-put-
 returns-in_ok-put-in-Err-Disk-clause-others_failed g c q apart failed =
     c.fall.ensures.counted q
     ∙ other_faults g.D.Disk.state c.args.self.now.tables c.put-in-Err-Disk.new.self.tables c.args.table c.declare.new.self c.in_ok-put-in-Err-Disk.ensures.tables q apart
+
+pub returns-in-Ok-clause-left : goal.returns-in-Ok-clause-left
+returns-in-Ok-clause-left g c w h =
+    on_ok_weaker c.put.result
+    (λ added. added_still g.D.Disk.state g.D.Disk.images (λ f image left. g.met.D.Disk.only_now (inner_of f) image left) w c.args.self.now.numbers c.args.self.now.tables h.tables c.put.new.self.tables c.args.table
+    c.declare.new.self c.requires.absent added)
+    c.put.ensures.tables
+
+pub returns-in_ok-put-in-Err-Disk-clause-left_failed : goal.returns-in_ok-put-in-Err-Disk-clause-left_failed
+returns-in_ok-put-in-Err-Disk-clause-left_failed g c w h failed =
+    fallen_still g.D.Disk.state g.D.Disk.images (λ f image left. g.met.D.Disk.only_now (inner_of f) image left) w c.args.self.now.numbers c.args.self.now.tables h.tables c.put-in-Err-Disk.new.self.tables c.args.table
+    c.declare.new.self c.requires.absent c.in_ok-put-in-Err-Disk.ensures.tables c.fall.new.self.tables (with_table w c.args.table c.args.schema false false)
+    (λ q apart. ⊎_elim (λ e. absurd (apart e.0)) (λ e. e.1) (look_cases w.tables c.args.table (new_table false false) q))
+    (c.fall.ensures.left (with_table w c.args.table c.args.schema false false)
+    (c.in_ok-put-in-Err-Disk.ensures.put w c.args.schema false false h (c.in-Err-Disk.ensures.refused (Some c.args.schema) c.args.table c.new-hosted.ensures.hosted)))

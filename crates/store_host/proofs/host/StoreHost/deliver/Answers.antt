@@ -2,6 +2,10 @@ use Rattle.std.proofs.Common.{Err, rules, refl, ap, ◌∙◌}
 use Rattle.store_host.proofs.Moving.{then_take_cause}
 use Rattle.store_host.proofs.Stores.{held_up, all_up}
 use Rattle.store_host.proofs.Serving.{took, took_falling, took_parts}
+use Rattle.world_tables.specs.World.{table_falls}
+use Rattle.store_host.specs.Calls.{table_in}
+use Rattle.store_host.proofs.Froms.{fall_from}
+use Rattle.store_host.proofs.Lefts.{still_left, read_falls}
 use Rattle.store_host.proofs.host.StoreHost.deliver.Goals as goal
 
 pub deliver_to-requires : goal.deliver_to-requires
@@ -48,3 +52,17 @@ returns-in-Err-clause-outs g c =
     let n = c.requires.held in
     let k = c.in-Err.ensures.taken n.0 c.args.self.now.numbers n.1.tables (all_up g.D.Disk.state n.0 c.args.self.now n.1 c.requires.up) in
     (k.refused (search rules)).1
+
+pub returns-in-Ok-clause-left : goal.returns-in-Ok-clause-left
+returns-in-Ok-clause-left g c w h = still_left g.D.Disk.state g.D.Disk.images w c.args.self.now.tables c.deliver_to.new.tables (c.in-Ok.ensures.left w c.args.self.now.numbers h.tables)
+
+pub returns-in-Err-clause-left : goal.returns-in-Err-clause-left
+returns-in-Err-clause-left g c w h = still_left g.D.Disk.state g.D.Disk.images w c.args.self.now.tables c.deliver_to.new.tables (c.in-Err.ensures.left w c.args.self.now.numbers h.tables)
+
+pub returns-in-Err-Disk-clause-left : goal.returns-in-Err-Disk-clause-left
+returns-in-Err-Disk-clause-left g c w h =
+    let old = c.args.self.now in
+    let table = table_in c.args.message.now in
+    let f = ((c.in-Err-Disk.ensures.taken w old.numbers h.tables (all_up g.D.Disk.state w old h c.requires.up)).fallen (ap Err c.in-Err-Disk.field-0-is)).0 in
+    read_falls g.D.Disk.state g.D.Disk.images w (table_falls table w).world old h c.deliver_to.new.tables c.deliver_to.new.outs c.fall.new.self f.held f.downs c.fall.ensures.left (fall_from w table)
+    (c.in-Err-Disk.ensures.left w old.numbers h.tables)

@@ -1,7 +1,10 @@
-use Rattle.std.proofs.Common.{Err, rules, refl, ap, ◌∙◌}
+use Rattle.std.proofs.Common.{Err, rules, refl, ap}
 use Rattle.store_host.proofs.Moving.{then_show_cause}
 use Rattle.store_host.proofs.Stores.{held_up, all_up}
 use Rattle.store_host.proofs.Serving.{showed, showed_falling, showed_parts}
+use Rattle.world_tables.specs.World.{table_falls}
+use Rattle.store_host.proofs.Froms.{fall_from}
+use Rattle.store_host.proofs.Lefts.{still_left, read_falls}
 use Rattle.store_host.proofs.host.StoreHost.show.Goals as goal
 
 pub show_at-requires-clause-up : goal.show_at-requires-clause-up
@@ -36,3 +39,17 @@ pub returns-in-Err-clause-shows : goal.returns-in-Err-clause-shows
 returns-in-Err-clause-shows g c w h =
     showed g.D.Disk.state w c.args.self.now h c.args.table c.args.row.now c.show_at.new.tables _ (search rules)
     (c.in-Err.ensures.shown w c.args.self.now.numbers h.tables (all_up g.D.Disk.state w c.args.self.now h c.requires.up))
+
+pub returns-in-Ok-clause-left : goal.returns-in-Ok-clause-left
+returns-in-Ok-clause-left g c w h = still_left g.D.Disk.state g.D.Disk.images w c.args.self.now.tables c.show_at.new.tables (c.in-Ok.ensures.left w c.args.self.now.numbers h.tables)
+
+pub returns-in-Err-clause-left : goal.returns-in-Err-clause-left
+returns-in-Err-clause-left g c w h = still_left g.D.Disk.state g.D.Disk.images w c.args.self.now.tables c.show_at.new.tables (c.in-Err.ensures.left w c.args.self.now.numbers h.tables)
+
+pub returns-in-Err-Disk-clause-left : goal.returns-in-Err-Disk-clause-left
+returns-in-Err-Disk-clause-left g c w h =
+    let old = c.args.self.now in
+    let table = c.args.table in
+    let f = (c.in-Err-Disk.ensures.shown w old.numbers h.tables (all_up g.D.Disk.state w old h c.requires.up)).fallen (ap Err c.in-Err-Disk.field-0-is) in
+    read_falls g.D.Disk.state g.D.Disk.images w (table_falls table w).world old h c.show_at.new.tables old.outs c.fall.new.self f.held f.downs c.fall.ensures.left (fall_from w table)
+    (c.in-Err-Disk.ensures.left w old.numbers h.tables)

@@ -4,10 +4,19 @@ use Rattle.stab_base.specs.declared.step.Step.{Step}
 use Rattle.step_tables.specs.Messages as messages
 use Rattle.store_host.specs.Holds.{HoldsTables}
 use Rattle.store_host.proofs.Draining.{drains, drains_next, drained, drained_badly, err_cause}
+use Rattle.disk_trait.specs.Fuse.{inner_of}
+use Rattle.store_host.proofs.Froms.{GoesOn}
+use Rattle.store_host.proofs.Lefts.{none_still, still_left, left_then}
 use Rattle.store_host.proofs.host.StoreHost.work_all.Goals as goal
 
 pub loop-count-init : goal.loop-count-init
-loop-count-init g c = record { drained = λ w h. drains g.D.Disk.state w c.args.self.now h; up = c.requires.up; counted = λ q. refl }
+loop-count-init g c = record {
+  drained = λ w h. drains g.D.Disk.state w c.args.self.now h;
+  left = λ w h. still_left g.D.Disk.state g.D.Disk.images w c.args.self.now.tables c.args.self.now.tables
+      (none_still g.D.Disk.state g.D.Disk.images (λ d image left. g.met.D.Disk.only_now (inner_of d) image left) w c.args.self.now.numbers c.args.self.now.tables h.tables);
+  up = c.requires.up;
+  counted = λ q. refl;
+}
 
 pub loop-count-preserved : goal.loop-count-preserved
 loop-count-preserved g c = record {
@@ -15,6 +24,11 @@ loop-count-preserved g c = record {
       let d = c.loop-count.invariant.drained w h in
       let tables = subst (λ (ns : List ℕ). HoldsTables g.D.Disk.state d.here ns c.loop-count.self.tables) (sym c.as_slice.ensures) d.held.tables in
       drains_next g.D.Disk.state w c.args.self.now c.loop-count.self c.loop-count.count d c.work.new.self c.in-Some._table (c.in-Some.ensures d.here tables) (c.in_ok-work.ensures.done d.here d.held).0;
+  left = λ w h.
+      let d = c.loop-count.invariant.drained w h in
+      left_then g.D.Disk.state g.D.Disk.images GoesOn w d.here c.args.self.now.numbers c.loop-count.self.numbers c.args.self.now.tables c.loop-count.self.tables c.work.new.self.tables h.tables
+      d.held.tables d.from (λ s t q. q)
+      (c.loop-count.invariant.left w h) (c.in_ok-work.ensures.left d.here d.held);
   up = c.in_ok-work.ensures.up;
   counted = λ q. c.in_ok-work.ensures.cause.counted (λ e. absurd cc) q ∙ c.loop-count.invariant.counted q;
 }
@@ -41,3 +55,16 @@ pub returns-in_err-work-clause-cause : goal.returns-in_err-work-clause-cause
 returns-in_err-work-clause-cause g c =
     let p = err_from_is_err_and c.from_residual.result c.from_residual.ensures.1 in
     rw (p.1, p.2) (err_cause g.D.Disk.state c.args.self.now.tables c.loop-count.self.tables c.work.new.self.tables Step ℕ c.in_err-work.field-0.0 c.loop-count.invariant.counted c.in_err-work.ensures.cause)
+
+pub returns-in_default-clause-left : goal.returns-in_default-clause-left
+returns-in_default-clause-left g c w h = c.loop-count.invariant.left w h
+
+pub returns-in_err-work-clause-left : goal.returns-in_err-work-clause-left
+returns-in_err-work-clause-left g c w h =
+    let d = c.loop-count.invariant.drained w h in
+    left_then g.D.Disk.state g.D.Disk.images GoesOn w d.here c.args.self.now.numbers c.loop-count.self.numbers c.args.self.now.tables c.loop-count.self.tables c.work.new.self.tables h.tables
+    d.held.tables d.from (λ s t q. q)
+    (c.loop-count.invariant.left w h) (c.in_err-work.ensures.left d.here d.held)
+
+pub returns-clause-left : goal.returns-clause-left
+returns-clause-left g c w h = c.loop-count.invariant.left w h

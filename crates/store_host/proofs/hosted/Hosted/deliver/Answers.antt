@@ -19,3 +19,9 @@ returns-clause-taken g c schema table hosted h =
     subst (λ (l : List StoreOut). HasTaken g.D.Disk.state schema table hosted c.args.from c.args.message.now c.args.self.now c.take-answer.new.self c.args.outs.now l c.take-answer.result) (sym c.from_vec.ensures)
     (subst (λ (l : List StoreOut). HasTaken g.D.Disk.state schema table hosted c.args.from c.args.message.now c.args.self.now c.take-answer.new.self l c.take-answer.new.outs.items c.take-answer.result)
     (c.into_vec-room.ensures ∙ c.replace.ensures.value) (c.take-answer.ensures.taken schema table hosted h))
+
+pub returns-then-is_busy-clause-left : goal.returns-then-is_busy-clause-left
+returns-then-is_busy-clause-left g c schema table hosted h made = (c.deliver.ensures.delivers hosted.store h.node).rows_left
+
+pub returns-clause-left : goal.returns-clause-left
+returns-clause-left g c schema table hosted h made = c.take-answer.ensures.left schema table hosted h made

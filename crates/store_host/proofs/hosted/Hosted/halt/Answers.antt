@@ -14,3 +14,6 @@ returns-clause-halted g c schema table hosted h =
 
 pub returns-clause-counted : goal.returns-clause-counted
 returns-clause-counted g c = let n = c.requires in (c.halt.ensures.halts n.0 n.1).counted
+
+pub returns-clause-left : goal.returns-clause-left
+returns-clause-left g c schema table hosted h made = (c.halt.ensures.halts hosted.store h.node).rows_left (h.made ∙ made)

@@ -7,3 +7,6 @@ returns-clause-shown g c schema table hosted h =
 
 pub returns-clause-cause : goal.returns-clause-cause
 returns-clause-cause g c = let n = c.requires.node in let k = c.show.ensures.shows n.0 n.1 in record { counted = k.counted; cause = k.cause; only = k.only }
+
+pub returns-clause-left : goal.returns-clause-left
+returns-clause-left g c schema table hosted h made = (c.show.ensures.shows hosted.store h.node).rows_left

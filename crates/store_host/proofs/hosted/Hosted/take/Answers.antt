@@ -4,6 +4,9 @@ use Rattle.store_node.specs.declared.node.StoreOut.{StoreOut}
 use Rattle.store_host.specs.Holds.{outs_in, outbox_of, says_something}
 use Rattle.std.proofs.lemmas.Result.{err_from_is_err_and}
 use Rattle.store_host.proofs.Hosting.{short_taken, badly_taken, well_taken, take_cause, told_cause}
+use Rattle.disk_trait.specs.Fuse.{inner_of}
+use Rattle.store_node.proofs.Working.{node_rows}
+use Rattle.store_host.proofs.Lefts.{rows_told}
 use Rattle.store_host.proofs.hosted.Hosted.take.Goals as goal
 
 pub returns-in_err-reserve-clause-taken : goal.returns-in_err-reserve-clause-taken
@@ -35,3 +38,15 @@ returns-clause-cause g c =
     let n = c.requires.node in
     let k = told_cause g.D.Disk.state c.args.self.now.node c.deliver.new.self c.take_out-out.new.self ((c.in_ok-deliver.ensures.delivers n.0 n.1).counted (λ e. absurd cc)) c.take_out-out.ensures.devs (Ok tt) tt in
     record { counted = k.counted; cause = k.cause; only = tt }
+
+pub returns-in_err-reserve-clause-left : goal.returns-in_err-reserve-clause-left
+returns-in_err-reserve-clause-left g c schema table hosted h made = node_rows g.D.Disk.state g.D.Disk.images (λ d image left. g.met.D.Disk.only_now (inner_of d) image left) c.args.self.now.node
+    hosted.store.disk hosted.store.agenda h.node (h.made ∙ made)
+
+pub returns-in_err-deliver-clause-left : goal.returns-in_err-deliver-clause-left
+returns-in_err-deliver-clause-left g c schema table hosted h made = (c.in_err-deliver.ensures.delivers hosted.store h.node).rows_left
+
+pub returns-clause-left : goal.returns-clause-left
+returns-clause-left g c schema table hosted h made =
+    rows_told g.D.Disk.state g.D.Disk.images c.args.self.now.node c.deliver.new.self c.take_out-out.new.self hosted.store.disk hosted.store.disk c.take_out-out.ensures.devs
+    (c.in_ok-deliver.ensures.delivers hosted.store h.node).rows_left

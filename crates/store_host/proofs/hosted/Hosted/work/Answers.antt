@@ -2,6 +2,10 @@ use Rattle.std.proofs.Common.{Ok, Err, refl, ◌∙◌}
 use Rattle.std.proofs.lemmas.Result.{err_from_is_err_and}
 use Rattle.step_tables.specs.StoreMoves.{done}
 use Rattle.store_host.proofs.Hosting.{telling, told_cause, done_cause, next_is}
+use Rattle.disk_trait.specs.Fuse.{inner_of}
+use Rattle.store_node.specs.Node.{behind_next}
+use Rattle.store_node.proofs.Working.{node_rows}
+use Rattle.store_host.proofs.Lefts.{rows_told, or_next}
 use Rattle.store_host.proofs.hosted.Hosted.work.Goals as goal
 
 pub returns-in_err-tell-in-Ok-clause-cause : goal.returns-in_err-tell-in-Ok-clause-cause
@@ -32,3 +36,22 @@ returns-in-Err-clause-cause g c =
     let n = c.requires in
     let k = c.in-Err.ensures.works n.0 n.1 in
     done_cause g.D.Disk.state c.args.self.now.node c.work.new.self c.in-Err.fault k.cause k.only
+
+pub returns-then-not-is_up-clause-left : goal.returns-then-not-is_up-clause-left
+returns-then-not-is_up-clause-left g c schema table hosted h made =
+    let node = c.args.self.now.node in
+    or_next g.D.Disk.state g.D.Disk.images node node hosted.store.disk (behind_next hosted.store.disk hosted.store.agenda)
+    (node_rows g.D.Disk.state g.D.Disk.images (λ d image left. g.met.D.Disk.only_now (inner_of d) image left) node hosted.store.disk hosted.store.agenda h.node (h.made ∙ made))
+
+pub returns-in_err-tell-in-Ok-clause-left : goal.returns-in_err-tell-in-Ok-clause-left
+returns-in_err-tell-in-Ok-clause-left g c schema table hosted h made =
+    rows_told g.D.Disk.state g.D.Disk.images c.args.self.now.node c.work.new.self c.tell.new.self.node hosted.store.disk (behind_next hosted.store.disk hosted.store.agenda) c.tell.ensures.devs
+    (c.in-Ok.ensures.works hosted.store h.node).rows_left
+
+pub returns-in_ok-tell-in-Ok-clause-left : goal.returns-in_ok-tell-in-Ok-clause-left
+returns-in_ok-tell-in-Ok-clause-left g c schema table hosted h made =
+    rows_told g.D.Disk.state g.D.Disk.images c.args.self.now.node c.work.new.self c.tell.new.self.node hosted.store.disk (behind_next hosted.store.disk hosted.store.agenda) c.tell.ensures.devs
+    (c.in-Ok.ensures.works hosted.store h.node).rows_left
+
+pub returns-in-Err-clause-left : goal.returns-in-Err-clause-left
+returns-in-Err-clause-left g c schema table hosted h made = (c.in-Err.ensures.works hosted.store h.node).rows_left

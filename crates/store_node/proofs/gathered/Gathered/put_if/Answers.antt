@@ -1,4 +1,4 @@
-use Rattle.std.proofs.Common.{◌≡◌, ◌+◌, ℕ, Option, length, ap, subst, arith}
+use Rattle.std.proofs.Common.{◌≡◌, ◌+◌, ℕ, length, ap, subst, arith}
 use Rattle.std.specs.Prelude.{option_to_list}
 use Rattle.store_node.specs.Gathered.{HasRoom}
 use Rattle.store_node.proofs.gathered.Gathered.put_if.Goals as goal

@@ -1,4 +1,3 @@
-use Rattle.std.proofs.Common.{◌≡◌, Err, sym, ◌∙◌}
 use Rattle.std.proofs.lemmas.Result.{err_from_is_err_and}
 use Rattle.store_commit.specs.Standing.{writes_of}
 use Rattle.store_node.proofs.Handing.{devices_up, node_ready}

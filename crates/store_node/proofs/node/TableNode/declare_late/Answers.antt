@@ -1,6 +1,5 @@
-use Rattle.std.proofs.Common.{◌≡◌, Ok, Err, refl, sym, ◌∙◌, ap, subst, arith}
+use Rattle.std.proofs.Common.{arith}
 use Rattle.std.proofs.lemmas.Result.{err_from_is_err_and}
-use Rattle.store_node.specs.Gathered.{HasRoom}
 use Rattle.store_node.proofs.Beginning.{late_short, late_node, late_done, late_failed}
 use Rattle.store_node.proofs.Starting.{no_room}
 use Rattle.store_node.proofs.node.TableNode.declare_late.Goals as goal

@@ -1,4 +1,3 @@
-use Rattle.std.proofs.Common.{◌≡◌, ◌∙◌}
 use Rattle.store_node.proofs.Handing.{busy_is}
 use Rattle.store_node.proofs.node.TableNode.is_busy.Goals as goal
 

@@ -1,4 +1,4 @@
-use Rattle.std.proofs.Common.{◌≡◌, map, Err, refl, sym, ap, subst}
+use Rattle.std.proofs.Common.{map, Err, sym, ap, subst}
 use Rattle.step_tables.specs.Travels.{send_of}
 use Rattle.store_node.specs.Due.{fact_of}
 use Rattle.store_node.proofs.Handing.{devices_up}

@@ -1,6 +1,7 @@
-use Rattle.std.proofs.Common.{◌≡◌, ◌++◌, map, length, Ok, Err, refl, sym, ◌∙◌, ap, subst}
+use Rattle.std.proofs.Common.{◌++◌, map, length, Err, sym, ◌∙◌, ap, subst}
 use Rattle.std.specs.Prelude.{option_to_list}
 use Rattle.std.proofs.lemmas.Result.{err_from_is_err_and}
+use Rattle.disk_trait.specs.Fuse.{inner_of}
 use Rattle.step_tables.specs.Travels.{send_of}
 use Rattle.store_node.specs.Due.{fact_of, facts_found}
 use Rattle.store_node.proofs.Following.{less_room}
@@ -14,7 +15,8 @@ use Rattle.store_node.proofs.node.TableNode.recover.Goals as goal
 pub returns-in_err-reserve-clause-recovers : goal.returns-in_err-reserve-clause-recovers
 returns-in_err-reserve-clause-recovers g c s t =
     let p = err_from_is_err_and c.from_residual.result c.from_residual.ensures.1 in
-    rw (p.1, p.2) (recover_short g.D.Disk.state g.D.Disk.images c.args.self.now c.reserve.new.self s.disk s.agenda c.reserve.ensures.same t c.requires.down)
+    rw (p.1, p.2) (recover_short g.D.Disk.state g.D.Disk.images (λ d image left. g.met.D.Disk.only_now (inner_of d) image left) c.args.self.now c.reserve.new.self s.disk s.agenda
+    c.reserve.ensures.same t c.requires.declared c.requires.down)
 
 pub begin_start-requires-clause-up : goal.begin_start-requires-clause-up
 begin_start-requires-clause-up g c = let n = c.requires.node in (rests_down g.D.Disk.state g.D.Disk.images c.args.self.now n.0.disk n.0.agenda n.1 c.requires.declared c.requires.down).up
@@ -48,5 +50,7 @@ pub returns-in-Err-clause-recovers : goal.returns-in-Err-clause-recovers
 returns-in-Err-clause-recovers g c s t =
     let old = c.args.self.now in
     let f = c.fall.ensures in
-    subst (λ (f : NodeFault). Recovers g.D.Disk.state s old c.fall.new.self (Err f)) (sym c.from.ensures) (recover_failed g.D.Disk.state g.D.Disk.images old s.disk s.agenda t c.requires.declared c.requires.down (record old { devs = c.begin_start.new.table; facts = c.reserve.new.self }) c.fall.new.self c.in-Err.fault c.in-Err.ensures f.falls
+    subst (λ (f : NodeFault). Recovers g.D.Disk.state g.D.Disk.images s old c.fall.new.self (Err f)) (sym c.from.ensures)
+    (recover_failed g.D.Disk.state g.D.Disk.images old s.disk s.agenda t c.requires.declared c.requires.down (record old { devs = c.begin_start.new.table; facts = c.reserve.new.self })
+    c.fall.new.self c.in-Err.fault c.in-Err.ensures f.falls
     (record { told = ap (λ x. map fact_of x.items.items) f.facts ∙ ap (map fact_of) c.reserve.ensures.same; sent = ap (λ x. map send_of x.items.items) f.messages; same = record { store = f.same.store; table = f.same.table; schema = f.same.schema }; declared = f.declared }) f.down)

@@ -1,6 +1,10 @@
-use Rattle.store_node.proofs.Beginning.{start_recovers, start_declares}
+use Rattle.disk_trait.specs.Fuse.{inner_of}
+use Rattle.store_node.proofs.Beginning.{start_up, start_recovers, start_declares}
 use Rattle.store_node.proofs.Nodes.{starts_node}
 use Rattle.store_node.proofs.node.TableNode.start.Goals as goal
+
+pub returns-then-self-clause-starts : goal.returns-then-self-clause-starts
+returns-then-self-clause-starts g c s t = start_up g.D.Disk.state g.D.Disk.images (λ d image left. g.met.D.Disk.only_now (inner_of d) image left) c.args.self.now s.disk s.agenda t c.if-self.true
 
 pub returns-then-self-2-clause-starts : goal.returns-then-self-2-clause-starts
 returns-then-self-2-clause-starts g c s t = start_recovers g.D.Disk.state g.D.Disk.images c.args.self.now c.recover.new.self s c.recover.result c.if-self-2.true (c.recover.ensures.recovers s t)

@@ -1,6 +1,3 @@
-use Rattle.std.proofs.Common.{refl, ap, map}
-use Rattle.step_tables.specs.Travels.{send_of}
-use Rattle.store_node.specs.Due.{fact_of}
 use Rattle.store_node.proofs.Handing.{taken_out}
 use Rattle.store_node.proofs.node.TableNode.take_out.Goals as goal
 

@@ -1,4 +1,4 @@
-use Rattle.std.proofs.Common.{◌≡◌, map, Bool, List, ◌∷◌, Ok, Err, refl, sym, ◌∙◌, ap, subst, append-nil}
+use Rattle.std.proofs.Common.{◌≡◌, map, refl, ap}
 use Rattle.disk_trait.specs.Fuse.{inner_of}
 use Rattle.store_commit.specs.Standing.{writes_of}
 use Rattle.step_tables.specs.Travels.{send_of}

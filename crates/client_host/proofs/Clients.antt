@@ -58,13 +58,13 @@ module _ (node : old.Client) where
   fault_once (faults.TooManyChunks count) = quiet_once node.number node (answers.Refused (refusals.TooManyChunks count)) refl
 
   fitting_once : (table : ℕ) (row : List ℕ) (x : Content) (opened : ClientTable) → old.table_at node table ≡ Some opened → (fit : Result (Unit {0}) FitFault)
-      → AtOnce node.number (old.write_fitting node table opened row x fit) (client.write_fitting Eventual node.number (disk_of node) [] table row (opened_of opened) x fit)
+      → AtOnce node.number (old.write_fitting node table opened row x fit) (client.write_fitting Eventual node.number client.no_shape (disk_of node) [] table row (opened_of opened) x fit)
   fitting_once table row x opened at (Err fault) = fault_once fault
   fitting_once table row x opened at (Ok fits) =
       let s : Slots = slots_at opened row in
       let main : Main = record { number = node.last + 1; read = version_in s.shadow; content = x } in
       subst (λ (sl : client.Slots). AtOnce node.number (old.write_fitting node table opened row x (Ok fits))
-      (client.write_free Eventual node.number (disk_of node) table row (opened_of opened) sl x sl.conflict)) (sym (slots_there node.number node table opened at row))
+      (client.write_free Eventual node.number client.no_shape (disk_of node) table row (opened_of opened) sl x sl.conflict)) (sym (slots_there node.number node table opened at row))
       (row_once node.number node table opened at (answers.Number (node.last + 1)) refl (node.last + 1) row (record s { main = Some main })
       (client.wrote node.number table row main ∷ []) (told.Wrote (record {
         client = node.number;
@@ -76,16 +76,16 @@ module _ (node : old.Client) where
       }) ∷ []) [] [] refl refl)
 
   pub write_once : (table : ℕ) (row : List ℕ) (x : Content) → ((opened : ClientTable) → old.table_at node table ≡ Some opened → opened.schema.scheme ≡ Eventual)
-      → AtOnce node.number (old.write_step node table row x) (client.client_step node.number (client_of node) (client.Write table row x))
+      → AtOnce node.number (old.write_step node table row x) (client.client_step node.number client.no_shape (client_of node) (client.Write table row x))
   write_once table row x eventual =
-      subst (λ (o : Option TableDisk). AtOnce node.number (old.write_step node table row x) (client.write_to node.number (disk_of node) [] table row x o)) (sym (found table))
+      subst (λ (o : Option TableDisk). AtOnce node.number (old.write_step node table row x) (client.write_to node.number client.no_shape (disk_of node) [] table row x o)) (sym (found table))
       (go (old.table_at node table) refl)
     where
       go : (o : Option ClientTable) → old.table_at node table ≡ o
-          → AtOnce node.number (old.write_to node table row x o) (client.write_to node.number (disk_of node) [] table row x (option_map opened_of o))
+          → AtOnce node.number (old.write_to node table row x o) (client.write_to node.number client.no_shape (disk_of node) [] table row x (option_map opened_of o))
       go None at = quiet_once node.number node (answers.Refused refusals.NoTable) refl
       go (Some opened) at =
-          subst (λ (g : Scheme). AtOnce node.number (old.write_to node table row x (Some opened)) (client.write_fitting g node.number (disk_of node) [] table row (opened_of opened) x
+          subst (λ (g : Scheme). AtOnce node.number (old.write_to node table row x (Some opened)) (client.write_fitting g node.number client.no_shape (disk_of node) [] table row (opened_of opened) x
           (fit_of opened.schema x)))
           (sym (eventual opened at)) (fitting_once table row x opened at (fit_of opened.schema x))
 
@@ -101,7 +101,7 @@ module _ (node : old.Client) where
   shown_fine None (Some s) = refl
   shown_fine None None = refl
 
-  pub show_once : (table : ℕ) (row : List ℕ) → AtOnce node.number (old.show_step node table row) (client.client_step node.number (client_of node) (client.Show table row))
+  pub show_once : (table : ℕ) (row : List ℕ) → AtOnce node.number (old.show_step node table row) (client.client_step node.number client.no_shape (client_of node) (client.Show table row))
   show_once table row =
       subst (λ (o : Option TableDisk). AtOnce node.number (old.show_step node table row) (client.quiet (disk_of node) (Some []) (client.show_in row o))) (sym (found table))
       (go (old.table_at node table) refl)
@@ -116,12 +116,12 @@ module _ (node : old.Client) where
           (subst (λ (b : facts.Answer). AtOnce node.number (old.answered node a) (client.quiet (disk_of node) (Some []) b)) (sym (shown_same s.main s.shadow))
           (quiet_once node.number node a (sym (ap is_fault (shown_same s.main s.shadow)) ∙ shown_fine s.main s.shadow)))
 
-  pub sum_once : (table : ℕ) (row : List ℕ) → AtOnce node.number (old.sum_step node table row) (client.client_step node.number (client_of node) (client.Sum table row))
-  sum_once table row = digested_once node.number (old.show_step node table row) (client.client_step node.number (client_of node) (client.Show table row)) (show_once table row)
+  pub sum_once : (table : ℕ) (row : List ℕ) → AtOnce node.number (old.sum_step node table row) (client.client_step node.number client.no_shape (client_of node) (client.Sum table row))
+  sum_once table row = digested_once node.number (old.show_step node table row) (client.client_step node.number client.no_shape (client_of node) (client.Show table row)) (show_once table row)
 
   -- ---- the next change
 
-  pub next_once : (table : ℕ) → AtOnce node.number (old.pull_step node table) (client.client_step node.number (client_of node) (client.Next table))
+  pub next_once : (table : ℕ) → AtOnce node.number (old.pull_step node table) (client.client_step node.number client.no_shape (client_of node) (client.Next table))
   next_once table =
       subst (λ (o : Option TableDisk). AtOnce node.number (old.pull_step node table) (client.next_in node.number (disk_of node) [] table o)) (sym (found table)) (go (old.table_at node table))
     where
@@ -133,11 +133,11 @@ module _ (node : old.Client) where
 
   accepted_once : (table : ℕ) (row : List ℕ) (opened : ClientTable) → old.table_at node table ≡ Some opened → (out : InFlight) (v : ℕ)
       → AtOnce node.number (old.take_accepted node table opened row (slots_at opened row) out v)
-      (client.begun (disk_of node) facts.Done (client.ack_plan node.number (disk_of node) table row (slots_of (slots_at opened row)) out v) [])
+      (client.begun client.no_shape (disk_of node) facts.Done (client.ack_plan node.number (disk_of node) table row (slots_of (slots_at opened row)) out v) [])
   accepted_once table row opened at out v =
       let s : Slots = slots_at opened row in
       subst (λ (m : Option Main → Option Main). AtOnce node.number (old.take_accepted node table opened row s out v)
-      (client.begun (disk_of node) facts.Done (record {
+      (client.begun client.no_shape (disk_of node) facts.Done (record {
         last = node.last;
         table = table;
         row = Some (record { row = row; slots = record { main = m s.main; shadow = Some (record { version = v; content = out.content }); out = None; conflict = None } });
@@ -157,38 +157,46 @@ module _ (node : old.Client) where
 
   outcome_once : (table : ℕ) (row : List ℕ) (opened : ClientTable) → old.table_at node table ≡ Some opened → (out : InFlight) (o : Outcome)
       → AtOnce node.number (old.take_outcome node table opened row (slots_at opened row) out o)
-      (client.outcome_taken node.number (disk_of node) table row (opened_of opened) (slots_of (slots_at opened row)) out (travels.outcome_of o))
+      (client.outcome_taken node.number client.no_shape (disk_of node) table row (opened_of opened) (slots_of (slots_at opened row)) out (travels.outcome_of o))
   outcome_once table row opened at out (outcomes.Accepted v) = accepted_once table row opened at out v
   outcome_once table row opened at out (outcomes.Again v) = accepted_once table row opened at out v
   outcome_once table row opened at out (outcomes.Late v) = quiet_once node.number node answers.Done refl
 
   response_once : (r : SyncResponse) (opened : ClientTable) → old.table_at node r.table ≡ Some opened → (out : Option InFlight)
       → AtOnce node.number (old.take_response node opened r out)
-      (client.response_taken node.number (disk_of node) (record { client = r.client; table = r.table; row = r.row; number = r.number; outcome = travels.outcome_of r.outcome }) (opened_of opened) out)
+      (client.response_taken node.number client.no_shape (disk_of node) (record {
+        client =
+            r.client;
+        table = r.table;
+        row = r.row;
+        number = r.number;
+        outcome = travels.outcome_of r.outcome;
+      }) (opened_of opened) out)
   response_once r opened at None = quiet_once node.number node answers.Done refl
   response_once r opened at (Some out) = go (out.number == r.number)
     where
       go : (b : Bool) → AtOnce node.number (if b then old.take_outcome node r.table opened r.row (slots_at opened r.row) out r.outcome else old.ignored node)
-          (if b then client.outcome_taken node.number (disk_of node) r.table r.row (opened_of opened) (client.slots_at (opened_of opened) r.row) out (travels.outcome_of r.outcome)
+          (if b then client.outcome_taken node.number client.no_shape (disk_of node) r.table r.row (opened_of opened) (client.slots_at (opened_of opened) r.row) out (travels.outcome_of r.outcome)
           else client.ignored (disk_of node))
       go false = quiet_once node.number node answers.Done refl
       go true = subst (λ (s : client.Slots). AtOnce node.number (old.take_outcome node r.table opened r.row (slots_at opened r.row) out r.outcome)
-          (client.outcome_taken node.number (disk_of node) r.table r.row (opened_of opened) s out (travels.outcome_of r.outcome))) (sym (slots_there node.number node r.table opened at r.row))
+          (client.outcome_taken node.number client.no_shape (disk_of node) r.table r.row (opened_of opened) s out (travels.outcome_of r.outcome)))
+          (sym (slots_there node.number node r.table opened at r.row))
           (outcome_once r.table r.row opened at out r.outcome)
 
   pub response_is_once : (r : SyncResponse)
-      → AtOnce node.number (old.deliver_step node (kinds.SyncResponse r)) (client.client_step node.number (client_of node) (client.Take (message_of (kinds.SyncResponse r))))
+      → AtOnce node.number (old.deliver_step node (kinds.SyncResponse r)) (client.client_step node.number client.no_shape (client_of node) (client.Take (message_of (kinds.SyncResponse r))))
   response_is_once r =
       subst (λ (o : Option TableDisk). AtOnce node.number (old.deliver_step node (kinds.SyncResponse r))
-      (client.response_in node.number (disk_of node) (record { client = r.client; table = r.table; row = r.row; number = r.number; outcome = travels.outcome_of r.outcome }) o))
+      (client.response_in node.number client.no_shape (disk_of node) (record { client = r.client; table = r.table; row = r.row; number = r.number; outcome = travels.outcome_of r.outcome }) o))
       (sym (found r.table)) (go (old.table_at node r.table) refl)
     where
       go : (o : Option ClientTable) → old.table_at node r.table ≡ o → AtOnce node.number (old.response_in node r o)
-          (client.response_in node.number (disk_of node) (record { client = r.client; table = r.table; row = r.row; number = r.number; outcome = travels.outcome_of r.outcome })
+          (client.response_in node.number client.no_shape (disk_of node) (record { client = r.client; table = r.table; row = r.row; number = r.number; outcome = travels.outcome_of r.outcome })
           (option_map opened_of o))
       go None at = quiet_once node.number node answers.Done refl
       go (Some opened) at = subst (λ (s : client.Slots). AtOnce node.number (old.take_response node opened r (slots_at opened r.row).out)
-          (client.response_taken node.number (disk_of node) (record { client = r.client; table = r.table; row = r.row; number = r.number; outcome = travels.outcome_of r.outcome })
+          (client.response_taken node.number client.no_shape (disk_of node) (record { client = r.client; table = r.table; row = r.row; number = r.number; outcome = travels.outcome_of r.outcome })
           (opened_of opened) s.out))
           (sym (slots_there node.number node r.table opened at r.row)) (response_once r opened at (slots_at opened r.row).out)
 
@@ -264,8 +272,8 @@ module _ (node : old.Client) where
   row_is_once : (q : PullResponse) (opened : ClientTable) (at : old.table_at node q.table ≡ Some opened) (hd : RowHeader) → IsStrictlySortedBy row_cmp (keys_of opened.rows) → 1 ≤ hd.version
       → AtOnce node.number (old.take_row node q.table opened q hd (old.take_header node.number q.table hd (slots_at opened hd.row)))
       (if nat_le hd.version (version_in (slots_at opened hd.row).shadow)
-      then client.begun (disk_of node) facts.Done (client.position_plan node.number (disk_of node) q.table q.to) (client.next_pull node.number q.table (travels.pulled_of q))
-      else client.begun (disk_of node) facts.Done (client.row_plan node.number (disk_of node) q.table hd.row q.to
+      then client.begun client.no_shape (disk_of node) facts.Done (client.position_plan node.number (disk_of node) q.table q.to) (client.next_pull node.number q.table (travels.pulled_of q))
+      else client.begun client.no_shape (disk_of node) facts.Done (client.row_plan node.number (disk_of node) q.table hd.row q.to
       (client.row_placed Eventual node.number q.table (header_of hd) (slots_of (slots_at opened hd.row)) (slots_at opened hd.row).out))
       (client.next_pull node.number q.table (travels.pulled_of q)))
   row_is_once q opened at hd rising positive = go (nat_le hd.version (version_in (slots_at opened hd.row).shadow)) refl
@@ -276,8 +284,8 @@ module _ (node : old.Client) where
       go : (b : Bool) → nat_le hd.version (version_in (slots_at opened hd.row).shadow) ≡ b
           → AtOnce node.number (old.take_row node q.table opened q hd (if b then record { slots = slots_at opened hd.row; facts = [] } else old.newer node.number q.table hd
           (slots_at opened hd.row) (slots_at opened hd.row).out))
-          (if b then client.begun (disk_of node) facts.Done (client.position_plan node.number (disk_of node) q.table q.to) (client.next_pull node.number q.table (travels.pulled_of q))
-          else client.begun (disk_of node) facts.Done (client.row_plan node.number (disk_of node) q.table hd.row q.to
+          (if b then client.begun client.no_shape (disk_of node) facts.Done (client.position_plan node.number (disk_of node) q.table q.to) (client.next_pull node.number q.table (travels.pulled_of q))
+          else client.begun client.no_shape (disk_of node) facts.Done (client.row_plan node.number (disk_of node) q.table hd.row q.to
           (client.row_placed Eventual node.number q.table (header_of hd) (slots_of (slots_at opened hd.row)) (slots_at opened hd.row).out))
           (client.next_pull node.number q.table (travels.pulled_of q)))
       go true le = position_once node.number node q.table opened at answers.Done refl hd.row q.to (facts.Position node.number q.table q.to ∷ []) (told.Position node.number q.table q.to ∷ [])
@@ -286,7 +294,7 @@ module _ (node : old.Client) where
           let x : old.Taken = old.newer node.number q.table hd (slots_at opened hd.row) (slots_at opened hd.row).out in
           let y : client.Placed = client.row_placed Eventual node.number q.table (header_of hd) (slots_of (slots_at opened hd.row)) (slots_at opened hd.row).out in
           let same : SameRow q.table hd q x y = newer_same q.table hd q (slots_at opened hd.row) (slots_at opened hd.row).out in
-          subst (λ (sl : client.Slots). AtOnce node.number (old.take_row node q.table opened q hd x) (client.begun (disk_of node) facts.Done (record {
+          subst (λ (sl : client.Slots). AtOnce node.number (old.take_row node q.table opened q hd x) (client.begun client.no_shape (disk_of node) facts.Done (record {
             last = node.last;
             table = q.table;
             row = Some (record { row = hd.row; slots = sl });
@@ -303,32 +311,33 @@ module _ (node : old.Client) where
     pub rising : (opened : ClientTable) → old.table_at node table ≡ Some opened → IsStrictlySortedBy row_cmp (keys_of opened.rows)
 
   header_once : (q : PullResponse) (opened : ClientTable) → old.table_at node q.table ≡ Some opened → IsReady q.table → (o : Option RowHeader) → ((hd : RowHeader) → o ≡ Some hd → 1 ≤ hd.version)
-      → AtOnce node.number (old.take_pulled node opened q o) (client.pulled_taken node.number (disk_of node) (travels.pulled_of q) (opened_of opened) (option_map header_of o))
+      → AtOnce node.number (old.take_pulled node opened q o) (client.pulled_taken node.number client.no_shape (disk_of node) (travels.pulled_of q) (opened_of opened) (option_map header_of o))
   header_once q opened at ready None f = quiet_once node.number node answers.Done refl
   header_once q opened at ready (Some hd) f = go (q.from == opened.position)
     where
       go : (b : Bool) → AtOnce node.number (if b then old.take_row node q.table opened q hd (old.take_header node.number q.table hd (slots_at opened hd.row)) else old.ignored node)
-          (if b then client.row_taken node.number (disk_of node) (travels.pulled_of q) (opened_of opened) (header_of hd) (client.slots_at (opened_of opened) hd.row) else client.ignored (disk_of node))
+          (if b then client.row_taken node.number client.no_shape (disk_of node) (travels.pulled_of q) (opened_of opened) (header_of hd) (client.slots_at (opened_of opened) hd.row) else client.ignored
+          (disk_of node))
       go false = quiet_once node.number node answers.Done refl
       go true =
           subst (λ (sl : client.Slots). AtOnce node.number (old.take_row node q.table opened q hd (old.take_header node.number q.table hd (slots_at opened hd.row)))
-          (client.row_taken node.number (disk_of node) (travels.pulled_of q) (opened_of opened) (header_of hd) sl)) (sym (slots_there node.number node q.table opened at hd.row))
+          (client.row_taken node.number client.no_shape (disk_of node) (travels.pulled_of q) (opened_of opened) (header_of hd) sl)) (sym (slots_there node.number node q.table opened at hd.row))
           (subst (λ (g : Scheme). AtOnce node.number (old.take_row node q.table opened q hd (old.take_header node.number q.table hd (slots_at opened hd.row)))
           (if nat_le hd.version (version_in (slots_at opened hd.row).shadow)
-          then client.begun (disk_of node) facts.Done (client.position_plan node.number (disk_of node) q.table q.to) (client.next_pull node.number q.table (travels.pulled_of q))
-          else client.begun (disk_of node) facts.Done (client.row_plan node.number (disk_of node) q.table hd.row q.to
+          then client.begun client.no_shape (disk_of node) facts.Done (client.position_plan node.number (disk_of node) q.table q.to) (client.next_pull node.number q.table (travels.pulled_of q))
+          else client.begun client.no_shape (disk_of node) facts.Done (client.row_plan node.number (disk_of node) q.table hd.row q.to
           (client.row_placed g node.number q.table (header_of hd) (slots_of (slots_at opened hd.row)) (slots_at opened hd.row).out))
           (client.next_pull node.number q.table (travels.pulled_of q)))) (sym (ready.eventual opened at))
           (row_is_once q opened at hd (ready.rising opened at) (f hd refl)))
 
   pub pulled_is_once : (q : PullResponse) → IsReady q.table → ((hd : RowHeader) → q.header ≡ Some hd → 1 ≤ hd.version)
-      → AtOnce node.number (old.deliver_step node (kinds.PullResponse q)) (client.client_step node.number (client_of node) (client.Take (message_of (kinds.PullResponse q))))
+      → AtOnce node.number (old.deliver_step node (kinds.PullResponse q)) (client.client_step node.number client.no_shape (client_of node) (client.Take (message_of (kinds.PullResponse q))))
   pulled_is_once q ready f =
-      subst (λ (o : Option TableDisk). AtOnce node.number (old.deliver_step node (kinds.PullResponse q)) (client.pulled_in node.number (disk_of node) (travels.pulled_of q) o))
+      subst (λ (o : Option TableDisk). AtOnce node.number (old.deliver_step node (kinds.PullResponse q)) (client.pulled_in node.number client.no_shape (disk_of node) (travels.pulled_of q) o))
       (sym (found q.table)) (go (old.table_at node q.table) refl)
     where
       go : (o : Option ClientTable) → old.table_at node q.table ≡ o
-          → AtOnce node.number (old.pulled_in node q o) (client.pulled_in node.number (disk_of node) (travels.pulled_of q) (option_map opened_of o))
+          → AtOnce node.number (old.pulled_in node q o) (client.pulled_in node.number client.no_shape (disk_of node) (travels.pulled_of q) (option_map opened_of o))
       go None at = quiet_once node.number node answers.Done refl
       go (Some opened) at = header_once q opened at ready q.header f
 
@@ -394,7 +403,7 @@ module _ (node : old.Client) where
   first_once : (table : ℕ) (opened : ClientTable) → old.table_at node table ≡ Some opened → IsStrictlySortedBy row_cmp (keys_of opened.rows)
       → (x : Option (List ℕ × InFlight)) (y : Option client.RowOut) → Firsts opened.rows x y
       → AtOnce node.number (old.sync_first node table opened (old.resent node.number table opened.rows) x)
-      (client.sync_first node.number (disk_of node) table (client.resent node.number table (map row_of opened.rows)) y)
+      (client.sync_first node.number client.no_shape (disk_of node) table (client.resent node.number table (map row_of opened.rows)) y)
   first_once table opened at rising None None f =
       rw (resent_length table opened.rows)
       (send_once node.number node (answers.Number (length (old.resent node.number table opened.rows))) refl (old.resent node.number table opened.rows)
@@ -403,9 +412,9 @@ module _ (node : old.Client) where
   first_once table opened at rising (Some x) None f = absurd f
   first_once table opened at rising (Some x) (Some y) f =
       subst (λ (z : client.RowOut). AtOnce node.number (old.sync_first node table opened (old.resent node.number table opened.rows) (Some x))
-      (client.sync_first node.number (disk_of node) table (client.resent node.number table (map row_of opened.rows)) (Some z))) (sym f.same)
+      (client.sync_first node.number client.no_shape (disk_of node) table (client.resent node.number table (map row_of opened.rows)) (Some z))) (sym f.same)
       (subst (λ (sl : client.Slots). AtOnce node.number (old.sync_first node table opened (old.resent node.number table opened.rows) (Some x))
-      (client.sync_first node.number (disk_of node) table (client.resent node.number table (map row_of opened.rows)) (Some (record { row = x.0; slots = sl; out = x.1 }))))
+      (client.sync_first node.number client.no_shape (disk_of node) table (client.resent node.number table (map row_of opened.rows)) (Some (record { row = x.0; slots = sl; out = x.1 }))))
       (slots_found opened x.0 f.slots rising f.there)
       (rw (resent_length table opened.rows)
       (sync_once node.number node table opened at (answers.Number (length (old.resent node.number table opened.rows) + 1)) refl x.0 (record (slots_at opened x.0) { out = Some x.1 })
@@ -422,10 +431,12 @@ module _ (node : old.Client) where
           pushed [] = refl
           pushed (y2 ∷ ys) = ap (λ (zs : List Packet). packet_for y2 ∷ zs) (pushed ys)
 
-  pub sync_is_once : (table : ℕ) → IsReady table → AtOnce node.number (old.sync_step node table) (client.client_step node.number (client_of node) (client.Sync table))
+  pub sync_is_once : (table : ℕ) → IsReady table → AtOnce node.number (old.sync_step node table) (client.client_step node.number client.no_shape (client_of node) (client.Sync table))
   sync_is_once table ready =
-      subst (λ (o : Option TableDisk). AtOnce node.number (old.sync_step node table) (client.sync_in node.number (disk_of node) [] table o)) (sym (found table)) (go (old.table_at node table) refl)
+      subst (λ (o : Option TableDisk). AtOnce node.number (old.sync_step node table) (client.sync_in node.number client.no_shape (disk_of node) [] table o)) (sym (found table))
+      (go (old.table_at node table) refl)
     where
-      go : (o : Option ClientTable) → old.table_at node table ≡ o → AtOnce node.number (old.sync_in node table o) (client.sync_in node.number (disk_of node) [] table (option_map opened_of o))
+      go : (o : Option ClientTable) → old.table_at node table ≡ o
+          → AtOnce node.number (old.sync_in node table o) (client.sync_in node.number client.no_shape (disk_of node) [] table (option_map opened_of o))
       go None at = quiet_once node.number node (answers.Refused refusals.NoTable) refl
       go (Some opened) at = first_once table opened at (ready.rising opened at) (old.first_to_send opened.rows) (client.first_to_send (map row_of opened.rows)) (firsts opened.rows)

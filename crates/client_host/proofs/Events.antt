@@ -11,8 +11,8 @@ use Rattle.step_tables.specs.Lines.{answer_of}
 use Rattle.step_tables.specs.Messages as messages
 use Rattle.step_tables.specs.ClientMoves as client
 use Rattle.step_tables.specs.ClientMoves.{Client, ClientDisk, ClientTask, ClientMove, client_step}
-use Rattle.world_tables.specs.World.{World, Packet, Outbox, Moved, client_at, packets_from, move_client, move_there, client_works, client_tasks, client_follows, client_follows_from}
-use Rattle.world_tables.specs.World.{and_then, answering, refused, call_there, is_client_down, is_fault}
+use Rattle.world_tables.specs.World.{World, Packet, Outbox, Moved, client_at, packets_from, move_client, move_there, client_works, client_tasks, client_until_idle, client_follows, client_follows_from}
+use Rattle.world_tables.specs.World.{has_node, still, and_then, answering, refused, call_there, is_client_down, is_fault}
 use Rattle.client_host.specs.Lift.{client_of}
 use Rattle.client_host.proofs.Maps.{put_put, look_put}
 use Rattle.client_host.proofs.Once.{AtOnce, sent_by, run_client, client_packets, client_outs}
@@ -27,14 +27,14 @@ module _ (w : World) (c : ℕ) where
   -- ---- the work until idle
 
   one_work : (d : ClientDisk) (task : ClientTask) (more : List ClientTask) (packets : List Packet)
-      → move_client c (client.Work messages.Done) (with_client (at_work d (task ∷ more)) packets) ≡ record {
+      → move_client c (client.Work messages.Done) client.no_shape (with_client (at_work d (task ∷ more)) packets) ≡ record {
         world = with_client (at_work (client.changed d task.change) more) (packets ++ packets_from (nodes.Client c) task.sends);
         outs = record { facts = task.facts; packets = packets_from (nodes.Client c) task.sends } ∷ [];
         failed = false;
       }
   one_work d task more packets =
       let x : World = with_client (at_work d (task ∷ more)) packets in
-      ap (move_there x c (client.Work messages.Done)) (look_put nat_cmp nat_cmp_total w.clients c (at_work d (task ∷ more)))
+      ap (move_there x c (client.Work messages.Done) client.no_shape) (look_put nat_cmp nat_cmp_total w.clients c (at_work d (task ∷ more)))
       ∙ ap (λ (cs : List (ℕ × Client)). record {
         world = record w { clients = cs; packets = packets ++ packets_from (nodes.Client c) task.sends };
         outs = record { facts = task.facts; packets = packets_from (nodes.Client c) task.sends } ∷ [];
@@ -57,17 +57,20 @@ module _ (w : World) (c : ℕ) where
       }) (settles more (client.changed d task.change) (packets ++ packets_from (nodes.Client c) task.sends))
 
   -- where the client has no writes to do, none follow
-  gotten : (tasks : List ClientTask) (d : ClientDisk) (ps : List Packet)
-      → client_follows_from (Some []) c [] (with_client (at_work d tasks) ps) ≡ client_follows c [] (with_client (at_work d tasks) ps)
-  gotten [] d ps = rw (look_put nat_cmp nat_cmp_total w.clients c (at_work d [])) refl
-  gotten (task ∷ more) d ps = rw (look_put nat_cmp nat_cmp_total w.clients c (at_work d (task ∷ more))) refl
+  gotten : has_node w.holds (nodes.Client c) ≡ false → (tasks : List ClientTask) (d : ClientDisk) (ps : List Packet)
+      → client_follows_from (Some []) c [] (with_client (at_work d tasks) ps) ≡ client_until_idle c [] (with_client (at_work d tasks) ps)
+  gotten free [] d ps = rw (look_put nat_cmp nat_cmp_total w.clients c (at_work d [])) refl
+  gotten free (task ∷ more) d ps =
+      let x : World = with_client (at_work d (task ∷ more)) ps in
+      let follows : client_follows_from (Some []) c [] x ≡ client_follows c [] x = rw (look_put nat_cmp nat_cmp_total w.clients c (at_work d (task ∷ more))) refl in
+      follows ∙ ap (λ (b : Bool). if b then still x else client_until_idle c [] x) free
 
   -- ---- an event
 
-  module _ (node : old.Client) (there : client_at w c ≡ Some (client_of node)) (move : ClientMove) (was : old.ClientStep)
-      (k : AtOnce c was (client_step c (client_of node) move)) where
+  module _ (node : old.Client) (there : client_at w c ≡ Some (client_of node)) (free : has_node w.holds (nodes.Client c) ≡ false) (move : ClientMove) (was : old.ClientStep)
+      (k : AtOnce c was (client_step c client.no_shape (client_of node) move)) where
     abbrev Step : client.ClientStep
-    Step = client_step c (client_of node) move
+    Step = client_step c client.no_shape (client_of node) move
 
     abbrev Sent : List Packet
     Sent = packets_from (nodes.Client c) Step.sends
@@ -78,8 +81,8 @@ module _ (w : World) (c : ℕ) where
     busy : Step.client ≡ at_work Step.client.disk k.tasks
     busy = ap (λ (o : Option (List ClientTask)). record { disk = Step.client.disk; agenda = o }) k.agenda
 
-    first : move_client c move w ≡ record { world = with_client (at_work Step.client.disk k.tasks) (w.packets ++ Sent); outs = Box ∷ []; failed = false }
-    first = ap (move_there w c move) there
+    first : move_client c move client.no_shape w ≡ record { world = with_client (at_work Step.client.disk k.tasks) (w.packets ++ Sent); outs = Box ∷ []; failed = false }
+    first = ap (move_there w c move client.no_shape) there
         ∙ (ap (λ (x : Client). record { world = with_client x (w.packets ++ Sent); outs = Box ∷ []; failed = is_fault Step.answer }) busy
         ∙ ap (λ (b : Bool). record { world = with_client (at_work Step.client.disk k.tasks) (w.packets ++ Sent); outs = Box ∷ []; failed = b }) k.fine)
 
@@ -90,12 +93,12 @@ module _ (w : World) (c : ℕ) where
     }
     then_works =
         let x : World = with_client (at_work Step.client.disk k.tasks) (w.packets ++ Sent) in
-        gotten k.tasks Step.client.disk (w.packets ++ Sent)
+        gotten free k.tasks Step.client.disk (w.packets ++ Sent)
         ∙ (ap (λ (o : Option Client). client_works c (client_tasks o) [] x) (look_put nat_cmp nat_cmp_total w.clients c (at_work Step.client.disk k.tasks))
         ∙ settles k.tasks Step.client.disk (w.packets ++ Sent))
 
     -- what the moves of the event come to
-    all : and_then (move_client c move w) (client_follows_from (Some []) c []) ≡ record {
+    all : and_then (move_client c move client.no_shape w) (client_follows_from (Some []) c []) ≡ record {
       world = with_client (at_work (run_client Step.client.disk k.tasks) []) (client_packets c (w.packets ++ Sent) k.tasks);
       outs = Box ∷ client_outs c k.tasks;
       failed = false;
@@ -104,11 +107,11 @@ module _ (w : World) (c : ℕ) where
         ∙ ap (λ (m : Moved). record { world = m.world; outs = Box ∷ m.outs; failed = m.failed }) then_works
 
     -- the client is up
-    is_up : call_there w c move [] (Some (client_of node)) ≡ answering Step.answer (and_then (move_client c move w) (client_follows_from (Some []) c []))
-    is_up = ap (λ (b : Bool). if b then refused w (facts.NodeDown (nodes.Client c)) else answering Step.answer (and_then (move_client c move w) (client_follows_from (Some []) c [])))
+    is_up : call_there w c move client.no_shape [] (Some (client_of node)) ≡ answering Step.answer (and_then (move_client c move client.no_shape w) (client_follows_from (Some []) c []))
+    is_up = ap (λ (b : Bool). if b then refused w (facts.NodeDown (nodes.Client c)) else answering Step.answer (and_then (move_client c move client.no_shape w) (client_follows_from (Some []) c [])))
         (ap is_client_down there)
 
-    pub event_is : call_there w c move [] (Some (client_of node)) ≡ record {
+    pub event_is : call_there w c move client.no_shape [] (Some (client_of node)) ≡ record {
       world = with_client (client_of was.client) (w.packets ++ sent_by c was.messages);
       answer = Some (answer_of was.answer);
       counted = [];

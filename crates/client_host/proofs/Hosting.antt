@@ -65,6 +65,7 @@ pub clients_stay : (w after : World) (host : ClientHost) → HoldsClients w host
 clients_stay w after host h k = record {
   there = λ c. subst (λ (cs : List (ℕ × Client)). ClientThere after c (lookup (is_at (nat_cmp c)) cs) (tree.get nat_cmp host.clients c)) (sym k.clients)
       (there_kept w after k.schemas c (client_at w c) (tree.get nat_cmp host.clients c) (h.there c));
+  free = k.free h.free;
 }
 
 -- ---- what is there, and what isn't
@@ -111,14 +112,14 @@ none_there (Some x) b there is = absurd cc
 
 module _ (w : World) (host new : ClientHost) (c : ℕ) (h : HoldsClients w host) (none : None ≡ tree.get nat_cmp host.clients c) (same : new.clients ≡ host.clients) where
   still_held : HoldsClients w new
-  still_held = record { there = subst (λ (m : tree.BTreeMap ℕ NodeState). HasClients w m) (sym same) h.there }
+  still_held = record { there = subst (λ (m : tree.BTreeMap ℕ NodeState). HasClients w m) (sym same) h.there; free = h.free }
 
   pub nowhere : (move : ClientMove) (said : Answer) (out : Out) → said ≡ answers.Refused refusals.NoTable → out ≡ nothing_gathered
-      → IsCalled w c (call w c move []) new (answer_of said) out
+      → IsCalled w c (call w c move client.no_shape []) new (answer_of said) out
   nowhere move said out answer told =
-      subst (λ (a : Answer). IsCalled w c (call w c move []) new (answer_of a) out) (sym answer)
-      (subst (λ (x : Out). IsCalled w c (call w c move []) new (facts.Refuses facts.NoTable) x) (sym told)
-      (subst (λ (o : Option Client). IsCalled w c (call_there w c move [] o) new (facts.Refuses facts.NoTable) nothing_gathered) (sym (not_found w host c h none)) (record {
+      subst (λ (a : Answer). IsCalled w c (call w c move client.no_shape []) new (answer_of a) out) (sym answer)
+      (subst (λ (x : Out). IsCalled w c (call w c move client.no_shape []) new (facts.Refuses facts.NoTable) x) (sym told)
+      (subst (λ (o : Option Client). IsCalled w c (call_there w c move client.no_shape [] o) new (facts.Refuses facts.NoTable) nothing_gathered) (sym (not_found w host c h none)) (record {
         answer = refl;
         counted = refl;
         held = still_held;
@@ -153,9 +154,9 @@ module _ (w : World) (host new : ClientHost) (c : ℕ) (node : NodeState) (h : H
   ready : (table : ℕ) → IsReady node.client table
   ready table = record { eventual = λ o at. (mine.opened table o at).eventual; rising = λ o at. (mine.opened table o at).rising }
 
-  module _ (move : ClientMove) (was : old.ClientStep) (o : AtOnce node.client.number was (client_step node.client.number (client_of node.client) move)) where
-    once : AtOnce c was (client_step c (client_of node.client) move)
-    once = subst (λ (q : ℕ). AtOnce q was (client_step q (client_of node.client) move)) mine.number o
+  module _ (move : ClientMove) (was : old.ClientStep) (o : AtOnce node.client.number was (client_step node.client.number client.no_shape (client_of node.client) move)) where
+    once : AtOnce c was (client_step c client.no_shape (client_of node.client) move)
+    once = subst (λ (q : ℕ). AtOnce q was (client_step q client.no_shape (client_of node.client) move)) mine.number o
 
     module _ (k : IsKept w node.client was) (u : (q : ℕ) → tree.get nat_cmp new.clients q
         ≡ cond (is_at (nat_cmp c) q) (Some (record { client = was.client; out = nothing_gathered })) (tree.get nat_cmp host.clients q)) where
@@ -165,13 +166,14 @@ module _ (w : World) (host new : ClientHost) (c : ℕ) (node : NodeState) (h : H
           subst (λ (z : Message). IsRequestFit w z × IsRequestOf c z) (ap (λ (p : Option Node × Message). p.1) x.2)
           (subst (λ (q : ℕ). IsRequestFit w x.0 × IsRequestOf q x.0) mine.number (k.fit x.0 x.1))
 
-      after_call : IsCalled w c (call_there w c move [] (Some (client_of node.client))) new (answer_of was.answer) (gathered nothing_gathered was)
-      after_call = subst (λ (s : WorldStep). IsCalled w c s new (answer_of was.answer) (gathered nothing_gathered was)) (sym (event_is w c node.client there move was once)) (record {
+      after_call : IsCalled w c (call_there w c move client.no_shape [] (Some (client_of node.client))) new (answer_of was.answer) (gathered nothing_gathered was)
+      after_call = subst (λ (s : WorldStep). IsCalled w c s new (answer_of was.answer) (gathered nothing_gathered was)) (sym (event_is w c node.client there (h.free c) move was once)) (record {
         answer = refl;
         counted = refl;
         held = record {
           there = put_client w (with_client w c (client_of was.client) _) (λ t s e. e) host.clients new.clients c (record { client = was.client; out = nothing_gathered }) h.there
               (record { number = k.number ∙ mine.number; out = refl; opened = k.opened }) refl u;
+          free = h.free;
         };
         same = refl;
         packets = refl;
@@ -187,19 +189,19 @@ module _ (w : World) (host new : ClientHost) (c : ℕ) (node : NodeState) (h : H
       gathers : out ≡ gathered nothing_gathered was
       gathers = d.out ∙ ap (λ (x : Out). gathered x was) mine.out
 
-      here : IsCalled w c (call_there w c move [] (Some (client_of node.client))) new (answer_of answer) out
-      here = subst (λ (a : Answer). IsCalled w c (call_there w c move [] (Some (client_of node.client))) new (answer_of a) out) (sym d.answer)
-          (subst (λ (x : Out). IsCalled w c (call_there w c move [] (Some (client_of node.client))) new (answer_of was.answer) x) (sym gathers) (after_call k updates))
+      here : IsCalled w c (call_there w c move client.no_shape [] (Some (client_of node.client))) new (answer_of answer) out
+      here = subst (λ (a : Answer). IsCalled w c (call_there w c move client.no_shape [] (Some (client_of node.client))) new (answer_of a) out) (sym d.answer)
+          (subst (λ (x : Out). IsCalled w c (call_there w c move client.no_shape [] (Some (client_of node.client))) new (answer_of was.answer) x) (sym gathers) (after_call k updates))
 
-      pub called : IsCalled w c (call w c move []) new (answer_of answer) out
-      called = subst (λ (n : Option Client). IsCalled w c (call_there w c move [] n) new (answer_of answer) out) (sym there) here
+      pub called : IsCalled w c (call w c move client.no_shape []) new (answer_of answer) out
+      called = subst (λ (n : Option Client). IsCalled w c (call_there w c move client.no_shape [] n) new (answer_of answer) out) (sym there) here
 
   -- ---- each call
 
   module _ (after : NodeState) (u : (q : ℕ) → tree.get nat_cmp new.clients q ≡ cond (is_at (nat_cmp c) q) (Some after) (tree.get nat_cmp host.clients q)) where
     pub write_called : (table : ℕ) (row : List ℕ) (x : Content) (r : Result (Answer × Out) ClientFault)
         → IfOk r (λ told. IsDone node after (old.write_step node.client table row x) told.0 told.1)
-        → IfOk r (λ told. IsCalled w c (call w c (client.Write table row x) []) new (answer_of told.0) told.1)
+        → IfOk r (λ told. IsCalled w c (call w c (client.Write table row x) client.no_shape []) new (answer_of told.0) told.1)
     write_called table row x (Err e) d = search rules
     write_called table row x (Ok told) d =
         called (client.Write table row x) (old.write_step node.client table row x) (write_once node.client table row x (ready table).eventual)
@@ -207,19 +209,20 @@ module _ (w : World) (host new : ClientHost) (c : ℕ) (node : NodeState) (h : H
 
     pub sync_called : (table : ℕ) (r : Result (Answer × Out) ClientFault)
         → IfOk r (λ told. IsDone node after (old.sync_step node.client table) told.0 told.1)
-        → IfOk r (λ told. IsCalled w c (call w c (client.Sync table) []) new (answer_of told.0) told.1)
+        → IfOk r (λ told. IsCalled w c (call w c (client.Sync table) client.no_shape []) new (answer_of told.0) told.1)
     sync_called table (Err e) d = search rules
     sync_called table (Ok told) d =
         called (client.Sync table) (old.sync_step node.client table) (sync_is_once node.client table (ready table)) (sync_kept w node.client mine.opened table) after u told.0 told.1 d
 
     pub pull_called : (table : ℕ) (r : Result (Answer × Out) ClientFault)
         → IfOk r (λ told. IsDone node after (old.pull_step node.client table) told.0 told.1)
-        → IfOk r (λ told. IsCalled w c (call w c (client.Next table) []) new (answer_of told.0) told.1)
+        → IfOk r (λ told. IsCalled w c (call w c (client.Next table) client.no_shape []) new (answer_of told.0) told.1)
     pull_called table (Err e) d = search rules
     pull_called table (Ok told) d =
         called (client.Next table) (old.pull_step node.client table) (next_once node.client table) (pull_kept w node.client mine.opened table) after u told.0 told.1 d
 
-    taken_once : (m : Message) → IsVersioned m → AtOnce node.client.number (old.deliver_step node.client m) (client_step node.client.number (client_of node.client) (client.Take (message_of m)))
+    taken_once : (m : Message) → IsVersioned m
+        → AtOnce node.client.number (old.deliver_step node.client m) (client_step node.client.number client.no_shape (client_of node.client) (client.Take (message_of m)))
     taken_once (kinds.SyncResponse r) v = response_is_once node.client r
     taken_once (kinds.PullResponse q) v = pulled_is_once node.client q (ready q.table) v
     taken_once (kinds.SyncRequest q) v = quiet_once node.client.number node.client answers.Done refl
@@ -256,7 +259,7 @@ module _ (w : World) (host new : ClientHost) (c : ℕ) (node : NodeState) (h : H
   same_taken (answers.Refused r) t = absurd t
 
   module _ (table : ℕ) (row : List ℕ) (x : Content) where
-    written : AtOnce c (old.write_step node.client table row x) (client_step c (client_of node.client) (client.Write table row x))
+    written : AtOnce c (old.write_step node.client table row x) (client_step c client.no_shape (client_of node.client) (client.Write table row x))
     written = once (client.Write table row x) (old.write_step node.client table row x) (write_once node.client table row x (ready table).eventual)
 
     spends : IsSpent node.client (old.write_step node.client table row x) → SpendsNumber c (client.Write table row x) (client_at w c)
@@ -298,14 +301,14 @@ module _ (w : World) (host : ClientHost) (c : ℕ) (node : NodeState) (h : Holds
       })
 
   pub show_called : (table : ℕ) (row : List ℕ) (r : Result Answer ClientFault) → IfOk r (λ answer. old.show_step node.client table row ≡ old.answered node.client answer)
-      → IfOk r (λ answer. IsCalled w c (call w c (client.Show table row) []) host (answer_of answer) nothing_gathered)
+      → IfOk r (λ answer. IsCalled w c (call w c (client.Show table row) client.no_shape []) host (answer_of answer) nothing_gathered)
   show_called table row (Err e) s = search rules
   show_called table row (Ok answer) s =
       called w host host c node h is (client.Show table row) (old.show_step node.client table row) (show_once node.client table row)
       (show_kept w node.client (found w host c node h is).1.opened table row) node as_it_was answer nothing_gathered (told_nothing (old.show_step node.client table row) answer s)
 
   pub sum_called : (table : ℕ) (row : List ℕ) (r : Result Answer ClientFault) → IfOk r (λ answer. old.sum_step node.client table row ≡ old.answered node.client answer)
-      → IfOk r (λ answer. IsCalled w c (call w c (client.Sum table row) []) host (answer_of answer) nothing_gathered)
+      → IfOk r (λ answer. IsCalled w c (call w c (client.Sum table row) client.no_shape []) host (answer_of answer) nothing_gathered)
   sum_called table row (Err e) s = search rules
   sum_called table row (Ok answer) s =
       called w host host c node h is (client.Sum table row) (old.sum_step node.client table row) (sum_once node.client table row)
@@ -347,6 +350,7 @@ pub was_added : (w : World) (host new : ClientHost) (c : ℕ) (tables : List ℕ
     → HoldsClients (joined w c tables None) new
 was_added w host new c tables it h j u = record {
   there = put_client w (joined w c tables None) (λ t s e. e) host.clients new.clients c it h.there j.is (ap (λ (x : Client). insert_entry nat_cmp w.clients c x) same) u;
+  free = h.free;
 }
   where
     same : new_client (open_all w [] tables) ≡ client_of it.client

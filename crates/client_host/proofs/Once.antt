@@ -214,7 +214,7 @@ module _ (c : ℕ) (node : old.Client) (table : ℕ) (opened : ClientTable) (at 
       (sends : List Send)
       → map facts.Client told ≡ map fact_of some → packets_from (nodes.Client c) sends ≡ sent_by c messages
       → AtOnce c (record { client = with_table (record node { last = last }) table (with_slots opened row slots); answer = a; messages = messages; facts = some })
-      (client.begun (disk_of node) (answer_of a) (record { last = last; table = table; row = Some (put_for row slots); position = None; facts = told }) sends)
+      (client.begun client.no_shape (disk_of node) (answer_of a) (record { last = last; table = table; row = Some (put_for row slots); position = None; facts = told }) sends)
   row_once a fine last row slots told some messages sends same_facts same = record {
     tasks = _;
     agenda = refl;
@@ -236,7 +236,7 @@ module _ (c : ℕ) (node : old.Client) (table : ℕ) (opened : ClientTable) (at 
       (messages : List Message) (sends : List Send)
       → map facts.Client told ≡ map fact_of some → packets_from (nodes.Client c) sends ≡ sent_by c messages
       → AtOnce c (record { client = with_table (record node { last = last }) table (record (with_slots opened row slots) { position = to }); answer = a; messages = messages; facts = some })
-      (client.begun (disk_of node) (answer_of a) (record { last = last; table = table; row = Some (put_for row slots); position = Some to; facts = told }) sends)
+      (client.begun client.no_shape (disk_of node) (answer_of a) (record { last = last; table = table; row = Some (put_for row slots); position = Some to; facts = told }) sends)
   both_once a fine last row slots to told some messages sends same_facts same = record {
     tasks = _;
     agenda = refl;
@@ -276,7 +276,7 @@ module _ (c : ℕ) (node : old.Client) (table : ℕ) (opened : ClientTable) (at 
       → insert_entry row_cmp (map row_of opened.rows) row (slots_of (slots_at opened row)) ≡ map row_of opened.rows
       → map facts.Client told ≡ map fact_of some → packets_from (nodes.Client c) sends ≡ sent_by c messages
       → AtOnce c (record { client = with_table node table (record (with_slots opened row (slots_at opened row)) { position = to }); answer = a; messages = messages; facts = some })
-      (client.begun (disk_of node) (answer_of a) (record { last = node.last; table = table; row = None; position = Some to; facts = told }) sends)
+      (client.begun client.no_shape (disk_of node) (answer_of a) (record { last = node.last; table = table; row = None; position = Some to; facts = told }) sends)
   position_once a fine row to told some messages sends stays same_facts same = record {
     tasks = _;
     agenda = refl;
@@ -303,7 +303,14 @@ module _ (c : ℕ) (node : old.Client) (table : ℕ) (opened : ClientTable) (at 
   pub sync_once : (a : Answer) (fine : is_fault (answer_of a) ≡ false) (row : List ℕ) (slots : Slots) (messages : List Message) (again sends : List Send)
       → packets_from (nodes.Client c) again ++ packets_from (nodes.Client c) sends ≡ sent_by c messages
       → AtOnce c (record { client = with_table node table (with_slots opened row slots); answer = a; messages = messages; facts = [] })
-      (record (client.begun (disk_of node) (answer_of a) (record { last = node.last; table = table; row = Some (put_for row slots); position = None; facts = [] }) sends) { sends = again })
+      (record (client.begun client.no_shape (disk_of node) (answer_of a) (record {
+        last =
+            node.last;
+        table = table;
+        row = Some (put_for row slots);
+        position = None;
+        facts = [];
+      }) sends) { sends = again })
   sync_once a fine row slots messages again sends same =
       record {
         tasks = _;

@@ -8,7 +8,7 @@ use Rattle.table_model.specs.declared.line.Refusal.TheVariants as refusals
 use Rattle.step_tables.specs.declared.message.Message.{Message}
 use Rattle.step_tables.specs.declared.out.Out.{Out}
 use Rattle.step_tables.specs.Client as memory
-use Rattle.step_tables.specs.ClientMoves.{Client, TableDisk, ClientMove, client_step}
+use Rattle.step_tables.specs.ClientMoves.{Client, TableDisk, ClientMove, no_shape, client_step}
 use Rattle.step_tables.specs.Facts.{FactLine}
 use Rattle.step_tables.specs.Facts as facts
 use Rattle.step_tables.specs.Lines.{fact_of}
@@ -85,7 +85,7 @@ IsTaken (facts.Refuses refusal) = ⊥
 -- the world's client has made its last write, and this move would be done
 abbrev pub SpendsNumber : ℕ → ClientMove → Option Client → Type 0
 SpendsNumber c move None = ⊥
-SpendsNumber c move (Some node) = IsTaken (client_step c node move).answer × (node.disk.last ≡ NUMBER_MAX)
+SpendsNumber c move (Some node) = IsTaken (client_step c no_shape node move).answer × (node.disk.last ≡ NUMBER_MAX)
 
 abbrev pub IsNumberCause : World → ℕ → ClientMove → ClientFault → Type 0
 IsNumberCause w c move Spent = SpendsNumber c move (client_at w c)

@@ -1,10 +1,11 @@
 -- What the clients in memory hold of the world of the laws: its clients, and of each opened table that it is declared
--- with its schema. Tables, packets, holds and nodes that are down are whoever's.
-use Rattle.std.specs.Prelude.{◌≡◌, ◌≤◌, ℕ, List, Option, Some, None, Ok}
+-- with its schema. Tables, packets, and the Stores that are on hold or down are whoever's.
+use Rattle.std.specs.Prelude.{◌≡◌, ◌≤◌, ℕ, false, List, Option, Some, None, Ok}
 use Rattle.std.specs.Ordering.{nat_cmp}
 use Rattle.std.specs.BTreeMap as tree
 use Rattle.std.specs.List.Sorted.{IsStrictlySortedBy}
 use Rattle.std.specs.Map.{keys_of}
+use Rattle.stab_base.specs.declared.node.Node.TheVariants as nodes
 use Rattle.row_value.specs.declared.content.Content.{Content}
 use Rattle.row_value.specs.declared.schema.Schema.{Schema}
 use Rattle.row_value.specs.declared.schema.Scheme.TheVariants.{Eventual}
@@ -20,7 +21,7 @@ use Rattle.step_tables.specs.Client.{ClientTable, row_cmp, table_at}
 use Rattle.step_tables.specs.ClientMoves.{Client}
 use Rattle.step_tables.specs.Members.{Among}
 use Rattle.client_core.specs.State.{NodeState, nothing_gathered}
-use Rattle.world_tables.specs.World.{World, schema_at, client_at}
+use Rattle.world_tables.specs.World.{World, schema_at, client_at, has_node}
 use Rattle.client_host.specs.declared.host.ClientHost.{ClientHost}
 use Rattle.client_host.specs.Lift.{client_of}
 
@@ -59,15 +60,21 @@ ClientThere w c (Some node) (Some it) = (node ≡ client_of it.client) × IsClie
 abbrev pub HasClients : World → tree.BTreeMap ℕ NodeState → Type 0
 HasClients w clients = (c : ℕ) → ClientThere w c (client_at w c) (tree.get nat_cmp clients c)
 
--- The host's clients are the world's.
+-- no client is on hold
+abbrev pub AreFree : World → Type 0
+AreFree w = (c : ℕ) → has_node w.holds (nodes.Client c) ≡ false
+
+-- The host's clients are the world's, and each does its writes by itself.
 pub record HoldsClients (w : World) (host : ClientHost) : Type 0 where
   pub there : HasClients w host.clients
+  pub free : AreFree w
 
 -- ---- what stays of a world
 
--- The world has the clients of another, and each table that the other declares with its schema.
+-- The world has the clients of another, puts none on hold, and has each table that the other declares with its schema.
 pub record KeepsClients (before after : World) : Type 0 where
   pub clients : after.clients ≡ before.clients
+  pub free : AreFree before → AreFree after
   pub schemas : (table : ℕ) (schema : Schema) → schema_at before table ≡ Some schema
       → schema_at after table ≡ Some schema
 

@@ -8,7 +8,7 @@ ghost use Rattle.step_tables.specs.Travels.{message_of};
 ghost use Rattle.client_core.specs.State.{nothing_gathered};
 ghost use Rattle.world_tables.specs.World.{World as AWorld, schema_at, client_at, call, to_there, joined, open_all};
 ghost use Rattle.world_tables.specs.World.{with_opened};
-ghost use Rattle.client_host.specs.Holds.{HoldsClients, HasSchemas, IsVersioned};
+ghost use Rattle.client_host.specs.Holds.{HoldsClients, AreFree, HasSchemas, IsVersioned};
 ghost use Rattle.client_host.specs.Calls.{IsCalled, IsJoining, SpendsNumber, IsNumberCause};
 
 use crate::calls;
@@ -32,7 +32,7 @@ pub struct ClientHost {
 impl ClientHost {
     /// No clients.
     pub fn new(alloc: Global) -> ClientHost
-        ensures { (w : AWorld) → w.clients ≡ [] → HoldsClients w result }
+        ensures { (w : AWorld) → w.clients ≡ [] → AreFree w → HoldsClients w result }
     {
         ClientHost {
             clients: BTreeMap::new(alloc),
@@ -101,7 +101,7 @@ impl ClientHost {
         content: &Content,
     ) -> Result<(Answer, Out), ClientFault>
         ensures called { (w : AWorld) → HoldsClients w self.old → IfOk result (λ told.
-            IsCalled w client (call w client (moves.Write table row content.now) [])
+            IsCalled w client (call w client (moves.Write table row content.now) moves.no_shape [])
             self.new (answer_of told.0) told.1) }
         ensures cause { (w : AWorld) → HoldsClients w self.old
             → IfErr result (IsNumberCause w client (moves.Write table row content.now)) }
@@ -122,7 +122,8 @@ impl ClientHost {
     /// `Memory` alone.
     pub fn show(&self, client: ClientNo, table: TableNo, row: RowId) -> Result<Answer, ClientFault>
         ensures called { (w : AWorld) → HoldsClients w self.now → IfOk result (λ answer.
-            IsCalled w client (call w client (moves.Show table row) []) self.now (answer_of answer) nothing_gathered) }
+            IsCalled w client (call w client (moves.Show table row) moves.no_shape []) self.now (answer_of answer)
+            nothing_gathered) }
         ensures memory { IfErr result (λ fault. fault ≡ ClientFault.Memory) }
     {
         match self.clients.get(&client) {
@@ -138,7 +139,8 @@ impl ClientHost {
     /// `Memory` alone.
     pub fn sum(&self, client: ClientNo, table: TableNo, row: RowId) -> Result<Answer, ClientFault>
         ensures called { (w : AWorld) → HoldsClients w self.now → IfOk result (λ answer.
-            IsCalled w client (call w client (moves.Sum table row) []) self.now (answer_of answer) nothing_gathered) }
+            IsCalled w client (call w client (moves.Sum table row) moves.no_shape []) self.now (answer_of answer)
+            nothing_gathered) }
         ensures memory { IfErr result (λ fault. fault ≡ ClientFault.Memory) }
     {
         match self.clients.get(&client) {
@@ -154,7 +156,7 @@ impl ClientHost {
     /// `Memory` alone.
     pub fn sync(&mut self, client: ClientNo, table: TableNo) -> Result<(Answer, Out), ClientFault>
         ensures called { (w : AWorld) → HoldsClients w self.old → IfOk result (λ told.
-            IsCalled w client (call w client (moves.Sync table) []) self.new (answer_of told.0) told.1) }
+            IsCalled w client (call w client (moves.Sync table) moves.no_shape []) self.new (answer_of told.0) told.1) }
         ensures memory { IfErr result (λ fault. fault ≡ ClientFault.Memory) }
         ensures kept { (w : AWorld) → HoldsClients w self.old → OnErr result (HoldsClients w self.new) }
     {
@@ -171,7 +173,7 @@ impl ClientHost {
     /// `Memory` alone.
     pub fn pull(&mut self, client: ClientNo, table: TableNo) -> Result<(Answer, Out), ClientFault>
         ensures called { (w : AWorld) → HoldsClients w self.old → IfOk result (λ told.
-            IsCalled w client (call w client (moves.Next table) []) self.new (answer_of told.0) told.1) }
+            IsCalled w client (call w client (moves.Next table) moves.no_shape []) self.new (answer_of told.0) told.1) }
         ensures memory { IfErr result (λ fault. fault ≡ ClientFault.Memory) }
         ensures kept { (w : AWorld) → HoldsClients w self.old → OnErr result (HoldsClients w self.new) }
     {

@@ -18,24 +18,25 @@ use Rattle.step_tables.specs.Members.{Among}
 use Rattle.step_tables.specs.Messages.{Send, Message, Luck, Response, Pulled, Header, Outcome, SyncRequest, SyncResponse, PullRequest, PullResponse}
 use Rattle.step_tables.specs.Messages as messages
 use Rattle.step_tables.specs.Sayings.{Heard, own_all}
-use Rattle.step_tables.specs.ClientMoves.{Slots, TableDisk, RowPut, Plan, ClientDisk, ClientTask, Client, Choice, Mine, Theirs, Another, ClientMove}
+use Rattle.step_tables.specs.ClientMoves.{Slots, TableDisk, Plan, ClientDisk, ClientTask, Client, Choice, Mine, Theirs, Another, ClientMove}
 use Rattle.step_tables.specs.ClientMoves.{Write, Show, Sum, Sync, Next, Resolve, Take, Work}
-use Rattle.step_tables.specs.ClientMoves.{Crash, Start, ClientStep, Keep, quiet, refused, ignored, seen, planned_in, slots_at, slots_in, slots_of, table_at, put_row, changed, applied, done, crashed}
-use Rattle.step_tables.specs.ClientMoves.{worked, told, retold, rest_of, begun, slots_plan, resumed, started, request_for, pull_from, main_of, out_of, write_plan, strong_plan, first_out, write_strong}
-use Rattle.step_tables.specs.ClientMoves.{write_by, write_free, write_idle, write_fitting, write_to, write_step, shown_in, show_answer, show_in, show_step, sum_step, resent, RowOut, first_to_send, send_plan}
+use Rattle.step_tables.specs.ClientMoves.{Crash, Start, quiet, refused, ignored, seen, planned_in, slots_at, slots_in, slots_of, table_at, put_row, changed, applied, done, crashed}
+use Rattle.step_tables.specs.ClientMoves.{worked, told, Shape, keeps, rest_of, ending, opening, told_at_start, begun, slots_plan, resumed, started, request_for, pull_from, main_of, out_of}
+use Rattle.step_tables.specs.ClientMoves.{write_plan, strong_plan, first_out, write_strong}
+use Rattle.step_tables.specs.ClientMoves.{write_by, write_free, write_idle, write_fitting, write_to, write_step, shown_in, show_answer, show_in, show_step, sum_step, resent, RowOut, first_to_send}
+use Rattle.step_tables.specs.ClientMoves.{send_plan}
 use Rattle.step_tables.specs.ClientMoves.{sync_first, sync_in, sync_step, next_in, next_step, choose, over_fitting, over_plan, theirs_plan, resolve_over, resolve_in, resolve_step, ack_plan, lost_plan}
 use Rattle.step_tables.specs.ClientMoves.{outcome_taken, response_taken, response_in, row_placed, next_pull, row_plan, position_plan, top, row_taken, pulled_taken, pulled_in, take_step, client_step}
 use Rattle.step_tables.specs.Items.{IsItemOf, IsChange}
-use Rattle.client_laws.specs.Part.{Items, Sending, sendings, Ours, RowTied, Tied, IsOpened, AreOwn, Requests, IsPlan, IsNewPlan, RestsOn, Rests, Runs, IsAt, ClientPart, IsRefused, IsOutcome}
-use Rattle.client_laws.specs.Part.{IsHeader, IsMessage, IsFair, ShowsRow, IsShown, IsAnswer, ClientLaw}
-use Rattle.client_laws.proofs.Grows.{some_is}
+use Rattle.client_laws.specs.Part.{Items, Sending, sendings, Ours, RowTied, Tied, AreOwn, Requests, IsPlan, IsNewPlan, RestsOn, Rests, Runs, IsAt, ClientPart, IsRefused, IsOutcome}
+use Rattle.client_laws.specs.Part.{IsHeader, IsMessage, IsFair, IsShown, IsAnswer, ClientLaw}
 use Rattle.client_laws.proofs.Disks.{opened_by, applied_at, applied_last, put_row_slots}
-use Rattle.client_laws.proofs.PlanRuns.{own-retold, rest_runs, plan_runs, told_plan}
+use Rattle.client_laws.proofs.PlanRuns.{own-retold, shown_of, rested_of, keeps_run, ending_runs, rest_runs, plan_runs, told_plan}
 use Rattle.client_laws.proofs.Plans.{write_is_plan, strong_is_plan, send_is_plan, ack_is_plan, lost_is_plan, over_is_plan, theirs_is_plan}
 use Rattle.client_laws.proofs.Headers.{position_is_plan, row_plan_is}
-use Rattle.client_laws.proofs.Sends.{request_is, sent_tied, IsSent, all_resent, rows_found, IsFirst, first_is, sending_for}
+use Rattle.client_laws.proofs.Sends.{request_is, sent_tied, IsSent, all_resent, rows_found, first_is}
 
-module _ (g : ℕ → Scheme) (c : ℕ) (h : Items) (sent : List Sending) (t : Heard) (ours : Ours g c h sent t) where
+module _ (g : ℕ → Scheme) (c : ℕ) (h : Items) (sent : List Sending) (t : Heard) (ours : Ours g c h sent t) (shape : Shape) where
   -- what is quiet sends nothing
   unsent_part : (d : ClientDisk) (agenda : Option (List ClientTask)) → IsAt g c h sent d t agenda → IsAt g c h (sent ++ []) d t agenda
   unsent_part d agenda p = subst (λ (s : List Sending). IsAt g c h s d t agenda) (sym (append-nil sent)) p
@@ -44,24 +45,22 @@ module _ (g : ℕ → Scheme) (c : ℕ) (h : Items) (sent : List Sending) (t : H
       → IsAt g c h sent d t agenda → ClientLaw g c h sent t move (quiet d agenda answer)
   quiet_law move d agenda answer a p = record { answer = a; facts = tt; sends = tt; part = unsent_part d agenda p }
 
-  -- an agenda that goes well shows what the lines say
   tied_of : (d : ClientDisk) (agenda : List ClientTask) → Runs g c h sent d t agenda → Tied g c h sent (seen d) t
-  tied_of d [] p = subst (λ (o : Option Plan). Tied g c h sent (planned_in d o) t) (sym p.1) p.0
-  tied_of d (task ∷ more) p = p.0
+  tied_of d agenda p = shown_of g c h sent d t agenda p
 
   rests_of : (d : ClientDisk) → Runs g c h sent d t [] → Rests g c h sent d t
-  rests_of d p = subst (λ (o : Option Plan). RestsOn g c h sent d t o) (sym p.1) p.0
+  rests_of d p = rested_of g c h sent d t [] p
 
   -- a plan is begun by an idle client
   begun_law : (move : ClientMove) (d : ClientDisk) (answer : Answer) (p : Plan) (sends : List Send) → IsAnswer g c h sent t move answer → Runs g c h sent d t []
       → IsNewPlan g c h sent d t p → Requests g c h (own_all t (told p)) sends → Tied g c h (sent ++ sendings sends) (applied p d) (own_all t (told p))
-      → ClientLaw g c h sent t move (begun d answer p sends)
+      → ClientLaw g c h sent t move (begun shape d answer p sends)
   begun_law move d answer p sends a idle plan requests after =
-      quiet_law move d _ answer a (plan_runs g c h sent d t p sends (tied_of d [] idle) (rests_of d idle) plan requests after)
+      quiet_law move d _ answer a (plan_runs g c h shape sent d t p sends (tied_of d [] idle) (rests_of d idle) plan requests after)
 
   -- a plan that sends no request
   silent_law : (move : ClientMove) (d : ClientDisk) (answer : Answer) (p : Plan) (sends : List Send) → IsAnswer g c h sent t move answer → Runs g c h sent d t []
-      → IsNewPlan g c h sent d t p → Requests g c h (own_all t (told p)) sends → sendings sends ≡ [] → ClientLaw g c h sent t move (begun d answer p sends)
+      → IsNewPlan g c h sent d t p → Requests g c h (own_all t (told p)) sends → sendings sends ≡ [] → ClientLaw g c h sent t move (begun shape d answer p sends)
   silent_law move d answer p sends a idle plan requests none =
       begun_law move d answer p sends a idle plan requests
       (subst (λ (s : List Sending). Tied g c h s (applied p d) (own_all t (told p))) (sym (ap (λ (l : List Sending). sent ++ l) none ∙ append-nil sent)) plan.plan.tied)
@@ -91,29 +90,46 @@ module _ (g : ℕ → Scheme) (c : ℕ) (h : Items) (sent : List Sending) (t : H
   work_law d agenda messages.FailedBefore p = failed_law d agenda messages.FailedBefore messages.FailedBefore p
   work_law d agenda messages.FailedAfter p = failed_law d agenda messages.FailedAfter messages.FailedAfter p
 
-  start_law : (d : ClientDisk) (agenda : Option (List ClientTask)) → IsAt g c h sent d t agenda → ClientLaw g c h sent t Start (started c d agenda)
+  -- a row whose plan was cut short says nothing of writes
+  torn_own : (torn : Option (ℕ × List ℕ)) → AreOwn g c h sent t (told_at_start c torn None) × (own_all t (told_at_start c torn None) ≡ t)
+  torn_own None = (tt, refl)
+  torn_own (Some row) = ((tt, tt), refl)
+
+  start_law : (d : ClientDisk) (agenda : Option (List ClientTask)) → IsAt g c h sent d t agenda → ClientLaw g c h sent t Start (started c shape d agenda)
   start_law d (Some agenda) p = quiet_law Start d (Some agenda) facts.Done tt p
   start_law d None rests = by_plan d.plan refl rests
     where
-      by_plan : (o : Option Plan) → d.plan ≡ o → RestsOn g c h sent d t d.plan → ClientLaw g c h sent t Start (resumed c d o)
+      -- where the writes go well behind what the start tells
+      opened_law : (plan : Option Plan) (u : Heard) → AreOwn g c h sent t (told_at_start c shape.torn plan) → own_all t (told_at_start c shape.torn plan) ≡ u
+          → Runs g c h sent d u (opening shape plan) → ClientLaw g c h sent t Start (resumed c shape d plan)
+      opened_law plan u now heard runs = record {
+        answer = tt;
+        facts = now;
+        sends = tt;
+        part = subst (λ (y : Heard). Runs g c h (sent ++ []) d y (ending (facts.ClientRecovered c ∷ []) (opening shape plan))) (sym heard)
+            (subst (λ (s : List Sending). Runs g c h s d u (ending (facts.ClientRecovered c ∷ []) (opening shape plan))) (sym (append-nil sent))
+            (ending_runs g c h sent d u (opening shape plan) runs));
+      }
+
+      by_plan : (o : Option Plan) → d.plan ≡ o → RestsOn g c h sent d t d.plan → ClientLaw g c h sent t Start (resumed c shape d o)
       by_plan None is r =
           let tied : Tied g c h sent d t = subst (λ (o : Option Plan). RestsOn g c h sent d t o) is r in
-          let shown : Tied g c h sent (seen d) t = subst (λ (o : Option Plan). Tied g c h sent (planned_in d o) t) (sym is) tied in
-          quiet_law Start d _ facts.Done tt
-          (shown, r, r, (tt, tt), tt, subst (λ (s : List Sending). Runs g c h s d t []) (sym (append-nil sent)) (tied, is))
+          let torn = torn_own shape.torn in
+          opened_law None t torn.0 torn.1 (keeps_run g c h shape.before sent d t (keeps shape.after)
+          (subst (λ (tasks : List ClientTask). Runs g c h sent d t tasks) (append-nil (keeps shape.after)) (keeps_run g c h shape.after sent d t [] (tied, is))))
       by_plan (Some p) is r =
           let plan : IsPlan g c h sent d t p = subst (λ (o : Option Plan). RestsOn g c h sent d t o) is r in
           let u : Heard = own_all t (told p) in
-          let runs : Runs g c h sent d u (rest_of p (facts.ClientRecovered c ∷ []) []) =
-          rest_runs g c h sent d u p (facts.ClientRecovered c ∷ []) [] (told_plan g c h sent d t p plan) is plan.same (tt, tt) refl tt
-          (subst (λ (s : List Sending). Tied g c h s (applied p d) u) (sym (append-nil sent)) plan.tied) in
-          record {
-            answer = tt;
-            facts = plan.now;
-            sends = tt;
-            part = subst (λ (y : Heard). Runs g c h (sent ++ []) d y (rest_of p (facts.ClientRecovered c ∷ []) [])) (sym (own-retold t p))
-                (subst (λ (s : List Sending). Runs g c h s d u (rest_of p (facts.ClientRecovered c ∷ []) [])) (sym (append-nil sent)) runs);
-          }
+          opened_law (Some p) u (now_of shape.torn p plan) (heard_of shape.torn p)
+          (keeps_run g c h shape.before sent d u (rest_of shape p [])
+          (rest_runs g c h shape sent d u p [] (told_plan g c h sent d t p plan) is plan.same tt
+          (subst (λ (s : List Sending). Tied g c h s (applied p d) u) (sym (append-nil sent)) plan.tied)))
+        where
+          now_of : (torn : Option (ℕ × List ℕ)) (p : Plan) → IsPlan g c h sent d t p → AreOwn g c h sent t (told_at_start c torn (Some p))
+          now_of torn p plan = plan.now
+
+          heard_of : (torn : Option (ℕ × List ℕ)) (p : Plan) → own_all t (told_at_start c torn (Some p)) ≡ own_all t (told p)
+          heard_of torn p = own-retold t p
 
   -- ---- an idle client
 
@@ -150,7 +166,7 @@ module _ (g : ℕ → Scheme) (c : ℕ) (h : Items) (sent : List Sending) (t : H
     -- ---- write
 
     strong_law : (table : ℕ) (row : List ℕ) (o : TableDisk) (content : Content) → table_at d table ≡ Some o → g table ≡ Strong
-        → (w : Option InFlight) → ClientLaw g c h sent t (Write table row content) (write_strong c d table row (slots_at o row) content w)
+        → (w : Option InFlight) → ClientLaw g c h sent t (Write table row content) (write_strong c shape d table row (slots_at o row) content w)
     strong_law table row o content is strong (Some w) = quiet_law (Write table row content) d (Some []) _ tt idle
     strong_law table row o content is strong None =
         let read : ℕ = version_in (slots_at o row).shadow in
@@ -165,26 +181,26 @@ module _ (g : ℕ → Scheme) (c : ℕ) (h : Items) (sent : List Sending) (t : H
         (sent_tied g c h sent (applied p d) u plan.plan.tied table row out waits (omega (arith, number)))
 
     weak_law : (table : ℕ) (row : List ℕ) (o : TableDisk) (content : Content) → table_at d table ≡ Some o → g table ≢ Strong → (slots_at o row).conflict ≡ None
-        → ClientLaw g c h sent t (Write table row content) (begun d (facts.Number (d.last + 1)) (write_plan c d table row (slots_at o row) content) [])
+        → ClientLaw g c h sent t (Write table row content) (begun shape d (facts.Number (d.last + 1)) (write_plan c d table row (slots_at o row) content) [])
     weak_law table row o content is weak none =
         silent_law (Write table row content) d _ (write_plan c d table row (slots_at o row) content) [] tt idle
         (write_is_plan g c h sent t ours d tied table row o is weak none content) tt refl
 
     scheme_law : (table : ℕ) (row : List ℕ) (o : TableDisk) (content : Content) → table_at d table ≡ Some o → (slots_at o row).conflict ≡ None
-        → (s : Scheme) → s ≡ g table → ClientLaw g c h sent t (Write table row content) (write_by s c d table row o (slots_at o row) content)
+        → (s : Scheme) → s ≡ g table → ClientLaw g c h sent t (Write table row content) (write_by s c shape d table row o (slots_at o row) content)
     scheme_law table row o content is none Strong e = strong_law table row o content is (sym e) (first_out o.rows)
     scheme_law table row o content is none Causal e = weak_law table row o content is (λ no. absurd (let b = e ∙ no in cc)) none
     scheme_law table row o content is none Eventual e = weak_law table row o content is (λ no. absurd (let b = e ∙ no in cc)) none
 
     free_law : (table : ℕ) (row : List ℕ) (o : TableDisk) (content : Content) → table_at d table ≡ Some o → (q : Option Shadow) → (slots_at o row).conflict ≡ q
-        → ClientLaw g c h sent t (Write table row content) (write_free o.schema.scheme c d table row o (slots_at o row) content q)
+        → ClientLaw g c h sent t (Write table row content) (write_free o.schema.scheme c shape d table row o (slots_at o row) content q)
     free_law table row o content is None none = scheme_law table row o content is none o.schema.scheme (scheme_of table o is)
     free_law table row o content is (Some y) full = quiet_law (Write table row content) d (Some []) _ tt idle
 
     -- ---- sync
 
     sync_first_law : (table : ℕ) (o : TableDisk) → table_at d table ≡ Some o → (first : Option RowOut) → first_to_send o.rows ≡ first
-        → ClientLaw g c h sent t (Sync table) (sync_first c d table (resent c table o.rows) first)
+        → ClientLaw g c h sent t (Sync table) (sync_first c shape d table (resent c table o.rows) first)
     sync_first_law table o is first at = by_first first at
       where
         found : (x : List ℕ × Slots) → Among o.rows x → slots_of d table x.0 ≡ x.1
@@ -193,7 +209,7 @@ module _ (g : ℕ → Scheme) (c : ℕ) (h : Items) (sent : List Sending) (t : H
         again : IsSent g c h d t table (sent ++ sendings (resent c table o.rows)) × Requests g c h t (resent c table o.rows)
         again = all_resent g c h d t table o.rows found sent (record { ours = ours; tied = tied })
 
-        by_first : (first : Option RowOut) → first_to_send o.rows ≡ first → ClientLaw g c h sent t (Sync table) (sync_first c d table (resent c table o.rows) first)
+        by_first : (first : Option RowOut) → first_to_send o.rows ≡ first → ClientLaw g c h sent t (Sync table) (sync_first c shape d table (resent c table o.rows) first)
         by_first None none = record { answer = tt; facts = tt; sends = again.1; part = (again.0.tied, idle.1) }
         by_first (Some x) first_at =
             let more : List Sending = sent ++ sendings (resent c table o.rows) in
@@ -215,7 +231,7 @@ module _ (g : ℕ → Scheme) (c : ℕ) (h : Items) (sent : List Sending) (t : H
               answer = tt;
               facts = tt;
               sends = again.1;
-              part = plan_runs g c h more d t (send_plan d table x) (request_for c table x.row x.out ∷ [])
+              part = plan_runs g c h shape more d t (send_plan d table x) (request_for c table x.row x.out ∷ [])
                   (subst (λ (e : ClientDisk). Tied g c h more e t) (sym seen_is) again.0.tied)
                   (subst (λ (q : Option Plan). RestsOn g c h more d t q) (sym idle.1) again.0.tied) plan
                   (request_is g c h more (applied (send_plan d table x) d) t plan.plan.tied table x.row x.out waits, tt)
@@ -226,14 +242,14 @@ module _ (g : ℕ → Scheme) (c : ℕ) (h : Items) (sent : List Sending) (t : H
 
     over_law : (table : ℕ) (row : List ℕ) (version : ℕ) (choice : Choice) (o : TableDisk) → table_at d table ≡ Some o → (content : Content)
         → (m : Main) → (slots_at o row).main ≡ Some m → (y : Shadow) → (slots_at o row).conflict ≡ Some y
-        → ClientLaw g c h sent t (Resolve table row version choice) (begun d (facts.Number (d.last + 1)) (over_plan c d table row (slots_at o row) m y content) [])
+        → ClientLaw g c h sent t (Resolve table row version choice) (begun shape d (facts.Number (d.last + 1)) (over_plan c d table row (slots_at o row) m y content) [])
     over_law table row version choice o is content m at y full =
         silent_law (Resolve table row version choice) d _ (over_plan c d table row (slots_at o row) m y content) [] tt idle
         (over_is_plan g c h sent t ours d tied table row o is m y content at full) tt refl
 
     choice_law : (table : ℕ) (row : List ℕ) (version : ℕ) (o : TableDisk) → table_at d table ≡ Some o
         → (m : Main) → (slots_at o row).main ≡ Some m → (y : Shadow) → (slots_at o row).conflict ≡ Some y → (choice : Choice)
-        → ClientLaw g c h sent t (Resolve table row version choice) (choose c d table row o.schema (slots_at o row) m y choice)
+        → ClientLaw g c h sent t (Resolve table row version choice) (choose c shape d table row o.schema (slots_at o row) m y choice)
     choice_law table row version o is m at y full Mine = over_law table row version Mine o is m.content m at y full
     choice_law table row version o is m at y full Theirs =
         silent_law (Resolve table row version Theirs) d _ (theirs_plan c d table row (slots_at o row) m y) [] tt idle
@@ -241,19 +257,19 @@ module _ (g : ℕ → Scheme) (c : ℕ) (h : Items) (sent : List Sending) (t : H
     choice_law table row version o is m at y full (Another content) = by_fit (fit_of o.schema content)
       where
         by_fit : (fit : Result (Unit {0}) FitFault)
-            → ClientLaw g c h sent t (Resolve table row version (Another content)) (over_fitting c d table row (slots_at o row) m y content fit)
+            → ClientLaw g c h sent t (Resolve table row version (Another content)) (over_fitting c shape d table row (slots_at o row) m y content fit)
         by_fit (Ok fits) = over_law table row version (Another content) o is content m at y full
         by_fit (Err fault) = quiet_law (Resolve table row version (Another content)) d (Some []) _ tt idle
 
     conflict_law : (table : ℕ) (row : List ℕ) (version : ℕ) (choice : Choice) (o : TableDisk) → table_at d table ≡ Some o
         → (m : Option Main) → (slots_at o row).main ≡ m → (q : Option Shadow) → (slots_at o row).conflict ≡ q
-        → ClientLaw g c h sent t (Resolve table row version choice) (resolve_over c d table row o.schema (slots_at o row) version choice m q)
+        → ClientLaw g c h sent t (Resolve table row version choice) (resolve_over c shape d table row o.schema (slots_at o row) version choice m q)
     conflict_law table row version choice o is None at q full = quiet_law (Resolve table row version choice) d (Some []) _ tt idle
     conflict_law table row version choice o is (Some m) at None full = quiet_law (Resolve table row version choice) d (Some []) _ tt idle
     conflict_law table row version choice o is (Some m) at (Some y) full = by_test (y.version == version)
       where
         by_test : (b : Bool) → ClientLaw g c h sent t (Resolve table row version choice)
-            (if b then choose c d table row o.schema (slots_at o row) m y choice else refused d (facts.Moved version y.version))
+            (if b then choose c shape d table row o.schema (slots_at o row) m y choice else refused d (facts.Moved version y.version))
         by_test true = choice_law table row version o is m at y full choice
         by_test false = quiet_law (Resolve table row version choice) d (Some []) _ tt idle
 
@@ -264,14 +280,14 @@ module _ (g : ℕ → Scheme) (c : ℕ) (h : Items) (sent : List Sending) (t : H
 
     accepted_law : (message : Message) (table : ℕ) (row : List ℕ) (n : ℕ) (o : TableDisk) → table_at d table ≡ Some o
         → (out : InFlight) → (slots_at o row).out ≡ Some out → out.number ≡ n → (version : ℕ) (i : Stored) → IsItemOf (h table) c n row version i
-        → ClientLaw g c h sent t (Take message) (begun d facts.Done (ack_plan c d table row (slots_at o row) out version) [])
+        → ClientLaw g c h sent t (Take message) (begun shape d facts.Done (ack_plan c d table row (slots_at o row) out version) [])
     accepted_law message table row n o is out waits same version i item =
         silent_law (Take message) d facts.Done (ack_plan c d table row (slots_at o row) out version) [] tt idle
         (ack_is_plan g c h sent t ours d tied table row o is out waits version i (subst (λ (k : ℕ). IsItemOf (h table) c k row version i) (sym same) item)) tt refl
 
     outcome_law : (r : Response) (o : TableDisk) → table_at d r.table ≡ Some o → (out : InFlight) → (slots_at o r.row).out ≡ Some out → out.number ≡ r.number
         → (outcome : Outcome) → IsOutcome g c h sent r outcome
-        → ClientLaw g c h sent t (Take (SyncResponse r)) (outcome_taken c d r.table r.row o (slots_at o r.row) out outcome)
+        → ClientLaw g c h sent t (Take (SyncResponse r)) (outcome_taken c shape d r.table r.row o (slots_at o r.row) out outcome)
     outcome_law r o is out waits same (messages.Accepted version) f = accepted_law (SyncResponse r) r.table r.row r.number o is out waits same version f.0 f.1
     outcome_law r o is out waits same (messages.Again version) f = accepted_law (SyncResponse r) r.table r.row r.number o is out waits same version f.0 f.1
     outcome_law r o is out waits same (messages.Late last) f = quiet_law (Take (SyncResponse r)) d (Some []) facts.Done tt idle
@@ -284,12 +300,12 @@ module _ (g : ℕ → Scheme) (c : ℕ) (h : Items) (sent : List Sending) (t : H
         record { answer = tt; facts = tt; sends = pull_request t r.table o.position; part = unsent_part d (Some []) idle }
 
     response_law : (r : Response) (o : TableDisk) → table_at d r.table ≡ Some o → IsOutcome g c h sent r r.outcome
-        → (out : Option InFlight) → (slots_at o r.row).out ≡ out → ClientLaw g c h sent t (Take (SyncResponse r)) (response_taken c d r o out)
+        → (out : Option InFlight) → (slots_at o r.row).out ≡ out → ClientLaw g c h sent t (Take (SyncResponse r)) (response_taken c shape d r o out)
     response_law r o is f None waits = quiet_law (Take (SyncResponse r)) d (Some []) facts.Done tt idle
     response_law r o is f (Some out) waits = by_test (out.number == r.number) refl
       where
         by_test : (b : Bool) → (out.number == r.number) ≡ b
-            → ClientLaw g c h sent t (Take (SyncResponse r)) (if b then outcome_taken c d r.table r.row o (slots_at o r.row) out r.outcome else ignored d)
+            → ClientLaw g c h sent t (Take (SyncResponse r)) (if b then outcome_taken c shape d r.table r.row o (slots_at o r.row) out r.outcome else ignored d)
         by_test true e = outcome_law r o is out waits (grind (arith, nat_tests, e)) r.outcome f
         by_test false e = quiet_law (Take (SyncResponse r)) d (Some []) facts.Done tt idle
 
@@ -301,11 +317,11 @@ module _ (g : ℕ → Scheme) (c : ℕ) (h : Items) (sent : List Sending) (t : H
         by_test false = (tt, refl)
 
     row_law : (pulled : Pulled) (o : TableDisk) → table_at d pulled.table ≡ Some o → (header : Header) → IsChange c (h pulled.table) o.position pulled.to header → o.position < pulled.to
-        → ClientLaw g c h sent t (Take (PullResponse pulled)) (row_taken c d pulled o header (slots_at o header.row))
+        → ClientLaw g c h sent t (Take (PullResponse pulled)) (row_taken c shape d pulled o header (slots_at o header.row))
     row_law pulled o is header change rises = by_test (nat_le header.version (top (slots_at o header.row).conflict (slots_at o header.row).shadow)) refl
       where
         old_law : header.version ≤ top (slots_at o header.row).conflict (slots_at o header.row).shadow
-            → ClientLaw g c h sent t (Take (PullResponse pulled)) (begun d facts.Done (position_plan c d pulled.table pulled.to) (next_pull c pulled.table pulled))
+            → ClientLaw g c h sent t (Take (PullResponse pulled)) (begun shape d facts.Done (position_plan c d pulled.table pulled.to) (next_pull c pulled.table pulled))
         old_law old =
             let p : Plan = position_plan c d pulled.table pulled.to in
             let requests = next_requests (own_all t (told p)) pulled.table pulled in
@@ -314,7 +330,8 @@ module _ (g : ℕ → Scheme) (c : ℕ) (h : Items) (sent : List Sending) (t : H
 
         new_law : (s : Scheme) → s ≡ g pulled.table → top (slots_at o header.row).conflict (slots_at o header.row).shadow < header.version
             → ClientLaw g c h sent t (Take (PullResponse pulled))
-            (begun d facts.Done (row_plan c d pulled.table header.row pulled.to (row_placed s c pulled.table header (slots_at o header.row) (slots_at o header.row).out)) (next_pull c pulled.table pulled))
+            (begun shape d facts.Done (row_plan c d pulled.table header.row pulled.to (row_placed s c pulled.table header (slots_at o header.row) (slots_at o header.row).out))
+            (next_pull c pulled.table pulled))
         new_law s scheme over =
             let p : Plan = row_plan c d pulled.table header.row pulled.to (row_placed s c pulled.table header (slots_at o header.row) (slots_at o header.row).out) in
             let requests = next_requests (own_all t (told p)) pulled.table pulled in
@@ -324,19 +341,19 @@ module _ (g : ℕ → Scheme) (c : ℕ) (h : Items) (sent : List Sending) (t : H
 
         by_test : (b : Bool) → nat_le header.version (top (slots_at o header.row).conflict (slots_at o header.row).shadow) ≡ b
             → ClientLaw g c h sent t (Take (PullResponse pulled))
-            (if b then begun d facts.Done (position_plan c d pulled.table pulled.to) (next_pull c pulled.table pulled)
-            else begun d facts.Done (row_plan c d pulled.table header.row pulled.to (row_placed o.schema.scheme c pulled.table header (slots_at o header.row) (slots_at o header.row).out))
+            (if b then begun shape d facts.Done (position_plan c d pulled.table pulled.to) (next_pull c pulled.table pulled)
+            else begun shape d facts.Done (row_plan c d pulled.table header.row pulled.to (row_placed o.schema.scheme c pulled.table header (slots_at o header.row) (slots_at o header.row).out))
             (next_pull c pulled.table pulled))
         by_test true e = old_law (grind (arith, nat_tests, e))
         by_test false e = new_law o.schema.scheme (scheme_of pulled.table o is) (grind (arith, nat_tests, e))
 
     pulled_law : (pulled : Pulled) (o : TableDisk) → table_at d pulled.table ≡ Some o → (header : Option Header) → IsHeader c h pulled header
-        → ClientLaw g c h sent t (Take (PullResponse pulled)) (pulled_taken c d pulled o header)
+        → ClientLaw g c h sent t (Take (PullResponse pulled)) (pulled_taken c shape d pulled o header)
     pulled_law pulled o is None f = quiet_law (Take (PullResponse pulled)) d (Some []) facts.Done tt idle
     pulled_law pulled o is (Some header) f = by_test (pulled.from == o.position) refl
       where
         by_test : (b : Bool) → (pulled.from == o.position) ≡ b
-            → ClientLaw g c h sent t (Take (PullResponse pulled)) (if b then row_taken c d pulled o header (slots_at o header.row) else ignored d)
+            → ClientLaw g c h sent t (Take (PullResponse pulled)) (if b then row_taken c shape d pulled o header (slots_at o header.row) else ignored d)
         by_test true e =
             let same : pulled.from ≡ o.position = grind (arith, nat_tests, e) in
             row_law pulled o is header (subst (λ (n : ℕ). IsChange c (h pulled.table) n pulled.to header) same f.0) (subst (λ (n : ℕ). n < pulled.to) same f.1)
@@ -345,21 +362,21 @@ module _ (g : ℕ → Scheme) (c : ℕ) (h : Items) (sent : List Sending) (t : H
   -- ---- all moves
 
   write_law : (d : ClientDisk) (agenda : Option (List ClientTask)) (table : ℕ) (row : List ℕ) (content : Content) → IsAt g c h sent d t agenda
-      → ClientLaw g c h sent t (Write table row content) (write_step c d agenda table row content)
+      → ClientLaw g c h sent t (Write table row content) (write_step c shape d agenda table row content)
   write_law d None table row content p = quiet_law (Write table row content) d None _ tt p
   write_law d (Some agenda) table row content p = by_table (table_at (seen d) table) refl
     where
       idle_law : (agenda : List ClientTask) → Runs g c h sent d t agenda → (o : TableDisk) → table_at (seen d) table ≡ Some o
-          → ClientLaw g c h sent t (Write table row content) (write_idle o.schema.scheme c d agenda table row o content)
+          → ClientLaw g c h sent t (Write table row content) (write_idle o.schema.scheme c shape d agenda table row o content)
       idle_law (task ∷ more) p o is = quiet_law (Write table row content) d (Some (task ∷ more)) _ tt p
       idle_law [] p o is = free_law d p table row o content (in_disk d p table (Some o) is) (slots_at o row).conflict refl
 
       fit_law : (o : TableDisk) → table_at (seen d) table ≡ Some o → (fit : Result (Unit {0}) FitFault)
-          → ClientLaw g c h sent t (Write table row content) (write_fitting o.schema.scheme c d agenda table row o content fit)
+          → ClientLaw g c h sent t (Write table row content) (write_fitting o.schema.scheme c shape d agenda table row o content fit)
       fit_law o is (Ok fits) = idle_law agenda p o is
       fit_law o is (Err fault) = quiet_law (Write table row content) d (Some agenda) _ tt p
 
-      by_table : (m : Option TableDisk) → table_at (seen d) table ≡ m → ClientLaw g c h sent t (Write table row content) (write_to c d agenda table row content m)
+      by_table : (m : Option TableDisk) → table_at (seen d) table ≡ m → ClientLaw g c h sent t (Write table row content) (write_to c shape d agenda table row content m)
       by_table None is = quiet_law (Write table row content) d (Some agenda) _ tt p
       by_table (Some o) is = fit_law o is (fit_of o.schema content)
 
@@ -385,12 +402,12 @@ module _ (g : ℕ → Scheme) (c : ℕ) (h : Items) (sent : List Sending) (t : H
       → ClientLaw g c h sent t (Sum table row) (sum_step d agenda table row)
   sum_law d agenda table row p = let shown = show_law d agenda table row p in record { answer = tt; facts = shown.facts; sends = shown.sends; part = shown.part }
 
-  sync_law : (d : ClientDisk) (agenda : Option (List ClientTask)) (table : ℕ) → IsAt g c h sent d t agenda → ClientLaw g c h sent t (Sync table) (sync_step c d agenda table)
+  sync_law : (d : ClientDisk) (agenda : Option (List ClientTask)) (table : ℕ) → IsAt g c h sent d t agenda → ClientLaw g c h sent t (Sync table) (sync_step c shape d agenda table)
   sync_law d None table p = quiet_law (Sync table) d None _ tt p
   sync_law d (Some agenda) table p = by_table agenda p (table_at (seen d) table) refl
     where
       by_table : (agenda : List ClientTask) → Runs g c h sent d t agenda → (m : Option TableDisk) → table_at (seen d) table ≡ m
-          → ClientLaw g c h sent t (Sync table) (sync_in c d agenda table m)
+          → ClientLaw g c h sent t (Sync table) (sync_in c shape d agenda table m)
       by_table agenda p None is = quiet_law (Sync table) d (Some agenda) _ tt p
       by_table (task ∷ more) p (Some o) is = quiet_law (Sync table) d (Some (task ∷ more)) _ tt p
       by_table [] p (Some o) is = sync_first_law d p table o (in_disk d p table (Some o) is) (first_to_send o.rows) refl
@@ -405,35 +422,35 @@ module _ (g : ℕ → Scheme) (c : ℕ) (h : Items) (sent : List Sending) (t : H
       by_table [] p (Some o) = record { answer = tt; facts = tt; sends = ((refl, refl), tt); part = unsent_part d (Some []) p }
 
   resolve_law : (d : ClientDisk) (agenda : Option (List ClientTask)) (table : ℕ) (row : List ℕ) (version : ℕ) (choice : Choice) → IsAt g c h sent d t agenda
-      → ClientLaw g c h sent t (Resolve table row version choice) (resolve_step c d agenda table row version choice)
+      → ClientLaw g c h sent t (Resolve table row version choice) (resolve_step c shape d agenda table row version choice)
   resolve_law d None table row version choice p = quiet_law (Resolve table row version choice) d None _ tt p
   resolve_law d (Some agenda) table row version choice p = by_table agenda p (table_at (seen d) table) refl
     where
       by_table : (agenda : List ClientTask) → Runs g c h sent d t agenda → (m : Option TableDisk) → table_at (seen d) table ≡ m
-          → ClientLaw g c h sent t (Resolve table row version choice) (resolve_in c d agenda table row version choice m)
+          → ClientLaw g c h sent t (Resolve table row version choice) (resolve_in c shape d agenda table row version choice m)
       by_table agenda p None is = quiet_law (Resolve table row version choice) d (Some agenda) _ tt p
       by_table (task ∷ more) p (Some o) is = quiet_law (Resolve table row version choice) d (Some (task ∷ more)) _ tt p
       by_table [] p (Some o) is =
           conflict_law d p table row version choice o (in_disk d p table (Some o) is) (slots_at o row).main refl (slots_at o row).conflict refl
 
   take_law : (d : ClientDisk) (agenda : Option (List ClientTask)) (message : Message) → IsMessage g c h sent message → IsAt g c h sent d t agenda
-      → ClientLaw g c h sent t (Take message) (take_step c d agenda message)
+      → ClientLaw g c h sent t (Take message) (take_step c shape d agenda message)
   take_law d None message f p = quiet_law (Take message) d None _ tt p
   take_law d (Some (task ∷ more)) message f p = quiet_law (Take message) d (Some (task ∷ more)) _ tt p
   take_law d (Some []) (SyncRequest request) f p = quiet_law (Take (SyncRequest request)) d (Some []) facts.Done tt p
   take_law d (Some []) (PullRequest pull) f p = quiet_law (Take (PullRequest pull)) d (Some []) facts.Done tt p
   take_law d (Some []) (SyncResponse r) f p = by_table (table_at (seen d) r.table) refl
     where
-      by_table : (m : Option TableDisk) → table_at (seen d) r.table ≡ m → ClientLaw g c h sent t (Take (SyncResponse r)) (response_in c d r m)
+      by_table : (m : Option TableDisk) → table_at (seen d) r.table ≡ m → ClientLaw g c h sent t (Take (SyncResponse r)) (response_in c shape d r m)
       by_table None is = quiet_law (Take (SyncResponse r)) d (Some []) facts.Done tt p
       by_table (Some o) is = response_law d p r o (in_disk d p r.table (Some o) is) f (slots_at o r.row).out refl
   take_law d (Some []) (PullResponse pulled) f p = by_table (table_at (seen d) pulled.table) refl
     where
-      by_table : (m : Option TableDisk) → table_at (seen d) pulled.table ≡ m → ClientLaw g c h sent t (Take (PullResponse pulled)) (pulled_in c d pulled m)
+      by_table : (m : Option TableDisk) → table_at (seen d) pulled.table ≡ m → ClientLaw g c h sent t (Take (PullResponse pulled)) (pulled_in c shape d pulled m)
       by_table None is = quiet_law (Take (PullResponse pulled)) d (Some []) facts.Done tt p
       by_table (Some o) is = pulled_law d p pulled o (in_disk d p pulled.table (Some o) is) pulled.header f
 
-  client_laws : (s : Client) (move : ClientMove) → IsFair g c h sent move → ClientPart g c h sent t s → ClientLaw g c h sent t move (client_step c s move)
+  client_laws : (s : Client) (move : ClientMove) → IsFair g c h sent move → ClientPart g c h sent t s → ClientLaw g c h sent t move (client_step c shape s move)
   client_laws s (Write table row content) f p = write_law s.disk s.agenda table row content p
   client_laws s (Show table row) f p = show_law s.disk s.agenda table row p
   client_laws s (Sum table row) f p = sum_law s.disk s.agenda table row p
@@ -446,6 +463,6 @@ module _ (g : ℕ → Scheme) (c : ℕ) (h : Items) (sent : List Sending) (t : H
   client_laws s Start f p = start_law s.disk s.agenda p
 
 pub client_law : (g : ℕ → Scheme) (c : ℕ) (h : Items) (sent : List Sending) (t : Heard) → Ours g c h sent t
-    → (s : Client) (move : ClientMove) → IsFair g c h sent move → ClientPart g c h sent t s
-    → ClientLaw g c h sent t move (client_step c s move)
-client_law g c h sent t ours s move fair part = client_laws g c h sent t ours s move fair part
+    → (shape : Shape) (s : Client) (move : ClientMove) → IsFair g c h sent move → ClientPart g c h sent t s
+    → ClientLaw g c h sent t move (client_step c shape s move)
+client_law g c h sent t ours shape s move fair part = client_laws g c h sent t ours shape s move fair part

@@ -1,15 +1,16 @@
 -- The writes of any plan go well: what it tells may be told now and again, and a crash may come before each of them or
 -- behind it.
-use Rattle.std.proofs.Common.{◌≡◌, ◌≢◌, ◌⊎◌, ⊎_elim, ℕ, Bool, true, false, List, [], ◌∷◌, ◌++◌, Option, Some, None, refl, sym, ap, subst, ◌∙◌, append-nil, inl, inr}
+use Rattle.std.proofs.Common.{◌≡◌, ◌⊎◌, ⊎_elim, ℕ, true, false, List, [], ◌∷◌, ◌++◌, Option, Some, None, refl, sym, ap, subst, ◌∙◌, append-nil, inl, inr}
 use Rattle.std.specs.Prelude.{map}
+use Rattle.stab_base.specs.declared.step.Step.{Step}
 use Rattle.row_value.specs.declared.schema.Scheme.{Scheme}
 use Rattle.step_tables.specs.Facts.{ClientFact, Fact}
 use Rattle.step_tables.specs.Facts as facts
 use Rattle.step_tables.specs.Messages.{Send}
 use Rattle.step_tables.specs.Sayings.{Saying, SaysNothing, SaysWrite, SaysEntry, SaysBack, SaysAck, SaysLoss, SaysConflict, SaysResolved, SaysRead, SaysPosition}
 use Rattle.step_tables.specs.Sayings.{client_says, saying, Heard, own, own_all}
-use Rattle.step_tables.specs.ClientMoves.{RowPut, Plan, ClientDisk, ClientTask, Commit, PutRow, PutTable, Finish, row_put, table_put, applied, planned_in, seen, changed, told, retold, row_task}
-use Rattle.step_tables.specs.ClientMoves.{table_task, rest_of}
+use Rattle.step_tables.specs.ClientMoves.{RowPut, Plan, ClientDisk, ClientTask, Shape, Commit, PutTable, Finish, row_put, table_put, applied, planned_in, seen, changed, told, retold, row_task}
+use Rattle.step_tables.specs.ClientMoves.{table_task, only, keeps, rest_of, planning, ending}
 use Rattle.client_laws.specs.Part.{Items, Sending, sendings, Tied, IsOwn, AreOwn, Requests, IsPlan, IsNewPlan, RestsOn, Rests, Runs}
 use Rattle.client_laws.proofs.Disks.{Alike, tied_alike, alike_row, alike_table, alike_plan, alike_itself, row_put_plan, table_put_plan}
 
@@ -68,11 +69,60 @@ module _ (g : ℕ → Scheme) (c : ℕ) (h : Items) where
     tied = tied_alike g c h sent (applied p d) (applied p e) (own_all t (told p)) a k.tied;
   }
 
+  -- ---- writes that change nothing, and the last of some writes
+
+  -- an agenda that goes well shows what the lines say, and may be cut off now
+  pub shown_of : (sent : List Sending) (d : ClientDisk) (t : Heard) (agenda : List ClientTask) → Runs g c h sent d t agenda → Tied g c h sent (seen d) t
+  shown_of sent d t [] p = subst (λ (o : Option Plan). Tied g c h sent (planned_in d o) t) (sym p.1) p.0
+  shown_of sent d t (task ∷ more) p = p.0
+
+  pub rested_of : (sent : List Sending) (d : ClientDisk) (t : Heard) (agenda : List ClientTask) → Runs g c h sent d t agenda → Rests g c h sent d t
+  rested_of sent d t [] p = subst (λ (o : Option Plan). RestsOn g c h sent d t o) (sym p.1) p.0
+  rested_of sent d t (task ∷ more) p = p.1
+
+  -- behind a write that tells and sends nothing
+  unsent_runs : (sent : List Sending) (d : ClientDisk) (t : Heard) (agenda : List ClientTask) → Runs g c h sent d t agenda → Runs g c h (sent ++ []) d t agenda
+  unsent_runs sent d t agenda p = subst (λ (s : List Sending). Runs g c h s d t agenda) (sym (append-nil sent)) p
+
+  pub keeps_run : (steps : List Step) (sent : List Sending) (d : ClientDisk) (t : Heard) (agenda : List ClientTask) → Runs g c h sent d t agenda
+      → Runs g c h sent d t (keeps steps ++ agenda)
+  keeps_run [] sent d t agenda p = p
+  keeps_run (step ∷ steps) sent d t agenda p =
+      let more : Runs g c h sent d t (keeps steps ++ agenda) = keeps_run steps sent d t agenda p in
+      let rests : Rests g c h sent d t = rested_of sent d t (keeps steps ++ agenda) more in
+      (shown_of sent d t (keeps steps ++ agenda) more, rests, rests, tt, tt, unsent_runs sent d t (keeps steps ++ agenda) more)
+
+  also_own : (sent : List Sending) (t : Heard) (fs : List Fact) → AreOwn g c h sent t fs → AreOwn g c h sent t (fs ++ facts.ClientRecovered c ∷ [])
+  also_own sent t [] k = (tt, tt)
+  also_own sent t (f ∷ fs) k = (k.0, also_own sent (own t (saying f)) fs k.1)
+
+  own-also : (t : Heard) (fs : List Fact) → own_all t (fs ++ facts.ClientRecovered c ∷ []) ≡ own_all t fs
+  own-also t [] = refl
+  own-also t (f ∷ fs) = own-also (own t (saying f)) fs
+
+  -- the last of some writes tells that the client has recovered, which says nothing of writes
+  pub ending_runs : (sent : List Sending) (d : ClientDisk) (t : Heard) (agenda : List ClientTask) → Runs g c h sent d t agenda
+      → Runs g c h sent d t (ending (facts.ClientRecovered c ∷ []) agenda)
+  ending_runs sent d t [] p = p
+  ending_runs sent d t (task ∷ []) p = (
+    p.0,
+    p.1,
+    p.2,
+    also_own sent t task.facts p.3,
+    subst (λ (u : Heard). Requests g c h u task.sends) (sym (own-also t task.facts)) p.4,
+    subst (λ (u : Heard). Runs g c h (sent ++ sendings task.sends) (changed d task.change) u []) (sym (own-also t task.facts)) p.5,
+  )
+  ending_runs sent d t (task ∷ next ∷ more) p =
+      (p.0, p.1, p.2, p.3, p.4, ending_runs (sent ++ sendings task.sends) (changed d task.change) (own_all t task.facts) (next ∷ more) p.5)
+
   -- ---- from the commit on: u is what is heard behind the plan's facts
 
-  module _ (sent : List Sending) (d : ClientDisk) (u : Heard) (p : Plan) (some : List Fact) (sends : List Send) (k : IsPlan g c h sent d u p)
-      (is : d.plan ≡ Some p) (same : own_all u (told p) ≡ u) (may : AreOwn g c h sent u some) (silent : own_all u some ≡ u)
+  module _ (shape : Shape) (sent : List Sending) (d : ClientDisk) (u : Heard) (p : Plan) (sends : List Send) (k : IsPlan g c h sent d u p)
+      (is : d.plan ≡ Some p) (same : own_all u (told p) ≡ u)
       (requests : Requests g c h u sends) (after : Tied g c h (sent ++ sendings sends) (applied p d) u) where
+    abbrev last : List ClientTask
+    last = record { change = Finish; facts = []; sends = sends } ∷ []
+
     tied : Tied g c h sent (applied p d) u
     tied = subst (λ (x : Heard). Tied g c h sent (applied p d) x) same k.tied
 
@@ -101,40 +151,31 @@ module _ (g : ℕ → Scheme) (c : ℕ) (h : Items) where
     of_plan : (e : ClientDisk) → IsPlan g c h sent e u p → Tied g c h sent (applied p e) u
     of_plan e x = subst (λ (y : Heard). Tied g c h sent (applied p e) y) same x.tied
 
-    finish_runs : (e : ClientDisk) → e ≡ applied p d → Runs g c h sent e u (record { change = Finish; facts = some; sends = sends } ∷ [])
-    finish_runs e at = subst (λ (x : ClientDisk). Runs g c h sent x u (record { change = Finish; facts = some; sends = sends } ∷ [])) (sym at) (
+    finish_runs : (e : ClientDisk) → e ≡ applied p d → Runs g c h sent e u last
+    finish_runs e at = subst (λ (x : ClientDisk). Runs g c h sent x u last) (sym at) (
       seen_tied (applied p d) whole_plan (of_plan (applied p d) whole_is),
       at_rest (applied p d) whole_plan whole_is,
       tied_alike g c h sent (applied p d) (record (applied p d) { plan = None }) u (alike_itself (applied p d) None) tied,
-      may,
-      subst (λ (x : Heard). Requests g c h x sends) (sym silent) requests,
-      (
-        subst (λ (x : Heard). Tied g c h (sent ++ sendings sends) (record (applied p d) { plan = None }) x) (sym silent)
-            (tied_alike g c h (sent ++ sendings sends) (applied p d) (record (applied p d) { plan = None }) u (alike_itself (applied p d) None) after),
-        refl,
-      ),
+      tt,
+      requests,
+      (tied_alike g c h (sent ++ sendings sends) (applied p d) (record (applied p d) { plan = None }) u (alike_itself (applied p d) None) after, refl),
     )
 
-    -- a write that tells and sends nothing
-    quiet_runs : (e : ClientDisk) (more : List ClientTask) → Runs g c h sent e u more → Runs g c h (sent ++ []) e u more
-    quiet_runs e more x = subst (λ (s : List Sending). Runs g c h s e u more) (sym (append-nil sent)) x
+    kept_runs : (e : ClientDisk) → e ≡ applied p d → Runs g c h sent e u (keeps shape.after ++ last)
+    kept_runs e at = keeps_run shape.after sent e u last (finish_runs e at)
 
-    table_runs : (e : ClientDisk) (position : Option ℕ) → p.position ≡ position → e ≡ put
-        → Runs g c h sent e u (table_task p position ++ record { change = Finish; facts = some; sends = sends } ∷ [])
-    table_runs e None at here = finish_runs e (here ∙ sym (ap (λ (n : Option ℕ). table_put put p.table n) at))
-    table_runs e (Some n) at here =
-        subst (λ (x : ClientDisk). Runs g c h sent x u (record { change = PutTable p; facts = []; sends = [] } ∷ record { change = Finish; facts = some; sends = sends } ∷ []))
-        (sym here) (
-          seen_tied put put_plan (of_plan put put_is),
-          at_rest put put_plan put_is,
-          at_rest (applied p d) whole_plan whole_is,
-          tt,
-          tt,
-          quiet_runs (applied p d) (record { change = Finish; facts = some; sends = sends } ∷ []) (finish_runs (applied p d) refl),
-        )
+    table_runs : (e : ClientDisk) (position : Option ℕ) → p.position ≡ position → e ≡ put → Runs g c h sent e u (table_task p position ++ (keeps shape.after ++ last))
+    table_runs e None at here = kept_runs e (here ∙ sym (ap (λ (n : Option ℕ). table_put put p.table n) at))
+    table_runs e (Some n) at here = subst (λ (x : ClientDisk). Runs g c h sent x u (only (PutTable p) ∷ (keeps shape.after ++ last))) (sym here) (
+      seen_tied put put_plan (of_plan put put_is),
+      at_rest put put_plan put_is,
+      at_rest (applied p d) whole_plan whole_is,
+      tt,
+      tt,
+      unsent_runs sent (applied p d) u (keeps shape.after ++ last) (kept_runs (applied p d) refl),
+    )
 
-    row_runs : (row : Option RowPut) → p.row ≡ row
-        → Runs g c h sent d u (row_task p row ++ (table_task p p.position ++ record { change = Finish; facts = some; sends = sends } ∷ []))
+    row_runs : (row : Option RowPut) → p.row ≡ row → Runs g c h sent d u (row_task p row ++ (table_task p p.position ++ (keeps shape.after ++ last)))
     row_runs None at = table_runs d p.position refl (sym (ap (λ (x : Option RowPut). row_put d p.last p.table x) at))
     row_runs (Some x) at = (
       seen_tied d is tied,
@@ -142,26 +183,27 @@ module _ (g : ℕ → Scheme) (c : ℕ) (h : Items) where
       at_rest put put_plan put_is,
       tt,
       tt,
-      quiet_runs put (table_task p p.position ++ record { change = Finish; facts = some; sends = sends } ∷ []) (table_runs put p.position refl refl),
+      unsent_runs sent put u (table_task p p.position ++ (keeps shape.after ++ last)) (table_runs put p.position refl refl),
     )
 
-    pub rest_runs : Runs g c h sent d u (rest_of p some sends)
+    pub rest_runs : Runs g c h sent d u (rest_of shape p sends)
     rest_runs = row_runs p.row refl
 
   -- ---- a whole plan, from an idle client on
 
-  pub plan_runs : (sent : List Sending) (d : ClientDisk) (t : Heard) (p : Plan) (sends : List Send) → Tied g c h sent (seen d) t → Rests g c h sent d t
+  pub plan_runs : (shape : Shape) (sent : List Sending) (d : ClientDisk) (t : Heard) (p : Plan) (sends : List Send) → Tied g c h sent (seen d) t → Rests g c h sent d t
       → IsNewPlan g c h sent d t p → Requests g c h (own_all t (told p)) sends → Tied g c h (sent ++ sendings sends) (applied p d) (own_all t (told p))
-      → Runs g c h sent d t (record { change = Commit p; facts = told p; sends = [] } ∷ rest_of p [] sends)
-  plan_runs sent d t p sends shown rests k requests after =
+      → Runs g c h sent d t (planning shape p sends)
+  plan_runs shape sent d t p sends shown rests k requests after =
       let e : ClientDisk = record d { plan = Some p } in
-      let begun : IsPlan g c h sent e t p = plan_alike sent d e t p (alike_plan p d (Some p)) k.plan in (
+      let begun : IsPlan g c h sent e t p = plan_alike sent d e t p (alike_plan p d (Some p)) k.plan in
+      keeps_run shape.before sent d t (record { change = Commit p; facts = told p; sends = [] } ∷ rest_of shape p sends) (
         shown,
         rests,
         begun,
         k.first,
         tt,
-        subst (λ (s : List Sending). Runs g c h s e (own_all t (told p)) (rest_of p [] sends)) (sym (append-nil sent))
-            (rest_runs sent e (own_all t (told p)) p [] sends (told_plan sent e t p begun) refl k.plan.same tt refl requests
+        subst (λ (s : List Sending). Runs g c h s e (own_all t (told p)) (rest_of shape p sends)) (sym (append-nil sent))
+            (rest_runs shape sent e (own_all t (told p)) p sends (told_plan sent e t p begun) refl k.plan.same requests
             (tied_alike g c h (sent ++ sendings sends) (applied p d) (applied p e) (own_all t (told p)) (alike_plan p d (Some p)) after)),
       )

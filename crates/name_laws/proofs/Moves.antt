@@ -11,8 +11,9 @@ use Rattle.step_tables.specs.Messages as messages
 use Rattle.step_tables.specs.StoreMoves as store
 use Rattle.step_tables.specs.StoreMoves.{StoreTask, TableStore, StoreMove, StoreStep}
 use Rattle.step_tables.specs.ClientMoves as client
-use Rattle.step_tables.specs.ClientMoves.{Client, ClientTask, ClientMove, client_step}
+use Rattle.step_tables.specs.ClientMoves.{Client, ClientTask, ClientMove, Shape, no_shape, client_step}
 use Rattle.step_tables.proofs.Lists.{among_none, among_cons, among_either}
+use Rattle.world_tables.specs.World.{client_until_idle, client_writes}
 use Rattle.world_tables.specs.World.{World, Packet, Hosted, Outbox, Moved, owner, the_store, tables_of, schema_at, scheme_in, chunk_in, hosted_at, client_at, has_node, still, and_then}
 use Rattle.world_tables.specs.World.{and_unless, failing, packets_from}
 use Rattle.world_tables.specs.World.{history_on, after_table, table_step, move_hosted, move_table, after_client, move_there, move_client, first_luck, other_lucks, client_works, client_tasks}
@@ -122,26 +123,26 @@ table_went w table move from f = go (hosted_at w table) refl
         (move_plain owner (scheme_in (schema_at w table)) (chunk_in (schema_at w table)) table hosted.store move from x.writes)
         (move_clean owner (scheme_in (schema_at w table)) (chunk_in (schema_at w table)) table hosted.store move x.clean)
 
-pub client_went : (w : World) (c : ℕ) (move : ClientMove) → IsWorldly move → IsFine w → Went w (move_client c move w)
-client_went w c move worldly f = go (client_at w c) refl
+pub client_went : (w : World) (c : ℕ) (move : ClientMove) (shape : Shape) → IsWorldly move → IsFine w → Went w (move_client c move shape w)
+client_went w c move shape worldly f = go (client_at w c) refl
   where
-    go : (o : Option Client) → client_at w c ≡ o → Went w (move_there w c move o)
+    go : (o : Option Client) → client_at w c ≡ o → Went w (move_there w c move shape o)
     go None at = still_went w f
-    go (Some node) at = went (client_plain c node move worldly (f.clients c node at))
+    go (Some node) at = went (client_plain c shape node move worldly (f.clients c node at))
       where
-        went : IsPlainStep (client_step c node move) → Went w (after_client w c (client_step c node move))
+        went : IsPlainStep (client_step c shape node move) → Went w (after_client w c (client_step c shape node move))
         went p = record {
           fine = record {
             keys = f.keys;
             tables = f.tables;
             clients = λ q x is. ⊎_elim
-                (λ e. let both : Some (client_step c node move).client ≡ Some x = sym e.1 ∙ is in let same : (client_step c node move).client ≡ x = cc in
+                (λ e. let both : Some (client_step c shape node move).client ≡ Some x = sym e.1 ∙ is in let same : (client_step c shape node move).client ≡ x = cc in
                 subst (λ (y : Client). IsPlainAgenda y.agenda) same p.agenda)
-                (λ e. f.clients q x (sym e.1 ∙ is)) (look_cases w.clients c (client_step c node move).client q);
-            places = λ x a. ⊎_elim (λ b. f.places x b) (λ b. sent_places (nodes.Client c) (client_step c node move).sends tt p.sends x b)
-                (among_either w.packets (packets_from (nodes.Client c) (client_step c node move).sends) x a);
+                (λ e. f.clients q x (sym e.1 ∙ is)) (look_cases w.clients c (client_step c shape node move).client q);
+            places = λ x a. ⊎_elim (λ b. f.places x b) (λ b. sent_places (nodes.Client c) (client_step c shape node move).sends tt p.sends x b)
+                (among_either w.packets (packets_from (nodes.Client c) (client_step c shape node move).sends) x a);
           };
-          packets = ap (λ (ps : List Packet). w.packets ++ ps) (sym (append-nil (packets_from (nodes.Client c) (client_step c node move).sends)));
+          packets = ap (λ (ps : List Packet). w.packets ++ ps) (sym (append-nil (packets_from (nodes.Client c) (client_step c shape node move).sends)));
           plain = (p.facts, tt);
           holds = refl;
           schemas = refl;
@@ -149,17 +150,28 @@ client_went w c move worldly f = go (client_at w c) refl
 
 -- ---- a client's work
 
-works_went : (c : ℕ) (tasks : List ClientTask) (lucks : List Luck) (w : World) → IsFine w → Went w (client_works c tasks lucks w)
+pub works_went : (c : ℕ) (tasks : List ClientTask) (lucks : List Luck) (w : World) → IsFine w → Went w (client_works c tasks lucks w)
 works_went c [] lucks w f = still_went w f
 works_went c (task ∷ tasks) lucks w f =
-    let m : Moved = move_client c (client.Work (first_luck lucks)) w in
-    then_went w m (client_works c tasks (other_lucks lucks)) (client_went w c (client.Work (first_luck lucks)) tt f) (λ x. works_went c tasks (other_lucks lucks) m.world x)
+    let m : Moved = move_client c (client.Work (first_luck lucks)) no_shape w in
+    then_went w m (client_works c tasks (other_lucks lucks)) (client_went w c (client.Work (first_luck lucks)) no_shape tt f) (λ x. works_went c tasks (other_lucks lucks) m.world x)
+
+pub client_follows_went : (c : ℕ) (lucks : List Luck) (w : World) → IsFine w → Went w (client_follows c lucks w)
+client_follows_went c lucks w f = go (has_node w.holds (nodes.Client c))
+  where
+    go : (held : Bool) → Went w (if held then still w else client_until_idle c lucks w)
+    go true = still_went w f
+    go false = works_went c (client_tasks (client_at w c)) lucks w f
+
+pub client_writes_went : (c : ℕ) (luck : Luck) (tasks : List ClientTask) (w : World) → IsFine w → Went w (client_writes c luck tasks w)
+client_writes_went c luck [] w f = still_went w f
+client_writes_went c luck (task ∷ tasks) w f = client_went w c (client.Work luck) no_shape tt f
 
 pub follows_from_went : (agenda : Option (List ClientTask)) (c : ℕ) (lucks : List Luck) (w : World) → IsFine w → Went w (client_follows_from agenda c lucks w)
 follows_from_went agenda c lucks w f = go (gets_tasks agenda w c)
   where
     go : (b : Bool) → Went w (if b then client_follows c lucks w else still w)
-    go true = works_went c (client_tasks (client_at w c)) lucks w f
+    go true = client_follows_went c lucks w f
     go false = still_went w f
 
 -- ---- a Store's work, falls and starts

@@ -1,7 +1,8 @@
 -- No move tells that a packet was sent, and what moves send goes to clients, gateways and the one Store.
-use Rattle.std.proofs.Common.{◌≡◌, ℕ, Bool, true, false, List, [], ◌∷◌, ◌++◌, Option, Some, None, Result, Ok, Err, refl}
+use Rattle.std.proofs.Common.{◌≡◌, ℕ, Bool, true, false, List, [], ◌∷◌, ◌++◌, Option, Some, None, Result, Ok, Err, refl, subst, append-nil}
 use Rattle.std.specs.Prelude.{map, if◌then◌else◌, ◌==◌, nat_le, nat_lt, option_map, option_to_list}
 use Rattle.stab_base.specs.declared.node.Node.{Node}
+use Rattle.stab_base.specs.declared.step.Step.{Step}
 use Rattle.stab_base.specs.declared.node.Node.TheVariants as nodes
 use Rattle.stab_base.specs.declared.chunk_name.ChunkName.{ChunkName}
 use Rattle.row_value.specs.declared.content.Content.{Content}
@@ -20,7 +21,7 @@ use Rattle.step_tables.specs.StoreMoves as store
 use Rattle.step_tables.specs.StoreMoves.{StoreDisk, StoreTask, TableStore, StoreMove, StoreStep, store_step}
 use Rattle.step_tables.specs.Chunks.{rising, new_names, old_names}
 use Rattle.step_tables.specs.ClientMoves as client
-use Rattle.step_tables.specs.ClientMoves.{Slots, TableDisk, ClientDisk, ClientTask, Client, ClientMove, ClientStep, Plan, RowPut, RowOut, client_step}
+use Rattle.step_tables.specs.ClientMoves.{Slots, TableDisk, ClientDisk, ClientTask, Client, ClientMove, ClientStep, Plan, RowPut, RowOut, Shape, client_step}
 use Rattle.world_tables.specs.World.{owner, address}
 
 abbrev pub IsPlainFact : Fact → Type 0
@@ -63,53 +64,63 @@ retold_plain : (some : List ClientFact) → ArePlainFacts (map facts.Redone some
 retold_plain [] = tt
 retold_plain (fact ∷ more) = (tt, retold_plain more)
 
-rest_plain : (p : Plan) (some : List Fact) (sends : List Send) → ArePlainFacts some → ToPlaces sends → ArePlainTasks (client.rest_of p some sends)
-rest_plain p some sends f t = go p.row p.position
+keeps_plain : (steps : List Step) (more : List ClientTask) → ArePlainTasks more → ArePlainTasks (client.keeps steps ++ more)
+keeps_plain [] more p = p
+keeps_plain (step ∷ steps) more p = (tt, tt, keeps_plain steps more p)
+
+rest_plain : (shape : Shape) (p : Plan) (sends : List Send) → ToPlaces sends → ArePlainTasks (client.rest_of shape p sends)
+rest_plain shape p sends t = go p.row p.position
   where
-    go : (row : Option RowPut) (position : Option ℕ) → ArePlainTasks (client.row_task p row ++ (client.table_task p position ++ record { change = client.Finish; facts = some; sends = sends } ∷ []))
-    go None None = (f, t, tt)
-    go None (Some n) = (tt, tt, (f, t, tt))
-    go (Some x) None = (tt, tt, (f, t, tt))
-    go (Some x) (Some n) = (tt, tt, (tt, tt, (f, t, tt)))
+    last : List ClientTask
+    last = client.keeps shape.after ++ record { change = client.Finish; facts = []; sends = sends } ∷ []
+
+    ends : ArePlainTasks last
+    ends = keeps_plain shape.after _ (tt, t, tt)
+
+    go : (row : Option RowPut) (position : Option ℕ) → ArePlainTasks (client.row_task p row ++ (client.table_task p position ++ last))
+    go None None = ends
+    go None (Some n) = (tt, tt, ends)
+    go (Some x) None = (tt, tt, ends)
+    go (Some x) (Some n) = (tt, tt, (tt, tt, ends))
 
 quiet_plain : (d : ClientDisk) (agenda : Option (List ClientTask)) (a : Answer) → IsPlainAgenda agenda → IsPlainStep (client.quiet d agenda a)
 quiet_plain d agenda a p = record { facts = tt; sends = tt; agenda = p }
 
-begun_plain : (d : ClientDisk) (a : Answer) (p : Plan) (sends : List Send) → ToPlaces sends → IsPlainStep (client.begun d a p sends)
-begun_plain d a p sends t = record { facts = tt; sends = tt; agenda = (told_plain p.facts, tt, rest_plain p [] sends tt t) }
+begun_plain : (shape : Shape) (d : ClientDisk) (a : Answer) (p : Plan) (sends : List Send) → ToPlaces sends → IsPlainStep (client.begun shape d a p sends)
+begun_plain shape d a p sends t = record { facts = tt; sends = tt; agenda = keeps_plain shape.before _ (told_plain p.facts, tt, rest_plain shape p sends t) }
 
-module _ (c : ℕ) (d : ClientDisk) where
+module _ (c : ℕ) (shape : Shape) (d : ClientDisk) where
   idle_sends : (sends : List Send) → ToPlaces sends → IsPlainStep (record (client.ignored d) { sends = sends })
   idle_sends sends t = record { facts = tt; sends = t; agenda = tt }
 
-  strong_plain : (table : ℕ) (row : List ℕ) (slots : Slots) (x : Content) (o : Option InFlight) → IsPlainStep (client.write_strong c d table row slots x o)
-  strong_plain table row slots x None = begun_plain d _ _ _ (refl, tt)
+  strong_plain : (table : ℕ) (row : List ℕ) (slots : Slots) (x : Content) (o : Option InFlight) → IsPlainStep (client.write_strong c shape d table row slots x o)
+  strong_plain table row slots x None = begun_plain shape d _ _ _ (refl, tt)
   strong_plain table row slots x (Some out) = quiet_plain d (Some []) _ tt
 
-  by_plain : (g : Scheme) (table : ℕ) (row : List ℕ) (opened : TableDisk) (slots : Slots) (x : Content) → IsPlainStep (client.write_by g c d table row opened slots x)
+  by_plain : (g : Scheme) (table : ℕ) (row : List ℕ) (opened : TableDisk) (slots : Slots) (x : Content) → IsPlainStep (client.write_by g c shape d table row opened slots x)
   by_plain Strong table row opened slots x = strong_plain table row slots x (client.first_out opened.rows)
-  by_plain Causal table row opened slots x = begun_plain d _ _ [] tt
-  by_plain Eventual table row opened slots x = begun_plain d _ _ [] tt
+  by_plain Causal table row opened slots x = begun_plain shape d _ _ [] tt
+  by_plain Eventual table row opened slots x = begun_plain shape d _ _ [] tt
 
-  free_plain : (g : Scheme) (table : ℕ) (row : List ℕ) (opened : TableDisk) (slots : Slots) (x : Content) (y : Option Shadow) → IsPlainStep (client.write_free g c d table row opened slots x y)
+  free_plain : (g : Scheme) (table : ℕ) (row : List ℕ) (opened : TableDisk) (slots : Slots) (x : Content) (y : Option Shadow) → IsPlainStep (client.write_free g c shape d table row opened slots x y)
   free_plain g table row opened slots x None = by_plain g table row opened slots x
   free_plain g table row opened slots x (Some y) = quiet_plain d (Some []) _ tt
 
   write_idle_plain : (g : Scheme) (agenda : List ClientTask) (table : ℕ) (row : List ℕ) (opened : TableDisk) (x : Content) → ArePlainTasks agenda
-      → IsPlainStep (client.write_idle g c d agenda table row opened x)
+      → IsPlainStep (client.write_idle g c shape d agenda table row opened x)
   write_idle_plain g (task ∷ more) table row opened x p = quiet_plain d (Some (task ∷ more)) _ p
   write_idle_plain g [] table row opened x p = free_plain g table row opened (client.slots_at opened row) x (client.slots_at opened row).conflict
 
   fitting_plain : (g : Scheme) (agenda : List ClientTask) (table : ℕ) (row : List ℕ) (opened : TableDisk) (x : Content) (fit : Result (Unit {0}) FitFault) → ArePlainTasks agenda
-      → IsPlainStep (client.write_fitting g c d agenda table row opened x fit)
+      → IsPlainStep (client.write_fitting g c shape d agenda table row opened x fit)
   fitting_plain g agenda table row opened x (Ok fits) p = write_idle_plain g agenda table row opened x p
   fitting_plain g agenda table row opened x (Err fault) p = quiet_plain d (Some agenda) _ p
 
-  write_to_plain : (agenda : List ClientTask) (table : ℕ) (row : List ℕ) (x : Content) (o : Option TableDisk) → ArePlainTasks agenda → IsPlainStep (client.write_to c d agenda table row x o)
+  write_to_plain : (agenda : List ClientTask) (table : ℕ) (row : List ℕ) (x : Content) (o : Option TableDisk) → ArePlainTasks agenda → IsPlainStep (client.write_to c shape d agenda table row x o)
   write_to_plain agenda table row x None p = quiet_plain d (Some agenda) _ p
   write_to_plain agenda table row x (Some opened) p = fitting_plain opened.schema.scheme agenda table row opened x (fit_of opened.schema x) p
 
-  write_plain : (agenda : Option (List ClientTask)) (table : ℕ) (row : List ℕ) (x : Content) → IsPlainAgenda agenda → IsPlainStep (client.write_step c d agenda table row x)
+  write_plain : (agenda : Option (List ClientTask)) (table : ℕ) (row : List ℕ) (x : Content) → IsPlainAgenda agenda → IsPlainStep (client.write_step c shape d agenda table row x)
   write_plain None table row x p = quiet_plain d None _ tt
   write_plain (Some agenda) table row x p = write_to_plain agenda table row x (client.table_at (client.seen d) table) p
 
@@ -128,18 +139,18 @@ module _ (c : ℕ) (d : ClientDisk) where
       go None rest = rest
       go (Some out) rest = (refl, rest)
 
-  first_plain : (table : ℕ) (again : List Send) (o : Option RowOut) → ToPlaces again → IsPlainStep (client.sync_first c d table again o)
+  first_plain : (table : ℕ) (again : List Send) (o : Option RowOut) → ToPlaces again → IsPlainStep (client.sync_first c shape d table again o)
   first_plain table again None t = record { facts = tt; sends = t; agenda = tt }
   first_plain table again (Some x) t =
-      let b = begun_plain d facts.Done (client.send_plan d table x) (client.request_for c table x.row x.out ∷ []) (refl, tt) in
+      let b = begun_plain shape d facts.Done (client.send_plan d table x) (client.request_for c table x.row x.out ∷ []) (refl, tt) in
       record { facts = tt; sends = t; agenda = b.agenda }
 
-  sync_in_plain : (agenda : List ClientTask) (table : ℕ) (o : Option TableDisk) → ArePlainTasks agenda → IsPlainStep (client.sync_in c d agenda table o)
+  sync_in_plain : (agenda : List ClientTask) (table : ℕ) (o : Option TableDisk) → ArePlainTasks agenda → IsPlainStep (client.sync_in c shape d agenda table o)
   sync_in_plain agenda table None p = quiet_plain d (Some agenda) _ p
   sync_in_plain (task ∷ more) table (Some opened) p = quiet_plain d (Some (task ∷ more)) _ p
   sync_in_plain [] table (Some opened) p = first_plain table (client.resent c table opened.rows) (client.first_to_send opened.rows) (resent_places table opened.rows)
 
-  sync_plain : (agenda : Option (List ClientTask)) (table : ℕ) → IsPlainAgenda agenda → IsPlainStep (client.sync_step c d agenda table)
+  sync_plain : (agenda : Option (List ClientTask)) (table : ℕ) → IsPlainAgenda agenda → IsPlainStep (client.sync_step c shape d agenda table)
   sync_plain None table p = quiet_plain d None _ tt
   sync_plain (Some agenda) table p = sync_in_plain agenda table (client.table_at (client.seen d) table) p
 
@@ -152,22 +163,22 @@ module _ (c : ℕ) (d : ClientDisk) where
   next_plain None table p = quiet_plain d None _ tt
   next_plain (Some agenda) table p = next_in_plain agenda table (client.table_at (client.seen d) table) p
 
-  outcome_plain : (table : ℕ) (row : List ℕ) (opened : TableDisk) (slots : Slots) (out : InFlight) (o : Outcome) → IsPlainStep (client.outcome_taken c d table row opened slots out o)
-  outcome_plain table row opened slots out (messages.Accepted v) = begun_plain d _ _ [] tt
-  outcome_plain table row opened slots out (messages.Again v) = begun_plain d _ _ [] tt
+  outcome_plain : (table : ℕ) (row : List ℕ) (opened : TableDisk) (slots : Slots) (out : InFlight) (o : Outcome) → IsPlainStep (client.outcome_taken c shape d table row opened slots out o)
+  outcome_plain table row opened slots out (messages.Accepted v) = begun_plain shape d _ _ [] tt
+  outcome_plain table row opened slots out (messages.Again v) = begun_plain shape d _ _ [] tt
   outcome_plain table row opened slots out (messages.Late v) = quiet_plain d (Some []) _ tt
-  outcome_plain table row opened slots out (messages.Stale v) = begun_plain d _ _ _ (refl, tt)
+  outcome_plain table row opened slots out (messages.Stale v) = begun_plain shape d _ _ _ (refl, tt)
   outcome_plain table row opened slots out (messages.Conflict v) = idle_sends _ (refl, tt)
 
-  response_plain : (r : Response) (opened : TableDisk) (o : Option InFlight) → IsPlainStep (client.response_taken c d r opened o)
+  response_plain : (r : Response) (opened : TableDisk) (o : Option InFlight) → IsPlainStep (client.response_taken c shape d r opened o)
   response_plain r opened None = quiet_plain d (Some []) _ tt
   response_plain r opened (Some out) = go (out.number == r.number)
     where
-      go : (b : Bool) → IsPlainStep (if b then client.outcome_taken c d r.table r.row opened (client.slots_at opened r.row) out r.outcome else client.ignored d)
+      go : (b : Bool) → IsPlainStep (if b then client.outcome_taken c shape d r.table r.row opened (client.slots_at opened r.row) out r.outcome else client.ignored d)
       go true = outcome_plain r.table r.row opened (client.slots_at opened r.row) out r.outcome
       go false = quiet_plain d (Some []) _ tt
 
-  response_in_plain : (r : Response) (o : Option TableDisk) → IsPlainStep (client.response_in c d r o)
+  response_in_plain : (r : Response) (o : Option TableDisk) → IsPlainStep (client.response_in c shape d r o)
   response_in_plain r None = quiet_plain d (Some []) _ tt
   response_in_plain r (Some opened) = response_plain r opened (client.slots_at opened r.row).out
 
@@ -178,28 +189,28 @@ module _ (c : ℕ) (d : ClientDisk) where
       go true = (refl, tt)
       go false = tt
 
-  row_plain : (q : Pulled) (opened : TableDisk) (hd : Header) (slots : Slots) → IsPlainStep (client.row_taken c d q opened hd slots)
+  row_plain : (q : Pulled) (opened : TableDisk) (hd : Header) (slots : Slots) → IsPlainStep (client.row_taken c shape d q opened hd slots)
   row_plain q opened hd slots = go (nat_le hd.version (client.top slots.conflict slots.shadow))
     where
       go : (b : Bool) → IsPlainStep (if b
-          then client.begun d facts.Done (client.position_plan c d q.table q.to) (client.next_pull c q.table q)
-          else client.begun d facts.Done (client.row_plan c d q.table hd.row q.to (client.row_placed opened.schema.scheme c q.table hd slots slots.out)) (client.next_pull c q.table q))
-      go true = begun_plain d _ _ _ (next_pull_places q.table q)
-      go false = begun_plain d _ _ _ (next_pull_places q.table q)
+          then client.begun shape d facts.Done (client.position_plan c d q.table q.to) (client.next_pull c q.table q)
+          else client.begun shape d facts.Done (client.row_plan c d q.table hd.row q.to (client.row_placed opened.schema.scheme c q.table hd slots slots.out)) (client.next_pull c q.table q))
+      go true = begun_plain shape d _ _ _ (next_pull_places q.table q)
+      go false = begun_plain shape d _ _ _ (next_pull_places q.table q)
 
-  pulled_plain : (q : Pulled) (opened : TableDisk) (o : Option Header) → IsPlainStep (client.pulled_taken c d q opened o)
+  pulled_plain : (q : Pulled) (opened : TableDisk) (o : Option Header) → IsPlainStep (client.pulled_taken c shape d q opened o)
   pulled_plain q opened None = quiet_plain d (Some []) _ tt
   pulled_plain q opened (Some hd) = go (q.from == opened.position)
     where
-      go : (b : Bool) → IsPlainStep (if b then client.row_taken c d q opened hd (client.slots_at opened hd.row) else client.ignored d)
+      go : (b : Bool) → IsPlainStep (if b then client.row_taken c shape d q opened hd (client.slots_at opened hd.row) else client.ignored d)
       go true = row_plain q opened hd (client.slots_at opened hd.row)
       go false = quiet_plain d (Some []) _ tt
 
-  pulled_in_plain : (q : Pulled) (o : Option TableDisk) → IsPlainStep (client.pulled_in c d q o)
+  pulled_in_plain : (q : Pulled) (o : Option TableDisk) → IsPlainStep (client.pulled_in c shape d q o)
   pulled_in_plain q None = quiet_plain d (Some []) _ tt
   pulled_in_plain q (Some opened) = pulled_plain q opened q.header
 
-  take_plain : (agenda : Option (List ClientTask)) (m : Message) → IsPlainAgenda agenda → IsPlainStep (client.take_step c d agenda m)
+  take_plain : (agenda : Option (List ClientTask)) (m : Message) → IsPlainAgenda agenda → IsPlainStep (client.take_step c shape d agenda m)
   take_plain None m p = quiet_plain d None _ tt
   take_plain (Some (task ∷ more)) m p = quiet_plain d (Some (task ∷ more)) _ p
   take_plain (Some []) (SyncRequest q) p = quiet_plain d (Some []) _ tt
@@ -218,24 +229,52 @@ module _ (c : ℕ) (d : ClientDisk) where
   work_plain (Some (task ∷ more)) messages.FailedBefore p = record { facts = tt; sends = tt; agenda = tt }
   work_plain (Some (task ∷ more)) messages.FailedAfter p = record { facts = tt; sends = tt; agenda = tt }
 
--- the moves that the world makes of a client: all but one that resolves a conflict, a crash and a start
+  crash_plain : (agenda : Option (List ClientTask)) (luck : Luck) → IsPlainStep (client.crashed d agenda luck)
+  crash_plain None luck = quiet_plain d None _ tt
+  crash_plain (Some []) luck = quiet_plain d None _ tt
+  crash_plain (Some (task ∷ more)) messages.Done = quiet_plain (client.changed d task.change) None _ tt
+  crash_plain (Some (task ∷ more)) messages.FailedBefore = quiet_plain d None _ tt
+  crash_plain (Some (task ∷ more)) messages.FailedAfter = quiet_plain (client.changed d task.change) None _ tt
+
+  also_plain : (some : List Fact) → ArePlainFacts some → ArePlainFacts (some ++ facts.ClientRecovered c ∷ [])
+  also_plain [] p = (tt, tt)
+  also_plain (fact ∷ more) p = (p.0, also_plain more p.1)
+
+  ending_plain : (tasks : List ClientTask) → ArePlainTasks tasks → ArePlainTasks (client.ending (facts.ClientRecovered c ∷ []) tasks)
+  ending_plain [] p = tt
+  ending_plain (task ∷ []) p = (also_plain task.facts p.0, p.1, tt)
+  ending_plain (task ∷ next ∷ more) p = (p.0, p.1, ending_plain (next ∷ more) p.2)
+
+  opening_plain : (o : Option Plan) → ArePlainTasks (client.opening shape o)
+  opening_plain None =
+      keeps_plain shape.before _ (subst (λ (tasks : List ClientTask). ArePlainTasks tasks) (append-nil (client.keeps shape.after)) (keeps_plain shape.after [] tt))
+  opening_plain (Some p) = keeps_plain shape.before _ (rest_plain shape p [] tt)
+
+  told_at_start_plain : (torn : Option (ℕ × List ℕ)) (o : Option Plan) → ArePlainFacts (client.told_at_start c torn o)
+  told_at_start_plain torn (Some p) = retold_plain p.facts
+  told_at_start_plain (Some row) None = (tt, tt)
+  told_at_start_plain None None = tt
+
+  start_plain : (agenda : Option (List ClientTask)) → IsPlainAgenda agenda → IsPlainStep (client.started c shape d agenda)
+  start_plain (Some agenda) p = quiet_plain d (Some agenda) _ p
+  start_plain None p = record { facts = told_at_start_plain shape.torn d.plan; sends = tt; agenda = ending_plain (client.opening shape d.plan) (opening_plain d.plan) }
+
+-- the moves that the world makes of a client: all but one that resolves a conflict
 abbrev pub IsWorldly : ClientMove → Type 0
 IsWorldly (client.Resolve table row version choice) = ⊥
-IsWorldly (client.Crash luck) = ⊥
-IsWorldly client.Start = ⊥
 IsWorldly other = Unit {0}
 
-pub client_plain : (c : ℕ) (s : Client) (move : ClientMove) → IsWorldly move → IsPlainAgenda s.agenda → IsPlainStep (client_step c s move)
-client_plain c s (client.Write table row x) f p = write_plain c s.disk s.agenda table row x p
-client_plain c s (client.Show table row) f p = show_plain c s.disk s.agenda table row p
-client_plain c s (client.Sum table row) f p = sum_plain c s.disk s.agenda table row p
-client_plain c s (client.Sync table) f p = sync_plain c s.disk s.agenda table p
-client_plain c s (client.Next table) f p = next_plain c s.disk s.agenda table p
-client_plain c s (client.Take m) f p = take_plain c s.disk s.agenda m p
-client_plain c s (client.Work luck) f p = work_plain c s.disk s.agenda luck p
-client_plain c s (client.Resolve table row version choice) f p = absurd f
-client_plain c s (client.Crash luck) f p = absurd f
-client_plain c s client.Start f p = absurd f
+pub client_plain : (c : ℕ) (shape : Shape) (s : Client) (move : ClientMove) → IsWorldly move → IsPlainAgenda s.agenda → IsPlainStep (client_step c shape s move)
+client_plain c shape s (client.Write table row x) f p = write_plain c shape s.disk s.agenda table row x p
+client_plain c shape s (client.Show table row) f p = show_plain c shape s.disk s.agenda table row p
+client_plain c shape s (client.Sum table row) f p = sum_plain c shape s.disk s.agenda table row p
+client_plain c shape s (client.Sync table) f p = sync_plain c shape s.disk s.agenda table p
+client_plain c shape s (client.Next table) f p = next_plain c shape s.disk s.agenda table p
+client_plain c shape s (client.Take m) f p = take_plain c shape s.disk s.agenda m p
+client_plain c shape s (client.Work luck) f p = work_plain c shape s.disk s.agenda luck p
+client_plain c shape s (client.Resolve table row version choice) f p = absurd f
+client_plain c shape s (client.Crash luck) f p = crash_plain c shape s.disk s.agenda luck
+client_plain c shape s client.Start f p = start_plain c shape s.disk s.agenda p
 
 -- ---- tables at the Store
 

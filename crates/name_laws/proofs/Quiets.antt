@@ -16,9 +16,10 @@ use Rattle.step_tables.specs.Messages as messages
 use Rattle.step_tables.specs.StoreMoves as store
 use Rattle.step_tables.specs.StoreMoves.{StoreTask}
 use Rattle.step_tables.specs.ClientMoves as client
-use Rattle.step_tables.specs.ClientMoves.{Client, ClientTask, ClientMove, client_step}
+use Rattle.step_tables.specs.ClientMoves.{Client, ClientTask, ClientMove, Shape, no_shape, client_step}
 use Rattle.step_tables.proofs.Lists.{among_get}
 use Rattle.world_tables.specs.Quiet.{Quiet, sent_in, comes_to, if_done, held_after, loud_after, after, at_first}
+use Rattle.world_tables.specs.World.{client_until_idle, client_writes, client_starts, client_crashes}
 use Rattle.world_tables.specs.World.{World, Packet, Hosted, Moved, WorldStep, start, owner, the_store, hosted_at, client_at, tables_of, same_node, has_node, without_node, is_down, still}
 use Rattle.world_tables.specs.World.{and_then, lines_of, tasks_in, hosted_tasks}
 use Rattle.world_tables.specs.World.{move_hosted, move_client, move_there, first_luck, other_lucks, client_works, client_tasks, client_follows, gets_tasks, client_follows_from}
@@ -35,22 +36,34 @@ use Rattle.name_laws.proofs.Idle.{Idle, fallen_idle, until_idle, busy_none, tabl
 
 -- ---- clients change no table
 
-client_tables : (w : World) (c : ℕ) (move : ClientMove) → (move_client c move w).world.tables ≡ w.tables
-client_tables w c move = go (client_at w c)
+client_tables : (w : World) (c : ℕ) (move : ClientMove) (shape : Shape) → (move_client c move shape w).world.tables ≡ w.tables
+client_tables w c move shape = go (client_at w c)
   where
-    go : (o : Option Client) → (move_there w c move o).world.tables ≡ w.tables
+    go : (o : Option Client) → (move_there w c move shape o).world.tables ≡ w.tables
     go None = refl
     go (Some node) = refl
 
 works_tables : (c : ℕ) (tasks : List ClientTask) (lucks : List Luck) (w : World) → (client_works c tasks lucks w).world.tables ≡ w.tables
 works_tables c [] lucks w = refl
-works_tables c (task ∷ tasks) lucks w = works_tables c tasks (other_lucks lucks) (move_client c (client.Work (first_luck lucks)) w).world ∙ client_tables w c (client.Work (first_luck lucks))
+works_tables c (task ∷ tasks) lucks w =
+    works_tables c tasks (other_lucks lucks) (move_client c (client.Work (first_luck lucks)) no_shape w).world ∙ client_tables w c (client.Work (first_luck lucks)) no_shape
+
+client_follows_tables : (c : ℕ) (lucks : List Luck) (w : World) → (client_follows c lucks w).world.tables ≡ w.tables
+client_follows_tables c lucks w = go (has_node w.holds (nodes.Client c))
+  where
+    go : (held : Bool) → (if held then still w else client_until_idle c lucks w).world.tables ≡ w.tables
+    go true = refl
+    go false = works_tables c (client_tasks (client_at w c)) lucks w
+
+client_writes_tables : (c : ℕ) (luck : Luck) (tasks : List ClientTask) (w : World) → (client_writes c luck tasks w).world.tables ≡ w.tables
+client_writes_tables c luck [] w = refl
+client_writes_tables c luck (task ∷ tasks) w = client_tables w c (client.Work luck) no_shape
 
 follows_tables : (agenda : Option (List ClientTask)) (c : ℕ) (lucks : List Luck) (w : World) → (client_follows_from agenda c lucks w).world.tables ≡ w.tables
 follows_tables agenda c lucks w = go (gets_tasks agenda w c)
   where
     go : (b : Bool) → (if b then client_follows c lucks w else still w).world.tables ≡ w.tables
-    go true = works_tables c (client_tasks (client_at w c)) lucks w
+    go true = client_follows_tables c lucks w
     go false = refl
 
 down_tables : (w : World) (node : Node) (s : WorldStep) → s.world.tables ≡ w.tables → (unless_down w node s).world.tables ≡ w.tables
@@ -60,9 +73,9 @@ down_tables w node s same = go (is_down w node)
     go true = refl
     go false = same
 
-call_tables : (w : World) (c : ℕ) (move : ClientMove) (lucks : List Luck) (o : Option Client) → (call_there w c move lucks o).world.tables ≡ w.tables
-call_tables w c move lucks None = refl
-call_tables w c move lucks (Some node) = down_tables w (nodes.Client c) _ (follows_tables node.agenda c lucks (move_client c move w).world ∙ client_tables w c move)
+call_tables : (w : World) (c : ℕ) (move : ClientMove) (shape : Shape) (lucks : List Luck) (o : Option Client) → (call_there w c move shape lucks o).world.tables ≡ w.tables
+call_tables w c move shape lucks None = refl
+call_tables w c move shape lucks (Some node) = down_tables w (nodes.Client c) _ (follows_tables node.agenda c lucks (move_client c move shape w).world ∙ client_tables w c move shape)
 
 same_idle : (w x : World) → x.tables ≡ w.tables → Idle w → Idle x
 same_idle w x same idle q hosted at = idle q hosted (ap (λ ts. hosted_at (record w { tables = ts }) q) (sym same) ∙ at)
@@ -173,7 +186,7 @@ module _ (w : World) (f : IsFine w) where
     where
       go : (o : Option Client) → (to_there w c p.message lucks o).world.tables ≡ w.tables
       go None = refl
-      go (Some node) = call_tables w c (client.Take p.message) lucks (Some node)
+      go (Some node) = call_tables w c (client.Take p.message) no_shape lucks (Some node)
 
   delivered_idle : (q : Quiet) → q.held ≡ w.holds → q.sent ≡ map (λ (p : Packet). p.to) w.packets → (n : ℕ) (lucks : List Luck) → (IsLoud q.loud ≡ false → Idle w)
       → IsLoud (comes_to q (slice_get q.sent n)) ≡ false → Idle (delivered w lucks (slice_get w.packets n)).world
@@ -233,14 +246,16 @@ module _ (w : World) (f : IsFine w) where
   chunks_idle table idle None = idle
   chunks_idle table idle (Some hosted) = down_idle_step w the_store _ idle idle
 
-  call_idle : (c : ℕ) (move : ClientMove) (lucks : List Luck) → Idle w → Idle (call w c move lucks).world
-  call_idle c move lucks idle = same_idle w (call w c move lucks).world (call_tables w c move lucks (client_at w c)) idle
+  call_idle : (c : ℕ) (move : ClientMove) (shape : Shape) (lucks : List Luck) → Idle w → Idle (call w c move shape lucks).world
+  call_idle c move shape lucks idle = same_idle w (call w c move shape lucks).world (call_tables w c move shape lucks (client_at w c)) idle
 
   -- ---- what is done to a node
 
   worked_idle : (lucks : List Luck) → Idle w → (node : Node) → Idle (worked w lucks node).world
   worked_idle lucks idle (nodes.Store number) = subst (λ (o : Option ℕ). Idle (write_next number (first_luck lucks) o w).world) (sym (busy_none w idle number)) idle
-  worked_idle lucks idle (nodes.Client c) = idle
+  worked_idle lucks idle (nodes.Client c) =
+      let tasks : List ClientTask = client_tasks (client_at w c) in
+      same_idle w (client_writes c (first_luck lucks) tasks w).world (client_writes_tables c (first_luck lucks) tasks w) idle
   worked_idle lucks idle (nodes.Gate gate) = idle
 
   -- another Store has nothing to do
@@ -267,10 +282,16 @@ module _ (w : World) (f : IsFine w) where
           (apart_idle (nodes.Store number) apart
           (subst (λ (m : Moved). IsLoud (if_done (answering (facts.Number (length (tasks_of w number))) m).answer (without_node loud (nodes.Store number)) loud) ≡ false) same quiet))
 
+      by_client : (c : ℕ) (failed : Bool)
+          → IsLoud (if_done (Some (if failed then facts.Refuses facts.NoDevice else facts.Number (length (client_tasks (client_at w c))))) (without_node loud (nodes.Client c)) loud) ≡ false → Idle w
+      by_client c true quiet = idle quiet
+      by_client c false quiet = apart_idle (nodes.Client c) refl quiet
+
       go : (b : Bool) (x : Node) → IsLoud (if_done (if b then refused w (facts.NodeDown x) else all_worked w lucks x).answer (without_node loud x) loud) ≡ false
           → Idle (if b then refused w (facts.NodeDown x) else all_worked w lucks x).world
       go true x quiet = idle quiet
-      go false (nodes.Client c) quiet = apart_idle (nodes.Client c) refl quiet
+      go false (nodes.Client c) quiet =
+          same_idle w (client_until_idle c lucks w).world (works_tables c (client_tasks (client_at w c)) lucks w) (by_client c (client_until_idle c lucks w).failed quiet)
       go false (nodes.Gate gate) quiet = apart_idle (nodes.Gate gate) refl quiet
       go false (nodes.Store number) quiet = ⊎_elim (λ same. here number same) (λ e. elsewhere number e.0 e.1 quiet) (other_node number)
 
@@ -290,11 +311,22 @@ module _ (w : World) (f : IsFine w) where
 
   crashed_idle : (calls : ℕ) (lucks : List Luck) → Idle w → (node : Node) → Idle (crashed w calls lucks node).world
   crashed_idle calls lucks idle (nodes.Store number) = crash_idle calls lucks idle number
-  crashed_idle calls lucks idle (nodes.Client c) = idle
+  crashed_idle calls lucks idle (nodes.Client c) =
+      same_idle w (client_crashes c calls lucks w).world (client_tables w c (client.Crash (crash_luck calls (other_lucks lucks) (first_luck lucks))) no_shape) idle
   crashed_idle calls lucks idle (nodes.Gate gate) = idle
 
   started_idle : (q : Quiet) → q.held ≡ w.holds → (lucks : List Luck) → (IsLoud q.loud ≡ false → Idle w) → (node : Node) → IsLoud (comes_to q (Some node)) ≡ false → Idle (started w lucks node).world
-  started_idle q held lucks idle (nodes.Client c) quiet = idle (comes_less q (Some (nodes.Client c)) quiet)
+  started_idle q held lucks idle (nodes.Client c) quiet = go (is_down w (nodes.Client c))
+    where
+      rest : Idle w
+      rest = idle (comes_less q (Some (nodes.Client c)) quiet)
+
+      first : Moved
+      first = move_client c client.Start no_shape w
+
+      go : (b : Bool) → Idle (if b then answering facts.Done (client_starts c lucks w) else answered w facts.Done).world
+      go true = same_idle w (client_starts c lucks w).world (client_follows_tables c lucks first.world ∙ client_tables w c client.Start no_shape) rest
+      go false = rest
   started_idle q held lucks idle (nodes.Gate gate) quiet = idle (comes_less q (Some (nodes.Gate gate)) quiet)
   started_idle q held lucks idle (nodes.Store number) quiet = go (is_down w (nodes.Store number))
     where
@@ -329,11 +361,11 @@ module _ (w : World) (f : IsFine w) where
   step_idle q held sent (events.Store number) lucks idle quiet = idle quiet
   step_idle q held sent (events.Table table schema) lucks idle quiet = declared_idle table schema (first_luck lucks) (idle quiet) (hosted_at w table)
   step_idle q held sent (events.Client c gate tables) lucks idle quiet = joined_idle c tables (idle quiet) (client_at w c)
-  step_idle q held sent (events.Write c table row x) lucks idle quiet = call_idle c (client.Write table row x) lucks (idle quiet)
-  step_idle q held sent (events.Show c table row) lucks idle quiet = call_idle c (client.Show table row) lucks (idle quiet)
-  step_idle q held sent (events.Sum c table row) lucks idle quiet = call_idle c (client.Sum table row) lucks (idle quiet)
-  step_idle q held sent (events.Sync c table) lucks idle quiet = call_idle c (client.Sync table) lucks (idle quiet)
-  step_idle q held sent (events.Pull c table) lucks idle quiet = call_idle c (client.Next table) lucks (idle quiet)
+  step_idle q held sent (events.Write c table row x) lucks idle quiet = call_idle c (client.Write table row x) no_shape lucks (idle quiet)
+  step_idle q held sent (events.Show c table row) lucks idle quiet = call_idle c (client.Show table row) no_shape lucks (idle quiet)
+  step_idle q held sent (events.Sum c table row) lucks idle quiet = call_idle c (client.Sum table row) no_shape lucks (idle quiet)
+  step_idle q held sent (events.Sync c table) lucks idle quiet = call_idle c (client.Sync table) no_shape lucks (idle quiet)
+  step_idle q held sent (events.Pull c table) lucks idle quiet = call_idle c (client.Next table) no_shape lucks (idle quiet)
   step_idle q held sent (events.Deliver n) lucks idle quiet = delivered_idle q held sent n lucks idle quiet
   step_idle q held sent (events.StoreShow table row) lucks idle quiet = shows_idle row lucks (idle quiet) (hosted_at w table)
   step_idle q held sent (events.History table) lucks idle quiet = history_idle table (idle quiet) (hosted_at w table)

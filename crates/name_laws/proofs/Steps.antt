@@ -14,9 +14,10 @@ use Rattle.step_tables.specs.Messages as messages
 use Rattle.step_tables.specs.StoreMoves as store
 use Rattle.step_tables.specs.StoreMoves.{StoreTask}
 use Rattle.step_tables.specs.ClientMoves as client
-use Rattle.step_tables.specs.ClientMoves.{Client, ClientMove, client_step}
+use Rattle.step_tables.specs.ClientMoves.{Client, ClientTask, ClientMove, Shape, no_shape, client_step}
 use Rattle.step_tables.proofs.Lists.{among_get, among_none}
 use Rattle.world_tables.specs.Quiet.{Quiet, sent_in, answer_in, held_after}
+use Rattle.world_tables.specs.World.{crash_luck, client_tasks, client_until_idle, client_follows, client_writes, client_starts, client_crashes, next_write}
 use Rattle.world_tables.specs.World.{World, Packet, Hosted, Outbox, Moved, WorldStep, start, owner, the_store, hosted_at, client_at, without_node, is_down, still, and_then, failing, lines_of}
 use Rattle.world_tables.specs.World.{lines_from, sent_lines}
 use Rattle.world_tables.specs.World.{move_table, move_client, table_step, other_lucks, first_luck, busy_table, busy_step, write_next, tasks_of, store_falls, table_follows, store_until_idle}
@@ -31,7 +32,8 @@ use Rattle.world_laws.proofs.Looks.{look_cases}
 use Rattle.world_laws.proofs.StoreWorks.{AreSilent, store_falls_silent}
 use Rattle.name_laws.proofs.Keys.{insert_keys_rise}
 use Rattle.name_laws.proofs.Plain.{IsPlainFact, ArePlainFacts, IsPlace, IsPlainAgenda, IsWorldly}
-use Rattle.name_laws.proofs.Moves.{IsFineTable, IsFine, packets_in, ArePlainOuts, Went, still_went, then_went, failing_went, table_went, client_went, follows_from_went, store_falls_went}
+use Rattle.name_laws.proofs.Moves.{IsFineTable, IsFine, packets_in, ArePlainOuts, Went, still_went, then_went, failing_went, table_went, client_went, works_went, client_follows_went}
+use Rattle.name_laws.proofs.Moves.{client_writes_went, follows_from_went, store_falls_went}
 use Rattle.name_laws.proofs.Moves.{write_went, store_works_went, table_follows_went, crashes_went, starts_went}
 
 pub record Stepped (w : World) (holds : List Node) (schemas : List (ℕ × Schema)) (s : WorldStep) : Type 0 where
@@ -57,6 +59,7 @@ facts_sent (fact ∷ more) rest p = one fact p.0 (facts_sent more rest p.1)
     one (facts.Back t v) q later = later
     one (facts.StoreRecovered n t) q later = later
     one (facts.ClientRecovered c) q later = later
+    one (facts.Torn c t r) q later = later
     one (facts.Sent n a b m) q later = absurd q
 
 packets_sent : (number : ℕ) (packets : List Packet) (rest : List Line) → sent_in (sent_lines number packets ++ rest) ≡ map (λ (p : Packet). p.to) packets ++ sent_in rest
@@ -121,12 +124,13 @@ fallen_stepped w f = answering_stepped w facts.Done (failing (store_falls owner 
 
 -- ---- events
 
-call_stepped : (w : World) (c : ℕ) (move : ClientMove) (lucks : List Luck) → IsWorldly move → IsFine w → (o : Option Client) → Stepped w w.holds w.schemas (call_there w c move lucks o)
-call_stepped w c move lucks worldly f None = answered_stepped w (facts.Refuses facts.NoTable) f
-call_stepped w c move lucks worldly f (Some node) =
-    let m : Moved = move_client c move w in
-    down_stepped w (nodes.Client c) _ f (answering_stepped w (client_step c node move).answer (and_then m (client_follows_from node.agenda c lucks))
-    (then_went w m (client_follows_from node.agenda c lucks) (client_went w c move worldly f) (λ x. follows_from_went node.agenda c lucks m.world x)))
+call_stepped : (w : World) (c : ℕ) (move : ClientMove) (shape : Shape) (lucks : List Luck) → IsWorldly move → IsFine w → (o : Option Client)
+    → Stepped w w.holds w.schemas (call_there w c move shape lucks o)
+call_stepped w c move shape lucks worldly f None = answered_stepped w (facts.Refuses facts.NoTable) f
+call_stepped w c move shape lucks worldly f (Some node) =
+    let m : Moved = move_client c move shape w in
+    down_stepped w (nodes.Client c) _ f (answering_stepped w (client_step c shape node move).answer (and_then m (client_follows_from node.agenda c lucks))
+    (then_went w m (client_follows_from node.agenda c lucks) (client_went w c move shape worldly f) (λ x. follows_from_went node.agenda c lucks m.world x)))
 
 hosted_stepped : (w : World) (table : ℕ) (from : Node) (m : Message) (lucks : List Luck) → IsPlace from → IsFine w → (o : Option Hosted)
     → Stepped w w.holds w.schemas (to_hosted w table (store.Take from m) lucks o)
@@ -161,7 +165,7 @@ carried_stepped w p lucks place f (nodes.Client c) = go (client_at w c)
   where
     go : (o : Option Client) → Stepped w w.holds w.schemas (to_there w c p.message lucks o)
     go None = answered_stepped w facts.Done f
-    go (Some node) = call_stepped w c (client.Take p.message) lucks tt f (Some node)
+    go (Some node) = call_stepped w c (client.Take p.message) no_shape lucks tt f (Some node)
 
 delivered_stepped : (w : World) (n : ℕ) (lucks : List Luck) → IsFine w → (o : Option Packet) → slice_get w.packets n ≡ o → Stepped w w.holds w.schemas (delivered w lucks o)
 delivered_stepped w n lucks f None at = answered_stepped w (facts.Refuses (facts.NoPacket (length w.packets))) f
@@ -264,18 +268,22 @@ worked_stepped : (w : World) (lucks : List Luck) → IsFine w → (node : Node) 
 worked_stepped w lucks f (nodes.Store number) =
     let busy : Option ℕ = busy_table w number in
     answering_stepped w (facts.Did (busy_step w busy)) (write_next number (first_luck lucks) busy w) (write_went number (first_luck lucks) busy w f)
-worked_stepped w lucks f (nodes.Client c) = answered_stepped w _ f
+worked_stepped w lucks f (nodes.Client c) =
+    let tasks : List ClientTask = client_tasks (client_at w c) in
+    answering_stepped w (facts.Did (next_write tasks)) (client_writes c (first_luck lucks) tasks w) (client_writes_went c (first_luck lucks) tasks w f)
 worked_stepped w lucks f (nodes.Gate gate) = answered_stepped w _ f
 
 all_worked_stepped : (w : World) (lucks : List Luck) → IsFine w → (node : Node) → Stepped w w.holds w.schemas (all_worked w lucks node)
 all_worked_stepped w lucks f (nodes.Store number) =
     answering_stepped w (facts.Number (length (tasks_of w number))) (store_until_idle number lucks w) (store_works_went number (length (tasks_of w number)) lucks w f)
-all_worked_stepped w lucks f (nodes.Client c) = answered_stepped w _ f
+all_worked_stepped w lucks f (nodes.Client c) =
+    let tasks : List ClientTask = client_tasks (client_at w c) in answering_stepped w (facts.Number (length tasks)) (client_until_idle c lucks w) (works_went c tasks lucks w f)
 all_worked_stepped w lucks f (nodes.Gate gate) = answered_stepped w _ f
 
 crashed_stepped : (w : World) (calls : ℕ) (lucks : List Luck) → IsFine w → (node : Node) → Stepped w w.holds w.schemas (crashed w calls lucks node)
 crashed_stepped w calls lucks f (nodes.Store number) = answering_stepped w facts.Done (store_crashes number calls lucks w) (crashes_went number calls lucks w f)
-crashed_stepped w calls lucks f (nodes.Client c) = answered_stepped w _ f
+crashed_stepped w calls lucks f (nodes.Client c) = answering_stepped w facts.Done (client_crashes c calls lucks w)
+    (client_went w c (client.Crash (crash_luck calls (other_lucks lucks) (first_luck lucks))) no_shape tt f)
 crashed_stepped w calls lucks f (nodes.Gate gate) = answered_stepped w _ f
 
 started_stepped : (w : World) (lucks : List Luck) → IsFine w → (node : Node) → Stepped w w.holds w.schemas (started w lucks node)
@@ -284,7 +292,15 @@ started_stepped w lucks f (nodes.Store number) = go (is_down w (nodes.Store numb
     go : (b : Bool) → Stepped w w.holds w.schemas (if b then answering facts.Done (store_starts number lucks w) else answered w facts.Done)
     go true = answering_stepped w facts.Done (store_starts number lucks w) (starts_went number lucks w f)
     go false = answered_stepped w facts.Done f
-started_stepped w lucks f (nodes.Client c) = answered_stepped w _ f
+started_stepped w lucks f (nodes.Client c) = go (is_down w (nodes.Client c))
+  where
+    first : Moved
+    first = move_client c client.Start no_shape w
+
+    go : (b : Bool) → Stepped w w.holds w.schemas (if b then answering facts.Done (client_starts c lucks w) else answered w facts.Done)
+    go true = answering_stepped w facts.Done (client_starts c lucks w)
+        (then_went w first (client_follows c lucks) (client_went w c client.Start no_shape tt f) (λ x. client_follows_went c lucks first.world x))
+    go false = answered_stepped w facts.Done f
 started_stepped w lucks f (nodes.Gate gate) = answered_stepped w _ f
 
 chunks_stepped : (w : World) (table : ℕ) → IsFine w → (o : Option Hosted) → Stepped w w.holds w.schemas (chunk_names w table o)
@@ -341,11 +357,11 @@ pub step_stepped : (w : World) (event : Event) (lucks : List Luck) → IsFine w 
 step_stepped w (events.Store number) lucks f = silent_stepped w w f refl refl
 step_stepped w (events.Table table schema) lucks f = declared_stepped w table schema (first_luck lucks) f (hosted_at w table)
 step_stepped w (events.Client c gate tables) lucks f = joined_stepped w c tables f (client_at w c)
-step_stepped w (events.Write c table row x) lucks f = call_stepped w c (client.Write table row x) lucks tt f (client_at w c)
-step_stepped w (events.Show c table row) lucks f = call_stepped w c (client.Show table row) lucks tt f (client_at w c)
-step_stepped w (events.Sum c table row) lucks f = call_stepped w c (client.Sum table row) lucks tt f (client_at w c)
-step_stepped w (events.Sync c table) lucks f = call_stepped w c (client.Sync table) lucks tt f (client_at w c)
-step_stepped w (events.Pull c table) lucks f = call_stepped w c (client.Next table) lucks tt f (client_at w c)
+step_stepped w (events.Write c table row x) lucks f = call_stepped w c (client.Write table row x) no_shape lucks tt f (client_at w c)
+step_stepped w (events.Show c table row) lucks f = call_stepped w c (client.Show table row) no_shape lucks tt f (client_at w c)
+step_stepped w (events.Sum c table row) lucks f = call_stepped w c (client.Sum table row) no_shape lucks tt f (client_at w c)
+step_stepped w (events.Sync c table) lucks f = call_stepped w c (client.Sync table) no_shape lucks tt f (client_at w c)
+step_stepped w (events.Pull c table) lucks f = call_stepped w c (client.Next table) no_shape lucks tt f (client_at w c)
 step_stepped w (events.Deliver n) lucks f = delivered_stepped w n lucks f (slice_get w.packets n) refl
 step_stepped w (events.StoreShow table row) lucks f = shows_stepped w row lucks f (hosted_at w table)
 step_stepped w (events.History table) lucks f = history_stepped w table f (hosted_at w table)

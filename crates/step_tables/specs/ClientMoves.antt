@@ -5,6 +5,8 @@ use Rattle.std.specs.Prelude.{None, option_map, option_to_list, Result, Ok, Err,
 use Rattle.std.specs.Ordering.{nat_cmp}
 use Rattle.std.specs.Map.{lookup}
 use Rattle.std.specs.BTreeMap.{is_at, insert_entry}
+use Rattle.stab_base.specs.declared.step.Step.{Step}
+use Rattle.stab_base.specs.declared.step.Step.TheVariants as steps
 use Rattle.row_value.specs.declared.content.Content.{Content}
 use Rattle.row_value.specs.declared.schema.Schema.{Schema}
 use Rattle.row_value.specs.declared.schema.Scheme.{Scheme}
@@ -65,12 +67,24 @@ pub data ClientChange : Type 0 where
   PutRow : (plan : Plan) → ClientChange
   PutTable : (plan : Plan) → ClientChange
   Finish : ClientChange
-  Keep : ClientChange
+  Keep : (step : Step) → ClientChange
 
 pub record ClientTask : Type 0 where
   pub change : ClientChange
   pub facts : List Fact
   pub sends : List Send
+
+-- The device writes of a plan or a start beside those that change what the devices stand for, by their names, before
+-- the plan's and behind them; the number of the plan; and the row from the Store whose plan was cut short before its
+-- commit, with its table. A client names its chunks itself, and how many there are isn't said here.
+pub record Shape : Type 0 where
+  pub plan : ℕ
+  pub before : List Step
+  pub after : List Step
+  pub torn : Option (ℕ × List ℕ)
+
+abbrev pub no_shape : Shape
+no_shape = record { plan = 0; before = []; after = []; torn = None }
 
 -- no agenda: the client is down
 pub record Client : Type 0 where
@@ -183,7 +197,15 @@ changed d (Commit p) = record d { plan = Some p }
 changed d (PutRow p) = row_put d p.last p.table p.row
 changed d (PutTable p) = table_put d p.table p.position
 changed d Finish = record d { plan = None }
-changed d Keep = d
+changed d (Keep step) = d
+
+-- what the write is called
+abbrev pub step_of : ClientChange → Step
+step_of (Commit p) = steps.Commit
+step_of (PutRow p) = steps.SlotPut
+step_of (PutTable p) = steps.TablePut
+step_of Finish = steps.Done
+step_of (Keep step) = step
 
 abbrev pub done : ClientDisk → Option (List ClientTask) → ClientStep
 done d None = down d
@@ -220,21 +242,33 @@ told p = map facts.Client p.facts
 abbrev pub retold : Plan → List Fact
 retold p = map facts.Redone p.facts
 
+abbrev pub only : ClientChange → ClientTask
+only change = record { change = change; facts = []; sends = [] }
+
 abbrev pub row_task : Plan → Option RowPut → List ClientTask
 row_task p None = []
-row_task p (Some x) = record { change = PutRow p; facts = []; sends = [] } ∷ []
+row_task p (Some x) = only (PutRow p) ∷ []
 
 abbrev pub table_task : Plan → Option ℕ → List ClientTask
 table_task p None = []
-table_task p (Some position) = record { change = PutTable p; facts = []; sends = [] } ∷ []
+table_task p (Some position) = only (PutTable p) ∷ []
 
-abbrev pub rest_of : Plan → List Fact → List Send → List ClientTask
-rest_of p some sends =
-    row_task p p.row ++ (table_task p p.position ++ record { change = Finish; facts = some; sends = sends } ∷ [])
+abbrev pub keeps : List Step → List ClientTask
+keeps some = map (λ (step : Step). only (Keep step)) some
 
-abbrev pub begun : ClientDisk → Answer → Plan → List Send → ClientStep
-begun d answer p sends =
-    quiet d (Some (record { change = Commit p; facts = told p; sends = [] } ∷ rest_of p [] sends)) answer
+-- behind the commit
+abbrev pub rest_of : Shape → Plan → List Send → List ClientTask
+rest_of shape p sends =
+    row_task p p.row
+    ++ (table_task p p.position
+    ++ (keeps shape.after ++ record { change = Finish; facts = []; sends = sends } ∷ []))
+
+abbrev pub planning : Shape → Plan → List Send → List ClientTask
+planning shape p sends =
+    keeps shape.before ++ record { change = Commit p; facts = told p; sends = [] } ∷ rest_of shape p sends
+
+abbrev pub begun : Shape → ClientDisk → Answer → Plan → List Send → ClientStep
+begun shape d answer p sends = quiet d (Some (planning shape p sends)) answer
 
 -- a plan that changes the slots of a row, and no number
 abbrev pub slots_plan : ClientDisk → ℕ → List ℕ → Slots → List ClientFact → Plan
@@ -249,20 +283,35 @@ slots_plan d table row slots some =
 
 -- ---- a start
 
-abbrev pub resumed : ℕ → ClientDisk → Option Plan → ClientStep
-resumed c d None =
-    quiet d (Some (record { change = Keep; facts = facts.ClientRecovered c ∷ []; sends = [] } ∷ [])) facts.Done
-resumed c d (Some p) = record {
-  client = record { disk = d; agenda = Some (rest_of p (facts.ClientRecovered c ∷ []) []) };
+-- the last of some writes tells more
+abbrev pub ending : List Fact → List ClientTask → List ClientTask
+ending some [] = []
+ending some (task ∷ []) = record task { facts = task.facts ++ some } ∷ []
+ending some (task ∷ next ∷ more) = task ∷ ending some (next ∷ more)
+
+-- the writes of a start: those of the plan that is committed and not done, if there is one
+abbrev pub opening : Shape → Option Plan → List ClientTask
+opening shape None = keeps shape.before ++ keeps shape.after
+opening shape (Some p) = keeps shape.before ++ rest_of shape p []
+
+-- what a start tells at once: a plan's facts again, or the row whose plan was cut short before its commit
+abbrev pub told_at_start : ℕ → Option (ℕ × List ℕ) → Option Plan → List Fact
+told_at_start c torn (Some p) = retold p
+told_at_start c (Some row) None = facts.Torn c row.0 row.1 ∷ []
+told_at_start c None None = []
+
+abbrev pub resumed : ℕ → Shape → ClientDisk → Option Plan → ClientStep
+resumed c shape d plan = record {
+  client = record { disk = d; agenda = Some (ending (facts.ClientRecovered c ∷ []) (opening shape plan)) };
   answer = facts.Done;
-  facts = retold p;
+  facts = told_at_start c shape.torn plan;
   sends = [];
 }
 
 -- a client that is up goes on
-abbrev pub started : ℕ → ClientDisk → Option (List ClientTask) → ClientStep
-started c d (Some agenda) = quiet d (Some agenda) facts.Done
-started c d None = resumed c d d.plan
+abbrev pub started : ℕ → Shape → ClientDisk → Option (List ClientTask) → ClientStep
+started c shape d (Some agenda) = quiet d (Some agenda) facts.Done
+started c shape d None = resumed c shape d d.plan
 
 -- ---- messages to the table's owner
 
@@ -323,45 +372,50 @@ first_out (entry ∷ rows) = or_later entry.1.out (first_out rows)
     or_later None later = later
     or_later (Some out) later = Some out
 
-abbrev pub write_strong : ℕ → ClientDisk → ℕ → List ℕ → Slots → Content → Option InFlight → ClientStep
-write_strong c d table row slots content (Some out) = refused d (facts.Outstanding out.number)
-write_strong c d table row slots content None =
+abbrev pub write_strong : ℕ → Shape → ClientDisk → ℕ → List ℕ → Slots → Content → Option InFlight → ClientStep
+write_strong c shape d table row slots content (Some out) = refused d (facts.Outstanding out.number)
+write_strong c shape d table row slots content None =
     let read : ℕ = version_in slots.shadow in
-    begun d (facts.Number (d.last + 1)) (strong_plan c d table row slots content)
+    begun shape d (facts.Number (d.last + 1)) (strong_plan c d table row slots content)
     (request_for c table row (out_of (main_of (d.last + 1) read content) read) ∷ [])
 
-abbrev pub write_by : Scheme → ℕ → ClientDisk → ℕ → List ℕ → TableDisk → Slots → Content → ClientStep
-write_by Strong c d table row opened slots content = write_strong c d table row slots content (first_out opened.rows)
-write_by Causal c d table row opened slots content =
-    begun d (facts.Number (d.last + 1)) (write_plan c d table row slots content) []
-write_by Eventual c d table row opened slots content =
-    begun d (facts.Number (d.last + 1)) (write_plan c d table row slots content) []
+abbrev pub write_by : Scheme → ℕ → Shape → ClientDisk → ℕ → List ℕ → TableDisk → Slots → Content → ClientStep
+write_by Strong c shape d table row opened slots content =
+    write_strong c shape d table row slots content (first_out opened.rows)
+write_by Causal c shape d table row opened slots content =
+    begun shape d (facts.Number (d.last + 1)) (write_plan c d table row slots content) []
+write_by Eventual c shape d table row opened slots content =
+    begun shape d (facts.Number (d.last + 1)) (write_plan c d table row slots content) []
 
 -- a row in conflict isn't written
-abbrev pub write_free : Scheme → ℕ → ClientDisk → ℕ → List ℕ → TableDisk → Slots → Content → Option Shadow → ClientStep
-write_free g c d table row opened slots content None = write_by g c d table row opened slots content
-write_free g c d table row opened slots content (Some x) = refused d (facts.Conflicted x.version)
+abbrev pub write_free : Scheme → ℕ → Shape → ClientDisk → ℕ → List ℕ → TableDisk → Slots → Content → Option Shadow
+    → ClientStep
+write_free g c shape d table row opened slots content None = write_by g c shape d table row opened slots content
+write_free g c shape d table row opened slots content (Some x) = refused d (facts.Conflicted x.version)
 
 -- nor is one while a plan is at work
-abbrev pub write_idle : Scheme → ℕ → ClientDisk → List ClientTask → ℕ → List ℕ → TableDisk → Content → ClientStep
-write_idle g c d (task ∷ more) table row opened content = quiet d (Some (task ∷ more)) (facts.Refuses facts.Busy)
-write_idle g c d [] table row opened content =
-    let slots : Slots = slots_at opened row in write_free g c d table row opened slots content slots.conflict
+abbrev pub write_idle : Scheme → ℕ → Shape → ClientDisk → List ClientTask → ℕ → List ℕ → TableDisk → Content
+    → ClientStep
+write_idle g c shape d (task ∷ more) table row opened content = quiet d (Some (task ∷ more)) (facts.Refuses facts.Busy)
+write_idle g c shape d [] table row opened content =
+    let slots : Slots = slots_at opened row in write_free g c shape d table row opened slots content slots.conflict
 
-abbrev pub write_fitting : Scheme → ℕ → ClientDisk → List ClientTask → ℕ → List ℕ → TableDisk → Content
+abbrev pub write_fitting : Scheme → ℕ → Shape → ClientDisk → List ClientTask → ℕ → List ℕ → TableDisk → Content
     → Result (Unit {0}) FitFault → ClientStep
-write_fitting g c d agenda table row opened content (Ok fits) = write_idle g c d agenda table row opened content
-write_fitting g c d agenda table row opened content (Err fault) =
+write_fitting g c shape d agenda table row opened content (Ok fits) =
+    write_idle g c shape d agenda table row opened content
+write_fitting g c shape d agenda table row opened content (Err fault) =
     quiet d (Some agenda) (facts.Refuses (facts.Unfit fault))
 
-abbrev pub write_to : ℕ → ClientDisk → List ClientTask → ℕ → List ℕ → Content → Option TableDisk → ClientStep
-write_to c d agenda table row content None = quiet d (Some agenda) (facts.Refuses facts.NoTable)
-write_to c d agenda table row content (Some opened) =
-    write_fitting opened.schema.scheme c d agenda table row opened content (fit_of opened.schema content)
+abbrev pub write_to : ℕ → Shape → ClientDisk → List ClientTask → ℕ → List ℕ → Content → Option TableDisk → ClientStep
+write_to c shape d agenda table row content None = quiet d (Some agenda) (facts.Refuses facts.NoTable)
+write_to c shape d agenda table row content (Some opened) =
+    write_fitting opened.schema.scheme c shape d agenda table row opened content (fit_of opened.schema content)
 
-abbrev pub write_step : ℕ → ClientDisk → Option (List ClientTask) → ℕ → List ℕ → Content → ClientStep
-write_step c d None table row content = down d
-write_step c d (Some agenda) table row content = write_to c d agenda table row content (table_at (seen d) table)
+abbrev pub write_step : ℕ → Shape → ClientDisk → Option (List ClientTask) → ℕ → List ℕ → Content → ClientStep
+write_step c shape d None table row content = down d
+write_step c shape d (Some agenda) table row content =
+    write_to c shape d agenda table row content (table_at (seen d) table)
 
 -- ---- show
 
@@ -426,20 +480,22 @@ first_to_send (entry ∷ rows) =
 abbrev pub send_plan : ClientDisk → ℕ → RowOut → Plan
 send_plan d table x = slots_plan d table x.row (record x.slots { out = Some x.out }) []
 
-abbrev pub sync_first : ℕ → ClientDisk → ℕ → List Send → Option RowOut → ClientStep
-sync_first c d table again None = record (quiet d (Some []) (facts.Number (length again))) { sends = again }
-sync_first c d table again (Some x) =
-    record (begun d (facts.Number (length again + 1)) (send_plan d table x) (request_for c table x.row x.out ∷ []))
+abbrev pub sync_first : ℕ → Shape → ClientDisk → ℕ → List Send → Option RowOut → ClientStep
+sync_first c shape d table again None = record (quiet d (Some []) (facts.Number (length again))) { sends = again }
+sync_first c shape d table again (Some x) =
+    record (begun shape d (facts.Number (length again + 1)) (send_plan d table x)
+    (request_for c table x.row x.out ∷ []))
     { sends = again }
 
-abbrev pub sync_in : ℕ → ClientDisk → List ClientTask → ℕ → Option TableDisk → ClientStep
-sync_in c d agenda table None = quiet d (Some agenda) (facts.Refuses facts.NoTable)
-sync_in c d (task ∷ more) table (Some opened) = quiet d (Some (task ∷ more)) (facts.Refuses facts.Busy)
-sync_in c d [] table (Some opened) = sync_first c d table (resent c table opened.rows) (first_to_send opened.rows)
+abbrev pub sync_in : ℕ → Shape → ClientDisk → List ClientTask → ℕ → Option TableDisk → ClientStep
+sync_in c shape d agenda table None = quiet d (Some agenda) (facts.Refuses facts.NoTable)
+sync_in c shape d (task ∷ more) table (Some opened) = quiet d (Some (task ∷ more)) (facts.Refuses facts.Busy)
+sync_in c shape d [] table (Some opened) =
+    sync_first c shape d table (resent c table opened.rows) (first_to_send opened.rows)
 
-abbrev pub sync_step : ℕ → ClientDisk → Option (List ClientTask) → ℕ → ClientStep
-sync_step c d None table = down d
-sync_step c d (Some agenda) table = sync_in c d agenda table (table_at (seen d) table)
+abbrev pub sync_step : ℕ → Shape → ClientDisk → Option (List ClientTask) → ℕ → ClientStep
+sync_step c shape d None table = down d
+sync_step c shape d (Some agenda) table = sync_in c shape d agenda table (table_at (seen d) table)
 
 -- ---- the next change
 
@@ -465,39 +521,43 @@ theirs_plan c d table row slots main x =
     slots_plan d table row (record slots { main = None; shadow = Some x; conflict = None })
     (facts.Resolved c main.number table row x.version ∷ [])
 
-abbrev pub over_fitting : ℕ → ClientDisk → ℕ → List ℕ → Slots → Main → Shadow → Content → Result (Unit {0}) FitFault
+abbrev pub over_fitting : ℕ → Shape → ClientDisk → ℕ → List ℕ → Slots → Main → Shadow → Content
+    → Result (Unit {0}) FitFault
     → ClientStep
-over_fitting c d table row slots main x content (Ok fits) =
-    begun d (facts.Number (d.last + 1)) (over_plan c d table row slots main x content) []
-over_fitting c d table row slots main x content (Err fault) = refused d (facts.Unfit fault)
+over_fitting c shape d table row slots main x content (Ok fits) =
+    begun shape d (facts.Number (d.last + 1)) (over_plan c d table row slots main x content) []
+over_fitting c shape d table row slots main x content (Err fault) = refused d (facts.Unfit fault)
 
-abbrev pub choose : ℕ → ClientDisk → ℕ → List ℕ → Schema → Slots → Main → Shadow → Choice → ClientStep
-choose c d table row schema slots main x Mine =
-    begun d (facts.Number (d.last + 1)) (over_plan c d table row slots main x main.content) []
-choose c d table row schema slots main x Theirs = begun d (facts.Number 0) (theirs_plan c d table row slots main x) []
-choose c d table row schema slots main x (Another content) =
-    over_fitting c d table row slots main x content (fit_of schema content)
+abbrev pub choose : ℕ → Shape → ClientDisk → ℕ → List ℕ → Schema → Slots → Main → Shadow → Choice → ClientStep
+choose c shape d table row schema slots main x Mine =
+    begun shape d (facts.Number (d.last + 1)) (over_plan c d table row slots main x main.content) []
+choose c shape d table row schema slots main x Theirs =
+    begun shape d (facts.Number 0) (theirs_plan c d table row slots main x) []
+choose c shape d table row schema slots main x (Another content) =
+    over_fitting c shape d table row slots main x content (fit_of schema content)
 
-abbrev pub resolve_over : ℕ → ClientDisk → ℕ → List ℕ → Schema → Slots → ℕ → Choice → Option Main → Option Shadow
+abbrev pub resolve_over : ℕ → Shape → ClientDisk → ℕ → List ℕ → Schema → Slots → ℕ → Choice → Option Main
+    → Option Shadow
     → ClientStep
-resolve_over c d table row schema slots version choice (Some main) (Some x) =
-    if x.version == version then choose c d table row schema slots main x choice
+resolve_over c shape d table row schema slots version choice (Some main) (Some x) =
+    if x.version == version then choose c shape d table row schema slots main x choice
     else refused d (facts.Moved version x.version)
-resolve_over c d table row schema slots version choice None conflict = refused d facts.NoConflict
-resolve_over c d table row schema slots version choice (Some main) None = refused d facts.NoConflict
+resolve_over c shape d table row schema slots version choice None conflict = refused d facts.NoConflict
+resolve_over c shape d table row schema slots version choice (Some main) None = refused d facts.NoConflict
 
-abbrev pub resolve_in : ℕ → ClientDisk → List ClientTask → ℕ → List ℕ → ℕ → Choice → Option TableDisk → ClientStep
-resolve_in c d agenda table row version choice None = quiet d (Some agenda) (facts.Refuses facts.NoTable)
-resolve_in c d (task ∷ more) table row version choice (Some opened) =
+abbrev pub resolve_in : ℕ → Shape → ClientDisk → List ClientTask → ℕ → List ℕ → ℕ → Choice → Option TableDisk
+    → ClientStep
+resolve_in c shape d agenda table row version choice None = quiet d (Some agenda) (facts.Refuses facts.NoTable)
+resolve_in c shape d (task ∷ more) table row version choice (Some opened) =
     quiet d (Some (task ∷ more)) (facts.Refuses facts.Busy)
-resolve_in c d [] table row version choice (Some opened) =
+resolve_in c shape d [] table row version choice (Some opened) =
     let slots : Slots = slots_at opened row in
-    resolve_over c d table row opened.schema slots version choice slots.main slots.conflict
+    resolve_over c shape d table row opened.schema slots version choice slots.main slots.conflict
 
-abbrev pub resolve_step : ℕ → ClientDisk → Option (List ClientTask) → ℕ → List ℕ → ℕ → Choice → ClientStep
-resolve_step c d None table row version choice = down d
-resolve_step c d (Some agenda) table row version choice =
-    resolve_in c d agenda table row version choice (table_at (seen d) table)
+abbrev pub resolve_step : ℕ → Shape → ClientDisk → Option (List ClientTask) → ℕ → List ℕ → ℕ → Choice → ClientStep
+resolve_step c shape d None table row version choice = down d
+resolve_step c shape d (Some agenda) table row version choice =
+    resolve_in c shape d agenda table row version choice (table_at (seen d) table)
 
 -- ---- the answer to a request
 
@@ -521,27 +581,28 @@ abbrev pub lost_plan : ℕ → ClientDisk → ℕ → List ℕ → Slots → InF
 lost_plan c d table row slots out latest =
     slots_plan d table row (record slots { out = None }) (facts.Refused c out.number table row latest ∷ [])
 
-abbrev pub outcome_taken : ℕ → ClientDisk → ℕ → List ℕ → TableDisk → Slots → InFlight → Outcome → ClientStep
-outcome_taken c d table row opened slots out (messages.Accepted version) =
-    begun d facts.Done (ack_plan c d table row slots out version) []
-outcome_taken c d table row opened slots out (messages.Again version) =
-    begun d facts.Done (ack_plan c d table row slots out version) []
-outcome_taken c d table row opened slots out (messages.Late last) = ignored d
-outcome_taken c d table row opened slots out (messages.Stale latest) =
-    begun d facts.Done (lost_plan c d table row slots out latest) (pull_from c table opened.position ∷ [])
-outcome_taken c d table row opened slots out (messages.Conflict latest) =
+abbrev pub outcome_taken : ℕ → Shape → ClientDisk → ℕ → List ℕ → TableDisk → Slots → InFlight → Outcome → ClientStep
+outcome_taken c shape d table row opened slots out (messages.Accepted version) =
+    begun shape d facts.Done (ack_plan c d table row slots out version) []
+outcome_taken c shape d table row opened slots out (messages.Again version) =
+    begun shape d facts.Done (ack_plan c d table row slots out version) []
+outcome_taken c shape d table row opened slots out (messages.Late last) = ignored d
+outcome_taken c shape d table row opened slots out (messages.Stale latest) =
+    begun shape d facts.Done (lost_plan c d table row slots out latest) (pull_from c table opened.position ∷ [])
+outcome_taken c shape d table row opened slots out (messages.Conflict latest) =
     record (ignored d) { sends = pull_from c table opened.position ∷ [] }
 
-abbrev pub response_taken : ℕ → ClientDisk → Response → TableDisk → Option InFlight → ClientStep
-response_taken c d response opened None = ignored d
-response_taken c d response opened (Some out) =
+abbrev pub response_taken : ℕ → Shape → ClientDisk → Response → TableDisk → Option InFlight → ClientStep
+response_taken c shape d response opened None = ignored d
+response_taken c shape d response opened (Some out) =
     if out.number == response.number
-    then outcome_taken c d response.table response.row opened (slots_at opened response.row) out response.outcome
+    then outcome_taken c shape d response.table response.row opened (slots_at opened response.row) out response.outcome
     else ignored d
 
-abbrev pub response_in : ℕ → ClientDisk → Response → Option TableDisk → ClientStep
-response_in c d response None = ignored d
-response_in c d response (Some opened) = response_taken c d response opened (slots_at opened response.row).out
+abbrev pub response_in : ℕ → Shape → ClientDisk → Response → Option TableDisk → ClientStep
+response_in c shape d response None = ignored d
+response_in c shape d response (Some opened) =
+    response_taken c shape d response opened (slots_at opened response.row).out
 
 -- ---- a row from the Store
 
@@ -612,43 +673,45 @@ position_plan c d table position =
     }
 
 -- a row that isn't newer than the one read changes no slot
-abbrev pub row_taken : ℕ → ClientDisk → Pulled → TableDisk → Header → Slots → ClientStep
-row_taken c d pulled opened header slots =
+abbrev pub row_taken : ℕ → Shape → ClientDisk → Pulled → TableDisk → Header → Slots → ClientStep
+row_taken c shape d pulled opened header slots =
     if nat_le header.version (top slots.conflict slots.shadow)
-    then begun d facts.Done (position_plan c d pulled.table pulled.to) (next_pull c pulled.table pulled)
-    else begun d facts.Done (row_plan c d pulled.table header.row pulled.to
+    then begun shape d facts.Done (position_plan c d pulled.table pulled.to) (next_pull c pulled.table pulled)
+    else begun shape d facts.Done (row_plan c d pulled.table header.row pulled.to
     (row_placed opened.schema.scheme c pulled.table header slots slots.out))
     (next_pull c pulled.table pulled)
 
 -- an answer to another position than the client's is dropped, and one without a row changes nothing
-abbrev pub pulled_taken : ℕ → ClientDisk → Pulled → TableDisk → Option Header → ClientStep
-pulled_taken c d pulled opened None = ignored d
-pulled_taken c d pulled opened (Some header) =
-    if pulled.from == opened.position then row_taken c d pulled opened header (slots_at opened header.row)
+abbrev pub pulled_taken : ℕ → Shape → ClientDisk → Pulled → TableDisk → Option Header → ClientStep
+pulled_taken c shape d pulled opened None = ignored d
+pulled_taken c shape d pulled opened (Some header) =
+    if pulled.from == opened.position then row_taken c shape d pulled opened header (slots_at opened header.row)
     else ignored d
 
-abbrev pub pulled_in : ℕ → ClientDisk → Pulled → Option TableDisk → ClientStep
-pulled_in c d pulled None = ignored d
-pulled_in c d pulled (Some opened) = pulled_taken c d pulled opened pulled.header
+abbrev pub pulled_in : ℕ → Shape → ClientDisk → Pulled → Option TableDisk → ClientStep
+pulled_in c shape d pulled None = ignored d
+pulled_in c shape d pulled (Some opened) = pulled_taken c shape d pulled opened pulled.header
 
 -- a client at work doesn't take a message, and one that no rule takes is dropped
-abbrev pub take_step : ℕ → ClientDisk → Option (List ClientTask) → Message → ClientStep
-take_step c d None message = down d
-take_step c d (Some (task ∷ more)) message = quiet d (Some (task ∷ more)) (facts.Refuses facts.Busy)
-take_step c d (Some []) (SyncRequest request) = ignored d
-take_step c d (Some []) (PullRequest pull) = ignored d
-take_step c d (Some []) (SyncResponse response) = response_in c d response (table_at (seen d) response.table)
-take_step c d (Some []) (PullResponse pulled) = pulled_in c d pulled (table_at (seen d) pulled.table)
+abbrev pub take_step : ℕ → Shape → ClientDisk → Option (List ClientTask) → Message → ClientStep
+take_step c shape d None message = down d
+take_step c shape d (Some (task ∷ more)) message = quiet d (Some (task ∷ more)) (facts.Refuses facts.Busy)
+take_step c shape d (Some []) (SyncRequest request) = ignored d
+take_step c shape d (Some []) (PullRequest pull) = ignored d
+take_step c shape d (Some []) (SyncResponse response) =
+    response_in c shape d response (table_at (seen d) response.table)
+take_step c shape d (Some []) (PullResponse pulled) = pulled_in c shape d pulled (table_at (seen d) pulled.table)
 
--- what a move makes of a client of this number
-abbrev pub client_step : ℕ → Client → ClientMove → ClientStep
-client_step c s (Write table row content) = write_step c s.disk s.agenda table row content
-client_step c s (Show table row) = show_step s.disk s.agenda table row
-client_step c s (Sum table row) = sum_step s.disk s.agenda table row
-client_step c s (Sync table) = sync_step c s.disk s.agenda table
-client_step c s (Next table) = next_step c s.disk s.agenda table
-client_step c s (Resolve table row version choice) = resolve_step c s.disk s.agenda table row version choice
-client_step c s (Take message) = take_step c s.disk s.agenda message
-client_step c s (Work luck) = worked s.disk s.agenda luck
-client_step c s (Crash luck) = crashed s.disk s.agenda luck
-client_step c s Start = started c s.disk s.agenda
+-- what a move makes of a client of this number, where its devices are written so beside
+abbrev pub client_step : ℕ → Shape → Client → ClientMove → ClientStep
+client_step c shape s (Write table row content) = write_step c shape s.disk s.agenda table row content
+client_step c shape s (Show table row) = show_step s.disk s.agenda table row
+client_step c shape s (Sum table row) = sum_step s.disk s.agenda table row
+client_step c shape s (Sync table) = sync_step c shape s.disk s.agenda table
+client_step c shape s (Next table) = next_step c s.disk s.agenda table
+client_step c shape s (Resolve table row version choice) =
+    resolve_step c shape s.disk s.agenda table row version choice
+client_step c shape s (Take message) = take_step c shape s.disk s.agenda message
+client_step c shape s (Work luck) = worked s.disk s.agenda luck
+client_step c shape s (Crash luck) = crashed s.disk s.agenda luck
+client_step c shape s Start = started c shape s.disk s.agenda

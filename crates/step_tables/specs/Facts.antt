@@ -21,8 +21,9 @@ pub data ClientFact : Type 0 where
   New : (client table : ℕ) → (row : List ℕ) → (version : ℕ) → ClientFact
   Position : (client table position : ℕ) → ClientFact
 
--- what nodes tell. A start tells again (`Redone`) what the plan tells that it finds unfinished; a Store's start tells
--- that the pending entry was accepted (`Forward`) or wasn't (`Back`)
+-- what nodes tell. A start tells again (`Redone`) what the plan tells that it finds unfinished, or from which row of
+-- the Store a plan was cut short before its commit (`Torn`); a Store's start tells that the pending entry was accepted
+-- (`Forward`) or wasn't (`Back`)
 pub data Fact : Type 0 where
   Client : (fact : ClientFact) → Fact
   Redone : (fact : ClientFact) → Fact
@@ -31,6 +32,7 @@ pub data Fact : Type 0 where
   Back : (table version : ℕ) → Fact
   StoreRecovered : (store table : ℕ) → Fact
   ClientRecovered : (client : ℕ) → Fact
+  Torn : (client table : ℕ) → (row : List ℕ) → Fact
   Sent : (packet : ℕ) → (from to : Node) → (name : MessageName) → Fact
 
 -- what a client shows of a row: the row as the Store had it at a version, its own write, or its own write in conflict

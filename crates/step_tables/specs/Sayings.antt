@@ -41,6 +41,7 @@ saying (facts.Forward table entry) = SaysEntry table entry
 saying (facts.Back table version) = SaysBack table version
 saying (facts.StoreRecovered store table) = SaysNothing
 saying (facts.ClientRecovered client) = SaysNothing
+saying (facts.Torn client table row) = SaysNothing
 saying (facts.Sent packet from to name) = SaysNothing
 
 abbrev pub says : Line → Saying

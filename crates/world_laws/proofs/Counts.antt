@@ -1,5 +1,6 @@
 -- The versions of a table, and the numbers of a client's writes, are no more than the events of a run.
 use Rattle.std.proofs.Common.{◌≡◌, ⊎_elim, ℕ, zero, suc, ◌+◌, ◌≤◌, Bool, true, false, List, [], ◌∷◌, ◌++◌, length, Option, Some, None, Result, Ok, Err, refl, sym, ◌∙◌, subst, arith, length-append}
+use Rattle.std.proofs.Common.{append-nil}
 use Rattle.std.specs.Prelude.{◌==◌, not, nat_le, nat_lt, drop, slice_get, if◌then◌else◌}
 use Rattle.std.specs.Ordering.{nat_cmp}
 use Rattle.std.specs.Map.{lookup}
@@ -7,6 +8,7 @@ use Rattle.std.specs.BTreeMap.{is_at, insert_entry}
 use Rattle.stab_base.specs.declared.chunk_name.ChunkName.{ChunkName}
 use Rattle.stab_base.specs.declared.node.Node.{Node}
 use Rattle.stab_base.specs.declared.node.Node.TheVariants as nodes
+use Rattle.stab_base.specs.declared.step.Step.{Step}
 use Rattle.row_value.specs.declared.content.Content.{Content}
 use Rattle.row_value.specs.declared.fit.FitFault.{FitFault}
 use Rattle.row_value.specs.declared.schema.Schema.{Schema}
@@ -26,7 +28,8 @@ use Rattle.step_tables.specs.Messages as messages
 use Rattle.step_tables.specs.StoreMoves as store
 use Rattle.step_tables.specs.StoreMoves.{StoreDisk, StoreChange, StoreTask, TableStore, StoreMove, store_step}
 use Rattle.step_tables.specs.ClientMoves as client
-use Rattle.step_tables.specs.ClientMoves.{Slots, TableDisk, RowPut, Plan, ClientDisk, ClientChange, ClientTask, Client, ClientMove, RowOut, slots_at, table_at, seen, client_step}
+use Rattle.step_tables.specs.ClientMoves.{Slots, TableDisk, RowPut, Plan, ClientDisk, ClientChange, ClientTask, Client, ClientMove, Shape, RowOut, no_shape, slots_at, table_at, seen, client_step}
+use Rattle.world_tables.specs.World.{client_until_idle, client_writes, client_starts}
 use Rattle.world_tables.specs.World.{World, Packet, Hosted, Moved, WorldStep, start, hosted_at, client_at, schema_at, scheme_in, chunk_in, owner, the_store, is_down, has_node, tables_of}
 use Rattle.world_tables.specs.World.{still, and_then, and_unless, tasks_in, after_table, move_hosted, move_table, move_there, move_client, first_luck, other_lucks, client_works}
 use Rattle.world_tables.specs.World.{client_tasks, client_follows, tables_fall, without_down, store_falls, or_falls, is_at_work, busy_table, write_next, store_works, tasks_of}
@@ -178,7 +181,7 @@ module _ (n m : ℕ) (less : n ≤ m) where
   change_more (client.PutRow p) few = omega (arith, few, less)
   change_more (client.PutTable p) few = tt
   change_more client.Finish few = tt
-  change_more client.Keep few = tt
+  change_more (client.Keep step) few = tt
 
   tasks_more : (tasks : List ClientTask) → TasksUpTo n tasks → TasksUpTo m tasks
   tasks_more [] few = tt
@@ -216,7 +219,7 @@ module _ (n : ℕ) where
       go None = few
       go (Some position) = there position (table_at d p.table)
   changed_up_to d client.Finish few here = (few.0, tt)
-  changed_up_to d client.Keep few here = few
+  changed_up_to d (client.Keep step) few here = few
 
   done_up_to : (d : ClientDisk) (agenda : Option (List ClientTask)) → DiskUpTo n d → TasksUpTo n (tasks_in agenda) → IsUpTo n (client.done d agenda).client
   done_up_to d None few tasks = (few, tt)
@@ -235,25 +238,33 @@ module _ (n : ℕ) where
   worked_up_to d agenda messages.FailedBefore few tasks = crashed_up_to d agenda messages.FailedBefore few tasks
   worked_up_to d agenda messages.FailedAfter few tasks = crashed_up_to d agenda messages.FailedAfter few tasks
 
-  rest_up_to : (p : Plan) (some : List Fact) (sends : List Send) → p.last ≤ n → TasksUpTo n (client.rest_of p some sends)
-  rest_up_to p some sends few = go p.row p.position
+  -- writes that change nothing
+  keeps_up_to : (steps : List Step) (more : List ClientTask) → TasksUpTo n more → TasksUpTo n (client.keeps steps ++ more)
+  keeps_up_to [] more few = few
+  keeps_up_to (step ∷ steps) more few = (tt, keeps_up_to steps more few)
+
+  rest_up_to : (shape : Shape) (p : Plan) (sends : List Send) → p.last ≤ n → TasksUpTo n (client.rest_of shape p sends)
+  rest_up_to shape p sends few = go p.row p.position
     where
-      last : ClientTask
-      last = record { change = client.Finish; facts = some; sends = sends }
+      last : List ClientTask
+      last = client.keeps shape.after ++ record { change = client.Finish; facts = []; sends = sends } ∷ []
 
-      table : (o : Option ℕ) → TasksUpTo n (client.table_task p o ++ last ∷ [])
-      table None = (tt, tt)
-      table (Some position) = (tt, (tt, tt))
+      ends : TasksUpTo n last
+      ends = keeps_up_to shape.after _ (tt, tt)
 
-      go : (r : Option RowPut) (o : Option ℕ) → TasksUpTo n (client.row_task p r ++ (client.table_task p o ++ last ∷ []))
+      table : (o : Option ℕ) → TasksUpTo n (client.table_task p o ++ last)
+      table None = ends
+      table (Some position) = (tt, ends)
+
+      go : (r : Option RowPut) (o : Option ℕ) → TasksUpTo n (client.row_task p r ++ (client.table_task p o ++ last))
       go None o = table o
       go (Some x) o = (few, table o)
 
-  begun_up_to : (d : ClientDisk) (answer : Answer) (p : Plan) (sends : List Send) → DiskUpTo n d → p.last ≤ n → IsUpTo n (client.begun d answer p sends).client
-  begun_up_to d answer p sends few here = (few, (here, rest_up_to p [] sends here))
+  begun_up_to : (shape : Shape) (d : ClientDisk) (answer : Answer) (p : Plan) (sends : List Send) → DiskUpTo n d → p.last ≤ n → IsUpTo n (client.begun shape d answer p sends).client
+  begun_up_to shape d answer p sends few here = (few, keeps_up_to shape.before _ (here, rest_up_to shape p sends here))
 
 -- a call draws one number at most, and nothing else draws any
-module _ (n c : ℕ) (d : ClientDisk) (few : DiskUpTo n d) where
+module _ (n c : ℕ) (shape : Shape) (d : ClientDisk) (few : DiskUpTo n d) where
   later : DiskUpTo (n + 1) d
   later = disk_more n (n + 1) (omega arith) d few
 
@@ -263,82 +274,83 @@ module _ (n c : ℕ) (d : ClientDisk) (few : DiskUpTo n d) where
   same : d.last ≤ n + 1
   same = later.0
 
-  strong_up_to : (table : ℕ) (row : List ℕ) (slots : Slots) (x : Content) (o : Option InFlight) → IsUpTo (n + 1) (client.write_strong c d table row slots x o).client
+  strong_up_to : (table : ℕ) (row : List ℕ) (slots : Slots) (x : Content) (o : Option InFlight) → IsUpTo (n + 1) (client.write_strong c shape d table row slots x o).client
   strong_up_to table row slots x (Some out) = (later, tt)
-  strong_up_to table row slots x None = (later, (next, (next, (tt, tt))))
+  strong_up_to table row slots x None = begun_up_to (n + 1) shape d facts.Done _ _ later next
 
-  by_up_to : (g : Scheme) (table : ℕ) (row : List ℕ) (opened : TableDisk) (slots : Slots) (x : Content) → IsUpTo (n + 1) (client.write_by g c d table row opened slots x).client
+  by_up_to : (g : Scheme) (table : ℕ) (row : List ℕ) (opened : TableDisk) (slots : Slots) (x : Content) → IsUpTo (n + 1) (client.write_by g c shape d table row opened slots x).client
   by_up_to Strong table row opened slots x = strong_up_to table row slots x (client.first_out opened.rows)
-  by_up_to Causal table row opened slots x = (later, (next, (next, (tt, tt))))
-  by_up_to Eventual table row opened slots x = (later, (next, (next, (tt, tt))))
+  by_up_to Causal table row opened slots x = begun_up_to (n + 1) shape d facts.Done _ _ later next
+  by_up_to Eventual table row opened slots x = begun_up_to (n + 1) shape d facts.Done _ _ later next
 
   free_up_to : (g : Scheme) (table : ℕ) (row : List ℕ) (opened : TableDisk) (slots : Slots) (x : Content) (y : Option Shadow)
-      → IsUpTo (n + 1) (client.write_free g c d table row opened slots x y).client
+      → IsUpTo (n + 1) (client.write_free g c shape d table row opened slots x y).client
   free_up_to g table row opened slots x None = by_up_to g table row opened slots x
   free_up_to g table row opened slots x (Some y) = (later, tt)
 
   outcome_up_to : (table : ℕ) (row : List ℕ) (opened : TableDisk) (slots : Slots) (out : InFlight) (outcome : Outcome)
-      → IsUpTo (n + 1) (client.outcome_taken c d table row opened slots out outcome).client
-  outcome_up_to table row opened slots out (messages.Accepted version) = (later, (same, (same, (tt, tt))))
-  outcome_up_to table row opened slots out (messages.Again version) = (later, (same, (same, (tt, tt))))
+      → IsUpTo (n + 1) (client.outcome_taken c shape d table row opened slots out outcome).client
+  outcome_up_to table row opened slots out (messages.Accepted version) = begun_up_to (n + 1) shape d facts.Done _ _ later same
+  outcome_up_to table row opened slots out (messages.Again version) = begun_up_to (n + 1) shape d facts.Done _ _ later same
   outcome_up_to table row opened slots out (messages.Late last) = (later, tt)
-  outcome_up_to table row opened slots out (messages.Stale latest) = (later, (same, (same, (tt, tt))))
+  outcome_up_to table row opened slots out (messages.Stale latest) = begun_up_to (n + 1) shape d facts.Done _ _ later same
   outcome_up_to table row opened slots out (messages.Conflict latest) = (later, tt)
 
-  response_up_to : (r : Response) (o : Option TableDisk) → IsUpTo (n + 1) (client.response_in c d r o).client
+  response_up_to : (r : Response) (o : Option TableDisk) → IsUpTo (n + 1) (client.response_in c shape d r o).client
   response_up_to r None = (later, tt)
   response_up_to r (Some opened) = taken (slots_at opened r.row).out
     where
-      taken : (o : Option InFlight) → IsUpTo (n + 1) (client.response_taken c d r opened o).client
+      taken : (o : Option InFlight) → IsUpTo (n + 1) (client.response_taken c shape d r opened o).client
       taken None = (later, tt)
       taken (Some out) = go (out.number == r.number)
         where
-          go : (b : Bool) → IsUpTo (n + 1) (if b then client.outcome_taken c d r.table r.row opened (slots_at opened r.row) out r.outcome else client.ignored d).client
+          go : (b : Bool) → IsUpTo (n + 1) (if b then client.outcome_taken c shape d r.table r.row opened (slots_at opened r.row) out r.outcome else client.ignored d).client
           go true = outcome_up_to r.table r.row opened (slots_at opened r.row) out r.outcome
           go false = (later, tt)
 
-  row_up_to : (q : Pulled) (opened : TableDisk) (header : Header) (slots : Slots) → IsUpTo (n + 1) (client.row_taken c d q opened header slots).client
+  row_up_to : (q : Pulled) (opened : TableDisk) (header : Header) (slots : Slots) → IsUpTo (n + 1) (client.row_taken c shape d q opened header slots).client
   row_up_to q opened header slots = go (nat_le header.version (client.top slots.conflict slots.shadow))
     where
-      go : (b : Bool) → IsUpTo (n + 1) (if b then client.begun d facts.Done (client.position_plan c d q.table q.to) (client.next_pull c q.table q)
-          else client.begun d facts.Done (client.row_plan c d q.table header.row q.to (client.row_placed opened.schema.scheme c q.table header slots slots.out)) (client.next_pull c q.table q)).client
-      go true = begun_up_to (n + 1) d facts.Done (client.position_plan c d q.table q.to) (client.next_pull c q.table q) later same
-      go false = begun_up_to (n + 1) d facts.Done (client.row_plan c d q.table header.row q.to (client.row_placed opened.schema.scheme c q.table header slots slots.out))
+      go : (b : Bool) → IsUpTo (n + 1) (if b then client.begun shape d facts.Done (client.position_plan c d q.table q.to) (client.next_pull c q.table q)
+          else client.begun shape d facts.Done (client.row_plan c d q.table header.row q.to (client.row_placed opened.schema.scheme c q.table header slots slots.out))
+          (client.next_pull c q.table q)).client
+      go true = begun_up_to (n + 1) shape d facts.Done (client.position_plan c d q.table q.to) (client.next_pull c q.table q) later same
+      go false = begun_up_to (n + 1) shape d facts.Done (client.row_plan c d q.table header.row q.to (client.row_placed opened.schema.scheme c q.table header slots slots.out))
           (client.next_pull c q.table q) later same
 
-  pulled_up_to : (q : Pulled) (o : Option TableDisk) → IsUpTo (n + 1) (client.pulled_in c d q o).client
+  pulled_up_to : (q : Pulled) (o : Option TableDisk) → IsUpTo (n + 1) (client.pulled_in c shape d q o).client
   pulled_up_to q None = (later, tt)
   pulled_up_to q (Some opened) = taken q.header
     where
-      taken : (o : Option Header) → IsUpTo (n + 1) (client.pulled_taken c d q opened o).client
+      taken : (o : Option Header) → IsUpTo (n + 1) (client.pulled_taken c shape d q opened o).client
       taken None = (later, tt)
       taken (Some header) = go (q.from == opened.position)
         where
-          go : (b : Bool) → IsUpTo (n + 1) (if b then client.row_taken c d q opened header (slots_at opened header.row) else client.ignored d).client
+          go : (b : Bool) → IsUpTo (n + 1) (if b then client.row_taken c shape d q opened header (slots_at opened header.row) else client.ignored d).client
           go true = row_up_to q opened header (slots_at opened header.row)
           go false = (later, tt)
 
-  first_up_to : (table : ℕ) (again : List Send) (o : Option RowOut) → IsUpTo (n + 1) (client.sync_first c d table again o).client
+  first_up_to : (table : ℕ) (again : List Send) (o : Option RowOut) → IsUpTo (n + 1) (client.sync_first c shape d table again o).client
   first_up_to table again None = (later, tt)
-  first_up_to table again (Some x) = (later, (same, (same, (tt, tt))))
+  first_up_to table again (Some x) = begun_up_to (n + 1) shape d facts.Done _ _ later same
 
   later_tasks : (agenda : List ClientTask) → TasksUpTo n agenda → TasksUpTo (n + 1) agenda
   later_tasks agenda tasks = tasks_more n (n + 1) (omega arith) agenda tasks
 
   idle_up_to : (g : Scheme) (agenda : List ClientTask) → TasksUpTo n agenda → (table : ℕ) (row : List ℕ) (opened : TableDisk) (x : Content)
-      → IsUpTo (n + 1) (client.write_idle g c d agenda table row opened x).client
+      → IsUpTo (n + 1) (client.write_idle g c shape d agenda table row opened x).client
   idle_up_to g (task ∷ more) tasks table row opened x = (later, later_tasks (task ∷ more) tasks)
   idle_up_to g [] tasks table row opened x = free_up_to g table row opened (slots_at opened row) x (slots_at opened row).conflict
 
-  write_up_to : (agenda : Option (List ClientTask)) → TasksUpTo n (tasks_in agenda) → (table : ℕ) (row : List ℕ) (x : Content) → IsUpTo (n + 1) (client.write_step c d agenda table row x).client
+  write_up_to : (agenda : Option (List ClientTask)) → TasksUpTo n (tasks_in agenda) → (table : ℕ) (row : List ℕ) (x : Content) → IsUpTo (n + 1) (client.write_step c shape d agenda table row x).client
   write_up_to None tasks table row x = (later, tt)
   write_up_to (Some agenda) tasks table row x = there (table_at (seen d) table)
     where
-      fitting : (g : Scheme) (opened : TableDisk) (fit : Result (Unit {0}) FitFault) → IsUpTo (n + 1) (client.write_fitting g c d agenda table row opened x fit).client
+      fitting : (g : Scheme) (opened : TableDisk) (fit : Result (Unit {0}) FitFault) → IsUpTo (n + 1) (client.write_fitting g c shape d agenda table row opened x fit).client
       fitting g opened (Ok fits) = idle_up_to g agenda tasks table row opened x
       fitting g opened (Err fault) = (later, later_tasks agenda tasks)
 
-      there : (o : Option TableDisk) → IsUpTo (n + 1) (client.write_to c d agenda table row x o).client
+      there : (o : Option TableDisk) → IsUpTo (n + 1) (client.write_to c shape d agenda table row x o).client
       there None = (later, later_tasks agenda tasks)
       there (Some opened) = fitting opened.schema.scheme opened (fit_of opened.schema x)
 
@@ -346,12 +358,12 @@ module _ (n c : ℕ) (d : ClientDisk) (few : DiskUpTo n d) where
   show_up_to None tasks table row = (later, tt)
   show_up_to (Some agenda) tasks table row = (later, later_tasks agenda tasks)
 
-  sync_in_up_to : (agenda : List ClientTask) → TasksUpTo n agenda → (table : ℕ) (o : Option TableDisk) → IsUpTo (n + 1) (client.sync_in c d agenda table o).client
+  sync_in_up_to : (agenda : List ClientTask) → TasksUpTo n agenda → (table : ℕ) (o : Option TableDisk) → IsUpTo (n + 1) (client.sync_in c shape d agenda table o).client
   sync_in_up_to agenda tasks table None = (later, later_tasks agenda tasks)
   sync_in_up_to (task ∷ more) tasks table (Some opened) = (later, later_tasks (task ∷ more) tasks)
   sync_in_up_to [] tasks table (Some opened) = first_up_to table (client.resent c table opened.rows) (client.first_to_send opened.rows)
 
-  sync_up_to : (agenda : Option (List ClientTask)) → TasksUpTo n (tasks_in agenda) → (table : ℕ) → IsUpTo (n + 1) (client.sync_step c d agenda table).client
+  sync_up_to : (agenda : Option (List ClientTask)) → TasksUpTo n (tasks_in agenda) → (table : ℕ) → IsUpTo (n + 1) (client.sync_step c shape d agenda table).client
   sync_up_to None tasks table = (later, tt)
   sync_up_to (Some agenda) tasks table = sync_in_up_to agenda tasks table (table_at (seen d) table)
 
@@ -364,13 +376,46 @@ module _ (n c : ℕ) (d : ClientDisk) (few : DiskUpTo n d) where
   next_up_to None tasks table = (later, tt)
   next_up_to (Some agenda) tasks table = next_in_up_to agenda tasks table (table_at (seen d) table)
 
-  take_up_to : (agenda : Option (List ClientTask)) → TasksUpTo n (tasks_in agenda) → (m : Message) → IsUpTo (n + 1) (client.take_step c d agenda m).client
+  take_up_to : (agenda : Option (List ClientTask)) → TasksUpTo n (tasks_in agenda) → (m : Message) → IsUpTo (n + 1) (client.take_step c shape d agenda m).client
   take_up_to None tasks m = (later, tt)
   take_up_to (Some (task ∷ more)) tasks m = (later, later_tasks (task ∷ more) tasks)
   take_up_to (Some []) tasks (SyncRequest q) = (later, tt)
   take_up_to (Some []) tasks (PullRequest q) = (later, tt)
   take_up_to (Some []) tasks (SyncResponse r) = response_up_to r (table_at (seen d) r.table)
   take_up_to (Some []) tasks (PullResponse q) = pulled_up_to q (table_at (seen d) q.table)
+
+-- a device write, a crash and a start draw no number
+abbrev IsNoCall : ClientMove → Type 0
+IsNoCall (client.Work luck) = Unit {0}
+IsNoCall (client.Crash luck) = Unit {0}
+IsNoCall client.Start = Unit {0}
+IsNoCall other = ⊥
+
+module _ (n c : ℕ) (shape : Shape) where
+  ending_up_to : (some : List Fact) (tasks : List ClientTask) → TasksUpTo n tasks → TasksUpTo n (client.ending some tasks)
+  ending_up_to some [] few = tt
+  ending_up_to some (task ∷ []) few = few
+  ending_up_to some (task ∷ next ∷ more) few = (few.0, ending_up_to some (next ∷ more) few.1)
+
+  opening_up_to : (o : Option Plan) → PlanUpTo n o → TasksUpTo n (client.opening shape o)
+  opening_up_to None few = keeps_up_to n shape.before _ (subst (λ (tasks : List ClientTask). TasksUpTo n tasks) (append-nil (client.keeps shape.after)) (keeps_up_to n shape.after [] tt))
+  opening_up_to (Some p) few = keeps_up_to n shape.before _ (rest_up_to n shape p [] few)
+
+  started_up_to : (d : ClientDisk) (agenda : Option (List ClientTask)) → DiskUpTo n d → TasksUpTo n (tasks_in agenda) → IsUpTo n (client.started c shape d agenda).client
+  started_up_to d (Some agenda) few tasks = (few, tasks)
+  started_up_to d None few tasks = (few, ending_up_to (facts.ClientRecovered c ∷ []) (client.opening shape d.plan) (opening_up_to d.plan few.1))
+
+  no_call_up_to : (s : Client) (move : ClientMove) → IsNoCall move → IsUpTo n s → IsUpTo n (client_step c shape s move).client
+  no_call_up_to s (client.Work luck) none few = worked_up_to n s.disk s.agenda luck few.0 few.1
+  no_call_up_to s (client.Crash luck) none few = crashed_up_to n s.disk s.agenda luck few.0 few.1
+  no_call_up_to s client.Start none few = started_up_to s.disk s.agenda few.0 few.1
+  no_call_up_to s (client.Write table row content) none few = absurd none
+  no_call_up_to s (client.Show table row) none few = absurd none
+  no_call_up_to s (client.Sum table row) none few = absurd none
+  no_call_up_to s (client.Sync table) none few = absurd none
+  no_call_up_to s (client.Next table) none few = absurd none
+  no_call_up_to s (client.Resolve table row seen choice) none few = absurd none
+  no_call_up_to s (client.Take message) none few = absurd none
 
 -- ---- a world whose tables have at most so many versions, and whose clients have drawn numbers up to this one
 
@@ -422,19 +467,29 @@ module _ (n : ℕ) where
   crash_few : (w : World) (table : ℕ) (luck : Luck) → AreFew n w → AreFew n (move_table table (store.Crash luck) w).world
   crash_few w table luck few = move_few n n w table (store.Crash luck) (omega arith) few
 
-  client_few : (w : World) (c : ℕ) (luck : Luck) → AreFew n w → AreFew n (move_client c (client.Work luck) w).world
-  client_few w c luck few = go (client_at w c) refl
+  -- a move of a client that draws no number
+  client_few : (w : World) (c : ℕ) (move : ClientMove) (shape : Shape) → IsNoCall move → AreFew n w → AreFew n (move_client c move shape w).world
+  client_few w c move shape none few = go (client_at w c) refl
     where
-      go : (o : Option Client) → client_at w c ≡ o → AreFew n (move_there w c (client.Work luck) o).world
+      go : (o : Option Client) → client_at w c ≡ o → AreFew n (move_there w c move shape o).world
       go None at = few
-      go (Some node) at =
-          let old : IsUpTo n node = few.1 c node at in
-          (few.0, put_client n w.clients c _ few.1 (worked_up_to n node.disk node.agenda luck old.0 old.1))
+      go (Some node) at = (few.0, put_client n w.clients c _ few.1 (no_call_up_to n c shape node move none (few.1 c node at)))
 
   client_works_few : (c : ℕ) (tasks : List ClientTask) (lucks : List Luck) (w : World) → AreFew n w → AreFew n (client_works c tasks lucks w).world
   client_works_few c [] lucks w few = few
   client_works_few c (task ∷ tasks) lucks w few =
-      client_works_few c tasks (other_lucks lucks) (move_client c (client.Work (first_luck lucks)) w).world (client_few w c (first_luck lucks) few)
+      client_works_few c tasks (other_lucks lucks) (move_client c (client.Work (first_luck lucks)) no_shape w).world (client_few w c (client.Work (first_luck lucks)) no_shape tt few)
+
+  client_follows_few : (c : ℕ) (lucks : List Luck) (w : World) → AreFew n w → AreFew n (client_follows c lucks w).world
+  client_follows_few c lucks w few = go (has_node w.holds (nodes.Client c))
+    where
+      go : (held : Bool) → AreFew n (if held then still w else client_until_idle c lucks w).world
+      go true = few
+      go false = client_works_few c (client_tasks (client_at w c)) lucks w few
+
+  client_writes_few : (c : ℕ) (luck : Luck) (tasks : List ClientTask) (w : World) → AreFew n w → AreFew n (client_writes c luck tasks w).world
+  client_writes_few c luck [] w few = few
+  client_writes_few c luck (task ∷ tasks) w few = client_few w c (client.Work luck) no_shape tt few
 
   -- ---- a Store's tables
 
@@ -546,41 +601,41 @@ module _ (n : ℕ) (w : World) (few : AreFew n w) where
       go false = there
 
   -- a move of a client that draws one number at most, and the work that follows
-  call_few : (c : ℕ) (move : ClientMove) (lucks : List Luck) → ((node : Client) → client_at w c ≡ Some node → IsUpTo (n + 1) (client_step c node move).client)
-      → (o : Option Client) → client_at w c ≡ o → AreFew (n + 1) (call_there w c move lucks o).world
-  call_few c move lucks most None at = after
-  call_few c move lucks most (Some node) at = down_few (nodes.Client c) _ (follows (gets_tasks node.agenda v c))
+  call_few : (c : ℕ) (move : ClientMove) (shape : Shape) (lucks : List Luck) → ((node : Client) → client_at w c ≡ Some node → IsUpTo (n + 1) (client_step c shape node move).client)
+      → (o : Option Client) → client_at w c ≡ o → AreFew (n + 1) (call_there w c move shape lucks o).world
+  call_few c move shape lucks most None at = after
+  call_few c move shape lucks most (Some node) at = down_few (nodes.Client c) _ (follows (gets_tasks node.agenda v c))
     where
       v : World
-      v = (move_client c move w).world
+      v = (move_client c move shape w).world
 
-      moved : (o : Option Client) → client_at w c ≡ o → AreFew (n + 1) (move_there w c move o).world
+      moved : (o : Option Client) → client_at w c ≡ o → AreFew (n + 1) (move_there w c move shape o).world
       moved None is = after
       moved (Some x) is = (after.0, put_client (n + 1) w.clients c _ after.1 (most x is))
 
       follows : (b : Bool) → AreFew (n + 1) (if b then client_follows c lucks v else still v).world
-      follows true = client_works_few (n + 1) c (client_tasks (client_at v c)) lucks v (moved (client_at w c) refl)
+      follows true = client_follows_few (n + 1) c lucks v (moved (client_at w c) refl)
       follows false = moved (client_at w c) refl
 
-  write_event : (c table : ℕ) (row : List ℕ) (x : Content) (lucks : List Luck) → AreFew (n + 1) (call w c (client.Write table row x) lucks).world
-  write_event c table row x lucks = call_few c (client.Write table row x) lucks
-      (λ node at. let old : IsUpTo n node = few.1 c node at in write_up_to n c node.disk old.0 node.agenda old.1 table row x) (client_at w c) refl
+  write_event : (c table : ℕ) (row : List ℕ) (x : Content) (lucks : List Luck) → AreFew (n + 1) (call w c (client.Write table row x) no_shape lucks).world
+  write_event c table row x lucks = call_few c (client.Write table row x) no_shape lucks
+      (λ node at. let old : IsUpTo n node = few.1 c node at in write_up_to n c no_shape node.disk old.0 node.agenda old.1 table row x) (client_at w c) refl
 
-  show_event : (c table : ℕ) (row : List ℕ) (lucks : List Luck) → AreFew (n + 1) (call w c (client.Show table row) lucks).world
-  show_event c table row lucks = call_few c (client.Show table row) lucks
-      (λ node at. let old : IsUpTo n node = few.1 c node at in show_up_to n c node.disk old.0 node.agenda old.1 table row) (client_at w c) refl
+  show_event : (c table : ℕ) (row : List ℕ) (lucks : List Luck) → AreFew (n + 1) (call w c (client.Show table row) no_shape lucks).world
+  show_event c table row lucks = call_few c (client.Show table row) no_shape lucks
+      (λ node at. let old : IsUpTo n node = few.1 c node at in show_up_to n c no_shape node.disk old.0 node.agenda old.1 table row) (client_at w c) refl
 
-  sum_event : (c table : ℕ) (row : List ℕ) (lucks : List Luck) → AreFew (n + 1) (call w c (client.Sum table row) lucks).world
-  sum_event c table row lucks = call_few c (client.Sum table row) lucks
-      (λ node at. let old : IsUpTo n node = few.1 c node at in show_up_to n c node.disk old.0 node.agenda old.1 table row) (client_at w c) refl
+  sum_event : (c table : ℕ) (row : List ℕ) (lucks : List Luck) → AreFew (n + 1) (call w c (client.Sum table row) no_shape lucks).world
+  sum_event c table row lucks = call_few c (client.Sum table row) no_shape lucks
+      (λ node at. let old : IsUpTo n node = few.1 c node at in show_up_to n c no_shape node.disk old.0 node.agenda old.1 table row) (client_at w c) refl
 
-  sync_event : (c table : ℕ) (lucks : List Luck) → AreFew (n + 1) (call w c (client.Sync table) lucks).world
-  sync_event c table lucks = call_few c (client.Sync table) lucks
-      (λ node at. let old : IsUpTo n node = few.1 c node at in sync_up_to n c node.disk old.0 node.agenda old.1 table) (client_at w c) refl
+  sync_event : (c table : ℕ) (lucks : List Luck) → AreFew (n + 1) (call w c (client.Sync table) no_shape lucks).world
+  sync_event c table lucks = call_few c (client.Sync table) no_shape lucks
+      (λ node at. let old : IsUpTo n node = few.1 c node at in sync_up_to n c no_shape node.disk old.0 node.agenda old.1 table) (client_at w c) refl
 
-  next_event : (c table : ℕ) (lucks : List Luck) → AreFew (n + 1) (call w c (client.Next table) lucks).world
-  next_event c table lucks = call_few c (client.Next table) lucks
-      (λ node at. let old : IsUpTo n node = few.1 c node at in next_up_to n c node.disk old.0 node.agenda old.1 table) (client_at w c) refl
+  next_event : (c table : ℕ) (lucks : List Luck) → AreFew (n + 1) (call w c (client.Next table) no_shape lucks).world
+  next_event c table lucks = call_few c (client.Next table) no_shape lucks
+      (λ node at. let old : IsUpTo n node = few.1 c node at in next_up_to n c no_shape node.disk old.0 node.agenda old.1 table) (client_at w c) refl
 
   -- ---- deliveries
 
@@ -608,8 +663,8 @@ module _ (n : ℕ) (w : World) (few : AreFew n w) where
     where
       go : (o : Option Client) → client_at w c ≡ o → AreFew (n + 1) (to_there w c p.message lucks o).world
       go None at = after
-      go (Some node) at = call_few c (client.Take p.message) lucks
-          (λ x is. let old : IsUpTo n x = few.1 c x is in take_up_to n c x.disk old.0 x.agenda old.1 p.message) (Some node) at
+      go (Some node) at = call_few c (client.Take p.message) no_shape lucks
+          (λ x is. let old : IsUpTo n x = few.1 c x is in take_up_to n c no_shape x.disk old.0 x.agenda old.1 p.message) (Some node) at
 
   delivered_few : (lucks : List Luck) (o : Option Packet) → AreFew (n + 1) (delivered w lucks o).world
   delivered_few lucks None = after
@@ -658,21 +713,25 @@ module _ (n : ℕ) (w : World) (few : AreFew n w) where
 
   worked_node_few : (lucks : List Luck) (node : Node) → AreFew (n + 1) (worked w lucks node).world
   worked_node_few lucks (nodes.Store number) = write_few (n + 1) number (first_luck lucks) (busy_table w number) w after
-  worked_node_few lucks (nodes.Client c) = after
+  worked_node_few lucks (nodes.Client c) = client_writes_few (n + 1) c (first_luck lucks) (client_tasks (client_at w c)) w after
   worked_node_few lucks (nodes.Gate gate) = after
 
   all_worked_few : (lucks : List Luck) (node : Node) → AreFew (n + 1) (all_worked w lucks node).world
   all_worked_few lucks (nodes.Store number) = works_few (n + 1) number (length (tasks_of w number)) lucks w after
-  all_worked_few lucks (nodes.Client c) = after
+  all_worked_few lucks (nodes.Client c) = client_works_few (n + 1) c (client_tasks (client_at w c)) lucks w after
   all_worked_few lucks (nodes.Gate gate) = after
 
   crashed_node_few : (calls : ℕ) (lucks : List Luck) (node : Node) → AreFew (n + 1) (crashed w calls lucks node).world
   crashed_node_few calls lucks (nodes.Store number) = crashes_few (n + 1) number calls lucks w after
-  crashed_node_few calls lucks (nodes.Client c) = after
+  crashed_node_few calls lucks (nodes.Client c) = client_few (n + 1) w c (client.Crash (crash_luck calls (other_lucks lucks) (first_luck lucks))) no_shape tt after
   crashed_node_few calls lucks (nodes.Gate gate) = after
 
   started_node_few : (lucks : List Luck) (node : Node) → AreFew (n + 1) (started w lucks node).world
-  started_node_few lucks (nodes.Client c) = after
+  started_node_few lucks (nodes.Client c) = go (is_down w (nodes.Client c))
+    where
+      go : (b : Bool) → AreFew (n + 1) (if b then answering facts.Done (client_starts c lucks w) else answered w facts.Done).world
+      go true = client_follows_few (n + 1) c lucks (move_client c client.Start no_shape w).world (client_few (n + 1) w c client.Start no_shape tt after)
+      go false = after
   started_node_few lucks (nodes.Gate gate) = after
   started_node_few lucks (nodes.Store number) = go (is_down w (nodes.Store number))
     where

@@ -1,12 +1,11 @@
 -- Each move of a client answers in a form of its command.
-use Rattle.std.proofs.Common.{◌≡◌, ℕ, Bool, true, false, List, [], ◌∷◌, Option, Some, None, Result, Ok, Err, refl}
+use Rattle.std.proofs.Common.{ℕ, Bool, true, false, List, [], ◌∷◌, Option, Some, None, Result, Ok, Err}
 use Rattle.std.specs.Prelude.{if◌then◌else◌, ◌==◌, nat_le, nat_lt}
 use Rattle.row_value.specs.declared.content.Content.{Content}
 use Rattle.row_value.specs.declared.schema.Scheme.{Scheme}
 use Rattle.row_value.specs.declared.schema.Scheme.TheVariants.{Strong, Causal, Eventual}
 use Rattle.row_value.specs.declared.fit.FitFault.{FitFault}
 use Rattle.row_value.specs.Fit.{fit_of}
-use Rattle.step_tables.specs.declared.slots.Main.{Main}
 use Rattle.step_tables.specs.declared.slots.InFlight.{InFlight}
 use Rattle.step_tables.specs.declared.slots.Shadow.{Shadow}
 use Rattle.step_tables.specs.Facts.{Answer, Shown, ShownSum}
@@ -18,11 +17,10 @@ use Rattle.stab_base.specs.declared.node.Node.{Node}
 use Rattle.step_tables.specs.Store.{current_of}
 use Rattle.step_tables.specs.StoreMoves as store
 use Rattle.step_tables.specs.StoreMoves.{StoreDisk, StoreTask}
-use Rattle.step_tables.specs.ClientMoves.{Slots, TableDisk, ClientDisk, ClientTask, Client, RowOut, slots_at, table_at, seen, shown_in, show_answer, show_in, write_step, write_to, write_fitting}
+use Rattle.step_tables.specs.ClientMoves.{Slots, TableDisk, ClientDisk, ClientTask, Shape, RowOut, slots_at, table_at, seen, shown_in, show_answer, show_in, write_step, write_to}
+use Rattle.step_tables.specs.ClientMoves.{write_fitting}
 use Rattle.step_tables.specs.ClientMoves.{write_idle, write_free, write_by, write_strong, first_out, show_step, sync_step, sync_in, sync_first, resent, first_to_send, next_step, next_in, take_step}
-use Rattle.step_tables.specs.ClientMoves.{response_in, response_taken, outcome_taken, pulled_in, pulled_taken, row_taken, top, begun, position_plan, row_plan, row_placed, next_pull, client_step}
-use Rattle.step_tables.specs.ClientMoves.{Write, Show, Sync, Next, Take}
-use Rattle.std.proofs.lemmas.Bool.Decides.{nat_tests}
+use Rattle.step_tables.specs.ClientMoves.{response_in, response_taken, outcome_taken, pulled_in, pulled_taken, row_taken, top, begun, position_plan, row_plan, row_placed, next_pull}
 
 -- an answer with a number, or a refusal
 abbrev pub IsNumber : Answer → Type 0
@@ -61,34 +59,34 @@ sum_form (facts.Stores version content) f = absurd f
 sum_form (facts.Did step) f = absurd f
 sum_form (facts.Names names) f = absurd f
 
-module _ (c : ℕ) (d : ClientDisk) where
-  strong_form : (table : ℕ) (row : List ℕ) (slots : Slots) (x : Content) (o : Option InFlight) → IsNumber (write_strong c d table row slots x o).answer
+module _ (c : ℕ) (shape : Shape) (d : ClientDisk) where
+  strong_form : (table : ℕ) (row : List ℕ) (slots : Slots) (x : Content) (o : Option InFlight) → IsNumber (write_strong c shape d table row slots x o).answer
   strong_form table row slots x None = tt
   strong_form table row slots x (Some out) = tt
 
-  by_form : (g : Scheme) (table : ℕ) (row : List ℕ) (opened : TableDisk) (slots : Slots) (x : Content) → IsNumber (write_by g c d table row opened slots x).answer
+  by_form : (g : Scheme) (table : ℕ) (row : List ℕ) (opened : TableDisk) (slots : Slots) (x : Content) → IsNumber (write_by g c shape d table row opened slots x).answer
   by_form Strong table row opened slots x = strong_form table row slots x (first_out opened.rows)
   by_form Causal table row opened slots x = tt
   by_form Eventual table row opened slots x = tt
 
-  free_form : (g : Scheme) (table : ℕ) (row : List ℕ) (opened : TableDisk) (slots : Slots) (x : Content) (y : Option Shadow) → IsNumber (write_free g c d table row opened slots x y).answer
+  free_form : (g : Scheme) (table : ℕ) (row : List ℕ) (opened : TableDisk) (slots : Slots) (x : Content) (y : Option Shadow) → IsNumber (write_free g c shape d table row opened slots x y).answer
   free_form g table row opened slots x None = by_form g table row opened slots x
   free_form g table row opened slots x (Some y) = tt
 
-  idle_form : (g : Scheme) (agenda : List ClientTask) (table : ℕ) (row : List ℕ) (opened : TableDisk) (x : Content) → IsNumber (write_idle g c d agenda table row opened x).answer
+  idle_form : (g : Scheme) (agenda : List ClientTask) (table : ℕ) (row : List ℕ) (opened : TableDisk) (x : Content) → IsNumber (write_idle g c shape d agenda table row opened x).answer
   idle_form g (task ∷ more) table row opened x = tt
   idle_form g [] table row opened x = free_form g table row opened (slots_at opened row) x (slots_at opened row).conflict
 
   fitting_form : (g : Scheme) (agenda : List ClientTask) (table : ℕ) (row : List ℕ) (opened : TableDisk) (x : Content) (fit : Result (Unit {0}) FitFault)
-      → IsNumber (write_fitting g c d agenda table row opened x fit).answer
+      → IsNumber (write_fitting g c shape d agenda table row opened x fit).answer
   fitting_form g agenda table row opened x (Ok fits) = idle_form g agenda table row opened x
   fitting_form g agenda table row opened x (Err fault) = tt
 
-  to_form : (agenda : List ClientTask) (table : ℕ) (row : List ℕ) (x : Content) (o : Option TableDisk) → IsNumber (write_to c d agenda table row x o).answer
+  to_form : (agenda : List ClientTask) (table : ℕ) (row : List ℕ) (x : Content) (o : Option TableDisk) → IsNumber (write_to c shape d agenda table row x o).answer
   to_form agenda table row x None = tt
   to_form agenda table row x (Some opened) = fitting_form opened.schema.scheme agenda table row opened x (fit_of opened.schema x)
 
-  pub write_form : (agenda : Option (List ClientTask)) (table : ℕ) (row : List ℕ) (x : Content) → IsNumber (write_step c d agenda table row x).answer
+  pub write_form : (agenda : Option (List ClientTask)) (table : ℕ) (row : List ℕ) (x : Content) → IsNumber (write_step c shape d agenda table row x).answer
   write_form None table row x = tt
   write_form (Some agenda) table row x = to_form agenda table row x (table_at (seen d) table)
 
@@ -104,16 +102,16 @@ module _ (c : ℕ) (d : ClientDisk) where
   show_form None table row = tt
   show_form (Some agenda) table row = show_in_form row (table_at (seen d) table)
 
-  first_form : (table : ℕ) (again : List Send) (o : Option RowOut) → IsNumber (sync_first c d table again o).answer
+  first_form : (table : ℕ) (again : List Send) (o : Option RowOut) → IsNumber (sync_first c shape d table again o).answer
   first_form table again None = tt
   first_form table again (Some x) = tt
 
-  sync_in_form : (agenda : List ClientTask) (table : ℕ) (o : Option TableDisk) → IsNumber (sync_in c d agenda table o).answer
+  sync_in_form : (agenda : List ClientTask) (table : ℕ) (o : Option TableDisk) → IsNumber (sync_in c shape d agenda table o).answer
   sync_in_form agenda table None = tt
   sync_in_form (task ∷ more) table (Some opened) = tt
   sync_in_form [] table (Some opened) = first_form table (resent c table opened.rows) (first_to_send opened.rows)
 
-  pub sync_form : (agenda : Option (List ClientTask)) (table : ℕ) → IsNumber (sync_step c d agenda table).answer
+  pub sync_form : (agenda : Option (List ClientTask)) (table : ℕ) → IsNumber (sync_step c shape d agenda table).answer
   sync_form None table = tt
   sync_form (Some agenda) table = sync_in_form agenda table (table_at (seen d) table)
 
@@ -126,47 +124,49 @@ module _ (c : ℕ) (d : ClientDisk) where
   next_form None table = tt
   next_form (Some agenda) table = next_in_form agenda table (table_at (seen d) table)
 
-  outcome_form : (table : ℕ) (row : List ℕ) (opened : TableDisk) (slots : Slots) (out : InFlight) (o : Outcome) → IsDone (outcome_taken c d table row opened slots out o).answer
+  outcome_form : (table : ℕ) (row : List ℕ) (opened : TableDisk) (slots : Slots) (out : InFlight) (o : Outcome) → IsDone (outcome_taken c shape d table row opened slots out o).answer
   outcome_form table row opened slots out (messages.Accepted v) = tt
   outcome_form table row opened slots out (messages.Again v) = tt
   outcome_form table row opened slots out (messages.Late v) = tt
   outcome_form table row opened slots out (messages.Stale v) = tt
   outcome_form table row opened slots out (messages.Conflict v) = tt
 
-  response_form : (r : Response) (opened : TableDisk) (o : Option InFlight) → IsDone (response_taken c d r opened o).answer
+  response_form : (r : Response) (opened : TableDisk) (o : Option InFlight) → IsDone (response_taken c shape d r opened o).answer
   response_form r opened None = tt
   response_form r opened (Some out) = go (out.number == r.number)
     where
-      go : (b : Bool) → IsDone (if b then outcome_taken c d r.table r.row opened (slots_at opened r.row) out r.outcome else record { client = record { disk = d; agenda = Some [] }; answer = facts.Done; facts = []; sends = [] }).answer
+      go : (b : Bool) → IsDone (if b then outcome_taken c shape d r.table r.row opened (slots_at opened r.row) out r.outcome
+          else record { client = record { disk = d; agenda = Some [] }; answer = facts.Done; facts = []; sends = [] }).answer
       go true = outcome_form r.table r.row opened (slots_at opened r.row) out r.outcome
       go false = tt
 
-  response_in_form : (r : Response) (o : Option TableDisk) → IsDone (response_in c d r o).answer
+  response_in_form : (r : Response) (o : Option TableDisk) → IsDone (response_in c shape d r o).answer
   response_in_form r None = tt
   response_in_form r (Some opened) = response_form r opened (slots_at opened r.row).out
 
-  row_form : (q : Pulled) (opened : TableDisk) (hd : Header) (slots : Slots) → IsDone (row_taken c d q opened hd slots).answer
+  row_form : (q : Pulled) (opened : TableDisk) (hd : Header) (slots : Slots) → IsDone (row_taken c shape d q opened hd slots).answer
   row_form q opened hd slots = go (nat_le hd.version (top slots.conflict slots.shadow))
     where
       go : (b : Bool) → IsDone (if b
-          then begun d facts.Done (position_plan c d q.table q.to) (next_pull c q.table q)
-          else begun d facts.Done (row_plan c d q.table hd.row q.to (row_placed opened.schema.scheme c q.table hd slots slots.out)) (next_pull c q.table q)).answer
+          then begun shape d facts.Done (position_plan c d q.table q.to) (next_pull c q.table q)
+          else begun shape d facts.Done (row_plan c d q.table hd.row q.to (row_placed opened.schema.scheme c q.table hd slots slots.out)) (next_pull c q.table q)).answer
       go true = tt
       go false = tt
 
-  pulled_form : (q : Pulled) (opened : TableDisk) (o : Option Header) → IsDone (pulled_taken c d q opened o).answer
+  pulled_form : (q : Pulled) (opened : TableDisk) (o : Option Header) → IsDone (pulled_taken c shape d q opened o).answer
   pulled_form q opened None = tt
   pulled_form q opened (Some hd) = go (q.from == opened.position)
     where
-      go : (b : Bool) → IsDone (if b then row_taken c d q opened hd (slots_at opened hd.row) else record { client = record { disk = d; agenda = Some [] }; answer = facts.Done; facts = []; sends = [] }).answer
+      go : (b : Bool) → IsDone (if b then row_taken c shape d q opened hd (slots_at opened hd.row)
+          else record { client = record { disk = d; agenda = Some [] }; answer = facts.Done; facts = []; sends = [] }).answer
       go true = row_form q opened hd (slots_at opened hd.row)
       go false = tt
 
-  pulled_in_form : (q : Pulled) (o : Option TableDisk) → IsDone (pulled_in c d q o).answer
+  pulled_in_form : (q : Pulled) (o : Option TableDisk) → IsDone (pulled_in c shape d q o).answer
   pulled_in_form q None = tt
   pulled_in_form q (Some opened) = pulled_form q opened q.header
 
-  pub take_form : (agenda : Option (List ClientTask)) (m : Message) → IsDone (take_step c d agenda m).answer
+  pub take_form : (agenda : Option (List ClientTask)) (m : Message) → IsDone (take_step c shape d agenda m).answer
   take_form None m = tt
   take_form (Some (task ∷ more)) m = tt
   take_form (Some []) (SyncRequest q) = tt

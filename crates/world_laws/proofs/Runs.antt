@@ -1,18 +1,17 @@
 -- Every event keeps the world, and every run is sound.
-use Rattle.std.proofs.Common.{◌≡◌, ◌≢◌, ◌⊎◌, ℕ, ◌+◌, ◌<◌, ◌≤◌, Bool, true, false, List, [], ◌∷◌, ◌++◌, length, Option, Some, None, refl, sym, ap, ◌∙◌, subst, arith, inl, inr, ⊎_elim, append-nil}
+use Rattle.std.proofs.Common.{◌≡◌, ℕ, ◌+◌, Bool, true, false, List, [], ◌∷◌, ◌++◌, length, Option, Some, None, refl, sym, ap, ◌∙◌, subst, arith, inl, inr, ⊎_elim, append-nil}
 use Rattle.std.proofs.Common.{true≢false}
-use Rattle.std.specs.Prelude.{map, slice_get, ◌==◌, not, if◌then◌else◌, MatchBool}
+use Rattle.std.specs.Prelude.{map, slice_get, ◌==◌, not, if◌then◌else◌}
 use Rattle.std.proofs.lemmas.Bool.Decides.{nat_tests}
 use Rattle.std.specs.Ordering.{nat_cmp}
 use Rattle.std.specs.Map.{lookup}
-use Rattle.std.specs.BTreeMap.{is_at, insert_entry}
+use Rattle.std.specs.BTreeMap.{is_at}
 use Rattle.stab_base.specs.declared.chunk_name.ChunkName.{ChunkName}
 use Rattle.stab_base.specs.declared.node.Node.{Node}
 use Rattle.stab_base.specs.declared.node.Node.TheVariants as nodes
 use Rattle.row_value.specs.declared.content.Content.{Content}
 use Rattle.row_value.specs.declared.schema.Schema.{Schema}
 use Rattle.row_value.specs.declared.schema.Scheme.{Scheme}
-use Rattle.row_value.specs.declared.schema.Scheme.TheVariants.{Strong, Causal, Eventual}
 use Rattle.table_model.specs.declared.entry.Entry.{Entry}
 use Rattle.table_model.specs.declared.event.Event.{Event}
 use Rattle.table_model.specs.declared.event.Event.TheVariants as events
@@ -21,28 +20,32 @@ use Rattle.step_tables.specs.Store.{Stored, entries_of, current_of}
 use Rattle.step_tables.specs.Facts.{Fact, Answer, Refusal, Line, AnswerLine, EntryLine, FactLine}
 use Rattle.step_tables.specs.Facts as facts
 use Rattle.step_tables.specs.Sums.{by_digests}
-use Rattle.step_tables.specs.Members.{Among, put}
 use Rattle.step_tables.specs.Messages.{Message, Luck, SyncRequest, SyncResponse, PullRequest, PullResponse, table_of, name_of}
 use Rattle.step_tables.specs.Messages as messages
-use Rattle.step_tables.specs.Sayings.{Heard, nothing_heard, Said, nothing_said, hear, hear_all, hear_lines, says}
+use Rattle.step_tables.specs.Sayings.{Heard, nothing_heard, Said, nothing_said, hear_lines}
 use Rattle.step_tables.specs.StoreMoves as store
 use Rattle.step_tables.specs.StoreMoves.{StoreDisk, StoreTask, TableStore, StoreMove, StoreStep, store_step}
 use Rattle.step_tables.specs.ClientMoves as client
-use Rattle.step_tables.specs.ClientMoves.{TableDisk, ClientDisk, Client, ClientTask, ClientMove, ClientStep, client_step}
+use Rattle.step_tables.specs.ClientMoves.{TableDisk, ClientDisk, Client, ClientTask, ClientMove, ClientStep, Shape, no_shape, client_step}
 use Rattle.step_tables.proofs.Lists.{among_get, among_none}
 use Rattle.store_laws.specs.Part.{Known, StoreLaw, StorePart, IsWayTo, Runs}
 use Rattle.store_laws.specs.Part as store_part
 use Rattle.store_laws.proofs.Law.{store_law}
 use Rattle.client_laws.specs.Part.{Items, Sending, Ours, ClientPart, ClientLaw}
 use Rattle.client_laws.specs.Part as part
-use Rattle.world_tables.specs.World.{World, Packet, Hosted, Outbox, Moved, WorldStep, start, chunk_in, schema_at, hosted_at, client_at, scheme_in, owner, the_store, is_down, still, and_then, failing, after_table, table_step, move_hosted}
-use Rattle.world_tables.specs.World.{move_table, after_client, move_there, move_client, first_luck, other_lucks, client_works, client_tasks, client_follows, table_follows, store_falls, declared_late, start_hosted}
-use Rattle.world_tables.specs.World.{answering, answered, refused, silent, unless_down, agenda_of, with_table, made_with, declared, opened, with_opened, open_all, new_client, joined, gets_tasks, client_follows_from}
+use Rattle.world_tables.specs.World.{has_node, packets_from, crash_luck, client_until_idle, client_writes, client_starts, client_crashes, next_write}
+use Rattle.world_tables.specs.World.{World, Packet, Hosted, Outbox, Moved, WorldStep, start, chunk_in, schema_at, hosted_at, client_at, scheme_in, owner, the_store, is_down, still, and_then, failing}
+use Rattle.world_tables.specs.World.{after_table, table_step, move_hosted}
+use Rattle.world_tables.specs.World.{move_table, move_there, move_client, first_luck, other_lucks, client_works, client_tasks, client_follows, table_follows, store_falls, declared_late}
+use Rattle.world_tables.specs.World.{start_hosted}
+use Rattle.world_tables.specs.World.{answering, answered, refused, silent, unless_down, agenda_of, with_table, made_with, declared, opened, with_opened, open_all, new_client, joined, gets_tasks}
+use Rattle.world_tables.specs.World.{client_follows_from}
 use Rattle.world_tables.specs.World.{call_there, call, take_read, take_at, to_hosted, to_there, carried, delivered}
-use Rattle.world_tables.specs.World.{without_node, busy_table, write_next, tasks_of, store_until_idle, store_crashes, store_starts, busy_step, worked, all_worked, crashed, started, names_on, names_answer, chunk_names}
+use Rattle.world_tables.specs.World.{without_node, busy_table, write_next, tasks_of, store_until_idle, store_crashes, store_starts, busy_step, worked, all_worked, crashed, started, names_on}
+use Rattle.world_tables.specs.World.{names_answer, chunk_names}
 use Rattle.world_tables.specs.World.{row_shown, row_read, store_shows, entry_lines, history_lines, step, lines_of, lines_from, sent_lines}
 use Rattle.world_tables.specs.Turns.{Happening, Turn, turns_from}
-use Rattle.world_tables.specs.Sound.{scheme_for, IsAnswer, IsForm, IsCounted, IsQuiet, IsAnswered, IsTurn, AreSaid, InSight, IsSoundFrom, IsSound, IsStored, shown_of}
+use Rattle.world_tables.specs.Sound.{scheme_for, IsAnswer, IsForm, IsCounted, IsQuiet, IsAnswered, IsTurn, AreSaid, IsSoundFrom, IsSound, IsStored, shown_of}
 use Rattle.world_laws.proofs.Told.{in_sight, nothing_told}
 use Rattle.world_laws.proofs.Kept.{KnownIn, IsFairPacket, nothing_there, Kept, MoveSound}
 use Rattle.world_laws.proofs.Kept as kept
@@ -60,8 +63,8 @@ use Rattle.world_laws.proofs.Forms.{IsNumber, IsDone, IsShow, IsShowOrSum, sum_f
 -- what a client's crate gives besides
 abbrev pub ClientLaws : Type 0
 ClientLaws = (g : ℕ → Scheme) (c : ℕ) (h : Items) (sent : List Sending) (t : Heard) → Ours g c h sent t
-    → (s : Client) (move : ClientMove) → part.IsFair g c h sent move → ClientPart g c h sent t s
-    → ClientLaw g c h sent t move (client_step c s move)
+    → (shape : Shape) (s : Client) (move : ClientMove) → part.IsFair g c h sent move → ClientPart g c h sent t s
+    → ClientLaw g c h sent t move (client_step c shape s move)
 
 -- a client that has nothing, and has opened tables of their schemes
 abbrev pub AreFresh : (ℕ → Scheme) → List (ℕ × TableDisk) → Type 0
@@ -103,7 +106,8 @@ module _ (client_law : ClientLaws) (client_grows : ClientGrows) (lapsed_grows : 
     table_law : (table : ℕ) (hosted : Hosted) → hosted_at w table ≡ Some hosted → (move : StoreMove) → store_part.IsFair table (KnownIn s.heard k.sent table) (k.items table) move
         → StoreLaw (g table) table (KnownIn s.heard k.sent table) (k.items table) (table_step w table hosted move)
     table_law table hosted at move fair =
-        subst (λ (x : Scheme). StoreLaw (g table) table (KnownIn s.heard k.sent table) (k.items table) (store_step owner x (chunk_in (schema_at w table)) table hosted.store move)) (sym (scheme_is table hosted at))
+        subst (λ (x : Scheme). StoreLaw (g table) table (KnownIn s.heard k.sent table) (k.items table) (store_step owner x (chunk_in (schema_at w table)) table hosted.store move))
+        (sym (scheme_is table hosted at))
         (store_law (g table) table (KnownIn s.heard k.sent table) owner (chunk_in (schema_at w table)) (k.items table) hosted.store move fair (k.stores table hosted at).0)
 
     -- a table that isn't made takes nothing
@@ -145,16 +149,16 @@ module _ (client_law : ClientLaws) (client_grows : ClientGrows) (lapsed_grows : 
                 let same : hosted ≡ x = cc in
                 absurd (true≢false (sym is ∙ (ap (λ (y : Hosted). y.made) same ∙ unmade))))
 
-    law_of : (c : ℕ) (node : Client) → client_at w c ≡ Some node → (move : ClientMove) → part.IsFair g c k.items (k.sent c) move
-        → ClientLaw g c k.items (k.sent c) (s.heard c) move (client_step c node move)
-    law_of c node at move fair = client_law g c k.items (k.sent c) (s.heard c) (ours g w s k c) node move fair (k.clients c node at)
+    law_of : (c : ℕ) (shape : Shape) (node : Client) → client_at w c ≡ Some node → (move : ClientMove) → part.IsFair g c k.items (k.sent c) move
+        → ClientLaw g c k.items (k.sent c) (s.heard c) move (client_step c shape node move)
+    law_of c shape node at move fair = client_law g c k.items (k.sent c) (s.heard c) (ours g w s k c) shape node move fair (k.clients c node at)
 
-    client_move : (c : ℕ) (move : ClientMove) (number : ℕ) → part.IsFair g c k.items (k.sent c) move → MoveSound g s w number (move_client c move w)
-    client_move c move number fair = go (client_at w c) refl
+    client_move : (c : ℕ) (move : ClientMove) (shape : Shape) (number : ℕ) → part.IsFair g c k.items (k.sent c) move → MoveSound g s w number (move_client c move shape w)
+    client_move c move shape number fair = go (client_at w c) refl
       where
-        go : (o : Option Client) → client_at w c ≡ o → MoveSound g s w number (move_there w c move o)
+        go : (o : Option Client) → client_at w c ≡ o → MoveSound g s w number (move_there w c move shape o)
         go None at = still_sound g w s number k
-        go (Some node) at = client_moves g w s k c node at move (client_step c node move) (law_of c node at move fair) number
+        go (Some node) at = client_moves g w s k c node at move (client_step c shape node move) (law_of c shape node at move fair) number
 
   -- ---- work until idle
 
@@ -170,17 +174,43 @@ module _ (client_law : ClientLaws) (client_grows : ClientGrows) (lapsed_grows : 
   client_works_sound : (c : ℕ) (tasks : List ClientTask) (lucks : List Luck) (w : World) (s : Said) (number : ℕ) → Kept g w s → MoveSound g s w number (client_works c tasks lucks w)
   client_works_sound c [] lucks w s number k = still_sound g w s number k
   client_works_sound c (task ∷ tasks) lucks w s number k =
-      both_sound g w s number (move_client c (client.Work (first_luck lucks)) w) (client_works c tasks (other_lucks lucks))
-      (client_move w s k c (client.Work (first_luck lucks)) number tt)
+      both_sound g w s number (move_client c (client.Work (first_luck lucks)) no_shape w) (client_works c tasks (other_lucks lucks))
+      (client_move w s k c (client.Work (first_luck lucks)) no_shape number tt)
       (λ x now. client_works_sound c tasks (other_lucks lucks) _ x _ now)
 
-  client_follows_sound : (agenda : Option (List ClientTask)) (c : ℕ) (lucks : List Luck) (w : World) (s : Said) (number : ℕ) → Kept g w s
+  client_follows_sound : (c : ℕ) (lucks : List Luck) (w : World) (s : Said) (number : ℕ) → Kept g w s → MoveSound g s w number (client_follows c lucks w)
+  client_follows_sound c lucks w s number k = go (has_node w.holds (nodes.Client c))
+    where
+      go : (held : Bool) → MoveSound g s w number (if held then still w else client_until_idle c lucks w)
+      go true = still_sound g w s number k
+      go false = client_works_sound c (client_tasks (client_at w c)) lucks w s number k
+
+  client_follows_from_sound : (agenda : Option (List ClientTask)) (c : ℕ) (lucks : List Luck) (w : World) (s : Said) (number : ℕ) → Kept g w s
       → MoveSound g s w number (client_follows_from agenda c lucks w)
-  client_follows_sound agenda c lucks w s number k = go (gets_tasks agenda w c)
+  client_follows_from_sound agenda c lucks w s number k = go (gets_tasks agenda w c)
     where
       go : (b : Bool) → MoveSound g s w number (if b then client_follows c lucks w else still w)
-      go true = client_works_sound c (client_tasks (client_at w c)) lucks w s number k
+      go true = client_follows_sound c lucks w s number k
       go false = still_sound g w s number k
+
+  client_writes_sound : (c : ℕ) (luck : Luck) (tasks : List ClientTask) (w : World) (s : Said) (number : ℕ) → Kept g w s → MoveSound g s w number (client_writes c luck tasks w)
+  client_writes_sound c luck [] w s number k = still_sound g w s number k
+  client_writes_sound c luck (task ∷ tasks) w s number k = client_move w s k c (client.Work luck) no_shape number tt
+
+  -- a client's crash tells and sends nothing
+  client_crash_silent : (c : ℕ) (luck : Luck) (w : World) → works.AreSilent (move_client c (client.Crash luck) no_shape w).outs
+  client_crash_silent c luck w = go (client_at w c)
+    where
+      quiet : (d : ClientDisk) (agenda : Option (List ClientTask)) (l : Luck) → ((client.crashed d agenda l).facts ≡ []) × ((client.crashed d agenda l).sends ≡ [])
+      quiet d None l = (refl, refl)
+      quiet d (Some []) l = (refl, refl)
+      quiet d (Some (task ∷ more)) messages.Done = (refl, refl)
+      quiet d (Some (task ∷ more)) messages.FailedBefore = (refl, refl)
+      quiet d (Some (task ∷ more)) messages.FailedAfter = (refl, refl)
+
+      go : (o : Option Client) → works.AreSilent (move_there w c (client.Crash luck) no_shape o).outs
+      go None = tt
+      go (Some node) = let q = quiet node.disk node.agenda luck in (q.0, ap (packets_from (nodes.Client c)) q.1, tt)
 
   -- ---- events
 
@@ -197,7 +227,8 @@ module _ (client_law : ClientLaws) (client_grows : ClientGrows) (lapsed_grows : 
       let rest = facts_in (number + length out.packets) outs in
       let sent = sents number out.packets in (
         out.facts ++ (sent.0 ++ rest.0),
-        ap (λ (ls : List Line). map FactLine out.facts ++ ls) (ap (λ (ls : List Line). ls ++ lines_from (number + length out.packets) outs) sent.1 ∙ (ap (λ (ls : List Line). map FactLine sent.0 ++ ls) rest.1 ∙ sym (joined_map sent.0 rest.0)))
+        ap (λ (ls : List Line). map FactLine out.facts ++ ls)
+            (ap (λ (ls : List Line). ls ++ lines_from (number + length out.packets) outs) sent.1 ∙ (ap (λ (ls : List Line). map FactLine sent.0 ++ ls) rest.1 ∙ sym (joined_map sent.0 rest.0)))
             ∙ sym (joined_map out.facts (sent.0 ++ rest.0)),
       )
     where
@@ -253,7 +284,8 @@ module _ (client_law : ClientLaws) (client_grows : ClientGrows) (lapsed_grows : 
 
   -- where the node isn't down
   unless_down_sound : (w : World) (s : Said) → Kept g w s → (event : Event) (node : Node) (x : WorldStep) → CanTurn s event → IsQuiet event []
-      → IsGoodAnswer s event (facts.Refuses (facts.NodeDown node)) → IsGoodAnswer s event (facts.Refuses facts.NoDevice) → (is_down w node ≡ false → StepSound s w event x) → StepSound s w event (unless_down w node x)
+      → IsGoodAnswer s event (facts.Refuses (facts.NodeDown node)) → IsGoodAnswer s event (facts.Refuses facts.NoDevice) → (is_down w node ≡ false → StepSound s w event x)
+      → StepSound s w event (unless_down w node x)
   unless_down_sound w s k event node x turn quiet good fault up = go (is_down w node) refl
     where
       go : (b : Bool) → is_down w node ≡ b → StepSound s w event (if b then refused w (facts.NodeDown node) else x)
@@ -262,23 +294,23 @@ module _ (client_law : ClientLaws) (client_grows : ClientGrows) (lapsed_grows : 
 
   module _ (w : World) (s : Said) (k : Kept g w s) where
     -- a client's move with the work that follows
-    there_sound : (event : Event) (c : ℕ) (move : ClientMove) (lucks : List Luck) → CanTurn s event → ((told : List Fact) → IsQuiet event told)
+    there_sound : (event : Event) (c : ℕ) (move : ClientMove) (shape : Shape) (lucks : List Luck) → CanTurn s event → ((told : List Fact) → IsQuiet event told)
         → IsGoodAnswer s event (facts.Refuses facts.NoDevice) → IsGoodAnswer s event (facts.Refuses facts.NoTable) → IsGoodAnswer s event (facts.Refuses (facts.NodeDown (nodes.Client c)))
         → part.IsFair g c k.items (k.sent c) move
-        → ((node : Client) → client_at w c ≡ Some node → IsGoodAnswer s event (client_step c node move).answer)
-        → (o : Option Client) → client_at w c ≡ o → StepSound s w event (call_there w c move lucks o)
-    there_sound event c move lucks turn quiet fault missing down fair good None at = answered_sound w s k event (facts.Refuses facts.NoTable) turn (quiet []) missing fault
-    there_sound event c move lucks turn quiet fault missing down fair good (Some node) at =
+        → ((node : Client) → client_at w c ≡ Some node → IsGoodAnswer s event (client_step c shape node move).answer)
+        → (o : Option Client) → client_at w c ≡ o → StepSound s w event (call_there w c move shape lucks o)
+    there_sound event c move shape lucks turn quiet fault missing down fair good None at = answered_sound w s k event (facts.Refuses facts.NoTable) turn (quiet []) missing fault
+    there_sound event c move shape lucks turn quiet fault missing down fair good (Some node) at =
         unless_down_sound w s k event (nodes.Client c) _ turn (quiet []) down fault
-        (λ up. answering_sound s w event (client_step c node move).answer (and_then (move_client c move w) (client_follows_from node.agenda c lucks)) turn (quiet _) (good node at) fault
-        (both_sound g w s (length w.packets) (move_client c move w) (client_follows_from node.agenda c lucks) (client_move w s k c move (length w.packets) fair)
-        (λ x now. client_follows_sound node.agenda c lucks (move_client c move w).world x _ now)))
+        (λ up. answering_sound s w event (client_step c shape node move).answer (and_then (move_client c move shape w) (client_follows_from node.agenda c lucks)) turn (quiet _) (good node at) fault
+        (both_sound g w s (length w.packets) (move_client c move shape w) (client_follows_from node.agenda c lucks) (client_move w s k c move shape (length w.packets) fair)
+        (λ x now. client_follows_from_sound node.agenda c lucks (move_client c move shape w).world x _ now)))
 
-    write_sound : (c table : ℕ) (row : List ℕ) (x : Content) (lucks : List Luck) → StepSound s w (events.Write c table row x) (call w c (client.Write table row x) lucks)
+    write_sound : (c table : ℕ) (row : List ℕ) (x : Content) (lucks : List Luck) → StepSound s w (events.Write c table row x) (call w c (client.Write table row x) no_shape lucks)
     write_sound c table row x lucks =
-        there_sound (events.Write c table row x) c (client.Write table row x) lucks (λ lines a. a) (λ told. tt)
+        there_sound (events.Write c table row x) c (client.Write table row x) no_shape lucks (λ lines a. a) (λ told. tt)
         (record { form = tt; counts = refl; is = tt }) (record { form = tt; counts = refl; is = tt }) (record { form = tt; counts = refl; is = tt }) tt
-        (λ node at. good (client_step c node (client.Write table row x)).answer (write_form c node.disk node.agenda table row x)) (client_at w c) refl
+        (λ node at. good (client_step c no_shape node (client.Write table row x)).answer (write_form c no_shape node.disk node.agenda table row x)) (client_at w c) refl
       where
         good : (a : Answer) → IsNumber a → IsGoodAnswer s (events.Write c table row x) a
         good (facts.Number n) f = record { form = tt; counts = refl; is = tt }
@@ -290,12 +322,12 @@ module _ (client_law : ClientLaws) (client_grows : ClientGrows) (lapsed_grows : 
         good (facts.Did y) f = absurd f
         good (facts.Names y) f = absurd f
 
-    show_sound : (c table : ℕ) (row : List ℕ) (lucks : List Luck) → StepSound s w (events.Show c table row) (call w c (client.Show table row) lucks)
+    show_sound : (c table : ℕ) (row : List ℕ) (lucks : List Luck) → StepSound s w (events.Show c table row) (call w c (client.Show table row) no_shape lucks)
     show_sound c table row lucks =
-        there_sound (events.Show c table row) c (client.Show table row) lucks (λ lines a. a) (λ told. tt)
+        there_sound (events.Show c table row) c (client.Show table row) no_shape lucks (λ lines a. a) (λ told. tt)
         (record { form = tt; counts = refl; is = tt }) (record { form = tt; counts = refl; is = tt }) (record { form = tt; counts = refl; is = tt }) tt
-        (λ node at. good (client_step c node (client.Show table row)).answer (show_form c node.disk node.agenda table row)
-        (answer_shows g w s k c table row (client_step c node (client.Show table row)).answer (law_of w s k c node at (client.Show table row) tt).answer)) (client_at w c) refl
+        (λ node at. good (client_step c no_shape node (client.Show table row)).answer (show_form c no_shape node.disk node.agenda table row)
+        (answer_shows g w s k c table row (client_step c no_shape node (client.Show table row)).answer (law_of w s k c no_shape node at (client.Show table row) tt).answer)) (client_at w c) refl
       where
         good : (a : Answer) → IsShow a → IsAnswer g s (events.Show c table row) a [] → IsGoodAnswer s (events.Show c table row) a
         good (facts.Shows y) f is = record { form = tt; counts = refl; is = is }
@@ -307,15 +339,15 @@ module _ (client_law : ClientLaws) (client_grows : ClientGrows) (lapsed_grows : 
         good (facts.Did y) f is = absurd f
         good (facts.Names y) f is = absurd f
 
-    sum_sound : (c table : ℕ) (row : List ℕ) (lucks : List Luck) → StepSound s w (events.Sum c table row) (call w c (client.Sum table row) lucks)
+    sum_sound : (c table : ℕ) (row : List ℕ) (lucks : List Luck) → StepSound s w (events.Sum c table row) (call w c (client.Sum table row) no_shape lucks)
     sum_sound c table row lucks =
-        there_sound (events.Sum c table row) c (client.Sum table row) lucks (λ lines a. a) (λ told. tt)
+        there_sound (events.Sum c table row) c (client.Sum table row) no_shape lucks (λ lines a. a) (λ told. tt)
         (record { form = tt; counts = refl; is = tt }) (record { form = tt; counts = refl; is = tt }) (record { form = tt; counts = refl; is = tt }) tt
         (λ node at.
-        let shown : Answer = (client_step c node (client.Show table row)).answer in
-        let form : IsShow shown = show_form c node.disk node.agenda table row in
+        let shown : Answer = (client_step c no_shape node (client.Show table row)).answer in
+        let form : IsShow shown = show_form c no_shape node.disk node.agenda table row in
         good (by_digests shown) (sum_form shown form)
-        (show_sum (shown_of g s c table row) shown form (answer_shows g w s k c table row shown (law_of w s k c node at (client.Show table row) tt).answer))) (client_at w c) refl
+        (show_sum (shown_of g s c table row) shown form (answer_shows g w s k c table row shown (law_of w s k c no_shape node at (client.Show table row) tt).answer))) (client_at w c) refl
       where
         good : (a : Answer) → IsShowOrSum a → IsAnswer g s (events.Sum c table row) a [] → IsGoodAnswer s (events.Sum c table row) a
         good (facts.Shows y) f is = record { form = tt; counts = refl; is = is }
@@ -327,11 +359,11 @@ module _ (client_law : ClientLaws) (client_grows : ClientGrows) (lapsed_grows : 
         good (facts.Did y) f is = absurd f
         good (facts.Names y) f is = absurd f
 
-    sync_sound : (c table : ℕ) (lucks : List Luck) → StepSound s w (events.Sync c table) (call w c (client.Sync table) lucks)
+    sync_sound : (c table : ℕ) (lucks : List Luck) → StepSound s w (events.Sync c table) (call w c (client.Sync table) no_shape lucks)
     sync_sound c table lucks =
-        there_sound (events.Sync c table) c (client.Sync table) lucks (λ lines a. a) (λ told. tt)
+        there_sound (events.Sync c table) c (client.Sync table) no_shape lucks (λ lines a. a) (λ told. tt)
         (record { form = tt; counts = refl; is = tt }) (record { form = tt; counts = refl; is = tt }) (record { form = tt; counts = refl; is = tt }) tt
-        (λ node at. good (client_step c node (client.Sync table)).answer (sync_form c node.disk node.agenda table)) (client_at w c) refl
+        (λ node at. good (client_step c no_shape node (client.Sync table)).answer (sync_form c no_shape node.disk node.agenda table)) (client_at w c) refl
       where
         good : (a : Answer) → IsNumber a → IsGoodAnswer s (events.Sync c table) a
         good (facts.Number n) f = record { form = tt; counts = refl; is = tt }
@@ -343,11 +375,11 @@ module _ (client_law : ClientLaws) (client_grows : ClientGrows) (lapsed_grows : 
         good (facts.Did y) f = absurd f
         good (facts.Names y) f = absurd f
 
-    pull_sound : (c table : ℕ) (lucks : List Luck) → StepSound s w (events.Pull c table) (call w c (client.Next table) lucks)
+    pull_sound : (c table : ℕ) (lucks : List Luck) → StepSound s w (events.Pull c table) (call w c (client.Next table) no_shape lucks)
     pull_sound c table lucks =
-        there_sound (events.Pull c table) c (client.Next table) lucks (λ lines a. a) (λ told. tt)
+        there_sound (events.Pull c table) c (client.Next table) no_shape lucks (λ lines a. a) (λ told. tt)
         (record { form = tt; counts = refl; is = tt }) (record { form = tt; counts = refl; is = tt }) (record { form = tt; counts = refl; is = tt }) tt
-        (λ node at. good (client_step c node (client.Next table)).answer (next_form c node.disk node.agenda table)) (client_at w c) refl
+        (λ node at. good (client_step c no_shape node (client.Next table)).answer (next_form c no_shape node.disk node.agenda table)) (client_at w c) refl
       where
         good : (a : Answer) → IsDone a → IsGoodAnswer s (events.Pull c table) a
         good facts.Done f = record { form = tt; counts = refl; is = tt }
@@ -438,9 +470,9 @@ module _ (client_law : ClientLaws) (client_grows : ClientGrows) (lapsed_grows : 
         answering_sound s w (events.Deliver n) facts.Done (still w) (λ lines a. a) tt
         (delivered_good n facts.Done tt) (delivered_good n (facts.Refuses facts.NoDevice) tt) (still_sound g w s (length w.packets) k)
     taken_sound n c m lucks fair (Some node) at =
-        there_sound (events.Deliver n) c (client.Take m) lucks (λ lines a. a) (λ told. tt)
+        there_sound (events.Deliver n) c (client.Take m) no_shape lucks (λ lines a. a) (λ told. tt)
         (delivered_good n (facts.Refuses facts.NoDevice) tt) (delivered_good n (facts.Refuses facts.NoTable) tt) (delivered_good n (facts.Refuses (facts.NodeDown (nodes.Client c))) tt) fair
-        (λ x is. delivered_good n _ (take_form c x.disk x.agenda m)) (Some node) at
+        (λ x is. delivered_good n _ (take_form c no_shape x.disk x.agenda m)) (Some node) at
 
     carried_sound : (n : ℕ) (p : Packet) (lucks : List Luck) → IsFairPacket g s.heard k.items k.sent p → (to : Node) → p.to ≡ to → StepSound s w (events.Deliver n) (carried w p lucks to)
     carried_sound n p lucks fair (nodes.Store number) is =
@@ -620,8 +652,12 @@ module _ (client_law : ClientLaws) (client_grows : ClientGrows) (lapsed_grows : 
         one : (o : Option Schema) → schema_at w table ≡ o → AreFresh g (with_opened some table o)
         one None at = f
         one (Some schema) at = λ q x is. ⊎_elim
-            (λ e. let both : Some (opened schema) ≡ Some x = sym e.1 ∙ is in let same : opened schema ≡ x = cc in
-            (ap (λ (y : TableDisk). y.schema.scheme) (sym same) ∙ (k.schemes table schema at ∙ ap g (sym e.0)), ap (λ (y : TableDisk). y.position) (sym same), ap (λ (y : TableDisk). y.rows) (sym same)))
+            (λ e. let both : Some (opened schema) ≡ Some x = sym e.1 ∙ is in let same : opened schema ≡ x = cc in (
+              ap (λ (y : TableDisk). y.schema.scheme) (sym same) ∙ (k.schemes table schema at ∙ ap g (sym e.0)),
+              ap (λ (y : TableDisk). y.position) (sym same),
+              ap (λ (y : TableDisk). y.rows)
+                  (sym same),
+            ))
             (λ e. f q x (sym e.1 ∙ is)) (look_cases some table (opened schema) q)
 
     pub joined_kept : (c : ℕ) (tables : List ℕ) → client_at w c ≡ None → Kept g (joined w c tables None) s
@@ -686,7 +722,11 @@ module _ (client_law : ClientLaws) (client_grows : ClientGrows) (lapsed_grows : 
         answering_sound s w (events.Work (nodes.Store number)) (facts.Did (busy_step w (busy_table w number))) (write_next number (first_luck lucks) (busy_table w number) w) (λ lines a. a) tt
         (record { form = tt; counts = refl; is = tt }) (record { form = tt; counts = refl; is = tt })
         (works.write_sound g table_work number (first_luck lucks) (busy_table w number) w s (length w.packets) k)
-    worked_sound lucks (nodes.Client c) = idle_sound (nodes.Client c)
+    worked_sound lucks (nodes.Client c) =
+        let tasks : List ClientTask = client_tasks (client_at w c) in
+        answering_sound s w (events.Work (nodes.Client c)) (facts.Did (next_write tasks)) (client_writes c (first_luck lucks) tasks w) (λ lines a. a) tt
+        (record { form = tt; counts = refl; is = tt }) (record { form = tt; counts = refl; is = tt })
+        (client_writes_sound c (first_luck lucks) tasks w s (length w.packets) k)
     worked_sound lucks (nodes.Gate gate) = idle_sound (nodes.Gate gate)
 
     none_sound : (node : Node) → StepSound s w (events.WorkAll node) (answered w (facts.Number 0))
@@ -696,7 +736,10 @@ module _ (client_law : ClientLaws) (client_grows : ClientGrows) (lapsed_grows : 
     all_worked_sound lucks (nodes.Store number) =
         answering_sound s w (events.WorkAll (nodes.Store number)) (facts.Number (length (tasks_of w number))) (store_until_idle number lucks w) (λ lines a. a) tt
         (record { form = tt; counts = refl; is = tt }) (record { form = tt; counts = refl; is = tt }) (works.until_idle_sound g table_work number lucks w s (length w.packets) k)
-    all_worked_sound lucks (nodes.Client c) = none_sound (nodes.Client c)
+    all_worked_sound lucks (nodes.Client c) =
+        let tasks : List ClientTask = client_tasks (client_at w c) in
+        answering_sound s w (events.WorkAll (nodes.Client c)) (facts.Number (length tasks)) (client_until_idle c lucks w) (λ lines a. a) tt
+        (record { form = tt; counts = refl; is = tt }) (record { form = tt; counts = refl; is = tt }) (client_works_sound c tasks lucks w s (length w.packets) k)
     all_worked_sound lucks (nodes.Gate gate) = none_sound (nodes.Gate gate)
 
     nothing_crashes : (calls pick : ℕ) (node : Node) → StepSound s w (events.Crash node calls pick) (answered w facts.Done)
@@ -708,7 +751,11 @@ module _ (client_law : ClientLaws) (client_grows : ClientGrows) (lapsed_grows : 
         telling_sound s w (events.Crash (nodes.Store number) calls pick) facts.Done (store_crashes number calls lucks w) (λ lines a. a) []
         (silent_lines (length w.packets) (store_crashes number calls lucks w).outs (crashes_silent number calls lucks w)) refl
         (record { form = tt; counts = refl; is = tt }) (record { form = tt; counts = refl; is = tt }) (works.crashes_sound g table_work number calls lucks w s (length w.packets) k)
-    crashed_sound calls pick lucks (nodes.Client c) = nothing_crashes calls pick (nodes.Client c)
+    crashed_sound calls pick lucks (nodes.Client c) =
+        let luck : Luck = crash_luck calls (other_lucks lucks) (first_luck lucks) in
+        telling_sound s w (events.Crash (nodes.Client c) calls pick) facts.Done (client_crashes c calls lucks w) (λ lines a. a) []
+        (silent_lines (length w.packets) (client_crashes c calls lucks w).outs (client_crash_silent c luck w)) refl
+        (record { form = tt; counts = refl; is = tt }) (record { form = tt; counts = refl; is = tt }) (client_move w s k c (client.Crash luck) no_shape (length w.packets) tt)
     crashed_sound calls pick lucks (nodes.Gate gate) = nothing_crashes calls pick (nodes.Gate gate)
 
     goes_on_sound : (node : Node) → StepSound s w (events.Start node) (answered w facts.Done)
@@ -723,7 +770,18 @@ module _ (client_law : ClientLaws) (client_grows : ClientGrows) (lapsed_grows : 
             (record { form = tt; counts = refl; is = tt }) (record { form = tt; counts = refl; is = tt })
             (works.starts_sound g table_work table_start number lucks w s (length w.packets) k)
         go false = goes_on_sound (nodes.Store number)
-    started_sound lucks (nodes.Client c) = goes_on_sound (nodes.Client c)
+    started_sound lucks (nodes.Client c) = go (is_down w (nodes.Client c))
+      where
+        first : Moved
+        first = move_client c client.Start no_shape w
+
+        go : (down : Bool) → StepSound s w (events.Start (nodes.Client c)) (if down then answering facts.Done (client_starts c lucks w) else answered w facts.Done)
+        go true =
+            answering_sound s w (events.Start (nodes.Client c)) facts.Done (client_starts c lucks w) (λ lines a. a) tt
+            (record { form = tt; counts = refl; is = tt }) (record { form = tt; counts = refl; is = tt })
+            (both_sound g w s (length w.packets) first (client_follows c lucks) (client_move w s k c client.Start no_shape (length w.packets) tt)
+            (λ x now. client_follows_sound c lucks first.world x _ now))
+        go false = goes_on_sound (nodes.Client c)
     started_sound lucks (nodes.Gate gate) = goes_on_sound (nodes.Gate gate)
 
     -- where a table is declared first, it is of its scheme

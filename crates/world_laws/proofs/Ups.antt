@@ -21,11 +21,14 @@ use Rattle.step_tables.specs.Messages as messages
 use Rattle.step_tables.specs.StoreMoves as store
 use Rattle.step_tables.specs.StoreMoves.{StoreDisk, StoreTask, StoreMove, StoreStep}
 use Rattle.step_tables.specs.ClientMoves as client
-use Rattle.step_tables.specs.ClientMoves.{Client, ClientTask, ClientMove}
+use Rattle.step_tables.specs.ClientMoves.{Client, ClientTask, ClientMove, Shape, no_shape}
 use Rattle.step_tables.proofs.Lists.{among_none, among_cons, among_here, among_next}
-use Rattle.world_tables.specs.World.{World, Packet, Hosted, Moved, WorldStep, start, schema_at, hosted_at, client_at, scheme_in, chunk_in, owner, the_store, tables_of, same_node, has_node, without_node, is_down, still, and_then, and_unless, is_fault}
+use Rattle.world_tables.specs.World.{client_until_idle, client_writes, client_starts}
+use Rattle.world_tables.specs.World.{World, Packet, Hosted, Moved, WorldStep, start, schema_at, hosted_at, client_at, scheme_in, chunk_in, owner, the_store, tables_of, same_node, has_node}
+use Rattle.world_tables.specs.World.{without_node, is_down, still, and_then, and_unless, is_fault}
 use Rattle.world_tables.specs.World.{history_on, after_table, table_step, move_hosted, move_table, move_there, move_client, first_luck, other_lucks, client_works, client_tasks, client_follows}
-use Rattle.world_tables.specs.World.{tables_fall, with_down, without_down, store_falls, or_falls, is_at_work, busy_table, write_next, store_works, tasks_of, store_until_idle, store_follows, table_follows}
+use Rattle.world_tables.specs.World.{tables_fall, with_down, without_down, store_falls, or_falls, is_at_work, busy_table, write_next, store_works, tasks_of, store_until_idle, store_follows}
+use Rattle.world_tables.specs.World.{table_follows}
 use Rattle.world_tables.specs.World.{declared_late, start_hosted, table_starts, tables_start, store_starts, crash_luck, table_crashes, store_crashes}
 use Rattle.world_tables.specs.World.{answering, answered, refused, unless_down, agenda_of, with_table, declared, joined, gets_tasks}
 use Rattle.world_tables.specs.World.{call_there, take_read, take_at, to_hosted, to_there, carried, delivered, row_read, store_shows, chunk_names, history_lines, worked, all_worked, crashed}
@@ -365,18 +368,29 @@ same_up : (w v : World) → IsStoreSame w v → IsUp w → IsUp v
 same_up w v e up is = subst (λ (ts : List (ℕ × Hosted)). (table : ℕ) (hosted : Hosted) → lookup (is_at (nat_cmp table)) ts ≡ Some hosted → IsUpAt hosted.store.agenda) (sym e.0)
     (up (ap (λ (downs : List Node). has_node downs the_store) (sym e.1) ∙ is))
 
-client_same : (w : World) (c : ℕ) (move : ClientMove) → IsStoreSame w (move_client c move w).world
-client_same w c move = go (client_at w c)
+client_same : (w : World) (c : ℕ) (move : ClientMove) (shape : Shape) → IsStoreSame w (move_client c move shape w).world
+client_same w c move shape = go (client_at w c)
   where
-    go : (o : Option Client) → IsStoreSame w (move_there w c move o).world
+    go : (o : Option Client) → IsStoreSame w (move_there w c move shape o).world
     go None = (refl, refl)
     go (Some node) = (refl, refl)
 
 client_works_up : (c : ℕ) (tasks : List ClientTask) (lucks : List Luck) (w : World) → IsUp w → IsUp (client_works c tasks lucks w).world
 client_works_up c [] lucks w up = up
 client_works_up c (task ∷ tasks) lucks w up =
-    client_works_up c tasks (other_lucks lucks) (move_client c (client.Work (first_luck lucks)) w).world
-    (same_up w (move_client c (client.Work (first_luck lucks)) w).world (client_same w c (client.Work (first_luck lucks))) up)
+    client_works_up c tasks (other_lucks lucks) (move_client c (client.Work (first_luck lucks)) no_shape w).world
+    (same_up w (move_client c (client.Work (first_luck lucks)) no_shape w).world (client_same w c (client.Work (first_luck lucks)) no_shape) up)
+
+client_follows_up : (c : ℕ) (lucks : List Luck) (w : World) → IsUp w → IsUp (client_follows c lucks w).world
+client_follows_up c lucks w up = go (has_node w.holds (nodes.Client c))
+  where
+    go : (held : Bool) → IsUp (if held then still w else client_until_idle c lucks w).world
+    go true = up
+    go false = client_works_up c (client_tasks (client_at w c)) lucks w up
+
+client_writes_up : (c : ℕ) (luck : Luck) (tasks : List ClientTask) (w : World) → IsUp w → IsUp (client_writes c luck tasks w).world
+client_writes_up c luck [] w up = up
+client_writes_up c luck (task ∷ tasks) w up = same_up w (move_client c (client.Work luck) no_shape w).world (client_same w c (client.Work luck) no_shape) up
 
 -- ---- events
 
@@ -387,18 +401,18 @@ unless_down_up w node s up then_up = go (is_down w node)
     go true = up
     go false = then_up
 
-call_up : (w : World) (c : ℕ) (move : ClientMove) (lucks : List Luck) → IsUp w → (o : Option Client) → IsUp (call_there w c move lucks o).world
-call_up w c move lucks up None = up
-call_up w c move lucks up (Some node) = unless_down_up w (nodes.Client c) _ up (go (gets_tasks node.agenda v c))
+call_up : (w : World) (c : ℕ) (move : ClientMove) (shape : Shape) (lucks : List Luck) → IsUp w → (o : Option Client) → IsUp (call_there w c move shape lucks o).world
+call_up w c move shape lucks up None = up
+call_up w c move shape lucks up (Some node) = unless_down_up w (nodes.Client c) _ up (go (gets_tasks node.agenda v c))
   where
     v : World
-    v = (move_client c move w).world
+    v = (move_client c move shape w).world
 
     first : IsUp v
-    first = same_up w v (client_same w c move) up
+    first = same_up w v (client_same w c move shape) up
 
     go : (b : Bool) → IsUp (if b then client_follows c lucks v else still v).world
-    go true = client_works_up c (client_tasks (client_at v c)) lucks v first
+    go true = client_follows_up c lucks v first
     go false = first
 
 hosted_up : (w : World) (table : ℕ) (from : Node) (m : Message) (lucks : List Luck) → IsUp w → (o : Option Hosted) → IsUp (to_hosted w table (store.Take from m) lucks o).world
@@ -425,7 +439,7 @@ carried_up w p lucks up (nodes.Client c) = go (client_at w c)
   where
     go : (o : Option Client) → IsUp (to_there w c p.message lucks o).world
     go None = up
-    go (Some node) = call_up w c (client.Take p.message) lucks up (Some node)
+    go (Some node) = call_up w c (client.Take p.message) no_shape lucks up (Some node)
 
 delivered_up : (w : World) (lucks : List Luck) → IsUp w → (o : Option Packet) → IsUp (delivered w lucks o).world
 delivered_up w lucks up None = up
@@ -466,17 +480,18 @@ joined_up w c tables up (Some node) = up
 
 worked_node_up : (w : World) (lucks : List Luck) → IsUp w → (node : Node) → IsUp (worked w lucks node).world
 worked_node_up w lucks up (nodes.Store number) = next_up number (first_luck lucks) w up
-worked_node_up w lucks up (nodes.Client c) = up
+worked_node_up w lucks up (nodes.Client c) = client_writes_up c (first_luck lucks) (client_tasks (client_at w c)) w up
 worked_node_up w lucks up (nodes.Gate gate) = up
 
 all_worked_up : (w : World) (lucks : List Luck) → IsUp w → (node : Node) → IsUp (all_worked w lucks node).world
 all_worked_up w lucks up (nodes.Store number) = works_up number (length (tasks_of w number)) lucks w up
-all_worked_up w lucks up (nodes.Client c) = up
+all_worked_up w lucks up (nodes.Client c) = client_works_up c (client_tasks (client_at w c)) lucks w up
 all_worked_up w lucks up (nodes.Gate gate) = up
 
 crashed_up : (w : World) (calls : ℕ) (lucks : List Luck) → IsUp w → (node : Node) → IsUp (crashed w calls lucks node).world
 crashed_up w calls lucks up (nodes.Store number) = crash_up number calls lucks w up
-crashed_up w calls lucks up (nodes.Client c) = up
+crashed_up w calls lucks up (nodes.Client c) =
+    let move : ClientMove = client.Crash (crash_luck calls (other_lucks lucks) (first_luck lucks)) in same_up w (move_client c move no_shape w).world (client_same w c move no_shape) up
 crashed_up w calls lucks up (nodes.Gate gate) = up
 
 started_up : (w : World) (lucks : List Luck) → IsUp w → (node : Node) → IsUp (started w lucks node).world
@@ -485,18 +500,23 @@ started_up w lucks up (nodes.Store number) = go (is_down w (nodes.Store number))
     go : (b : Bool) → is_down w (nodes.Store number) ≡ b → IsUp (if b then answering facts.Done (store_starts number lucks w) else answered w facts.Done).world
     go true is = starts_up number lucks w is up
     go false is = up
-started_up w lucks up (nodes.Client c) = up
+started_up w lucks up (nodes.Client c) = go (is_down w (nodes.Client c))
+  where
+    go : (b : Bool) → IsUp (if b then answering facts.Done (client_starts c lucks w) else answered w facts.Done).world
+    go true =
+        client_follows_up c lucks (move_client c client.Start no_shape w).world (same_up w (move_client c client.Start no_shape w).world (client_same w c client.Start no_shape) up)
+    go false = up
 started_up w lucks up (nodes.Gate gate) = up
 
 pub step_up : (w : World) (event : Event) (lucks : List Luck) → IsUp w → IsUp (step w event lucks).world
 step_up w (events.Store number) lucks up = up
 step_up w (events.Table table schema) lucks up = declared_up w table schema (first_luck lucks) up (hosted_at w table)
 step_up w (events.Client c gate tables) lucks up = joined_up w c tables up (client_at w c)
-step_up w (events.Write c table row x) lucks up = call_up w c (client.Write table row x) lucks up (client_at w c)
-step_up w (events.Show c table row) lucks up = call_up w c (client.Show table row) lucks up (client_at w c)
-step_up w (events.Sum c table row) lucks up = call_up w c (client.Sum table row) lucks up (client_at w c)
-step_up w (events.Sync c table) lucks up = call_up w c (client.Sync table) lucks up (client_at w c)
-step_up w (events.Pull c table) lucks up = call_up w c (client.Next table) lucks up (client_at w c)
+step_up w (events.Write c table row x) lucks up = call_up w c (client.Write table row x) no_shape lucks up (client_at w c)
+step_up w (events.Show c table row) lucks up = call_up w c (client.Show table row) no_shape lucks up (client_at w c)
+step_up w (events.Sum c table row) lucks up = call_up w c (client.Sum table row) no_shape lucks up (client_at w c)
+step_up w (events.Sync c table) lucks up = call_up w c (client.Sync table) no_shape lucks up (client_at w c)
+step_up w (events.Pull c table) lucks up = call_up w c (client.Next table) no_shape lucks up (client_at w c)
 step_up w (events.Deliver n) lucks up = delivered_up w lucks up (slice_get w.packets n)
 step_up w (events.StoreShow table row) lucks up = shows_up w row lucks up (hosted_at w table)
 step_up w (events.History table) lucks up = history_up w table up (hosted_at w table)

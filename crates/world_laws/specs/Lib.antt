@@ -1,3 +1,4 @@
 pub mod Worked
 pub mod WorkedCrashes
+pub mod WorkedClients
 pub mod Bad

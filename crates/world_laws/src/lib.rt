@@ -25,6 +25,8 @@ ghost use Rattle.world_laws.specs.Bad.{wrote_twice, accepted_twice, acked_twice,
 ghost use Rattle.world_laws.specs.Bad.{conflict_twice, resolved_twice, new_twice, position_twice};
 ghost use Rattle.world_laws.specs.Worked.{schemes_of, read_before_write, int, starts_retell};
 ghost use Rattle.step_tables.specs.Messages as lucks;
+ghost use Rattle.world_laws.specs.WorkedClients.{crash_in_commit, landed_commit_written, lost_commit_written};
+ghost use Rattle.world_laws.specs.WorkedClients.{failed_commit, failed_commit_written};
 ghost use Rattle.world_laws.specs.WorkedCrashes.{landed_put, landed_put_written, lost_put, lost_put_written};
 ghost use Rattle.world_laws.specs.WorkedCrashes.{failed_put, failed_put_written, failed_declaration};
 ghost use Rattle.world_laws.specs.WorkedCrashes.{failed_declaration_written, crash_between_chunks};
@@ -131,6 +133,19 @@ pub fn a_crash_of_two_tables()
 /// started, and the start takes the version back.
 pub fn a_failed_write_takes_the_store_down()
     ensures { turns failed_put ≡ failed_put_written }
+{}
+
+/// A crash of a held client inside a plan's commit, computed. Where the commit landed the start tells the write again,
+/// and the client does the rest of the plan and shows it; where it didn't there is no write.
+pub fn a_crash_inside_a_clients_commit()
+    ensures landed { turns (crash_in_commit 4) ≡ landed_commit_written }
+    ensures lost { turns (crash_in_commit 0) ≡ lost_commit_written }
+{}
+
+/// A client's write that fails on its device, computed: the call says so, the client takes nothing until it is started,
+/// and its start tells and does what had landed.
+pub fn a_failed_write_takes_the_client_down()
+    ensures { turns failed_commit ≡ failed_commit_written }
 {}
 
 /// A table whose declaration failed, computed: it is there behind the Store's next start.

@@ -6,3 +6,5 @@ pub mod Whole
 pub mod Chunks
 pub mod Settled
 pub mod Quiet
+pub mod Faults
+pub mod Passed

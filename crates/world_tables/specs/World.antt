@@ -28,7 +28,8 @@ use Rattle.step_tables.specs.Sayings.{Saying, SaysEntry, saying, entered}
 use Rattle.step_tables.specs.StoreMoves as store
 use Rattle.step_tables.specs.StoreMoves.{TableStore, StoreDisk, StoreTask, StoreMove, StoreStep, store_step}
 use Rattle.step_tables.specs.ClientMoves as client
-use Rattle.step_tables.specs.ClientMoves.{TableDisk, Client, ClientTask, ClientMove, ClientStep, client_step}
+use Rattle.step_tables.specs.ClientMoves.{TableDisk, Client, ClientTask, ClientMove, ClientStep, Shape, no_shape}
+use Rattle.step_tables.specs.ClientMoves.{client_step}
 
 -- a message that was sent
 pub record Packet : Type 0 where
@@ -228,12 +229,12 @@ after_client w c s =
       failed = is_fault s.answer;
     }
 
-abbrev pub move_there : World → ℕ → ClientMove → Option Client → Moved
-move_there w c move None = still w
-move_there w c move (Some node) = after_client w c (client_step c node move)
+abbrev pub move_there : World → ℕ → ClientMove → Shape → Option Client → Moved
+move_there w c move shape None = still w
+move_there w c move shape (Some node) = after_client w c (client_step c shape node move)
 
-abbrev pub move_client : ℕ → ClientMove → World → Moved
-move_client c move w = move_there w c move (client_at w c)
+abbrev pub move_client : ℕ → ClientMove → Shape → World → Moved
+move_client c move shape w = move_there w c move shape (client_at w c)
 
 -- ---- the work that follows, until idle: one device write for each task. A node that goes down does nothing more
 
@@ -249,7 +250,7 @@ other_lucks (luck ∷ more) = more
 abbrev pub client_works : ℕ → List ClientTask → List Luck → World → Moved
 client_works c [] lucks w = still w
 client_works c (task ∷ tasks) lucks w =
-    and_then (move_client c (client.Work (first_luck lucks)) w) (client_works c tasks (other_lucks lucks))
+    and_then (move_client c (client.Work (first_luck lucks)) no_shape w) (client_works c tasks (other_lucks lucks))
 
 abbrev pub tasks_in : {X : Type 0} → Option (List X) → List X
 tasks_in None = []
@@ -263,8 +264,22 @@ abbrev pub client_tasks : Option Client → List ClientTask
 client_tasks None = []
 client_tasks (Some node) = tasks_in node.agenda
 
+-- the work of a client until it is idle
+abbrev pub client_until_idle : ℕ → List Luck → World → Moved
+client_until_idle c lucks w = client_works c (client_tasks (client_at w c)) lucks w
+
+-- where the client isn't on hold
 abbrev pub client_follows : ℕ → List Luck → World → Moved
-client_follows c lucks w = client_works c (client_tasks (client_at w c)) lucks w
+client_follows c lucks w = if has_node w.holds (nodes.Client c) then still w else client_until_idle c lucks w
+
+-- a client's next write
+abbrev pub client_writes : ℕ → Luck → List ClientTask → World → Moved
+client_writes c luck [] w = still w
+client_writes c luck (task ∷ tasks) w = move_client c (client.Work luck) no_shape w
+
+-- a client that is down is started
+abbrev pub client_starts : ℕ → List Luck → World → Moved
+client_starts c lucks w = and_then (move_client c client.Start no_shape w) (client_follows c lucks)
 
 -- ---- a Store's tables
 
@@ -385,6 +400,11 @@ store_crashes number calls lucks w =
     (table_crashes (crash_luck calls (other_lucks lucks) (first_luck lucks)) (busy_table w number) w)
     (store_falls number)
 
+-- a client crashes inside its next write, or beside any
+abbrev pub client_crashes : ℕ → ℕ → List Luck → World → Moved
+client_crashes c calls lucks w =
+    move_client c (client.Crash (crash_luck calls (other_lucks lucks) (first_luck lucks))) no_shape w
+
 -- ---- events
 
 -- an event whose device call failed is answered so
@@ -465,16 +485,16 @@ gets_tasks agenda w c = false
 abbrev pub client_follows_from : Option (List ClientTask) → ℕ → List Luck → World → Moved
 client_follows_from agenda c lucks w = if gets_tasks agenda w c then client_follows c lucks w else still w
 
-abbrev pub call_there : World → ℕ → ClientMove → List Luck → Option Client → WorldStep
-call_there w c move lucks None = refused w facts.NoTable
-call_there w c move lucks (Some node) =
+abbrev pub call_there : World → ℕ → ClientMove → Shape → List Luck → Option Client → WorldStep
+call_there w c move shape lucks None = refused w facts.NoTable
+call_there w c move shape lucks (Some node) =
     unless_down w (nodes.Client c)
-    (answering (client_step c node move).answer
-    (and_then (move_client c move w) (client_follows_from node.agenda c lucks)))
+    (answering (client_step c shape node move).answer
+    (and_then (move_client c move shape w) (client_follows_from node.agenda c lucks)))
 
 -- a client's move, and the work that follows
-abbrev pub call : World → ℕ → ClientMove → List Luck → WorldStep
-call w c move lucks = call_there w c move lucks (client_at w c)
+abbrev pub call : World → ℕ → ClientMove → Shape → List Luck → WorldStep
+call w c move shape lucks = call_there w c move shape lucks (client_at w c)
 
 -- a table that has no writes to do reads its disks for a message, which may fail; any other refuses
 abbrev pub take_read : World → ℕ → Hosted → StoreMove → List Luck → Luck → WorldStep
@@ -494,7 +514,7 @@ to_hosted w table move lucks (Some hosted) = take_at w table hosted move lucks h
 
 abbrev pub to_there : World → ℕ → Message → List Luck → Option Client → WorldStep
 to_there w c message lucks None = answered w facts.Done
-to_there w c message lucks (Some node) = call_there w c (client.Take message) lucks (Some node)
+to_there w c message lucks (Some node) = call_there w c (client.Take message) no_shape lucks (Some node)
 
 -- a packet whose party or table isn't there is lost
 abbrev pub carried : World → Packet → List Luck → Node → WorldStep
@@ -558,7 +578,7 @@ history_lines w table (Some hosted) = record {
   outs = [];
 }
 
--- ---- what is done to a node; only a Store has devices so far
+-- ---- what is done to a node; a gateway has no devices
 
 abbrev pub next_step : List StoreTask → Step
 next_step [] = steps.Idle
@@ -568,27 +588,40 @@ abbrev pub busy_step : World → Option ℕ → Step
 busy_step w None = steps.Idle
 busy_step w (Some table) = next_step (hosted_tasks (hosted_at w table))
 
+abbrev pub next_write : List ClientTask → Step
+next_write [] = steps.Idle
+next_write (task ∷ tasks) = client.step_of task.change
+
 abbrev pub worked : World → List Luck → Node → WorldStep
 worked w lucks (nodes.Store number) =
     let busy : Option ℕ = busy_table w number in
     answering (facts.Did (busy_step w busy)) (write_next number (first_luck lucks) busy w)
-worked w lucks other = answered w (facts.Did steps.Idle)
+worked w lucks (nodes.Client c) =
+    let tasks : List ClientTask = client_tasks (client_at w c) in
+    answering (facts.Did (next_write tasks)) (client_writes c (first_luck lucks) tasks w)
+worked w lucks (nodes.Gate gate) = answered w (facts.Did steps.Idle)
 
 abbrev pub all_worked : World → List Luck → Node → WorldStep
 all_worked w lucks (nodes.Store number) =
     answering (facts.Number (length (tasks_of w number))) (store_until_idle number lucks w)
-all_worked w lucks other = answered w (facts.Number 0)
+all_worked w lucks (nodes.Client c) =
+    answering (facts.Number (length (client_tasks (client_at w c)))) (client_until_idle c lucks w)
+all_worked w lucks (nodes.Gate gate) = answered w (facts.Number 0)
 
 abbrev pub crashed : World → ℕ → List Luck → Node → WorldStep
 crashed w calls lucks (nodes.Store number) = answering facts.Done (store_crashes number calls lucks w)
-crashed w calls lucks other = answered w facts.Done
+crashed w calls lucks (nodes.Client c) = answering facts.Done (client_crashes c calls lucks w)
+crashed w calls lucks (nodes.Gate gate) = answered w facts.Done
 
 -- a node that is up goes on
 abbrev pub started : World → List Luck → Node → WorldStep
 started w lucks (nodes.Store number) = if is_down w (nodes.Store number)
     then answering facts.Done (store_starts number lucks w)
     else answered w facts.Done
-started w lucks other = answered w facts.Done
+started w lucks (nodes.Client c) = if is_down w (nodes.Client c)
+    then answering facts.Done (client_starts c lucks w)
+    else answered w facts.Done
+started w lucks (nodes.Gate gate) = answered w facts.Done
 
 -- what an event makes of the world, where its device calls go so
 abbrev pub step : World → Event → List Luck → WorldStep
@@ -596,11 +629,11 @@ step w (events.Store number) lucks = silent w
 step w (events.Table table schema) lucks =
     silent (declared w table schema (first_luck lucks) (hosted_at w table))
 step w (events.Client c gate tables) lucks = silent (joined w c tables (client_at w c))
-step w (events.Write c table row content) lucks = call w c (client.Write table row content) lucks
-step w (events.Show c table row) lucks = call w c (client.Show table row) lucks
-step w (events.Sum c table row) lucks = call w c (client.Sum table row) lucks
-step w (events.Sync c table) lucks = call w c (client.Sync table) lucks
-step w (events.Pull c table) lucks = call w c (client.Next table) lucks
+step w (events.Write c table row content) lucks = call w c (client.Write table row content) no_shape lucks
+step w (events.Show c table row) lucks = call w c (client.Show table row) no_shape lucks
+step w (events.Sum c table row) lucks = call w c (client.Sum table row) no_shape lucks
+step w (events.Sync c table) lucks = call w c (client.Sync table) no_shape lucks
+step w (events.Pull c table) lucks = call w c (client.Next table) no_shape lucks
 step w (events.Deliver packet) lucks = delivered w lucks (slice_get w.packets packet)
 step w (events.StoreShow table row) lucks = store_shows w row lucks (hosted_at w table)
 step w (events.History table) lucks = history_lines w table (hosted_at w table)

@@ -1,0 +1,215 @@
+-- What is kept of every table along the moves of each event.
+use Rattle.std.proofs.Common.{◌≡◌, ⊎_elim, ℕ, Bool, true, false, List, [], ◌∷◌, length, Option, Some, None, refl, sym, ◌∙◌, subst}
+use Rattle.std.specs.Prelude.{not, slice_get, if◌then◌else◌}
+use Rattle.stab_base.specs.declared.node.Node.{Node}
+use Rattle.stab_base.specs.declared.node.Node.TheVariants as nodes
+use Rattle.row_value.specs.declared.schema.Schema.{Schema}
+use Rattle.table_model.specs.declared.event.Event.{Event}
+use Rattle.table_model.specs.declared.event.Event.TheVariants as events
+use Rattle.step_tables.specs.Facts as facts
+use Rattle.step_tables.specs.Messages.{Luck, Message, table_of}
+use Rattle.step_tables.specs.Messages as messages
+use Rattle.step_tables.specs.StoreMoves as store
+use Rattle.step_tables.specs.StoreMoves.{StoreTask, StoreMove, StoreStep}
+use Rattle.step_tables.specs.ClientMoves as client
+use Rattle.step_tables.specs.ClientMoves.{Client, ClientTask, ClientMove, Shape}
+use Rattle.world_tables.specs.World.{World, Packet, Hosted, WorldStep, owner, the_store, hosted_at, client_at, tables_of, has_node, is_down, still}
+use Rattle.world_tables.specs.World.{table_step, move_table, move_there, move_client, first_luck, other_lucks, client_works, client_tasks, client_until_idle, client_follows, client_writes, client_starts, store_falls, busy_table, tasks_of}
+use Rattle.world_tables.specs.World.{crash_luck, declared_late, store_starts}
+use Rattle.world_tables.specs.World.{answering, answered, refused, unless_down, agenda_of, with_table, declared, joined, gets_tasks}
+use Rattle.world_tables.specs.World.{call_there, take_read, take_at, to_hosted, to_there, carried, delivered, row_read, store_shows, chunk_names, history_lines, worked, all_worked, crashed}
+use Rattle.world_tables.specs.World.{started, step}
+use Rattle.world_tables.specs.Passed.{taken_by, taken_from, taken_part, started_at, first_part}
+use Rattle.world_laws.proofs.Looks.{look_cases}
+use Rattle.moment_laws.proofs.Along as along
+use Rattle.moment_laws.proofs.Along.{behind_step, All}
+
+-- a table that is declared
+abbrev pub new_hosted : Bool → Bool → Hosted
+new_hosted made up = record { store = record { disk = record { items = []; pending = None; left = [] }; agenda = agenda_of up }; history = []; made = made }
+
+-- what a table is that this event declares
+abbrev pub Fresh : (ℕ → Hosted → Type 0) → World → Type 0
+Fresh P w = (table : ℕ) → hosted_at w table ≡ None → ((up : Bool) → P table (new_hosted true up)) × P table (new_hosted false false)
+
+module _ (P : ℕ → Hosted → Type 0)
+    (works : (w : World) (table : ℕ) (hosted : Hosted) (luck : Luck) → P table hosted → P table (behind_step hosted (table_step w table hosted (store.Work luck))))
+    (crashes : (w : World) (table : ℕ) (hosted : Hosted) (luck : Luck) → P table hosted → P table (behind_step hosted (table_step w table hosted (store.Crash luck))))
+    (starts : (w : World) (table : ℕ) (hosted : Hosted) → hosted.made ≡ true → P table hosted → P table (behind_step hosted (table_step w table hosted store.Start)))
+    (late : (table : ℕ) (hosted : Hosted) → hosted.made ≡ false → P table hosted → P table (behind_step (record hosted { made = true }) (declared_late table))) where
+  falls : (w : World) → All P w → All P (store_falls owner w).world
+  falls w all = along.falls_all P works crashes starts late owner w all
+
+  unless_down_all : (w : World) (node : Node) (s : WorldStep) → All P w → All P s.world → All P (unless_down w node s).world
+  unless_down_all w node s all then_all = go (is_down w node)
+    where
+      go : (b : Bool) → All P (if b then refused w (facts.NodeDown node) else s).world
+      go true = all
+      go false = then_all
+
+  -- ---- clients
+
+  client_all : (w : World) (c : ℕ) (move : ClientMove) (shape : Shape) → All P w → All P (move_client c move shape w).world
+  client_all w c move shape all = go (client_at w c)
+    where
+      go : (o : Option Client) → All P (move_there w c move shape o).world
+      go None = all
+      go (Some node) = all
+
+  client_works_all : (c : ℕ) (tasks : List ClientTask) (lucks : List Luck) (w : World) → All P w → All P (client_works c tasks lucks w).world
+  client_works_all c [] lucks w all = all
+  client_works_all c (task ∷ tasks) lucks w all =
+      client_works_all c tasks (other_lucks lucks) (move_client c (client.Work (first_luck lucks)) client.no_shape w).world
+      (client_all w c (client.Work (first_luck lucks)) client.no_shape all)
+
+  client_follows_all : (c : ℕ) (lucks : List Luck) (w : World) → All P w → All P (client_follows c lucks w).world
+  client_follows_all c lucks w all = go (has_node w.holds (nodes.Client c))
+    where
+      go : (b : Bool) → All P (if b then still w else client_until_idle c lucks w).world
+      go true = all
+      go false = client_works_all c (client_tasks (client_at w c)) lucks w all
+
+  client_writes_all : (c : ℕ) (luck : Luck) (tasks : List ClientTask) (w : World) → All P w → All P (client_writes c luck tasks w).world
+  client_writes_all c luck [] w all = all
+  client_writes_all c luck (task ∷ tasks) w all = client_all w c (client.Work luck) client.no_shape all
+
+  call_all : (w : World) (c : ℕ) (move : ClientMove) (shape : Shape) (lucks : List Luck) → All P w → (o : Option Client) → All P (call_there w c move shape lucks o).world
+  call_all w c move shape lucks all None = all
+  call_all w c move shape lucks all (Some node) = unless_down_all w (nodes.Client c) _ all (go (gets_tasks node.agenda v c))
+    where
+      v : World
+      v = (move_client c move shape w).world
+
+      first : All P v
+      first = client_all w c move shape all
+
+      go : (b : Bool) → All P (if b then client_follows c lucks v else still v).world
+      go true = client_follows_all c lucks v first
+      go false = first
+
+  -- ---- messages
+
+  hosted_all : (w : World) (table : ℕ) (move : StoreMove) (lucks : List Luck) → All P w → All P (move_table table move w).world → (o : Option Hosted) → All P (to_hosted w table move lucks o).world
+  hosted_all w table move lucks all first None = all
+  hosted_all w table move lucks all first (Some hosted) = go hosted.store.agenda
+    where
+      reads : (luck : Luck) → All P (take_read w table hosted move (other_lucks lucks) luck).world
+      reads messages.FailedBefore = falls w all
+      reads messages.FailedAfter = falls w all
+      reads messages.Done = along.table_follows_all P works crashes starts late table (other_lucks lucks) (move_table table move w).world first
+
+      go : (o : Option (List StoreTask)) → All P (take_at w table hosted move lucks o).world
+      go None = first
+      go (Some (task ∷ more)) = first
+      go (Some []) = reads (first_luck lucks)
+
+  carried_all : (w : World) (p : Packet) (lucks : List Luck) → All P w → (to : Node) → All P (taken_by w p to) → All P (carried w p lucks to).world
+  carried_all w p lucks all (nodes.Store number) first =
+      unless_down_all w (nodes.Store number) _ all (hosted_all w (table_of p.message) (store.Take p.from p.message) lucks all first (hosted_at w (table_of p.message)))
+  carried_all w p lucks all (nodes.Gate gate) first = all
+  carried_all w p lucks all (nodes.Client c) first = go (client_at w c)
+    where
+      go : (o : Option Client) → All P (to_there w c p.message lucks o).world
+      go None = all
+      go (Some node) = call_all w c (client.Take p.message) client.no_shape lucks all (Some node)
+
+  delivered_all : (w : World) (lucks : List Luck) → All P w → (o : Option Packet) → All P (taken_from w o) → All P (delivered w lucks o).world
+  delivered_all w lucks all None first = all
+  delivered_all w lucks all (Some p) first = carried_all w p lucks all p.to first
+
+  -- ---- questions and declarations
+
+  shows_all : (w : World) (row : List ℕ) (lucks : List Luck) → All P w → (o : Option Hosted) → All P (store_shows w row lucks o).world
+  shows_all w row lucks all None = all
+  shows_all w row lucks all (Some hosted) = unless_down_all w the_store _ all (read (first_luck lucks))
+    where
+      read : (luck : Luck) → All P (row_read w hosted row luck).world
+      read messages.Done = all
+      read messages.FailedBefore = falls w all
+      read messages.FailedAfter = falls w all
+
+  history_all : (w : World) (table : ℕ) → All P w → (o : Option Hosted) → All P (history_lines w table o).world
+  history_all w table all None = all
+  history_all w table all (Some hosted) = all
+
+  chunks_all : (w : World) (table : ℕ) → All P w → (o : Option Hosted) → All P (chunk_names w table o).world
+  chunks_all w table all None = all
+  chunks_all w table all (Some hosted) = unless_down_all w the_store _ all all
+
+  with_all : (w : World) (table : ℕ) (schema : Schema) (made up : Bool) → All P w → P table (new_hosted made up) → All P (with_table w table schema made up)
+  with_all w table schema made up all p q found at = ⊎_elim
+      (λ e. let both : Some (new_hosted made up) ≡ Some found = sym e.1 ∙ at in let same : new_hosted made up ≡ found = cc in
+      subst (P q) same (subst (λ (n : ℕ). P n (new_hosted made up)) (sym e.0) p))
+      (λ e. all q found (sym e.1 ∙ at)) (look_cases w.tables table (new_hosted made up) q)
+
+  declared_all : (w : World) (table : ℕ) (schema : Schema) (luck : Luck) → All P w → Fresh P w → (o : Option Hosted) → hosted_at w table ≡ o → All P (declared w table schema luck o)
+  declared_all w table schema luck all f (Some hosted) at = all
+  declared_all w table schema messages.Done all f None at = with_all w table schema true (not (is_down w the_store)) all ((f table at).0 (not (is_down w the_store)))
+  declared_all w table schema messages.FailedBefore all f None at = falls (with_table w table schema false false) (with_all w table schema false false all (f table at).1)
+  declared_all w table schema messages.FailedAfter all f None at = falls (with_table w table schema false false) (with_all w table schema false false all (f table at).1)
+
+  joined_all : (w : World) (c : ℕ) (tables : List ℕ) → All P w → (o : Option Client) → All P (joined w c tables o)
+  joined_all w c tables all None = all
+  joined_all w c tables all (Some node) = all
+
+  -- ---- what is done to a node
+
+  worked_all : (w : World) (lucks : List Luck) → All P w → (node : Node) → All P (worked w lucks node).world
+  worked_all w lucks all (nodes.Store number) = along.write_all P works crashes starts late number (first_luck lucks) (busy_table w number) w all
+  worked_all w lucks all (nodes.Client c) = client_writes_all c (first_luck lucks) (client_tasks (client_at w c)) w all
+  worked_all w lucks all (nodes.Gate gate) = all
+
+  all_worked_all : (w : World) (lucks : List Luck) → All P w → (node : Node) → All P (all_worked w lucks node).world
+  all_worked_all w lucks all (nodes.Store number) = along.works_all P works crashes starts late number (length (tasks_of w number)) lucks w all
+  all_worked_all w lucks all (nodes.Client c) = client_works_all c (client_tasks (client_at w c)) lucks w all
+  all_worked_all w lucks all (nodes.Gate gate) = all
+
+  crashed_all : (w : World) (calls : ℕ) (lucks : List Luck) → All P w → (node : Node) → All P (crashed w calls lucks node).world
+  crashed_all w calls lucks all (nodes.Store number) = along.crashes_all P works crashes starts late number calls lucks w all
+  crashed_all w calls lucks all (nodes.Client c) = client_all w c (client.Crash (crash_luck calls (other_lucks lucks) (first_luck lucks))) client.no_shape all
+  crashed_all w calls lucks all (nodes.Gate gate) = all
+
+  started_all : (w : World) (lucks : List Luck) → All P w → (node : Node) → All P (started w lucks node).world
+  started_all w lucks all (nodes.Store number) = go (is_down w (nodes.Store number))
+    where
+      go : (b : Bool) → All P (if b then answering facts.Done (store_starts number lucks w) else answered w facts.Done).world
+      go true = along.starts_all P works crashes starts late number lucks w all
+      go false = all
+  started_all w lucks all (nodes.Client c) = go (is_down w (nodes.Client c))
+    where
+      go : (b : Bool) → All P (if b then answering facts.Done (client_starts c lucks w) else answered w facts.Done).world
+      go true = client_follows_all c lucks (move_client c client.Start client.no_shape w).world (client_all w c client.Start client.no_shape all)
+      go false = all
+  started_all w lucks all (nodes.Gate gate) = all
+
+  -- ---- an event
+
+  pub step_all : (w : World) (event : Event) (lucks : List Luck) → All P w → All P (taken_part w event) → Fresh P w → All P (step w event lucks).world
+  step_all w (events.Store number) lucks all first f = all
+  step_all w (events.Table table schema) lucks all first f = declared_all w table schema (first_luck lucks) all f (hosted_at w table) refl
+  step_all w (events.Client c gate tables) lucks all first f = joined_all w c tables all (client_at w c)
+  step_all w (events.Write c table row x) lucks all first f = call_all w c (client.Write table row x) client.no_shape lucks all (client_at w c)
+  step_all w (events.Show c table row) lucks all first f = call_all w c (client.Show table row) client.no_shape lucks all (client_at w c)
+  step_all w (events.Sum c table row) lucks all first f = call_all w c (client.Sum table row) client.no_shape lucks all (client_at w c)
+  step_all w (events.Sync c table) lucks all first f = call_all w c (client.Sync table) client.no_shape lucks all (client_at w c)
+  step_all w (events.Pull c table) lucks all first f = call_all w c (client.Next table) client.no_shape lucks all (client_at w c)
+  step_all w (events.Deliver n) lucks all first f = delivered_all w lucks all (slice_get w.packets n) first
+  step_all w (events.StoreShow table row) lucks all first f = shows_all w row lucks all (hosted_at w table)
+  step_all w (events.History table) lucks all first f = history_all w table all (hosted_at w table)
+  step_all w (events.Chunks table) lucks all first f = chunks_all w table all (hosted_at w table)
+  step_all w (events.Hold node) lucks all first f = unless_down_all w node _ all all
+  step_all w (events.Free node) lucks all first f = unless_down_all w node _ all all
+  step_all w (events.Work node) lucks all first f = unless_down_all w node _ all (worked_all w lucks all node)
+  step_all w (events.WorkAll node) lucks all first f = unless_down_all w node _ all (all_worked_all w lucks all node)
+  step_all w (events.Crash node calls pick) lucks all first f = unless_down_all w node _ all (crashed_all w calls lucks all node)
+  step_all w (events.Start node) lucks all first f = started_all w lucks all node
+
+  started_at_all : (w : World) (lucks : List Luck) (node : Node) → All P w → All P (started_at w lucks node)
+  started_at_all w lucks (nodes.Store number) all = along.tables_start_all P works crashes starts late (tables_of w number) lucks w all
+  started_at_all w lucks (nodes.Client c) all = all
+  started_at_all w lucks (nodes.Gate gate) all = all
+
+  pub first_all : (w : World) (event : Event) (lucks : List Luck) → All P w → All P (taken_part w event) → All P (first_part w event lucks)
+  first_all w (events.Deliver n) lucks all first = first
+  first_all w (events.Start node) lucks all first = started_at_all w lucks node all
+  first_all w other lucks all first = all

@@ -1,5 +1,5 @@
 -- How one line more ends, or doesn't end, a run.
-use Rattle.std.proofs.Common.{◌≡◌, ◌⊎◌, ℕ, Bool, ◌+◌, List, [], ◌∷◌, ◌++◌, Option, Result, Ok, Err, refl, sym, ap, subst, inl, inr}
+use Rattle.std.proofs.Common.{◌≡◌, ◌≢◌, ◌⊎◌, ℕ, Bool, ◌+◌, List, [], ◌∷◌, ◌++◌, Option, Result, Ok, Err, refl, sym, ap, subst, inl, inr}
 use Rattle.std.specs.Prelude.{OnOk, IfErr, unwrap_or}
 use Rattle.std.specs.Result.{result_err}
 use Rattle.std.specs.List.{flat_map}
@@ -12,32 +12,83 @@ use Rattle.stab_io.specs.Faults.{AppendsFront}
 use Rattle.simba_top.specs.declared.stop.Stop.{Stop}
 use Rattle.simba_top.specs.declared.stop.Stop.TheVariants.{Read, Put, Depot, Memory, BadLine, Limit}
 use Rattle.simba_top.specs.declared.turn.Run.{Run}
-use Rattle.simba_top.specs.Ends.{Tells, IsTextOf}
+use Rattle.world_tables.specs.Turns.{Happening}
+use Rattle.simba_top.specs.Ends.{IsRun, Tells, IsTextOf}
+use Rattle.simba_top.specs.Faults.{Led, AnyRun}
 use Rattle.script_text.specs.declared.fault.BadLine.{BadLine as ABadLine}
 use Rattle.script_text.specs.Names.{Names}
 use Rattle.transcript_text.specs.Text.{stop_text, transcript_text}
 use Rattle.simba_top.specs.Script.{IsFront}
-use Rattle.simba_top.specs.Stands.{Goes, GoesOn, IsCause, EndedBy, Stopped}
+use Rattle.simba_top.specs.Stands.{Goes, GoesOn, IsCause, EndedBy, Stopped, IsDone, Leads}
 use Rattle.simba_top.proofs.Puts.{added_then}
-use Rattle.simba_top.proofs.Sounds.{is_run}
+use Rattle.world_tables.specs.World.{start}
+use Rattle.world_tables.specs.Turns.{world_from}
+use Rattle.world_steps.specs.declared.world.World.{World}
+use Rattle.world_steps.specs.Faults.{IsUndone}
+use Rattle.simba_top.proofs.Sounds.{is_run, leads_still}
 
 pub same_count : {D : Type 0} (old new : Run D) → new ≡ record old { reader = new.reader } → new.count ≡ old.count
 same_count {D} old new same = ap (λ (run : Run D). run.count) same
 
+-- ---- runs of which less is said
+
+module _ (P Q : List Happening → Type 0) (f : (run : List Happening) → P run → Q run) where
+  run_map : (script : List Event) (lines : List TextLine) → IsRun P script lines → IsRun Q script lines
+  run_map script lines r = record { run = r.run; events = r.events; lines_are = r.lines_are; sound = r.sound; listed = r.listed; kept = f r.run r.kept }
+
+  tells_map : (script : List Event) (before after : Option (List ℕ)) → Tells P script before after → Tells Q script before after
+  tells_map script before after t = (t.0, run_map script t.0 t.1, t.2)
+
+  pub ended_map : (stop : Stop) (input : List ℕ) (count : ℕ) (left before after : Option (List ℕ)) → EndedBy P stop input count left before after → EndedBy Q stop input count left before after
+  ended_map Read input count left before after e = (e.0, e.1, tells_map e.0 before after e.2)
+  ended_map Put input count left before after e = (e.0, (e.1.0, e.1.1, run_map e.1.0 e.1.1 e.1.2, e.1.3), e.2)
+  ended_map Depot input count left before after e = (e.0, e.1, tells_map e.0 before after e.2)
+  ended_map Memory input count left before after e = e
+  ended_map (BadLine fault) input count left before after e = (e.0, e.1, tells_map e.0 before after e.2)
+  ended_map (Limit limit) input count left before after e = (e.0, e.1, tells_map e.0 before after e.2)
+
+  pub done_map : (input : List ℕ) (before after : Option (List ℕ)) → IsDone P input before after → IsDone Q input before after
+  done_map input before after d = (d.0, d.1, tells_map d.0 before after d.2)
+
+tells_any : (P : List Happening → Type 0) (script : List Event) (before after : Option (List ℕ)) → Tells P script before after → Tells AnyRun script before after
+tells_any P script before after t = tells_map P AnyRun (λ run kept. tt) script before after t
+
 -- a run that stops before a line is carried out has written the transcript of the lines before it
-pub ended : (stop : Stop) (input : List ℕ) (script : List Event) (count count' : ℕ) (left before now : Option (List ℕ)) → count' ≡ count
-    → IsCause stop input script count left → Tells script before now → EndedBy stop input count' left before now
-ended Read input script count count' left before now same cause told = (script, cause, told)
-ended Put input script count count' left before now same cause told = absurd cause
-ended Depot input script count count' left before now same cause told = (script, rw same cause, told)
-ended Memory input script count count' left before now same cause told = (script, rw same cause, told)
-ended (BadLine fault) input script count count' left before now same cause told = (script, rw same cause, told)
-ended (Limit limit) input script count count' left before now same cause told = (script, rw same cause, told)
+pub ended : (P : List Happening → Type 0) (stop : Stop) (input : List ℕ) (script : List Event) (count count' : ℕ) (left before now : Option (List ℕ)) → count' ≡ count
+    → IsCause stop input script count left → Tells P script before now → EndedBy P stop input count' left before now
+ended P Read input script count count' left before now same cause told = (script, cause, told)
+ended P Put input script count count' left before now same cause told = absurd cause
+ended P Depot input script count count' left before now same cause told = (script, rw same cause, told)
+ended P Memory input script count count' left before now same cause told = (script, rw same cause, tells_any P script before now told)
+ended P (BadLine fault) input script count count' left before now same cause told = (script, rw same cause, told)
+ended P (Limit limit) input script count count' left before now same cause told = (script, rw same cause, told)
+
+-- memory was refused, or the transcript is of a run that has P
+pub ended_left : (P Q : List Happening → Type 0) (stop : Stop) (input : List ℕ) (script : List Event) (count count' : ℕ) (left before now : Option (List ℕ)) → count' ≡ count
+    → IsCause stop input script count left → Tells Q script before now → (stop ≢ Memory → Tells P script before now) → EndedBy P stop input count' left before now
+ended_left P Q Read input script count count' left before now same cause told f = (script, cause, f (λ is. absurd cc))
+ended_left P Q Put input script count count' left before now same cause told f = absurd cause
+ended_left P Q Depot input script count count' left before now same cause told f = (script, rw same cause, f (λ is. absurd cc))
+ended_left P Q Memory input script count count' left before now same cause told f = (script, rw same cause, tells_any Q script before now told)
+ended_left P Q (BadLine fault) input script count count' left before now same cause told f = (script, rw same cause, f (λ is. absurd cc))
+ended_left P Q (Limit limit) input script count count' left before now same cause told f = (script, rw same cause, f (λ is. absurd cc))
+
+-- an event isn't carried out
+pub still_tells : {D : Type 0} (state : D → DiskState) (script : List Event) (told : List TextLine) (world new : World D) (is_out out : ℕ → Bool) (before now : Option (List ℕ))
+    → (leads : Leads state script told world is_out) → IsUndone state (world_from start leads.run) out world new → Appends before now (transcript_text told) → Tells (Led state new) script before now
+still_tells state script told world new is_out out before now leads u was = (told, is_run state script told new out (leads_still state script told world is_out leads new out u), was)
+
+pub world_same : {D : Type 0} (old new : Run D) → new ≡ record old { reader = new.reader } → new.world ≡ old.world
+world_same {D} old new same = ap (λ (run : Run D). run.world) same
 
 module _ {D : Type 0} (state : D → DiskState) (input : List ℕ) (run : Run D) (is_out : ℕ → Bool) (left before now : Option (List ℕ))
     (goes : Goes state input run is_out left before now) where
-  pub tells : Tells goes.0 before now
+  pub tells : Tells (Led state run.world) goes.0 before now
   tells = (goes.1, is_run state goes.0 goes.1 run.world is_out goes.2.world, goes.3)
+
+  -- a line more was read
+  pub tells_same : (new : Run D) → new ≡ record run { reader = new.reader } → Tells (Led state new.world) goes.0 before now
+  tells_same new same = subst (λ (w : World D). Tells (Led state w) goes.0 before now) (sym (world_same run new same)) tells
 
 module _ {D : Type 0} (state : D → DiskState) (input : List ℕ) (told : List TextLine) (run : Run D) (is_out : ℕ → Bool) (left : Option (List ℕ)) (texts : List (List ℕ))
     (before mid now : Option (List ℕ)) (goes : GoesOn state input told run is_out left texts) (was : Appends before mid (transcript_text told)) where
@@ -50,7 +101,7 @@ module _ {D : Type 0} (state : D → DiskState) (input : List ℕ) (told : List 
         (Appends-trans before mid now (transcript_text told) (flat_map (λ (text : List ℕ). text) texts) was put),
   )
 
-  pub put_failed : AppendsFront mid now (flat_map (λ (text : List ℕ). text) texts) → (text : List ℕ) × IsTextOf input text × AppendsFront before now text
+  pub put_failed : AppendsFront mid now (flat_map (λ (text : List ℕ). text) texts) → (text : List ℕ) × IsTextOf (Led state run.world) input text × AppendsFront before now text
   put_failed put = (
     transcript_text goes.1,
     (goes.0, goes.1, is_run state goes.0 goes.1 run.world is_out goes.2.world, inl (run.count, run.names, goes.2.rest, goes.2.front, refl)),
@@ -68,37 +119,47 @@ pub written : (mid now : Option (List ℕ)) (text : List ℕ) (put : Result (Uni
 written mid now text (Ok done) ok err = ok
 written mid now text (Err stop) ok err = err
 
-module _ (input : List ℕ) (left before mid now : Option (List ℕ)) (script : List Event) (count : ℕ) (text : List ℕ)
-    (told : Tells script before mid) where
-  no_memory : (names : Names) (rest : List ℕ) → IsFront input script count names rest → now ≡ mid → Stopped Memory input left before now
+module _ (input : List ℕ) (left before mid now : Option (List ℕ)) (script : List Event) (count : ℕ) (text : List ℕ) (P : List Happening → Type 0)
+    (told : Tells P script before mid) where
+  no_memory : (names : Names) (rest : List ℕ) → IsFront input script count names rest → now ≡ mid → Stopped P Memory input left before now
   no_memory names rest front same =
-      (count, (script, (names, rest, front), (told.0, told.1, subst (λ (bytes : Option (List ℕ)). Appends before bytes (transcript_text told.0)) (sym same) told.2)))
+      (count, (script, (names, rest, front), tells_any P script before now (told.0, told.1, subst (λ (bytes : Option (List ℕ)). Appends before bytes (transcript_text told.0)) (sym same) told.2)))
 
-  no_put : IsTextOf input (transcript_text told.0 ++ text) → AppendsFront mid now text → Stopped Put input left before now
+  no_put : IsTextOf P input (transcript_text told.0 ++ text) → AppendsFront mid now text → Stopped P Put input left before now
   no_put is put = (transcript_text told.0 ++ text, is, added_then before mid now (transcript_text told.0) text told.2 put)
 
-pub stopped_bad : (input : List ℕ) (left before mid now : Option (List ℕ)) (count : ℕ) (fault : ABadLine) (put : Result (Unit {0}) Stop)
-    → EndedBy (BadLine fault) input count left before mid → Written mid now (stop_text 3 (count + 1) fault.code ++ 10 ∷ []) put
-    → Stopped (unwrap_or (result_err put) (BadLine fault)) input left before now
-stopped_bad input left before mid now count fault (Ok done) ended put =
+pub stopped_bad : (P : List Happening → Type 0) (input : List ℕ) (left before mid now : Option (List ℕ)) (count : ℕ) (fault : ABadLine) (put : Result (Unit {0}) Stop)
+    → EndedBy P (BadLine fault) input count left before mid → Written mid now (stop_text 3 (count + 1) fault.code ++ 10 ∷ []) put
+    → Stopped P (unwrap_or (result_err put) (BadLine fault)) input left before now
+stopped_bad P input left before mid now count fault (Ok done) ended put =
     let t = ended.2 in
     (ended.0, count, ended.1, (t.0, t.1, Appends-trans before mid now (transcript_text t.0) (stop_text 3 (count + 1) fault.code ++ 10 ∷ []) t.2 put))
-stopped_bad input left before mid now count fault (Err stop) ended (inl refused) =
-    rw refused.0 (no_memory input left before mid now ended.0 count (stop_text 3 (count + 1) fault.code ++ 10 ∷ []) ended.2 ended.1.names ended.1.rest ended.1.front refused.1)
-stopped_bad input left before mid now count fault (Err stop) ended (inr failed) =
+stopped_bad P input left before mid now count fault (Err stop) ended (inl refused) =
+    rw refused.0 (no_memory input left before mid now ended.0 count (stop_text 3 (count + 1) fault.code ++ 10 ∷ []) P ended.2 ended.1.names ended.1.rest ended.1.front refused.1)
+stopped_bad P input left before mid now count fault (Err stop) ended (inr failed) =
     let t = ended.2 in
-    rw failed.0 (no_put input left before mid now ended.0 count (stop_text 3 (count + 1) fault.code ++ 10 ∷ []) t
+    rw failed.0 (no_put input left before mid now ended.0 count (stop_text 3 (count + 1) fault.code ++ 10 ∷ []) P t
     (ended.0, t.0, t.1, inr (inl (count, fault, ended.1, refl))) failed.1)
 
-pub stopped_limit : (input : List ℕ) (left before mid now : Option (List ℕ)) (count limit : ℕ) (put : Result (Unit {0}) Stop)
-    → EndedBy (Limit limit) input count left before mid → Written mid now (stop_text 7 (count + 1) limit ++ 10 ∷ []) put
-    → Stopped (unwrap_or (result_err put) (Limit limit)) input left before now
-stopped_limit input left before mid now count limit (Ok done) ended put =
+pub stopped_limit : (P : List Happening → Type 0) (input : List ℕ) (left before mid now : Option (List ℕ)) (count limit : ℕ) (put : Result (Unit {0}) Stop)
+    → EndedBy P (Limit limit) input count left before mid → Written mid now (stop_text 7 (count + 1) limit ++ 10 ∷ []) put
+    → Stopped P (unwrap_or (result_err put) (Limit limit)) input left before now
+stopped_limit P input left before mid now count limit (Ok done) ended put =
     let t = ended.2 in
     (ended.0, count, ended.1, (t.0, t.1, Appends-trans before mid now (transcript_text t.0) (stop_text 7 (count + 1) limit ++ 10 ∷ []) t.2 put))
-stopped_limit input left before mid now count limit (Err stop) ended (inl refused) =
-    rw refused.0 (no_memory input left before mid now ended.0 count (stop_text 7 (count + 1) limit ++ 10 ∷ []) ended.2 ended.1.names ended.1.rest ended.1.front refused.1)
-stopped_limit input left before mid now count limit (Err stop) ended (inr failed) =
+stopped_limit P input left before mid now count limit (Err stop) ended (inl refused) =
+    rw refused.0 (no_memory input left before mid now ended.0 count (stop_text 7 (count + 1) limit ++ 10 ∷ []) P ended.2 ended.1.names ended.1.rest ended.1.front refused.1)
+stopped_limit P input left before mid now count limit (Err stop) ended (inr failed) =
     let t = ended.2 in
-    rw failed.0 (no_put input left before mid now ended.0 count (stop_text 7 (count + 1) limit ++ 10 ∷ []) t
+    rw failed.0 (no_put input left before mid now ended.0 count (stop_text 7 (count + 1) limit ++ 10 ∷ []) P t
     (ended.0, t.0, t.1, inr (inr (count, limit, ended.1, refl))) failed.1)
+
+-- the same at the end
+pub stopped_map : (P Q : List Happening → Type 0) → ((run : List Happening) → P run → Q run) → (stop : Stop) (input : List ℕ) (left before after : Option (List ℕ))
+    → Stopped P stop input left before after → Stopped Q stop input left before after
+stopped_map P Q f Read input left before after s = ended_map P Q f Read input 0 left before after s
+stopped_map P Q f Put input left before after s = ended_map P Q f Put input 0 left before after s
+stopped_map P Q f Depot input left before after s = (s.0, ended_map P Q f Depot input s.0 left before after s.1)
+stopped_map P Q f Memory input left before after s = s
+stopped_map P Q f (BadLine fault) input left before after s = (s.0, s.1, s.2, (s.3.0, run_map P Q f s.0 s.3.0 s.3.1, s.3.2))
+stopped_map P Q f (Limit limit) input left before after s = (s.0, s.1, s.2, (s.3.0, run_map P Q f s.0 s.3.0 s.3.1, s.3.2))

@@ -13,13 +13,15 @@ use Rattle.row_value.specs.declared.schema.Schema.{Schema}
 use Rattle.value_codec.specs.SchemaSpelling.{HasSchemaSpelling, HasColumnSpelling, IsChunkSize, column_spelling, kind_code, scheme_code}
 use Rattle.vault.specs.Limit.{payload_most}
 use Rattle.row_store.specs.Spelling.{table_payload}
+use Rattle.stab_base.specs.declared.node.Node.{Node}
+use Rattle.stab_base.specs.declared.node.Node.TheVariants as nodes
 use Rattle.table_model.specs.declared.event.Event.{Event}
 use Rattle.table_model.specs.declared.event.Event.TheVariants as events
-use Rattle.world_steps.specs.Holds.{IsMade, IsBuilt}
+use Rattle.world_steps.specs.Holds.{IsMade, HasDevices, IsBuilt}
 use Rattle.script_words.specs.Words.{is_name, is_name_byte}
 use Rattle.script_words.proofs.WordLemmas.{both}
 use Rattle.script_text.specs.Names.{Names}
-use Rattle.script_text.specs.Grammar.{IsChunk, AreColumns, SpellsTable, SpelledBy, Spells}
+use Rattle.script_text.specs.Grammar.{IsChunk, AreColumns, SpellsTable, IsNode, SpelledBy, Spells}
 
 -- ---- names
 
@@ -110,9 +112,18 @@ table_made names words table schema s = record {
   short = payload_short schema s.5 s.3 s.4;
 }
 
+-- no line is of a client's devices
+with_devices : (names : Names) (node : Node) → IsNode names node → HasDevices node
+with_devices names (nodes.Store number) is = tt
+with_devices names (nodes.Gate gate) is = absurd is
+with_devices names (nodes.Client client) is = absurd is
+
 spelled_built : (names : Names) (words : List (List ℕ)) (event : Event) → SpelledBy names words event → IsBuilt event
 spelled_built names words (events.Table table schema) s = table_made names words table schema s
 spelled_built names words (events.Client client gate tables) s = s.1
+spelled_built names words (events.Hold node) s = with_devices names node s.1
+spelled_built names words (events.Crash node calls pick) s = with_devices names node s.1
+spelled_built names words (events.Start node) s = with_devices names node s.1
 spelled_built names words other s = tt
 
 pub built : (names : Names) (line : List ℕ) (event : Event) → Spells names line event → IsBuilt event

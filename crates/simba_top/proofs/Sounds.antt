@@ -1,5 +1,5 @@
 -- What leads to a world is a run of its script, and goes on by one event.
-use Rattle.std.proofs.Common.{◌≡◌, ℕ, Bool, List, [], ◌∷◌, ◌++◌, length, map, refl, sym, ap, subst, ◌∙◌, append-nil, append_assoc}
+use Rattle.std.proofs.Common.{◌≡◌, ℕ, ◌+◌, ◌<◌, Bool, true, false, Option, Some, None, arith, List, [], ◌∷◌, ◌++◌, length, map, refl, sym, ap, subst, ◌∙◌, append-nil, append_assoc}
 use Rattle.std.proofs.lemmas.List.{map-append, length-map}
 use Rattle.std.specs.List.{AllByRecursion}
 use Rattle.disk_trait.specs.Calls.{DiskState}
@@ -18,6 +18,10 @@ use Rattle.name_laws.proofs.Runs.{all_listed}
 use Rattle.world_steps.specs.declared.world.World.{World}
 use Rattle.world_steps.specs.Holds.{Holds, IsBuilt, IsReached, IsWorld, AreOut}
 use Rattle.world_steps.specs.Steps.{IsStep}
+use Rattle.world_tables.specs.Faults.{one_if, is_device_fault, device_faults}
+use Rattle.world_steps.specs.Faults.{IsUndone, all_faults, all_faults_back}
+use Rattle.simba_top.specs.Faults.{Matches, Led, AreCaused}
+use Rattle.std.specs.Prelude.{IfSome}
 use Rattle.simba_top.specs.Ends.{IsRun}
 use Rattle.simba_top.specs.Stands.{Leads}
 
@@ -38,19 +42,39 @@ module _ (h : Happening) where
       ap (λ (lines : List Line). lines_of w s ++ lines) (transcript-push s.world run)
       ∙ sym (append_assoc (lines_of w s) (transcript_of (turns_from s.world run)) last)
 
+  pub faults-push : (w : moves.World) (run : List Happening)
+      → device_faults w (run ++ h ∷ []) ≡ device_faults w run + one_if (is_device_fault (world_from w run) h.event h.lucks)
+  faults-push w [] = zero_more (one_if (is_device_fault w h.event h.lucks))
+    where
+      zero_more : (n : ℕ) → n + 0 ≡ 0 + n
+      zero_more n = omega arith
+  faults-push w (first ∷ run) =
+      let e = faults-push (step w first.event first.lucks).world run in
+      longer (one_if (is_device_fault w first.event first.lucks)) _ _ _ e
+    where
+      longer : (a b c d : ℕ) → b ≡ c + d → a + b ≡ a + c + d
+      longer a b c d e = omega (arith, e)
+
+-- one step more, by whether it shows a device fault
+one_more : (faults old new : ℕ) (b : Bool) → Matches faults old → (b ≡ true → old < new) → (b ≡ false → new ≡ old) → Matches (faults + one_if b) new
+one_more faults old new true m rose same = let a = m.few in let r = rose refl in record { few = omega (arith, a, r); one = λ up. omega arith }
+one_more faults old new false m rose same =
+    let a = m.few in let s = same refl in record { few = omega (arith, a, s); one = λ up. let c = m.one (omega (arith, up, s)) in omega (arith, c) }
+
 all-push : {X : Type 0} (P : X → Type 0) (xs : List X) (x : X) → AllByRecursion P xs → P x → AllByRecursion P (xs ++ x ∷ [])
 all-push P [] x all here = (here, tt)
 all-push P (first ∷ xs) x all here = (all.0, all-push P xs x all.1 here)
 
 module _ {D : Type 0} (state : D → DiskState) (script : List Event) (told : List TextLine) (world : World D) (is_out : ℕ → Bool)
     (leads : Leads state script told world is_out) where
-  pub is_run : IsRun script told
+  pub is_run : IsRun (Led state world) script told
   is_run = record {
     run = leads.run;
     events = leads.events;
     lines_are = leads.lines_are;
     sound = all_runs client_law client_grows lapsed_grows fresh_part leads.run;
     listed = all_listed leads.run;
+    kept = record { held = leads.held; counted = leads.counted };
   }
 
   pub as_many : length leads.run ≡ length script
@@ -63,7 +87,7 @@ module _ {D : Type 0} (state : D → DiskState) (script : List Event) (told : Li
   is_world = record { w = world_from start leads.run; reached = reached; held = leads.held; out = leads.out }
 
   pub leads_on : (event : Event) (lines : List TextLine) (new : World D) (out : ℕ → Bool) → IsBuilt event
-      → IsStep state (world_from start leads.run) event lines out new → Leads state (script ++ event ∷ []) (told ++ lines) new out
+      → IsStep state (world_from start leads.run) event lines out world new → Leads state (script ++ event ∷ []) (told ++ lines) new out
   leads_on event lines new out built s =
       let h : Happening = record { event = event; lucks = s.lucks } in
       let behind : world_from start (leads.run ++ h ∷ []) ≡ (step (world_from start leads.run) event s.lucks).world =
@@ -78,11 +102,32 @@ module _ {D : Type 0} (state : D → DiskState) (script : List Event) (told : Li
         built = all-push (λ (x : Happening). IsBuilt x.event) leads.run h leads.built built;
         held = subst (λ (w : moves.World). Holds state w new) (sym behind) s.held;
         out = subst (λ (w : moves.World). AreOut out w) (sym behind) s.out;
+        counted = subst (λ (n : ℕ). Matches n (all_faults state new)) (sym (faults-push h start leads.run))
+            (one_more (device_faults start leads.run) (all_faults state world) (all_faults state new) (is_device_fault (world_from start leads.run) event s.lucks) leads.counted s.rose s.same);
       }
+
+  -- an event that isn't carried out leaves all as it was
+  pub leads_still : (new : World D) (out : ℕ → Bool) → IsUndone state (world_from start leads.run) out world new → Leads state script told new out
+  leads_still new out u = record {
+    run = leads.run;
+    events = leads.events;
+    lines_are = leads.lines_are;
+    built = leads.built;
+    held = u.held;
+    out = u.out;
+    counted = subst (λ (n : ℕ). Matches (device_faults start leads.run) n) (sym u.same) leads.counted;
+  }
+
+-- the world stands where a script has led, also where an event isn't carried out
+pub world_still : {D : Type 0} (state : D → DiskState) (is_out out : ℕ → Bool) (world new : World D) (old : IsWorld state is_out world) → IsUndone state old.w out world new → IsWorld state out new
+world_still state is_out out world new old u = record { w = old.w; reached = old.reached; held = u.held; out = u.out }
+
+pub nothing_undone : {D : Type 0} (state : D → DiskState) (w : moves.World) (is_out : ℕ → Bool) (world : World D) → Holds state w world → AreOut is_out w → IsUndone state w is_out world world
+nothing_undone state w is_out world h out = record { held = h; out = out; same = refl }
 
 -- the world stands where a script has led, also behind one event more
 pub world_on : {D : Type 0} (state : D → DiskState) (is_out out : ℕ → Bool) (world new : World D) (event : Event) (lines : List TextLine)
-    → (old : IsWorld state is_out world) → IsBuilt event → IsStep state old.w event lines out new → IsWorld state out new
+    → (old : IsWorld state is_out world) → IsBuilt event → IsStep state old.w event lines out world new → IsWorld state out new
 world_on state is_out out world new event lines old built s =
     let h : Happening = record { event = event; lucks = s.lucks } in
     record {
@@ -95,3 +140,10 @@ world_on state is_out out world new event lines old built s =
       held = s.held;
       out = s.out;
     }
+
+-- the disks of a world that went back
+pub caused : {D : Type 0} (state : D → DiskState) (world : World D) (told : Option (ℕ → Option D))
+    → ((w : moves.World) → Holds state w world → IfSome told (λ disks. all_faults_back state disks w ≡ all_faults state world)) → (run : List Happening) → Led state world run
+    → AreCaused state told run
+caused state world None f run led = tt
+caused state world (Some disks) f run led = subst (λ (n : ℕ). Matches (device_faults start run) n) (sym (f (world_from start run) led.held)) led.counted

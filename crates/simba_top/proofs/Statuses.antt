@@ -1,5 +1,5 @@
 -- What the status of a run says.
-use Rattle.std.proofs.Common.{◌≡◌, ◌⊎◌, ℕ, ◌+◌, ◌-◌, ◌^◌, ◌<◌, List, Option, Some, None, Result, Ok, Err, refl, subst, inl, inr, arith}
+use Rattle.std.proofs.Common.{◌≡◌, ◌≢◌, ◌⊎◌, ℕ, Bool, false, ◌+◌, ◌-◌, ◌^◌, ◌<◌, List, Option, Some, None, Result, Ok, Err, refl, subst, inl, inr, arith}
 use Rattle.std.specs.Prelude.{IfSome, OnOk, IfErr, MatchResult}
 use Rattle.std.specs.Io.KnownBytes.{IsAtEnd}
 use Rattle.table_model.specs.declared.event.Event.{Event}
@@ -9,6 +9,8 @@ use Rattle.script_text.specs.Names.{Names}
 use Rattle.simba_top.specs.declared.stop.Stop.{Stop}
 use Rattle.simba_top.specs.declared.stop.Stop.TheVariants.{Read, Put, Depot, Memory, BadLine, Limit}
 use Rattle.simba_top.specs.Script.{IsFront, IsWhole}
+use Rattle.world_tables.specs.Turns.{Happening}
+use Rattle.simba_top.specs.Faults.{AnyRun}
 use Rattle.simba_top.specs.Ends.{IsBadAt, IsLimitAt, IsCutOff, Tells, TellsStop}
 use Rattle.simba_top.specs.Stops.{status_of}
 use Rattle.simba_top.specs.Stands.{Stopped, IsDone, CountsReads, CountsPuts, CountsDepots}
@@ -23,20 +25,20 @@ unrisen : (count : ℕ) → Rose count count → count < 2 ^ 64 - 1 → ⊥
 unrisen count rose below = let h = rose.1 in omega arith
 
 -- the outcome of a run, of the bytes left and the bytes held, and of the counts of faults, before and after
-pub record Outcome (left left' held held' : Option (List ℕ)) (reads reads' puts puts' depots depots' : ℕ) (ended : Result (Unit {0}) Stop) : Type 0 where
+pub record Outcome (P : List Happening → Type 0) (left left' held held' : Option (List ℕ)) (reads reads' puts puts' depots depots' : ℕ) (ended : Result (Unit {0}) Stop) : Type 0 where
   pub end : OnOk ended (IsAtEnd left')
-  pub done : OnOk ended (IfSome left (λ input. IsDone input held held'))
-  pub stopped : IfErr ended (λ stop. IfSome left (λ input. Stopped stop input left' held held'))
+  pub done : OnOk ended (IfSome left (λ input. IsDone P input held held'))
+  pub stopped : IfErr ended (λ stop. IfSome left (λ input. Stopped P stop input left' held held'))
   pub reads_counted : MatchResult ended (λ _. reads' ≡ reads) (λ stop. CountsReads stop reads reads')
   pub puts_counted : MatchResult ended (λ _. puts' ≡ puts) (λ stop. CountsPuts stop puts puts')
   pub depots_counted : MatchResult ended (λ _. depots' ≡ depots) (λ stop. CountsDepots stop depots depots')
 
-module _ (left left' held held' : Option (List ℕ)) (reads reads' puts puts' depots depots' : ℕ) where
+module _ (P : List Happening → Type 0) (left left' held held' : Option (List ℕ)) (reads reads' puts puts' depots depots' : ℕ) where
   abbrev Came : Result (Unit {0}) Stop → Type 0
-  Came ended = Outcome left left' held held' reads reads' puts puts' depots depots' ended
+  Came ended = Outcome P left left' held held' reads reads' puts puts' depots depots' ended
 
   pub done : (ended : Result (Unit {0}) Stop) → Came ended → status_of ended ≡ 0
-      → IsAtEnd left' × IfSome left (λ input. (script : List Event) × IsWhole input script × Tells script held held')
+      → IsAtEnd left' × IfSome left (λ input. (script : List Event) × IsWhole input script × Tells P script held held')
   done (Ok over) came is = (came.end, came.done)
   done (Err Read) came is = absurd (omega arith)
   done (Err Put) came is = absurd (omega arith)
@@ -47,11 +49,11 @@ module _ (left left' held held' : Option (List ℕ)) (reads reads' puts puts' de
 
   abbrev BadLineOf : List ℕ → Type 0
   BadLineOf input = (script : List Event) × (count : ℕ) × (fault : ABadLine) × IsBadAt input script count fault
-      × TellsStop script 3 (count + 1) fault.code held held'
+      × TellsStop P script 3 (count + 1) fault.code held held'
 
   pub bad_line : (ended : Result (Unit {0}) Stop) → Came ended → status_of ended ≡ 3 → IfSome left BadLineOf
   bad_line (Err (BadLine fault)) came is =
-      if_some_map (λ input. Stopped (BadLine fault) input left' held held') BadLineOf left
+      if_some_map (λ input. Stopped P (BadLine fault) input left' held held') BadLineOf left
       (λ input at. (at.0, at.1, fault, at.2, at.3)) came.stopped
   bad_line (Ok over) came is = absurd (omega arith)
   bad_line (Err Read) came is = absurd (omega arith)
@@ -62,11 +64,11 @@ module _ (left left' held held' : Option (List ℕ)) (reads reads' puts puts' de
 
   abbrev LimitOf : List ℕ → Type 0
   LimitOf input = (script : List Event) × (count limit : ℕ) × IsLimitAt input script count limit
-      × TellsStop script 7 (count + 1) limit held held'
+      × TellsStop P script 7 (count + 1) limit held held'
 
   pub limit_passed : (ended : Result (Unit {0}) Stop) → Came ended → status_of ended ≡ 7 → IfSome left LimitOf
   limit_passed (Err (Limit limit)) came is =
-      if_some_map (λ input. Stopped (Limit limit) input left' held held') LimitOf left
+      if_some_map (λ input. Stopped P (Limit limit) input left' held held') LimitOf left
       (λ input at. (at.0, at.1, limit, at.2, at.3)) came.stopped
   limit_passed (Ok over) came is = absurd (omega arith)
   limit_passed (Err Read) came is = absurd (omega arith)
@@ -76,13 +78,13 @@ module _ (left left' held held' : Option (List ℕ)) (reads reads' puts puts' de
   limit_passed (Err (BadLine fault)) came is = absurd (omega arith)
 
   abbrev CutOff : List ℕ → List ℕ → Type 0
-  CutOff input bytes = (script : List Event) × IsCutOff input script bytes × Tells script held held'
+  CutOff input bytes = (script : List Event) × IsCutOff input script bytes × Tells P script held held'
 
   pub read : (ended : Result (Unit {0}) Stop) → Came ended → status_of ended ≡ 4
       → Rose reads reads' × IfSome left (λ input. IfSome left' (CutOff input))
   read (Err Read) came is = (
     came.reads_counted,
-    if_some_map (λ input. Stopped Read input left' held held') (λ input. IfSome left' (CutOff input)) left
+    if_some_map (λ input. Stopped P Read input left' held held') (λ input. IfSome left' (CutOff input)) left
         (λ input at. if_some_map (λ bytes. IsCutOff input at.0 bytes) (CutOff input) left' (λ bytes cut. (at.0, cut, at.2)) at.1) came.stopped,
   )
   read (Ok over) came is = absurd (omega arith)
@@ -93,11 +95,14 @@ module _ (left left' held held' : Option (List ℕ)) (reads reads' puts puts' de
   read (Err (Limit limit)) came is = absurd (omega arith)
 
   abbrev NoMemory : List ℕ → Type 0
-  NoMemory input = (script : List Event) × (count : ℕ) × (names : Names) × (rest : List ℕ) × IsFront input script count names rest × Tells script held held'
+  NoMemory input = (script : List Event) × (count : ℕ) × (names : Names) × (rest : List ℕ) × IsFront input script count names rest × Tells AnyRun script held held'
+
+  abbrev NoDepot : List ℕ → Type 0
+  NoDepot input = (script : List Event) × (count : ℕ) × (names : Names) × (rest : List ℕ) × IsFront input script count names rest × Tells P script held held'
 
   pub memory : (ended : Result (Unit {0}) Stop) → Came ended → status_of ended ≡ 6 → IfSome left NoMemory
   memory (Err Memory) came is =
-      if_some_map (λ input. Stopped Memory input left' held held') NoMemory left
+      if_some_map (λ input. Stopped P Memory input left' held held') NoMemory left
       (λ input at. (at.1.0, at.0, at.1.1.0, at.1.1.1, at.1.1.2, at.1.2)) came.stopped
   memory (Ok over) came is = absurd (omega arith)
   memory (Err Depot) came is = absurd (omega arith)
@@ -106,10 +111,10 @@ module _ (left left' held held' : Option (List ℕ)) (reads reads' puts puts' de
   memory (Err (BadLine fault)) came is = absurd (omega arith)
   memory (Err (Limit limit)) came is = absurd (omega arith)
 
-  pub depot : (ended : Result (Unit {0}) Stop) → Came ended → status_of ended ≡ 8 → (depots < depots') × IfSome left NoMemory
+  pub depot : (ended : Result (Unit {0}) Stop) → Came ended → status_of ended ≡ 8 → (depots < depots') × IfSome left NoDepot
   depot (Err Depot) came is = (
     came.depots_counted,
-    if_some_map (λ input. Stopped Depot input left' held held') NoMemory left
+    if_some_map (λ input. Stopped P Depot input left' held held') NoDepot left
         (λ input at. (at.1.0, at.0, at.1.1.0, at.1.1.1, at.1.1.2, at.1.2)) came.stopped,
   )
   depot (Ok over) came is = absurd (omega arith)
@@ -124,8 +129,8 @@ module _ (left left' held held' : Option (List ℕ)) (reads reads' puts puts' de
   Completes status input = (script : List Event) → IsWhole input script
       → reads' ≡ reads → reads < 2 ^ 64 - 1 → puts' ≡ puts → puts < 2 ^ 64 - 1 → depots' ≡ depots → (status ≡ 0) ⊎ (status ≡ 6)
 
-  given : (P : List ℕ → Type 0) → ((input : List ℕ) → P input) → IfSome left P
-  given P f = elim left as (λ (o : Option (List ℕ)). IfSome o P) [ None ↦ tt | Some input ↦ f input ]
+  given : (R : List ℕ → Type 0) → ((input : List ℕ) → R input) → IfSome left R
+  given R f = elim left as (λ (o : Option (List ℕ)). IfSome o R) [ None ↦ tt | Some input ↦ f input ]
 
   pub complete : Grammar → (ended : Result (Unit {0}) Stop) → Came ended → IfSome left (Completes (status_of ended))
   complete grammar (Ok over) came = given (Completes 0) (λ input script whole r rb p pb d. inl refl)
@@ -137,8 +142,19 @@ module _ (left left' held held' : Option (List ℕ)) (reads reads' puts puts' de
   complete grammar (Err Depot) came =
       given (Completes 8) (λ input script whole r rb p pb d. absurd (let rose = came.depots_counted in omega (arith, rose, d)))
   complete grammar (Err (BadLine fault)) came =
-      if_some_map (λ input. Stopped (BadLine fault) input left' held held') (Completes 3) left
+      if_some_map (λ input. Stopped P (BadLine fault) input left' held held') (Completes 3) left
       (λ input at script whole r rb p pb d. absurd (not_bad grammar input at.0 script at.1 fault at.2 whole)) came.stopped
   complete grammar (Err (Limit limit)) came =
-      if_some_map (λ input. Stopped (Limit limit) input left' held held') (Completes 7) left
+      if_some_map (λ input. Stopped P (Limit limit) input left' held held') (Completes 7) left
       (λ input at script whole r rb p pb d. absurd (not_limit grammar input at.0 script at.1 limit at.2 whole)) came.stopped
+
+  -- each disk has gone back, unless memory was refused
+  pub backed : (is_out : ℕ → Bool) (ended : Result (Unit {0}) Stop) → OnOk ended ((k : ℕ) → is_out k ≡ false) → IfErr ended (λ stop. stop ≢ Memory → (k : ℕ) → is_out k ≡ false)
+      → status_of ended ≢ 6 → (k : ℕ) → is_out k ≡ false
+  backed is_out (Ok over) ok err other = ok
+  backed is_out (Err Memory) ok err other = absurd (other refl)
+  backed is_out (Err Read) ok err other = err (λ is. absurd cc)
+  backed is_out (Err Put) ok err other = err (λ is. absurd cc)
+  backed is_out (Err Depot) ok err other = err (λ is. absurd cc)
+  backed is_out (Err (BadLine fault)) ok err other = err (λ is. absurd cc)
+  backed is_out (Err (Limit limit)) ok err other = err (λ is. absurd cc)

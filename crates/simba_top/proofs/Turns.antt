@@ -29,6 +29,9 @@ use Rattle.simba_top.specs.declared.turn.Run.{Run}
 use Rattle.simba_top.specs.declared.run.TheConstants.{MOST_LINES}
 use Rattle.world_steps.specs.Holds.{Holds, IsBuilt}
 use Rattle.world_steps.specs.Steps.{IsStep, Spends}
+use Rattle.world_steps.specs.Faults.{all_faults}
+use Rattle.world_steps.proofs.Counted.{no_faults}
+use Rattle.simba_top.specs.Faults.{Matches}
 use Rattle.world_steps.specs.declared.fault.WorldFault.{WorldFault}
 use Rattle.world_steps.specs.declared.fault.WorldFault.TheVariants as world_faults
 use Rattle.simba_top.specs.RowNames.{HasRows, FewRows, IsRowCause}
@@ -55,11 +58,23 @@ known : {X : Type 0} {P : X → Type 0} (o : Option X) → ((x : X) → o ≡ So
 known None f = tt
 known (Some x) f = f x refl
 
+-- a world of which nothing was asked has no disks
+counted_new : {D : Type 0} (state : D → DiskState) (world : World D) (is_out : ℕ → Bool) → Holds state start world → ((k : ℕ) → is_out k ≡ false) → Matches 0 (all_faults state world)
+counted_new state world is_out held none = let z = no_faults state world held in record { few = omega arith; one = λ up. absurd (omega (arith, up, z)) }
+
 -- the run at its start
 pub leads_new : {D : Type 0} (state : D → DiskState) (world : World D) (is_out : ℕ → Bool) → Holds state start world → ((k : ℕ) → is_out k ≡ false)
     → Leads state [] [] world is_out
 leads_new state world is_out held none =
-    record { run = []; events = refl; lines_are = refl; built = tt; held = held; out = λ table k some few. none _ }
+    record {
+      run = [];
+      events = refl;
+      lines_are = refl;
+      built = tt;
+      held = held;
+      out = λ table k some few. none _;
+      counted = counted_new state world is_out held none;
+    }
 
 pub stands_new : {D : Type 0} (state : D → DiskState) (input : List ℕ) (run : Run D) (is_out : ℕ → Bool)
     → run.reader ≡ record { used = 0; held = []; stopped = None; limits = record { line = LINE_LIMIT; input = INPUT_LIMIT } }
@@ -250,7 +265,7 @@ module _ {D : Type 0} (state : D → DiskState) (input : List ℕ) (script : Lis
   pub carries_out : (event : Event) (names : Names) (rows : RowNames) (world : World D) (out : ℕ → Bool) (lines : List TextLine) (texts : List (List ℕ))
       → Spells run.names line event → names ≡ with_event run.names event
       → HasRows (script ++ event ∷ []) rows → FewRows (script ++ event ∷ [])
-      → IsBuilt event → IsStep state (world_from start has.world.run) event lines out world
+      → IsBuilt event → IsStep state (world_from start has.world.run) event lines out run.world world
       → texts ≡ map (λ (line : TextLine). text_of line ++ 10 ∷ []) lines
       → GoesOn state input told (record run { names = names; rows = rows; world = world; count = run.count + 1 }) out left texts
   carries_out event names rows world out lines texts spells named has_rows few_rows built step text = (

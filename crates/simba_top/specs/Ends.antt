@@ -19,28 +19,29 @@ use Rattle.simba_top.specs.Script.{next_in, IsFront}
 
 -- ---- what is written
 
--- A run of a script: its events, each with the lucks of its device calls, and what the lines of it are. They are sound,
--- and where chunks are listed at a quiet Store they are those that its rows name
-pub record IsRun (script : List Event) (lines : List TextLine) : Type 0 where
+-- A run of a script that has P: its events, each with the lucks of its device calls, and what the lines of it are. They
+-- are sound, and where chunks are listed at a quiet Store they are those that its rows name
+pub record IsRun (P : List Happening → Type 0) (script : List Event) (lines : List TextLine) : Type 0 where
   pub run : List Happening
   pub events : map (λ (h : Happening). h.event) run ≡ script
   pub lines_are : map line_of lines ≡ transcript_of (turns run)
   pub sound : IsSound (turns run)
   pub listed : AreListed (turns run)
+  pub kept : P run
 
 -- where the sink tells its bytes: the transcript of a run of this script was added to them
-abbrev pub Tells : List Event → Option (List ℕ) → Option (List ℕ) → Type 0
-Tells script before after =
-    (lines : List TextLine) × IsRun script lines × Appends before after (transcript_text lines)
+abbrev pub Tells : (List Happening → Type 0) → List Event → Option (List ℕ) → Option (List ℕ) → Type 0
+Tells P script before after =
+    (lines : List TextLine) × IsRun P script lines × Appends before after (transcript_text lines)
 
 -- a transcript, and behind it the line that says why the run stopped
 abbrev pub stopped_text : List TextLine → ℕ → ℕ → ℕ → List ℕ
 stopped_text lines status line code = transcript_text lines ++ (stop_text status line code ++ 10 ∷ [])
 
 -- the same, with the line that says why the run stopped
-abbrev pub TellsStop : List Event → ℕ → ℕ → ℕ → Option (List ℕ) → Option (List ℕ) → Type 0
-TellsStop script status line code before after =
-    (lines : List TextLine) × IsRun script lines × Appends before after (stopped_text lines status line code)
+abbrev pub TellsStop : (List Happening → Type 0) → List Event → ℕ → ℕ → ℕ → Option (List ℕ) → Option (List ℕ) → Type 0
+TellsStop P script status line code before after =
+    (lines : List TextLine) × IsRun P script lines × Appends before after (stopped_text lines status line code)
 
 -- ---- how it ends
 
@@ -91,8 +92,8 @@ pub record IsCutOff (input : List ℕ) (script : List Event) (left : List ℕ) :
   pub few : (count < MOST_LINES) ⊎ (held ≡ [])
 
 -- a text that a run over this input may write: the transcript of its first lines, with its stop line where it has one
-abbrev pub IsTextOf : List ℕ → List ℕ → Type 0
-IsTextOf input text = (script : List Event) × (lines : List TextLine) × IsRun script lines × (
+abbrev pub IsTextOf : (List Happening → Type 0) → List ℕ → List ℕ → Type 0
+IsTextOf P input text = (script : List Event) × (lines : List TextLine) × IsRun P script lines × (
     ((count : ℕ) × (names : Names) × (rest : List ℕ) × IsFront input script count names rest
     × (text ≡ transcript_text lines))
     ⊎ (((count : ℕ) × (fault : BadLine) × IsBadAt input script count fault

@@ -1,5 +1,6 @@
 pub mod RowNames
 pub mod Script
+pub mod Faults
 pub mod Ends
 pub mod Stops
 pub mod Stands

@@ -19,7 +19,10 @@ use Rattle.simba_top.specs.declared.stop.Stop.{Stop}
 use Rattle.simba_top.specs.declared.stop.Stop.TheVariants.{Read, Put, Depot, Memory, BadLine, Limit}
 use Rattle.simba_top.specs.declared.turn.Run.{Run}
 use Rattle.world_steps.specs.declared.world.World.{World}
+use Rattle.world_tables.specs.Faults.{device_faults}
+use Rattle.world_steps.specs.Faults.{all_faults}
 use Rattle.world_steps.specs.Holds.{Holds, IsBuilt, AreOut}
+use Rattle.simba_top.specs.Faults.{Matches, AnyRun}
 use Rattle.simba_top.specs.RowNames.{HasRows}
 use Rattle.simba_top.specs.Script.{next_in, IsFront, IsWhole}
 use Rattle.simba_top.specs.Ends.{Tells, TellsStop, IsBadAt, IsLimitAt, IsCutOff, IsTextOf}
@@ -39,6 +42,7 @@ pub record Leads {D : Type 0} (state : D → DiskState) (script : List Event) (t
   pub built : AllByRecursion (λ (h : Happening). IsBuilt h.event) run
   pub held : Holds state (world_from start run) world
   pub out : AreOut is_out (world_from start run)
+  pub counted : Matches (device_faults start run) (all_faults state world)
 
 -- the lines so far are the first of the input and spell the script, and the bytes ahead are the rest
 pub record Stands {D : Type 0} (state : D → DiskState) (input : List ℕ) (script : List Event) (told : List TextLine)
@@ -78,22 +82,28 @@ IsCause Memory input script count left = (names : Names) × (rest : List ℕ) ×
 IsCause (BadLine fault) input script count left = IsBadAt input script count fault
 IsCause (Limit limit) input script count left = IsLimitAt input script count limit
 
--- and what it has written then; `before` and `after` are the bytes of the sink
-abbrev pub EndedBy : Stop → List ℕ → ℕ → Option (List ℕ) → Option (List ℕ) → Option (List ℕ) → Type 0
-EndedBy Put input count left before after = (text : List ℕ) × IsTextOf input text × AppendsFront before after text
-EndedBy stop input count left before after =
-    (script : List Event) × IsCause stop input script count left × Tells script before after
+-- and what it has written then: the transcript of a run that has P, where memory wasn't refused; `before` and `after`
+-- are the bytes of the sink
+abbrev pub EndedBy : (List Happening → Type 0) → Stop → List ℕ → ℕ → Option (List ℕ) → Option (List ℕ)
+    → Option (List ℕ) → Type 0
+EndedBy P Put input count left before after =
+    (text : List ℕ) × IsTextOf P input text × AppendsFront before after text
+EndedBy P Memory input count left before after =
+    (script : List Event) × IsCause Memory input script count left × Tells AnyRun script before after
+EndedBy P stop input count left before after =
+    (script : List Event) × IsCause stop input script count left × Tells P script before after
 
 -- the same at the end, where the line that says why the run stopped is written too
-abbrev pub Stopped : Stop → List ℕ → Option (List ℕ) → Option (List ℕ) → Option (List ℕ) → Type 0
-Stopped Read input left before after = EndedBy Read input 0 left before after
-Stopped Put input left before after = EndedBy Put input 0 left before after
-Stopped Depot input left before after = (count : ℕ) × EndedBy Depot input count left before after
-Stopped Memory input left before after = (count : ℕ) × EndedBy Memory input count left before after
-Stopped (BadLine fault) input left before after = (script : List Event) × (count : ℕ) × IsBadAt input script count fault
-    × TellsStop script 3 (count + 1) fault.code before after
-Stopped (Limit limit) input left before after = (script : List Event) × (count : ℕ) × IsLimitAt input script count limit
-    × TellsStop script 7 (count + 1) limit before after
+abbrev pub Stopped : (List Happening → Type 0) → Stop → List ℕ → Option (List ℕ) → Option (List ℕ)
+    → Option (List ℕ) → Type 0
+Stopped P Read input left before after = EndedBy P Read input 0 left before after
+Stopped P Put input left before after = EndedBy P Put input 0 left before after
+Stopped P Depot input left before after = (count : ℕ) × EndedBy P Depot input count left before after
+Stopped P Memory input left before after = (count : ℕ) × EndedBy P Memory input count left before after
+Stopped P (BadLine fault) input left before after = (script : List Event) × (count : ℕ)
+    × IsBadAt input script count fault × TellsStop P script 3 (count + 1) fault.code before after
+Stopped P (Limit limit) input left before after = (script : List Event) × (count : ℕ)
+    × IsLimitAt input script count limit × TellsStop P script 7 (count + 1) limit before after
 
 -- the transcript of the lines so far has been added to the bytes of the sink
 abbrev pub Goes : {D : Type 0} → (D → DiskState) → List ℕ → Run D → (ℕ → Bool) → Option (List ℕ) → Option (List ℕ)
@@ -102,8 +112,8 @@ Goes state input run is_out left before now = (script : List Event) × (told : L
     × Stands state input script told run is_out left × Appends before now (transcript_text told)
 
 -- the input was read to its end, and its transcript written
-abbrev pub IsDone : List ℕ → Option (List ℕ) → Option (List ℕ) → Type 0
-IsDone input before after = (script : List Event) × IsWhole input script × Tells script before after
+abbrev pub IsDone : (List Happening → Type 0) → List ℕ → Option (List ℕ) → Option (List ℕ) → Type 0
+IsDone P input before after = (script : List Event) × IsWhole input script × Tells P script before after
 
 -- a count of faults of the source, of the sink, or of the depot rises where this stop says so, and else stays
 abbrev pub CountsReads : Stop → ℕ → ℕ → Type 0

@@ -1,5 +1,5 @@
-ghost use Rattle.std.specs.Prelude.{◌≡◌, ◌≢◌, ◌⊎◌, ◌↔◌, ◌+◌, ◌-◌, ◌<◌, ◌^◌, ℕ, false, List, map, IfSome, IsTrue, OnOk};
-ghost use Rattle.std.specs.Prelude.{IfErr, MatchResult};
+ghost use Rattle.std.specs.Prelude.{◌≡◌, ◌≢◌, ◌⊎◌, ◌↔◌, ◌+◌, ◌-◌, ◌<◌, ◌≤◌, ◌^◌, ℕ, false, List, map, IsTrue};
+ghost use Rattle.std.specs.Prelude.{Option, IfSome, OnOk, IfErr, MatchResult};
 ghost use Rattle.std.specs.String.{string_bytes};
 ghost use Rattle.std.specs.Io.KnownBytes.{IsAtEnd};
 ghost use Rattle.table_model.specs.declared.event.Event.{Event as AnEvent};
@@ -9,11 +9,14 @@ ghost use Rattle.stab_io.specs.Faults.{Rose, AppendsFront};
 ghost use Rattle.simba_top.specs.Script.{IsFront, IsWhole};
 ghost use Rattle.simba_top.specs.Ends.{AreRun, IsBadAt, IsLimitAt, IsCutOff, Tells, TellsStop, IsTextOf};
 ghost use Rattle.simba_top.specs.Stops.{status_of};
-ghost use Rattle.simba_top.specs.Stands.{IsDone, Stopped, CountsReads, CountsPuts, CountsDepots};
+ghost use Rattle.simba_top.specs.Faults.{AreCaused, AnyRun, Led};
+ghost use Rattle.simba_top.specs.Stands.{IsDone, EndedBy, Stopped, CountsReads, CountsPuts, CountsDepots};
+ghost use Rattle.simba_top.specs.declared.stop.Stop.TheVariants as AStop;
+ghost use Rattle.world_steps.specs.Holds.{IsWorld};
 
 use crate::stop::Stop;
 use crate::turn::Run;
-use disk_trait::Depot;
+use disk_trait::{Depot, Disk};
 use stab_io::{Sink, Source};
 use std::alloc::Global;
 
@@ -50,38 +53,46 @@ pub fn run_simba<S: Source, K: Sink, P: Depot>(
 
     // 0: the whole input was read, and its transcript was written.
     ensures done { result ≡ 0 → IsAtEnd (S.left source.new) × IfSome (S.left source.old) (λ input.
-        (script : List AnEvent) × IsWhole input script × Tells script (K.holds sink.old) (K.holds sink.new)) }
+        (script : List AnEvent) × IsWhole input script
+        × Tells (AreCaused P.Disk.state (P.returned depot.new)) script (K.holds sink.old) (K.holds sink.new)) }
 
     // 3 and 7: the first line that is in no grammar, or passes a limit, ended the run.
     ensures bad_line { result ≡ 3 → IfSome (S.left source.old) (λ input.
         (script : List AnEvent) × (count : ℕ) × (fault : ABadLine) × IsBadAt input script count fault
-        × TellsStop script 3 (count + 1) fault.code (K.holds sink.old) (K.holds sink.new)) }
+        × TellsStop (AreCaused P.Disk.state (P.returned depot.new)) script 3 (count + 1) fault.code
+        (K.holds sink.old) (K.holds sink.new)) }
     ensures limit { result ≡ 7 → IfSome (S.left source.old) (λ input.
         (script : List AnEvent) × (count limit : ℕ) × IsLimitAt input script count limit
-        × TellsStop script 7 (count + 1) limit (K.holds sink.old) (K.holds sink.new)) }
+        × TellsStop (AreCaused P.Disk.state (P.returned depot.new)) script 7 (count + 1) limit
+        (K.holds sink.old) (K.holds sink.new)) }
 
     // 4: the source failed; all lines that it gave whole were carried out.
     ensures read { result ≡ 4 → Rose (S.faults source.old) (S.faults source.new)
         × IfSome (S.left source.old) (λ input. IfSome (S.left source.new) (λ left.
-        (script : List AnEvent) × IsCutOff input script left × Tells script (K.holds sink.old) (K.holds sink.new))) }
+        (script : List AnEvent) × IsCutOff input script left
+        × Tells (AreCaused P.Disk.state (P.returned depot.new)) script (K.holds sink.old) (K.holds sink.new))) }
 
     // 5: the sink failed; what was written is a front of what a run writes.
     ensures write { result ≡ 5 → Rose (K.faults sink.old) (K.faults sink.new)
-        × IfSome (S.left source.old) (λ input. (text : List ℕ) × IsTextOf input text
+        × IfSome (S.left source.old) (λ input. (text : List ℕ)
+        × IsTextOf (AreCaused P.Disk.state (P.returned depot.new)) input text
         × AppendsFront (K.holds sink.old) (K.holds sink.new) text) }
 
     // 6: memory was refused; what was written is the transcript of the first lines.
     ensures memory { result ≡ 6 → IfSome (S.left source.old) (λ input.
         (script : List AnEvent) × (count : ℕ) × (names : Names) × (rest : List ℕ)
         × IsFront input script count names rest
-        × Tells script (K.holds sink.old) (K.holds sink.new)) }
+        × Tells AnyRun script (K.holds sink.old) (K.holds sink.new)) }
 
     // 8: the depot failed; what was written is the transcript of the first lines.
     ensures depot { result ≡ 8 → ((P.state depot.old).faults < (P.state depot.new).faults)
         × IfSome (S.left source.old) (λ input.
         (script : List AnEvent) × (count : ℕ) × (names : Names) × (rest : List ℕ)
         × IsFront input script count names rest
-        × Tells script (K.holds sink.old) (K.holds sink.new)) }
+        × Tells (AreCaused P.Disk.state (P.returned depot.new)) script (K.holds sink.old) (K.holds sink.new)) }
+
+    // Each disk goes back to the depot, unless memory was refused.
+    ensures back { result ≢ 6 → (k : ℕ) → (P.state depot.new).is_out k ≡ false }
 
     // There is no other status, and no other fault.
     ensures statuses { (result ≡ 0) ⊎ ((result ≡ 2) ⊎ ((result ≡ 3) ⊎ ((result ≡ 4) ⊎ ((result ≡ 5) ⊎ ((result ≡ 6)
@@ -137,9 +148,14 @@ fn run_whole<S: Source, K: Sink, P: Depot>(
     requires { (k : ℕ) → (P.state depot.old).is_out k ≡ false }
     ensures end { OnOk result (IsAtEnd (S.left source.new)) }
     ensures done { OnOk result (IfSome (S.left source.old)
-        (λ input. IsDone input (K.holds sink.old) (K.holds sink.new))) }
+        (λ input. IsDone (AreCaused P.Disk.state (P.returned depot.new)) input
+        (K.holds sink.old) (K.holds sink.new))) }
     ensures stopped { IfErr result (λ stop. IfSome (S.left source.old)
-        (λ input. Stopped stop input (S.left source.new) (K.holds sink.old) (K.holds sink.new))) }
+        (λ input. Stopped (AreCaused P.Disk.state (P.returned depot.new)) stop input (S.left source.new)
+        (K.holds sink.old) (K.holds sink.new))) }
+    ensures back { OnOk result ((k : ℕ) → (P.state depot.new).is_out k ≡ false) }
+    ensures back_stopped { IfErr result (λ stop. stop ≢ AStop.Memory
+        → (k : ℕ) → (P.state depot.new).is_out k ≡ false) }
     ensures reads { MatchResult result (λ _. S.faults source.new ≡ S.faults source.old)
         (λ stop. CountsReads stop (S.faults source.old) (S.faults source.new)) }
     ensures puts { MatchResult result (λ _. K.faults sink.new ≡ K.faults sink.old)
@@ -149,7 +165,36 @@ fn run_whole<S: Source, K: Sink, P: Depot>(
 {
     let mut run: Run<P::Disk> = Run::new(alloc);
     match run.whole(source, sink, depot) {
-        Ok(()) => Ok(()),
-        Err(stop) => Err(run.end(sink, stop)),
+        Ok(()) => {
+            run.close(depot);
+            Ok(())
+        }
+        Err(stop) => Err(ended(run, sink, depot, stop)),
     }
+}
+
+// Ends a run that stopped: writes the line that says why, where it has one, and gives the disks back.
+fn ended<K: Sink, D: Disk + Drop, P: Depot<Disk = D>>(
+    run: Run<D>,
+    sink: &mut K,
+    depot: &mut P,
+    stop: Stop,
+) -> Stop
+    requires few { run.count ≤ MOST_LINES }
+    requires held { stop ≢ AStop.Memory → IsWorld D.state (P.state depot.old).is_out run.world }
+    ensures ends { (input : List ℕ) (left before : Option (List ℕ))
+        → EndedBy (Led D.state run.world) stop input run.count left before (K.holds sink.old)
+        → Stopped (AreCaused D.state (P.returned depot.new)) result input left before (K.holds sink.new) }
+    ensures back { result ≢ AStop.Memory → (k : ℕ) → (P.state depot.new).is_out k ≡ false }
+    ensures reads { (old new : ℕ) → CountsReads stop old new → CountsReads result old new }
+    ensures puts { (old : ℕ) → CountsPuts stop old (K.faults sink.old) → CountsPuts result old (K.faults sink.new) }
+    ensures depots { (old : ℕ) → CountsDepots stop old (P.state depot.old).faults
+        → CountsDepots result old (P.state depot.new).faults }
+{
+    if matches!(stop, Stop::Memory) {
+        return Stop::Memory;
+    }
+    let result = run.end(sink, stop);
+    run.close(depot);
+    result
 }

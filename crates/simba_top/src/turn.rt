@@ -6,7 +6,10 @@ ghost use Rattle.table_model.specs.declared.event.Event.{Event as AnEvent};
 ghost use Rattle.table_model.specs.declared.line.TextLine.{TextLine as ALine};
 ghost use Rattle.script_text.specs.Grammar.{Spells};
 ghost use Rattle.transcript_text.specs.Text.{text_of, stop_text, transcript_text};
-ghost use Rattle.world_steps.specs.Holds.{IsBuilt, IsWorld};
+ghost use Rattle.world_tables.specs.World.{World as AWorld};
+ghost use Rattle.world_steps.specs.Faults.{IsUndone, all_faults, all_faults_back};
+ghost use Rattle.world_steps.specs.Holds.{Holds, AreOut, IsBuilt, IsReached, IsWorld};
+ghost use Rattle.simba_top.specs.Faults.{Led};
 ghost use Rattle.stab_io.specs.Faults.{Rose, AppendsFront};
 ghost use Rattle.simba_top.specs.Script.{IsWhole};
 ghost use Rattle.simba_top.specs.Stands.{IsReady, Stands, HasLine, Goes, GoesOn, IsCause, EndedBy, Stopped, IsDone};
@@ -96,11 +99,14 @@ impl<D: Disk + Drop> Run<D> {
         ensures few { self.new.count ≤ MOST_LINES }
         ensures done { (input : List ℕ)
             → Stands D.state input [] [] self.old (P.state depot.old).is_out (S.left source.old)
-            → OnOk result (IsDone input (K.holds sink.old) (K.holds sink.new)) }
+            → OnOk result (IsDone (Led D.state self.new.world) input (K.holds sink.old) (K.holds sink.new)) }
         ensures ends { (input : List ℕ)
             → Stands D.state input [] [] self.old (P.state depot.old).is_out (S.left source.old)
-            → IfErr result (λ stop.
-            EndedBy stop input self.new.count (S.left source.new) (K.holds sink.old) (K.holds sink.new)) }
+            → IfErr result (λ stop. EndedBy (Led D.state self.new.world) stop input self.new.count
+            (S.left source.new) (K.holds sink.old) (K.holds sink.new)) }
+        ensures held { OnOk result (IsWorld D.state (P.state depot.new).is_out self.new.world) }
+        ensures left { IfErr result (λ stop. stop ≢ Stop.Memory
+            → IsWorld D.state (P.state depot.new).is_out self.new.world) }
         ensures reads { MatchResult result (λ _. S.faults source.new ≡ S.faults source.old)
             (λ stop. CountsReads stop (S.faults source.old) (S.faults source.new)) }
         ensures puts { MatchResult result (λ _. K.faults sink.new ≡ K.faults sink.old)
@@ -116,8 +122,8 @@ impl<D: Disk + Drop> Run<D> {
     pub(crate) fn end<K: Sink>(&self, sink: &mut K, stop: Stop) -> Stop
         requires { self.now.count ≤ MOST_LINES }
         ensures ends { (input : List ℕ) (left before : Option (List ℕ))
-            → EndedBy stop input self.now.count left before (K.holds sink.old)
-            → Stopped result input left before (K.holds sink.new) }
+            → EndedBy (Led D.state self.now.world) stop input self.now.count left before (K.holds sink.old)
+            → Stopped (Led D.state self.now.world) result input left before (K.holds sink.new) }
         ensures reads { (old new : ℕ) → CountsReads stop old new → CountsReads result old new }
         ensures puts { (old : ℕ) → CountsPuts stop old (K.faults sink.old) → CountsPuts result old (K.faults sink.new) }
         ensures depots { (old new : ℕ) → CountsDepots stop old new → CountsDepots result old new }
@@ -162,11 +168,13 @@ impl<D: Disk + Drop> Run<D> {
             → Goes D.state input self.old (P.state depot.old).is_out (S.left source.old) before (K.holds sink.old)
             → IfOk result (λ more. MatchBool more
             (Goes D.state input self.new (P.state depot.new).is_out (S.left source.new) before (K.holds sink.new))
-            (IsDone input before (K.holds sink.new))) }
+            (IsDone (Led D.state self.new.world) input before (K.holds sink.new))) }
         ensures ends { (input : List ℕ) (before : Option (List ℕ))
             → Goes D.state input self.old (P.state depot.old).is_out (S.left source.old) before (K.holds sink.old)
-            → IfErr result (λ stop.
-            EndedBy stop input self.new.count (S.left source.new) before (K.holds sink.new)) }
+            → IfErr result (λ stop. EndedBy (Led D.state self.new.world) stop input self.new.count
+            (S.left source.new) before (K.holds sink.new)) }
+        ensures left { IfErr result (λ stop. stop ≢ Stop.Memory
+            → IsWorld D.state (P.state depot.new).is_out self.new.world) }
         ensures reads { MatchResult result (λ _. S.faults source.new ≡ S.faults source.old)
             (λ stop. CountsReads stop (S.faults source.old) (S.faults source.new)) }
         ensures puts { MatchResult result (λ _. K.faults sink.new ≡ K.faults sink.old)
@@ -180,6 +188,17 @@ impl<D: Disk + Drop> Run<D> {
         let texts = self.event_texts(depot, &line)?;
         put_all(sink, &texts)?;
         Ok(true)
+    }
+
+    /// Gives each disk back to the depot. It takes no memory.
+    pub(crate) fn close<P: Depot<Disk = D>>(self, depot: &mut P)
+        requires { IsWorld D.state (P.state depot.old).is_out self.world }
+        ensures back { (k : ℕ) → (P.state depot.new).is_out k ≡ false }
+        ensures told { (w : AWorld) → Holds D.state w self.world → IfSome (P.returned depot.new)
+            (λ disks. all_faults_back D.state disks w ≡ all_faults D.state self.world) }
+        ensures faults { (P.state depot.new).faults ≡ (P.state depot.old).faults }
+    {
+        self.world.close(depot);
     }
 
     // The next line. None at the end.
@@ -245,6 +264,9 @@ impl<D: Disk + Drop> Run<D> {
             → MatchResult result
             (λ texts. GoesOn D.state input told self.new (P.state depot.new).is_out left texts.items)
             (λ stop. IsCause stop input script self.old.count left) }
+        ensures left { (w : AWorld) → IsReached w → Holds D.state w self.old.world
+            → AreOut (P.state depot.old).is_out w → IfErr result (λ stop. stop ≢ Stop.Memory
+            → IsUndone D.state w (P.state depot.new).is_out self.old.world self.new.world) }
         ensures fault { IfErr result (λ stop. (stop ≢ Stop.Read) × (stop ≢ Stop.Put)) }
         ensures depots { MatchResult result (λ _. (P.state depot.new).faults ≡ (P.state depot.old).faults)
             (λ stop. CountsDepots stop (P.state depot.old).faults (P.state depot.new).faults) }
@@ -277,6 +299,9 @@ impl<D: Disk + Drop> Run<D> {
             → MatchResult result
             (λ texts. GoesOn D.state input told self.new (P.state depot.new).is_out left texts.items)
             (λ stop. IsCause stop input script self.old.count left) }
+        ensures left { (w : AWorld) → IsReached w → Holds D.state w self.old.world
+            → AreOut (P.state depot.old).is_out w → IfErr result (λ stop. stop ≢ Stop.Memory
+            → IsUndone D.state w (P.state depot.new).is_out self.old.world self.new.world) }
         ensures fault { IfErr result (λ stop. (stop ≢ Stop.Read) × (stop ≢ Stop.Put)) }
         ensures depots { MatchResult result (λ _. (P.state depot.new).faults ≡ (P.state depot.old).faults)
             (λ stop. CountsDepots stop (P.state depot.old).faults (P.state depot.new).faults) }

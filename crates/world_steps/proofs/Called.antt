@@ -29,11 +29,14 @@ use Rattle.step_tables.specs.Messages as messages
 use Rattle.step_tables.specs.Travels.{message_of, send_of, header_of}
 use Rattle.step_tables.proofs.Lists.{among_none, among_either, among_mapped, among_get, lookup-insert_nat}
 use Rattle.client_core.specs.State.{nothing_gathered}
+use Rattle.world_tables.specs.World.{has_node, client_until_idle}
 use Rattle.world_tables.specs.World.{Moved, Packet, WorldStep, lines_of, lines_from, sent_lines, packets_from, address, client_at, hosted_at, schema_at, is_down, unless_down, refused}
 use Rattle.world_tables.specs.World.{answering, answered, still, and_then}
 use Rattle.world_tables.specs.World.{move_client, move_there, after_client, client_works, client_follows_from, gets_tasks, client_follows, client_tasks, first_luck, other_lucks, call}
 use Rattle.world_tables.specs.World.{call_there, to_there, step, carried, delivered, the_store, owner}
 use Rattle.world_tables.specs.World as moves
+use Rattle.world_tables.specs.World.{is_fault}
+use Rattle.world_tables.specs.Faults.{is_fault_answer}
 use Rattle.client_host.specs.declared.host.ClientHost.{ClientHost}
 use Rattle.client_host.specs.declared.fault.ClientFault.{ClientFault}
 use Rattle.client_host.specs.declared.fault.ClientFault.TheVariants.{Spent, Memory}
@@ -59,42 +62,49 @@ some_behind es k old new q at = grind (arith, nat_tests, at, lookup-insert_nat e
 abbrev SameClients : moves.World → moves.World → Type 0
 SameClients w after = (q : ℕ) → is_some (client_at after q) ≡ is_some (client_at w q)
 
-move_same : (w : moves.World) (c : ℕ) (move : ClientMove) → SameClients w (move_client c move w).world
+move_same : (w : moves.World) (c : ℕ) (move : ClientMove) → SameClients w (move_client c move client.no_shape w).world
 move_same w c move = go (client_at w c) refl
   where
-    go : (o : Option Client) → client_at w c ≡ o → SameClients w (move_there w c move o).world
+    go : (o : Option Client) → client_at w c ≡ o → SameClients w (move_there w c move client.no_shape o).world
     go None at q = refl
-    go (Some node) at q = some_behind w.clients c node (client_step c node move).client q at
+    go (Some node) at q = some_behind w.clients c node (client_step c client.no_shape node move).client q at
 
 works_same : (c : ℕ) (tasks : List ClientTask) (lucks : List Luck) (w : moves.World) → SameClients w (client_works c tasks lucks w).world
 works_same c [] lucks w q = refl
 works_same c (task ∷ tasks) lucks w q =
-    works_same c tasks (other_lucks lucks) (move_client c (client.Work (first_luck lucks)) w).world q ∙ move_same w c (client.Work (first_luck lucks)) q
+    works_same c tasks (other_lucks lucks) (move_client c (client.Work (first_luck lucks)) client.no_shape w).world q ∙ move_same w c (client.Work (first_luck lucks)) q
+
+client_follows_same : (c : ℕ) (lucks : List Luck) (w : moves.World) → SameClients w (client_follows c lucks w).world
+client_follows_same c lucks w = go (has_node w.holds (nodes.Client c))
+  where
+    go : (held : Bool) → SameClients w (if held then still w else client_until_idle c lucks w).world
+    go true q = refl
+    go false q = works_same c (client_tasks (client_at w c)) lucks w q
 
 follows_same : (agenda : Option (List ClientTask)) (c : ℕ) (lucks : List Luck) (w : moves.World) → SameClients w (client_follows_from agenda c lucks w).world
 follows_same agenda c lucks w = go (gets_tasks agenda w c)
   where
     go : (b : Bool) → SameClients w (if b then client_follows c lucks w else still w).world
-    go true q = works_same c (client_tasks (client_at w c)) lucks w q
+    go true q = client_follows_same c lucks w q
     go false q = refl
 
-pub call_same : (w : moves.World) (c : ℕ) (move : ClientMove) (lucks : List Luck) (o : Option Client) → SameClients w (call_there w c move lucks o).world
+pub call_same : (w : moves.World) (c : ℕ) (move : ClientMove) (lucks : List Luck) (o : Option Client) → SameClients w (call_there w c move client.no_shape lucks o).world
 call_same w c move lucks None q = refl
 call_same w c move lucks (Some node) q = go (is_down w (nodes.Client c)) q
   where
     s : WorldStep
-    s = answering (client_step c node move).answer (and_then (move_client c move w) (client_follows_from node.agenda c lucks))
+    s = answering (client_step c client.no_shape node move).answer (and_then (move_client c move client.no_shape w) (client_follows_from node.agenda c lucks))
 
     go : (b : Bool) → SameClients w (if b then refused w (facts.NodeDown (nodes.Client c)) else s).world
     go true q = refl
-    go false q = follows_same node.agenda c lucks (move_client c move w).world q ∙ move_same w c move q
+    go false q = follows_same node.agenda c lucks (move_client c move client.no_shape w).world q ∙ move_same w c move q
 
 pub there_same : (w : moves.World) (c : ℕ) (m : messages.Message) (lucks : List Luck) (o : Option Client) → SameClients w (to_there w c m lucks o).world
 there_same w c m lucks None q = refl
 there_same w c m lucks (Some node) q = call_same w c (client.Take m) lucks (Some node) q
 
-pub call_none : (w : moves.World) (c : ℕ) (move : ClientMove) (lucks : List Luck) → client_at w c ≡ None → (call w c move lucks).world ≡ w
-call_none w c move lucks at = ap (λ (o : Option Client). (call_there w c move lucks o).world) at
+pub call_none : (w : moves.World) (c : ℕ) (move : ClientMove) (lucks : List Luck) → client_at w c ≡ None → (call w c move client.no_shape lucks).world ≡ w
+call_none w c move lucks at = ap (λ (o : Option Client). (call_there w c move client.no_shape lucks o).world) at
 
 pub there_none : (w : moves.World) (c : ℕ) (m : messages.Message) (lucks : List Luck) → client_at w c ≡ None → (to_there w c m lucks (client_at w c)).world ≡ w
 there_none w c m lucks at = ap (λ (o : Option Client). (to_there w c m lucks o).world) at
@@ -164,6 +174,7 @@ module _ {D : Type 0} (state : D → DiskState) (w : moves.World) (old : World D
     fair = record {
       both = h.fair.both;
       numbers = λ q there. h.fair.numbers q (sym (same q) ∙ there);
+      ranged = h.fair.ranged;
       tables = h.fair.tables;
       packets = λ p a. ⊎_elim (λ b. kept_fair p (h.fair.packets p b)) (sends_fair p)
           (among_either w.packets (packets_in_moves c out.messages) p (subst (λ (ps : List Packet). Among ps p) k.packets a));
@@ -254,3 +265,23 @@ spent_at w c move k = go (client_at w c) refl k
     go : (o : Option Client) → client_at w c ≡ o → SpendsNumber c move o → (node : Client) × (client_at w c ≡ Some node) × (node.disk.last ≡ NUMBER_MAX)
     go None at k = absurd k
     go (Some node) at k = (node, at, k.1)
+
+-- ---- its answer is no device fault
+
+pub called_fine : (w : moves.World) (c : ℕ) (s : WorldStep) (host : ClientHost) (said : facts.Answer) (out : Out) → IsCalled w c s host said out → is_fault_answer s.answer ≡ false
+    → is_fault said ≡ false
+called_fine w c s host said out k fine = ap is_fault_answer (sym k.answer) ∙ fine
+
+-- other clients
+pub other_clients : {D : Type 0} (state : D → DiskState) (w : moves.World) (world : World D) (clients : ClientHost) → Holds state w world → HoldsClients w clients → Holds state w
+    (record world { clients = clients })
+other_clients state w world clients h held = record {
+  schemas = h.schemas;
+  store = h.store;
+  told = h.told;
+  clients = held;
+  packets = h.packets;
+  held = h.held;
+  downs = h.downs;
+  fair = h.fair;
+}

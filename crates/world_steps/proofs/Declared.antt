@@ -25,6 +25,7 @@ use Rattle.store_host.proofs.Moving.{falls_silent}
 use Rattle.world_tables.specs.World.{Moved, Outbox, Packet, Hosted, schema_at, hosted_at, client_at, with_table, made_with, declared, joined, step, owner, the_store, is_down, store_falls}
 use Rattle.world_tables.specs.World.{tables_of, tables_fall}
 use Rattle.world_tables.specs.World as moves
+use Rattle.world_tables.specs.Faults.{is_failure, fails_new}
 use Rattle.client_host.specs.declared.host.ClientHost.{ClientHost}
 use Rattle.client_host.specs.Holds.{HoldsClients, HasSchemas}
 use Rattle.client_host.proofs.Hosting.{clients_stay}
@@ -34,7 +35,9 @@ use Rattle.world_steps.specs.Fair.{IsFair, IsFairMessage, IsFairStore}
 use Rattle.world_steps.specs.Holds.{Holds, AreOut, first_disk}
 use Rattle.world_steps.specs.Network.{packets_in}
 use Rattle.world_steps.specs.Outs.{packets_of}
+use Rattle.world_steps.specs.Faults.{IsCounted}
 use Rattle.world_steps.specs.Steps.{IsStep}
+use Rattle.world_steps.proofs.Counted.{rises}
 use Rattle.world_steps.proofs.Going.{fair_after, store_falls_goes}
 use Rattle.world_steps.proofs.Said.{said_packets}
 use Rattle.world_steps.proofs.Showing.{some_of}
@@ -51,7 +54,7 @@ nothing_at None e = refl
 nothing_at (Some x) e = absurd cc
 
 module _ {D : Type 0} (w : moves.World) (table : ℕ) (schema : Schema) (old : World D) (r : Rest w old) (none : hosted_at w table ≡ None) (schemas : tree.BTreeMap ℕ Schema)
-    (put : (q : ℕ) → tree.get nat_cmp schemas q ≡ cond (is_at (nat_cmp table) q) (Some schema) (tree.get nat_cmp old.schemas q)) where
+    (put : (q : ℕ) → tree.get nat_cmp schemas q ≡ cond (is_at (nat_cmp table) q) (Some schema) (tree.get nat_cmp old.schemas q)) (range : (1 ≤ table) × (table ≤ 64)) where
   unknown : schema_at w table ≡ None
   unknown = nothing_at (schema_at w table) (r.fair.both table ∙ ap (λ (o : Option Hosted). is_some o) none)
 
@@ -72,6 +75,7 @@ module _ {D : Type 0} (w : moves.World) (table : ℕ) (schema : Schema) (old : W
   fair_with made up = record {
     both = λ q. ap (λ (o : Option Schema). is_some o) (known made up q) ∙ (go q (is_at (nat_cmp table) q) ∙ sym (ap (λ (o : Option Hosted). is_some o) (there made up q)));
     numbers = r.fair.numbers;
+    ranged = λ q is. near q (is_at (nat_cmp table) q) refl (sym (ap (λ (o : Option Hosted). is_some o) (there made up q)) ∙ is);
     tables = λ q x at. fair_after w.tables table (new_table made up) q x at (r.fair.tables q x) (fair_new made up);
     packets = λ p a. fair_known w (with_table w table schema made up) p (more_known made up) (r.fair.packets p a);
   }
@@ -80,10 +84,14 @@ module _ {D : Type 0} (w : moves.World) (table : ℕ) (schema : Schema) (old : W
       go q true = refl
       go q false = r.fair.both q
 
+      near : (q : ℕ) (b : Bool) → is_at (nat_cmp table) q ≡ b → is_some (cond b (Some (new_table made up)) (hosted_at w q)) ≡ true → (1 ≤ q) × (q ≤ 64)
+      near q true e is = subst (λ (k : ℕ). (1 ≤ k) × (k ≤ 64)) (at_same table q e) range
+      near q false e is = r.fair.ranged q is
+
   rest_with : (made up : Bool) → Rest (with_table w table schema made up) (record old { schemas = schemas })
   rest_with made up = record {
     schemas = λ q. put q ∙ (ap (λ (o : Option Schema). cond (is_at (nat_cmp table) q) (Some schema) o) (r.schemas q) ∙ sym (known made up q));
-    clients = clients_stay w (with_table w table schema made up) old.clients r.clients (record { clients = refl; schemas = more_known made up });
+    clients = clients_stay w (with_table w table schema made up) old.clients r.clients (record { clients = refl; free = λ free. free; schemas = more_known made up });
     packets = r.packets;
     held = r.held;
     downs = r.downs;
@@ -148,44 +156,53 @@ more_out w after table is_out out one old u there t k here small = u (first_disk
 -- ---- the step
 
 module _ {D : Type 0} (state : D → DiskState) (w : moves.World) (table : ℕ) (schema : Schema) (is_out out : ℕ → Bool) where
-  pub made_step : (old : World D) (schemas : tree.BTreeMap ℕ Schema) (store : StoreHost D) → Holds state w old → AreOut is_out w → hosted_at w table ≡ None → 1 ≤ table
+  pub made_step : (old : World D) (schemas : tree.BTreeMap ℕ Schema) (store : StoreHost D) → Holds state w old → AreOut is_out w → hosted_at w table ≡ None → (1 ≤ table) × (table ≤ 64)
       → ((q : ℕ) → tree.get nat_cmp schemas q ≡ cond (is_at (nat_cmp table) q) (Some schema) (tree.get nat_cmp old.schemas q))
       → ((k : ℕ) → out k ≡ ((k == first_disk table + 2) || ((k == first_disk table + 1) || ((k == first_disk table) || is_out k))))
-      → (luck : Luck) → HoldsStore state (made_with w table schema luck) store → store.outs ≡ old.store.outs
-      → IsStep state w (events.Table table schema) [] out (record old { schemas = schemas; store = store })
-  made_step old schemas store h outs none one put u luck held told = record {
+      → (luck : Luck) → HoldsStore state (made_with w table schema luck) store → IsCounted state (is_failure luck) old.store.tables store.tables → store.outs ≡ old.store.outs
+      → IsStep state w (events.Table table schema) [] out old (record old { schemas = schemas; store = store })
+  made_step old schemas store h outs none one put u luck held counted told = record {
     lucks = luck ∷ [];
     lines_are = refl;
-    held = subst (λ (o : Option Hosted). Holds state (declared w table schema luck o) new) (sym none)
-        (whole state (made_with w table schema luck) new
-        (again (made_rest w table schema old (rest_of state w old h) none schemas put luck)) held (ap (λ (os : _). outs_of (record old.store { outs = os })) told ∙ h.told));
+    held = subst (λ (o : Option Hosted). Holds state (declared w table schema luck o) new) (sym none) behind;
+    rose = λ t. (rises state (made_with w table schema luck) old new (is_failure luck) behind counted).0 (sym fails ∙ t);
+    same = λ f. (rises state (made_with w table schema luck) old new (is_failure luck) behind counted).1 (sym fails ∙ f);
     out = subst (λ (o : Option Hosted). AreOut out (declared w table schema luck o)) (sym none)
-        (more_out w (made_with w table schema luck) table is_out out one outs u (made_there w table schema old (rest_of state w old h) none schemas put luck));
+        (more_out w (made_with w table schema luck) table is_out out one.0 outs u (made_there w table schema old (rest_of state w old h) none schemas put one luck));
   }
     where
       new : World D
       new = record old { schemas = schemas; store = store }
 
+      fails : fails_new (hosted_at w table) (luck ∷ []) ≡ is_failure luck
+      fails = ap (λ (o : Option Hosted). fails_new o (luck ∷ [])) none
+
       again : Rest (made_with w table schema luck) (record old { schemas = schemas }) → Rest (made_with w table schema luck) new
       again x = record { schemas = x.schemas; clients = x.clients; packets = x.packets; held = x.held; downs = x.downs; fair = x.fair }
 
-  stays_there : (old : World D) (hosted : Hosted) → Holds state w old → AreOut is_out w → hosted_at w table ≡ Some hosted → IsStep state w (events.Table table schema) [] is_out old
+      behind : Holds state (made_with w table schema luck) new
+      behind = whole state (made_with w table schema luck) new (again (made_rest w table schema old (rest_of state w old h) none schemas put one luck)) held
+          (ap (λ (os : _). outs_of (record old.store { outs = os })) told ∙ h.told)
+
+  stays_there : (old : World D) (hosted : Hosted) → Holds state w old → AreOut is_out w → hosted_at w table ≡ Some hosted → IsStep state w (events.Table table schema) [] is_out old old
   stays_there old hosted h outs at = record {
     lucks = [];
     lines_are = refl;
     held = subst (λ (o : Option Hosted). Holds state (declared w table schema messages.Done o) old) (sym at) h;
     out = subst (λ (o : Option Hosted). AreOut is_out (declared w table schema messages.Done o)) (sym at) outs;
+    rose = λ t. let no : false ≡ true = sym (ap (λ (o : Option Hosted). fails_new o []) at) ∙ t in absurd cc;
+    same = λ f. refl;
   }
 
-  pub stays_declared : (old : World D) → Holds state w old → AreOut is_out w → true ≡ is_some (hosted_at w table) → IsStep state w (events.Table table schema) [] is_out old
+  pub stays_declared : (old : World D) → Holds state w old → AreOut is_out w → true ≡ is_some (hosted_at w table) → IsStep state w (events.Table table schema) [] is_out old old
   stays_declared old h outs is = let x = some_of (hosted_at w table) is in stays_there old x.0 h outs x.1
 
-  pub made_ok : (old : World D) (schemas : tree.BTreeMap ℕ Schema) (store : StoreHost D) → Holds state w old → AreOut is_out w → hosted_at w table ≡ None → 1 ≤ table
+  pub made_ok : (old : World D) (schemas : tree.BTreeMap ℕ Schema) (store : StoreHost D) → Holds state w old → AreOut is_out w → hosted_at w table ≡ None → (1 ≤ table) × (table ≤ 64)
       → ((q : ℕ) → tree.get nat_cmp schemas q ≡ cond (is_at (nat_cmp table) q) (Some schema) (tree.get nat_cmp old.schemas q))
       → ((k : ℕ) → out k ≡ ((k == first_disk table + 2) || ((k == first_disk table + 1) || ((k == first_disk table) || is_out k))))
-      → (luck : Luck) × HoldsStore state (made_with w table schema luck) store → store.outs ≡ old.store.outs
-      → IsStep state w (events.Table table schema) [] out (record old { schemas = schemas; store = store })
-  made_ok old schemas store h outs none one put u k told = made_step old schemas store h outs none one put u k.0 k.1 told
+      → (luck : Luck) × HoldsStore state (made_with w table schema luck) store × IsCounted state (is_failure luck) old.store.tables store.tables → store.outs ≡ old.store.outs
+      → IsStep state w (events.Table table schema) [] out old (record old { schemas = schemas; store = store })
+  made_ok old schemas store h outs none one put u k told = made_step old schemas store h outs none one put u k.0 k.1 k.2 told
 
 pub not_there : {D : Type 0} (state : D → DiskState) (w : moves.World) (table : ℕ) (world : World D) → Holds state w world → tree.get nat_cmp world.store.tables table ≡ None → hosted_at w table ≡ None
 not_there state w table world h none = not_found state w world.store.numbers world.store.tables table h.store.tables (sym none)
@@ -244,6 +261,7 @@ has_joined {D} state w old c tables clients h number held = go (client_at w c) r
       downs = h.downs;
       fair = record {
         both = h.fair.both;
+        ranged = h.fair.ranged;
         numbers = λ q there. one q (is_at (nat_cmp c) q) refl
             (ap (λ (o : Option Client). is_some o) (sym (lookup-insert nat_cmp nat_cmp_total w.clients c (moves.new_client (moves.open_all w [] tables)) q)) ∙ there);
         tables = h.fair.tables;

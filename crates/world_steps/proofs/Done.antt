@@ -136,6 +136,7 @@ module _ {D : Type 0} (w : moves.World) (old : World D) (r : Rest w old) (m : Mo
   fair_behind = record {
     both = λ table. ap (λ (o : Option Schema). is_some o) (schema_same w m.world g.schemas table) ∙ (r.fair.both table ∙ sym (g.tables table));
     numbers = λ c there. r.fair.numbers c (ap (λ (cs : List (ℕ × Client)). is_some (client_at (record w { clients = cs }) c)) (sym g.clients) ∙ there);
+    ranged = λ table there. r.fair.ranged table (sym (g.tables table) ∙ there);
     tables = g.fair;
     packets = λ p a. ⊎_elim (λ b. fair_known w m.world p (λ table schema at. schema_same w m.world g.schemas table ∙ at) (r.fair.packets p b)) (λ b. fair_sent m.world p (g.sent p b))
         (among_either w.packets (packets_of m.outs) p (subst (λ (ps : List Packet). Among ps p) g.packets a));
@@ -145,7 +146,11 @@ module _ {D : Type 0} (w : moves.World) (old : World D) (r : Rest w old) (m : Mo
   rest_behind store network packets = record {
     schemas = λ table. r.schemas table ∙ sym (schema_same w m.world g.schemas table);
     clients = clients_stay w m.world old.clients r.clients
-        (record { clients = g.clients; schemas = λ table schema at. schema_same w m.world g.schemas table ∙ at });
+        (record {
+          clients = g.clients;
+          free = λ free c. ap (λ (ns : List Node). has_node ns (nodes.Client c)) g.holds ∙ free c;
+          schemas = λ table schema at. schema_same w m.world g.schemas table ∙ at;
+        });
     packets = packets ∙ (ap (λ (ps : List Packet). ps ++ packets_of m.outs) r.packets ∙ sym g.packets);
     held = λ node. r.held node ∙ ap (λ (ns : List Node). has_node ns node) (sym g.holds);
     downs = λ node apart. r.downs node apart ∙ sym (g.downs node apart);
@@ -153,25 +158,22 @@ module _ {D : Type 0} (w : moves.World) (old : World D) (r : Rest w old) (m : Mo
   }
 
 module _ {D : Type 0} (state : D → DiskState) (w : moves.World) (old : World D) (h : Holds state w old) (m : Moved) (g : Goes w m) where
-  -- they are told
-  pub told_moves : (a : facts.Answer) (s : StoreHost D) (given : Answer) (result : Result (List TextLine) WorldFault) (new : World D) (f : List Luck → WorldStep) (lucks : List Luck)
+  pub told_done : (a : facts.Answer) (s : StoreHost D) (given : Answer) (result : Result (List TextLine) WorldFault) (new : World D) (f : List Luck → WorldStep) (lucks : List Luck)
       → f lucks ≡ answering a m → IsAnswered state old.store s a m given
-      → IfOk result (λ lines. HasTold (record old { store = s }) new (answer_of given) lines) → Comes state w f result new
-  told_moves a s given (Err e) new f lucks is k t = tt
-  told_moves a s given (Ok lines) new f lucks is k t = (
-    lucks,
-    subst (λ (x : WorldStep). IsDone state w x lines new) (sym is) (record {
-      lines_are = t.lines_are ∙ (ap (λ (x : facts.Answer). AnswerLine x ∷ lines_from (length (packets_in old.network)) (outs_of s)) k.answer_is
-          ∙ ap (λ (ls : List Line). AnswerLine (if m.failed then facts.Refuses facts.NoDevice else a) ∷ ls)
-          (ap (λ (ps : List Packet). lines_from (length ps) (outs_of s)) h.packets ∙ (ap (λ (os : List Outbox). lines_from (length w.packets) os) waiting ∙ said_lines (length w.packets) m.outs)));
-      held = subst (λ (x : World D). Holds state m.world x) (sym t.same)
-          (whole state m.world (record old { store = new.store; network = new.network })
-          (rest_behind w old (rest_of state w old h) m g new.store new.network
-          (t.packets ∙ ap (λ (ps : List Packet). packets_in old.network ++ ps) (ap packets_of waiting ∙ said_packets m.outs)))
-          held (ap (λ (x : StoreHost D). outs_of x) t.store));
-      tables = g.tables;
-    }),
-  )
+      → IfOk result (λ lines. HasTold (record old { store = s }) new (answer_of given) lines) → IfOk result (λ lines. IsDone state w (f lucks) lines new)
+  told_done a s given (Err e) new f lucks is k t = tt
+  told_done a s given (Ok lines) new f lucks is k t =
+      subst (λ (x : WorldStep). IsDone state w x lines new) (sym is) (record {
+        lines_are = t.lines_are ∙ (ap (λ (x : facts.Answer). AnswerLine x ∷ lines_from (length (packets_in old.network)) (outs_of s)) k.answer_is
+            ∙ ap (λ (ls : List Line). AnswerLine (if m.failed then facts.Refuses facts.NoDevice else a) ∷ ls)
+            (ap (λ (ps : List Packet). lines_from (length ps) (outs_of s)) h.packets ∙ (ap (λ (os : List Outbox). lines_from (length w.packets) os) waiting ∙ said_lines (length w.packets) m.outs)));
+        held = subst (λ (x : World D). Holds state m.world x) (sym t.same)
+            (whole state m.world (record old { store = new.store; network = new.network })
+            (rest_behind w old (rest_of state w old h) m g new.store new.network
+            (t.packets ∙ ap (λ (ps : List Packet). packets_in old.network ++ ps) (ap packets_of waiting ∙ said_packets m.outs)))
+            held (ap (λ (x : StoreHost D). outs_of x) t.store));
+        tables = g.tables;
+      })
     where
       waiting : outs_of s ≡ said_by m
       waiting = k.moved.outs ∙ ap (λ (os : List Outbox). os ++ said_by m) h.told
@@ -179,3 +181,13 @@ module _ {D : Type 0} (state : D → DiskState) (w : moves.World) (old : World D
       held : HoldsStore state m.world new.store
       held = subst (λ (x : StoreHost D). HoldsStore state m.world x) (sym t.store)
           (record { number = k.moved.held.number; up = k.moved.held.up; tables = k.moved.held.tables; ups = k.moved.held.ups })
+
+  -- they are told
+  pub told_moves : (a : facts.Answer) (s : StoreHost D) (given : Answer) (result : Result (List TextLine) WorldFault) (new : World D) (f : List Luck → WorldStep) (lucks : List Luck)
+      → f lucks ≡ answering a m → IsAnswered state old.store s a m given
+      → IfOk result (λ lines. HasTold (record old { store = s }) new (answer_of given) lines) → Comes state w f result new
+  told_moves a s given result new f lucks is k t = go result (told_done a s given result new f lucks is k t)
+    where
+      go : (r : Result (List TextLine) WorldFault) → IfOk r (λ lines. IsDone state w (f lucks) lines new) → Comes state w f r new
+      go (Err e) k = tt
+      go (Ok lines) k = (lucks, k)

@@ -11,3 +11,6 @@ pub mod Taken
 pub mod Showing
 pub mod Stepping
 pub mod Starting
+pub mod Sums
+pub mod Counted
+pub mod Closing

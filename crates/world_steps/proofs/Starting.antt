@@ -8,6 +8,7 @@ pub start_fair : IsFair start
 start_fair = record {
   both = λ table. refl;
   numbers = λ client there. absurd cc;
+  ranged = λ table there. absurd cc;
   tables = λ table hosted at. absurd cc;
   packets = λ packet a. absurd (among_none packet a);
 }

@@ -19,10 +19,10 @@ use Rattle.name_laws.proofs.Quiets.{Follows, start_follows, step_follows}
 use Rattle.world_steps.specs.declared.fault.WorldFault.{WorldFault}
 use Rattle.world_steps.specs.declared.fault.WorldFault.TheVariants.{Memory, Limit, Depot}
 use Rattle.world_steps.specs.declared.world.World.{World}
-use Rattle.world_steps.specs.Calls.{Comes}
 use Rattle.world_steps.specs.Fair.{IsPlace, ArePlaces}
 use Rattle.world_steps.specs.Holds.{Holds, IsReached, AreOut, first_disk}
 use Rattle.world_steps.specs.Steps.{IsStep}
+use Rattle.world_steps.proofs.Counted.{all_still}
 
 -- ---- packets go to places
 
@@ -43,32 +43,25 @@ places w r p a =
 
 -- ---- steps
 
-pub stepped : {D : Type 0} (state : D → DiskState) (w : moves.World) (event : Event) (is_out : ℕ → Bool) (new : World D) (result : Result (List TextLine) WorldFault) → AreOut is_out w
-    → Comes state w (step w event) result new → IfOk result (λ lines. IsStep state w event lines is_out new)
-stepped state w event is_out new (Err e) out k = tt
-stepped state w event is_out new (Ok lines) out k = record {
-  lucks = k.0;
-  lines_are = k.1.lines_are;
-  held = k.1.held;
-  out = λ table disk one small. out table disk one small ∙ sym (k.1.tables table);
-}
-
 pub nothing_done : {D : Type 0} (state : D → DiskState) (w : moves.World) (number : ℕ) (is_out : ℕ → Bool) (world : World D) (lines : List TextLine) → Holds state w world → AreOut is_out w
     → lines ≡ []
-    → IsStep state w (events.Store number) lines is_out world
+    → IsStep state w (events.Store number) lines is_out world world
 nothing_done state w number is_out world lines h out is =
-    subst (λ (ls : List TextLine). IsStep state w (events.Store number) ls is_out world) (sym is) (record { lucks = []; lines_are = refl; held = h; out = out })
+    subst (λ (ls : List TextLine). IsStep state w (events.Store number) ls is_out world world) (sym is)
+    (record { lucks = []; lines_are = refl; held = h; out = out; rose = λ t. absurd cc; same = λ f. refl })
 
-pub client_joins : {D : Type 0} (state : D → DiskState) (w : moves.World) (c : ℕ) (gate : Option ℕ) (tables : List ℕ) (is_out : ℕ → Bool) (new : World D)
-    (result : Result (List TextLine) WorldFault) → AreOut is_out w
-    → IfOk result (λ lines. (lines ≡ []) × Holds state (joined w c tables (client_at w c)) new) → IfOk result (λ lines. IsStep state w (events.Client c gate tables) lines is_out new)
-client_joins state w c gate tables is_out new (Err e) out k = tt
-client_joins state w c gate tables is_out new (Ok lines) out k =
-    subst (λ (ls : List TextLine). IsStep state w (events.Client c gate tables) ls is_out new) (sym k.0) (record {
+pub client_joins : {D : Type 0} (state : D → DiskState) (w : moves.World) (c : ℕ) (gate : Option ℕ) (tables : List ℕ) (is_out : ℕ → Bool) (old new : World D)
+    (result : Result (List TextLine) WorldFault) → AreOut is_out w → new.store ≡ old.store
+    → IfOk result (λ lines. (lines ≡ []) × Holds state (joined w c tables (client_at w c)) new) → IfOk result (λ lines. IsStep state w (events.Client c gate tables) lines is_out old new)
+client_joins state w c gate tables is_out old new (Err e) out still k = tt
+client_joins state w c gate tables is_out old new (Ok lines) out still k =
+    subst (λ (ls : List TextLine). IsStep state w (events.Client c gate tables) ls is_out old new) (sym k.0) (record {
       lucks = [];
       lines_are = refl;
       held = k.1;
       out = λ table disk one small. out table disk one small ∙ same table (client_at w c);
+      rose = λ t. absurd cc;
+      same = λ f. all_still state old new still;
     })
   where
     same : (table : ℕ) (o : Option Client) → is_some (hosted_at w table) ≡ is_some (hosted_at (joined w c tables o) table)

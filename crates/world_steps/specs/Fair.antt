@@ -57,6 +57,7 @@ AreFairTables w = (table : ℕ) (hosted : Hosted) → hosted_at w table ≡ Some
 pub record IsFair (w : World) : Type 0 where
   pub both : (table : ℕ) → is_some (schema_at w table) ≡ is_some (hosted_at w table)
   pub numbers : (client : ℕ) → is_some (client_at w client) ≡ true → IsClient client
+  pub ranged : (table : ℕ) → is_some (hosted_at w table) ≡ true → (1 ≤ table) × (table ≤ 64)
   pub tables : AreFairTables w
   pub packets : (packet : Packet) → Among w.packets packet → IsFairMessage w packet.from packet.message
 

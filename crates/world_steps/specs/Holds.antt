@@ -5,6 +5,7 @@ use Rattle.std.specs.Ordering.{nat_cmp}
 use Rattle.std.specs.BTreeMap as tree
 use Rattle.disk_trait.specs.Calls.{DiskState}
 use Rattle.stab_base.specs.declared.node.Node.{Node}
+use Rattle.stab_base.specs.declared.node.Node.TheVariants as nodes
 use Rattle.row_value.specs.declared.schema.Schema.{Schema}
 use Rattle.row_value.specs.declared.schema.Scheme.TheVariants.{Eventual}
 use Rattle.value_codec.specs.SchemaSpelling.{HasSchemaSpelling}
@@ -47,9 +48,17 @@ pub record IsMade (table : ℕ) (schema : Schema) : Type 0 where
   pub spelled : HasSchemaSpelling schema
   pub short : length (table_payload schema 2) ≤ payload_most
 
+-- the clients are in memory: none is put on hold, crashes or is started
+abbrev pub HasDevices : Node → Type 0
+HasDevices (nodes.Client client) = ⊥
+HasDevices other = Unit {0}
+
 abbrev pub IsBuilt : Event → Type 0
 IsBuilt (events.Table table schema) = IsMade table schema
 IsBuilt (events.Client client gate tables) = (1 ≤ client) × (client ≤ 64)
+IsBuilt (events.Hold node) = HasDevices node
+IsBuilt (events.Crash node calls pick) = HasDevices node
+IsBuilt (events.Start node) = HasDevices node
 IsBuilt other = Unit {0}
 
 -- such events lead to this world, with some lucks

@@ -3,5 +3,7 @@ pub mod Nodes
 pub mod Fair
 pub mod Holds
 pub mod Outs
+pub mod Faults
+pub mod Closes
 pub mod Steps
 pub mod Calls

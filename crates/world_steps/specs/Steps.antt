@@ -1,5 +1,5 @@
 -- What a step of the world promises.
-use Rattle.std.specs.Prelude.{◌≡◌, ℕ, Bool, List, map, length, Some}
+use Rattle.std.specs.Prelude.{◌≡◌, ℕ, ◌<◌, Bool, true, false, List, map, length, Some}
 use Rattle.disk_trait.specs.Calls.{DiskState}
 use Rattle.stab_base.specs.declared.limits.TheConstants.{NUMBER_MAX}
 use Rattle.table_model.specs.declared.event.Event.{Event}
@@ -10,17 +10,21 @@ use Rattle.step_tables.specs.Lines.{line_of}
 use Rattle.step_tables.specs.Messages.{Luck}
 use Rattle.world_tables.specs.World.{step, lines_of, hosted_at, client_at}
 use Rattle.world_tables.specs.World as moves
+use Rattle.world_tables.specs.Faults.{is_device_fault}
 use Rattle.world_steps.specs.declared.world.World.{World}
 use Rattle.world_steps.specs.Holds.{Holds, AreOut}
+use Rattle.world_steps.specs.Faults.{all_faults}
 
 -- The event is carried out: with some lucks of its device calls, these are the lines of its step, and the program's
--- world holds the world behind it.
+-- world holds the world behind it. Where the step shows a device fault disks have failed, and else none has.
 pub record IsStep {D : Type 0} (state : D → DiskState) (w : moves.World) (event : Event) (lines : List TextLine)
-    (is_out : ℕ → Bool) (new : World D) : Type 0 where
+    (is_out : ℕ → Bool) (old new : World D) : Type 0 where
   pub lucks : List Luck
   pub lines_are : map line_of lines ≡ lines_of w (step w event lucks)
   pub held : Holds state (step w event lucks).world new
   pub out : AreOut is_out (step w event lucks).world
+  pub rose : is_device_fault w event lucks ≡ true → all_faults state old < all_faults state new
+  pub same : is_device_fault w event lucks ≡ false → all_faults state new ≡ all_faults state old
 
 -- a number or a version above the last would be needed
 abbrev pub Spends : moves.World → Event → Type 0

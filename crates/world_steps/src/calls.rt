@@ -7,6 +7,7 @@ ghost use Rattle.world_tables.specs.World.{World as AWorld, step};
 ghost use Rattle.world_steps.specs.declared.fault.WorldFault.TheVariants.{Memory, Limit as LimitPassed};
 ghost use Rattle.world_steps.specs.declared.fault.WorldFault.TheVariants.{Depot as DepotFailed};
 ghost use Rattle.world_steps.specs.Calls.{Comes, HasSent};
+ghost use Rattle.world_steps.specs.Faults.{AreCounted};
 ghost use Rattle.world_steps.specs.Holds.{Holds};
 ghost use Rattle.world_steps.specs.Steps.{Spends};
 
@@ -44,6 +45,9 @@ impl<D: Disk + Drop> World<D> {
     ) -> Result<Lines, WorldFault>
         ensures done { (w : AWorld) → Holds D.state w self.old
             → Comes D.state w (step w (events.Write client table row content.now)) result self.new }
+        ensures counted { (w : AWorld) → Holds D.state w self.old → AreCounted D.state result self.old self.new }
+        ensures left { (w : AWorld) → Holds D.state w self.old
+            → IfErr result (λ e. e ≢ Memory → Holds D.state w self.new × (self.new.store ≡ self.old.store)) }
         ensures limit { (w : AWorld) → Holds D.state w self.old → IfErr result (λ e. (code count : ℕ)
             → e ≡ LimitPassed code count → (code ≡ 11) × Spends w (events.Write client table row content.now)) }
         ensures only { IfErr result (λ e. e ≢ DepotFailed) }
@@ -67,6 +71,7 @@ impl<D: Disk + Drop> World<D> {
     ) -> Result<Lines, WorldFault>
         ensures done { (w : AWorld) → Holds D.state w self.now
             → Comes D.state w (step w (events.Show client table row)) result self.now }
+        ensures counted { (w : AWorld) → Holds D.state w self.now → AreCounted D.state result self.now self.now }
         ensures memory { IfErr result (λ e. e ≡ Memory) }
     {
         match self.clients.show(client, table, row) {
@@ -84,6 +89,7 @@ impl<D: Disk + Drop> World<D> {
     ) -> Result<Lines, WorldFault>
         ensures done { (w : AWorld) → Holds D.state w self.now
             → Comes D.state w (step w (events.Sum client table row)) result self.now }
+        ensures counted { (w : AWorld) → Holds D.state w self.now → AreCounted D.state result self.now self.now }
         ensures memory { IfErr result (λ e. e ≡ Memory) }
     {
         match self.clients.sum(client, table, row) {
@@ -96,6 +102,7 @@ impl<D: Disk + Drop> World<D> {
     pub(crate) fn sync(&mut self, client: ClientNo, table: TableNo) -> Result<Lines, WorldFault>
         ensures done { (w : AWorld) → Holds D.state w self.old
             → Comes D.state w (step w (events.Sync client table)) result self.new }
+        ensures counted { (w : AWorld) → Holds D.state w self.old → AreCounted D.state result self.old self.new }
         ensures memory { IfErr result (λ e. e ≡ Memory) }
     {
         match self.clients.sync(client, table) {
@@ -108,6 +115,7 @@ impl<D: Disk + Drop> World<D> {
     pub(crate) fn pull(&mut self, client: ClientNo, table: TableNo) -> Result<Lines, WorldFault>
         ensures done { (w : AWorld) → Holds D.state w self.old
             → Comes D.state w (step w (events.Pull client table)) result self.new }
+        ensures counted { (w : AWorld) → Holds D.state w self.old → AreCounted D.state result self.old self.new }
         ensures memory { IfErr result (λ e. e ≡ Memory) }
     {
         match self.clients.pull(client, table) {

@@ -1,5 +1,5 @@
 //! The declarations of tables and of clients.
-ghost use Rattle.std.specs.Prelude.{◌≡◌, ◌⊎◌, ◌==◌, ◌||◌, ◌+◌, ◌*◌, ◌-◌, ◌<◌, ◌≤◌, ℕ, false, true, [], None};
+ghost use Rattle.std.specs.Prelude.{◌≡◌, ◌≢◌, ◌⊎◌, ◌==◌, ◌||◌, ◌+◌, ◌*◌, ◌-◌, ◌<◌, ◌≤◌, ℕ, false, true, [], None};
 ghost use Rattle.std.specs.Prelude.{IfOk, IfErr, OnOk, OnErr};
 ghost use Rattle.std.specs.Ordering.{nat_cmp};
 ghost use Rattle.std.specs.BTreeMap as tree;
@@ -8,6 +8,8 @@ ghost use Rattle.table_model.specs.declared.event.Event.TheVariants as events;
 ghost use Rattle.world_tables.specs.World.{World as AWorld, joined, client_at};
 ghost use Rattle.world_steps.specs.declared.fault.WorldFault.TheVariants.{Depot as DepotFailed, Memory};
 ghost use Rattle.world_steps.specs.Holds.{Holds, IsMade, AreOut, first_disk};
+ghost use Rattle.store_host.specs.Steps.{faults_of};
+ghost use Rattle.world_steps.specs.Faults.{IsUndone};
 ghost use Rattle.world_steps.specs.Steps.{IsStep};
 
 use crate::fault::WorldFault;
@@ -21,6 +23,7 @@ fn hand_out<P: Depot>(depot: &mut P, number: u32) -> Result<P::Disk, WorldFault>
     requires { (P.state depot.old).is_out number ≡ false }
     ensures out { OnOk result ((k : ℕ) → (P.state depot.new).is_out k
         ≡ ((k == number) || (P.state depot.old).is_out k)) }
+    ensures sound { IfOk result (λ disk. (P.Disk.state disk).faults ≡ 0) }
     ensures refused { OnErr result ((k : ℕ) → (P.state depot.new).is_out k ≡ (P.state depot.old).is_out k) }
     ensures cause { IsCounted DepotFailed (P.state depot.old).faults (P.state depot.new).faults result }
     ensures only { IfErr result (λ e. (e ≡ DepotFailed) ⊎ (e ≡ Memory)) }
@@ -43,6 +46,7 @@ fn hand_out_two<P: Depot>(
     requires apart { (second == first) ≡ false }
     ensures out { OnOk result ((k : ℕ) → (P.state depot.new).is_out k
         ≡ ((k == second) || ((k == first) || (P.state depot.old).is_out k))) }
+    ensures sound { IfOk result (λ disks. ((P.Disk.state disks.0).faults ≡ 0) × ((P.Disk.state disks.1).faults ≡ 0)) }
     ensures refused { OnErr result ((k : ℕ) → (P.state depot.new).is_out k ≡ (P.state depot.old).is_out k) }
     ensures cause { IsCounted DepotFailed (P.state depot.old).faults (P.state depot.new).faults result }
     ensures only { IfErr result (λ e. (e ≡ DepotFailed) ⊎ (e ≡ Memory)) }
@@ -66,6 +70,8 @@ fn hand_out_three<P: Depot>(
     requires free { (k : ℕ) → k < 3 → (P.state depot.old).is_out (first + k) ≡ false }
     ensures out { OnOk result ((k : ℕ) → (P.state depot.new).is_out k ≡ ((k == first + 2)
         || ((k == first + 1) || ((k == first) || (P.state depot.old).is_out k)))) }
+    ensures sound { IfOk result (λ disks. faults_of P.Disk.state disks.0 disks.1 disks.2 ≡ 0) }
+    ensures refused { OnErr result ((k : ℕ) → (P.state depot.new).is_out k ≡ (P.state depot.old).is_out k) }
     ensures cause { IsCounted DepotFailed (P.state depot.old).faults (P.state depot.new).faults result }
     ensures only { IfErr result (λ e. (e ≡ DepotFailed) ⊎ (e ≡ Memory)) }
 {
@@ -92,7 +98,9 @@ impl<D: Disk + Drop> World<D> {
         requires held { (w : AWorld) × Holds D.state w self.old × AreOut (P.state depot.old).is_out w }
         ensures done { (w : AWorld) → Holds D.state w self.old → AreOut (P.state depot.old).is_out w
             → IfOk result (λ lines. IsStep D.state w (events.Table table schema.now) lines
-            (P.state depot.new).is_out self.new) }
+            (P.state depot.new).is_out self.old self.new) }
+        ensures left { (w : AWorld) → Holds D.state w self.old → AreOut (P.state depot.old).is_out w
+            → IfErr result (λ e. e ≢ Memory → IsUndone D.state w (P.state depot.new).is_out self.old self.new) }
         ensures depot { IsCounted DepotFailed (P.state depot.old).faults (P.state depot.new).faults result }
         ensures only { IfErr result (λ e. (e ≡ DepotFailed) ⊎ (e ≡ Memory)) }
     {
@@ -113,7 +121,9 @@ impl<D: Disk + Drop> World<D> {
         requires absent { tree.get nat_cmp self.old.store.tables table ≡ None }
         ensures done { (w : AWorld) → Holds D.state w self.old → AreOut (P.state depot.old).is_out w
             → IfOk result (λ lines. IsStep D.state w (events.Table table schema.now) lines
-            (P.state depot.new).is_out self.new) }
+            (P.state depot.new).is_out self.old self.new) }
+        ensures left { (w : AWorld) → Holds D.state w self.old → AreOut (P.state depot.old).is_out w
+            → IfErr result (λ e. e ≢ Memory → IsUndone D.state w (P.state depot.new).is_out self.old self.new) }
         ensures depot { IsCounted DepotFailed (P.state depot.old).faults (P.state depot.new).faults result }
         ensures only { IfErr result (λ e. (e ≡ DepotFailed) ⊎ (e ≡ Memory)) }
     {
@@ -131,6 +141,7 @@ impl<D: Disk + Drop> World<D> {
         requires most { client ≤ 64 }
         ensures done { (w : AWorld) → Holds D.state w self.old → IfOk result (λ lines. (lines ≡ [])
             × Holds D.state (joined w client tables.now (client_at w client)) self.new) }
+        ensures same { self.new.store ≡ self.old.store }
         ensures memory { IfErr result (λ e. e ≡ Memory) }
     {
         match self.clients.join(client, tables, &self.schemas) {

@@ -8,11 +8,13 @@ ghost use Rattle.table_model.specs.declared.event.Event.TheVariants as events;
 ghost use Rattle.world_tables.specs.World.{World as AWorld, Packet as APacket, step, carried, the_store, to_hosted};
 ghost use Rattle.world_tables.specs.World.{hosted_at};
 ghost use Rattle.step_tables.specs.Messages.{table_of};
+ghost use Rattle.store_host.specs.Holds.{SameFaults};
 ghost use Rattle.step_tables.specs.StoreMoves.{Take};
 ghost use Rattle.world_steps.specs.declared.fault.WorldFault.TheVariants.{Memory, Limit as LimitPassed};
 ghost use Rattle.world_steps.specs.declared.fault.WorldFault.TheVariants.{Depot as DepotFailed};
 ghost use Rattle.world_steps.specs.Calls.{Comes};
 ghost use Rattle.world_steps.specs.Fair.{ArePlaces};
+ghost use Rattle.world_steps.specs.Faults.{AreCounted};
 ghost use Rattle.world_steps.specs.Holds.{Holds};
 ghost use Rattle.world_steps.specs.Network.{packets_in};
 ghost use Rattle.world_steps.specs.Steps.{Spends};
@@ -32,6 +34,9 @@ impl<D: Disk + Drop> World<D> {
         requires held { (w : AWorld) × Holds D.state w self.old }
         ensures done { (w : AWorld) → Holds D.state w self.old → ArePlaces w
             → Comes D.state w (step w (events.Deliver number)) result self.new }
+        ensures counted { AreCounted D.state result self.old self.new }
+        ensures left { (w : AWorld) → Holds D.state w self.old → IfErr result (λ e. e ≢ Memory
+            → Holds D.state w self.new × SameFaults D.state self.old.store.tables self.new.store.tables) }
         ensures limit { (w : AWorld) → Holds D.state w self.old → IfErr result (λ e. (code count : ℕ)
             → e ≡ LimitPassed code count → (code ≡ 11) × Spends w (events.Deliver number)) }
         ensures only { IfErr result (λ e. e ≢ DepotFailed) }
@@ -58,6 +63,7 @@ impl<D: Disk + Drop> World<D> {
         ensures done { (w : AWorld) (packet : APacket) → Holds D.state w self.old
             → slice_get w.packets number ≡ Some packet
             → Comes D.state w (λ lucks. carried w packet lucks (nodes.Client client)) result self.new }
+        ensures counted { AreCounted D.state result self.old self.new }
         ensures memory { IfErr result (λ e. e ≡ Memory) }
     {
         let Some(packet) = self.network.get(number) else {
@@ -74,6 +80,9 @@ impl<D: Disk + Drop> World<D> {
         ensures done { (w : AWorld) (packet : APacket) → Holds D.state w self.old
             → slice_get w.packets number ≡ Some packet
             → Comes D.state w (λ lucks. carried w packet lucks the_store) result self.new }
+        ensures counted { AreCounted D.state result self.old self.new }
+        ensures left { (w : AWorld) → Holds D.state w self.old → IfErr result (λ e. e ≢ Memory
+            → Holds D.state w self.new × SameFaults D.state self.old.store.tables self.new.store.tables) }
         ensures limit { (w : AWorld) → Holds D.state w self.old → IfErr result (λ e. (code count : ℕ)
             → e ≡ LimitPassed code count → (code ≡ 11) × Spends w (events.Deliver number)) }
         ensures only { IfErr result (λ e. e ≢ DepotFailed) }
@@ -91,6 +100,9 @@ impl<D: Disk + Drop> World<D> {
             → slice_get w.packets number ≡ Some packet
             → Comes D.state w (λ lucks. to_hosted w (table_of packet.message) (Take packet.from packet.message) lucks
             (hosted_at w (table_of packet.message))) result self.new }
+        ensures counted { AreCounted D.state result self.old self.new }
+        ensures left { (w : AWorld) → Holds D.state w self.old → IfErr result (λ e. e ≢ Memory
+            → Holds D.state w self.new × SameFaults D.state self.old.store.tables self.new.store.tables) }
         ensures limit { (w : AWorld) → Holds D.state w self.old → IfErr result (λ e. (code count : ℕ)
             → e ≡ LimitPassed code count → (code ≡ 11) × Spends w (events.Deliver number)) }
         ensures only { IfErr result (λ e. e ≢ DepotFailed) }

@@ -8,7 +8,7 @@ ghost use Rattle.world_tables.specs.World.{World as AWorld, step, is_down, has_n
 ghost use Rattle.world_tables.specs.World.{without_node};
 ghost use Rattle.world_steps.specs.declared.fault.WorldFault.TheVariants.{Memory};
 ghost use Rattle.world_steps.specs.Calls.{Comes};
-ghost use Rattle.world_steps.specs.Holds.{Holds};
+ghost use Rattle.world_steps.specs.Holds.{Holds, HasDevices};
 
 use crate::fault::WorldFault;
 use crate::world::{Lines, World};
@@ -57,7 +57,7 @@ impl<D: Disk + Drop> World<D> {
         self.is_other_down(node)
     }
 
-    // Clients and gateways have no devices yet, and are up.
+    // Clients are in memory and gateways have no devices: they are up.
     fn is_other_down(&self, node: Node) -> bool
         requires { same_node node the_store ≡ false }
         ensures { (w : AWorld) → Holds D.state w self.now → result ≡ is_down w node }
@@ -77,8 +77,10 @@ impl<D: Disk + Drop> World<D> {
 
     /// From now on the node does its device writes only where a line says so.
     pub(crate) fn hold(&mut self, node: Node) -> Result<Lines, WorldFault>
+        requires { HasDevices node }
         ensures done { (w : AWorld) → Holds D.state w self.old
             → Comes D.state w (step w (events.Hold node)) result self.new }
+        ensures same { self.new.store ≡ self.old.store }
         ensures memory { IfErr result (λ e. e ≡ Memory) }
     {
         if self.is_down(node) {
@@ -88,8 +90,10 @@ impl<D: Disk + Drop> World<D> {
     }
 
     fn hold_up(&mut self, node: Node) -> Result<Lines, WorldFault>
+        requires { HasDevices node }
         ensures done { (w : AWorld) → Holds D.state w self.old
             → Comes D.state w (λ lucks. answered (record w { holds = node ∷ w.holds }) moves.Done) result self.new }
+        ensures same { self.new.store ≡ self.old.store }
         ensures memory { IfErr result (λ e. e ≡ Memory) }
     {
         self.held.add(node)?;
@@ -100,6 +104,7 @@ impl<D: Disk + Drop> World<D> {
     pub(crate) fn free(&mut self, node: Node) -> Result<Lines, WorldFault>
         ensures done { (w : AWorld) → Holds D.state w self.old
             → Comes D.state w (step w (events.Free node)) result self.new }
+        ensures same { self.new.store ≡ self.old.store }
         ensures memory { IfErr result (λ e. e ≡ Memory) }
     {
         if self.is_down(node) {
@@ -111,6 +116,7 @@ impl<D: Disk + Drop> World<D> {
     fn free_up(&mut self, node: Node) -> Result<Lines, WorldFault>
         ensures done { (w : AWorld) → Holds D.state w self.old → Comes D.state w
             (λ lucks. answered (record w { holds = without_node w.holds node }) moves.Done) result self.new }
+        ensures same { self.new.store ≡ self.old.store }
         ensures memory { IfErr result (λ e. e ≡ Memory) }
     {
         self.held.remove(node);

@@ -2,6 +2,7 @@
 #![tactic(auto)]
 
 mod calls;
+mod close;
 mod declare;
 mod deliver;
 mod fault;

@@ -12,11 +12,16 @@ ghost use Rattle.world_tables.specs.World.{busy_step};
 ghost use Rattle.world_tables.specs.World.{write_next, tasks_of, store_until_idle, store_follows, store_crashes};
 ghost use Rattle.world_tables.specs.World.{store_starts, made_with, row_shown, hosted_at, table_follows};
 ghost use Rattle.world_tables.specs.World.{Hosted as AHosted};
-ghost use Rattle.store_host.specs.Holds.{HoldsStore, IsStore};
-ghost use Rattle.store_host.specs.Calls.{FitsIn, IsSpentIn};
+ghost use Rattle.step_tables.specs.Lines.{answer_of};
+ghost use Rattle.world_tables.specs.World.{is_fault};
+ghost use Rattle.world_tables.specs.Faults.{is_failure};
+ghost use Rattle.store_host.specs.Holds.{HoldsStore, IsStore, SameFaults};
+ghost use Rattle.store_host.specs.Calls.{FitsIn, HasLuck, IsSpentIn};
+ghost use Rattle.store_host.specs.Steps.{faults_of};
 ghost use Rattle.world_steps.specs.declared.fault.WorldFault.TheVariants.{Memory, Limit as LimitPassed};
 ghost use Rattle.world_steps.specs.declared.fault.WorldFault.TheVariants.{Depot as DepotFailed};
 ghost use Rattle.world_steps.specs.Fair.{AreFairTables};
+ghost use Rattle.world_steps.specs.Faults.{IsCounted};
 ghost use Rattle.world_steps.specs.Outs.{IsAnswered, IsTakenAs, read_moves};
 ghost use Rattle.world_steps.specs.Holds.{IsMade};
 
@@ -37,6 +42,8 @@ pub(crate) fn work_once<D: Disk + Drop>(store: &mut StoreHost<D>) -> Result<Answ
     ensures done { (w : AWorld) → HoldsStore D.state w store.old → IfOk result (λ answer. (lucks : List Luck)
         × IsAnswered D.state store.old store.new (moves.Did (busy_step w (busy_table w owner)))
         (write_next owner (first_luck lucks) (busy_table w owner) w) answer) }
+    ensures counted { IfOk result (λ answer.
+        IsCounted D.state (is_fault (answer_of answer)) store.old.tables store.new.tables) }
     ensures memory { IfErr result (λ e. e ≡ Memory) }
 {
     match store.work() {
@@ -53,6 +60,8 @@ pub(crate) fn work_all<D: Disk + Drop>(store: &mut StoreHost<D>) -> Result<Answe
     ensures done { (w : AWorld) → HoldsStore D.state w store.old → IfOk result (λ answer. (lucks : List Luck)
         × IsAnswered D.state store.old store.new (moves.Number (length (tasks_of w owner)))
         (store_until_idle owner lucks w) answer) }
+    ensures counted { IfOk result (λ answer.
+        IsCounted D.state (is_fault (answer_of answer)) store.old.tables store.new.tables) }
     ensures memory { IfErr result (λ e. e ≡ Memory) }
 {
     match store.work_all() {
@@ -72,6 +81,8 @@ pub(crate) fn follow<D: Disk + Drop>(
     ensures done { (w : AWorld) → HoldsStore D.state w store.old → is_held ≡ has_node w.holds the_store
         → IfOk result (λ answer. (lucks : List Luck)
         × IsAnswered D.state store.old store.new moves.Done (store_follows owner lucks w) answer) }
+    ensures counted { IfOk result (λ answer.
+        IsCounted D.state (is_fault (answer_of answer)) store.old.tables store.new.tables) }
     ensures memory { IfErr result (λ e. e ≡ Memory) }
 {
     if is_held {
@@ -89,7 +100,8 @@ pub(crate) fn crash<D: Disk + Drop>(store: &mut StoreHost<D>, calls: u32, pick: 
     requires held { IsStore D.state store.old }
     requires up { store.old.is_up ≡ true }
     ensures { (w : AWorld) → HoldsStore D.state w store.old → (lucks : List Luck)
-        × IsAnswered D.state store.old store.new moves.Done (store_crashes owner calls lucks w) result }
+        × IsAnswered D.state store.old store.new moves.Done (store_crashes owner calls lucks w) result
+        × HasLuck D.state w store.old.tables store.new.tables lucks }
 {
     store.crash(calls, pick);
     Answer::Done
@@ -105,6 +117,8 @@ pub(crate) fn start<D: Disk + Drop>(
     ensures done { (w : AWorld) → HoldsStore D.state w store.old → AreFairTables w
         → is_held ≡ has_node w.holds the_store → IfOk result (λ answer. (lucks : List Luck)
         × IsAnswered D.state store.old store.new moves.Done (store_starts owner lucks w) answer) }
+    ensures counted { IfOk result (λ answer.
+        IsCounted D.state (is_fault (answer_of answer)) store.old.tables store.new.tables) }
     ensures memory { IfErr result (λ e. e ≡ Memory) }
 {
     match store.start() {
@@ -124,8 +138,10 @@ pub(crate) fn add<D: Disk + Drop>(
     requires held { IsStore D.state store.old }
     requires absent { tree.get nat_cmp store.old.tables table ≡ None }
     requires made { IsMade table schema }
+    requires sound { faults_of D.state disks.0 disks.1 disks.2 ≡ 0 }
     ensures added { (w : AWorld) → HoldsStore D.state w store.old → OnOk result ((luck : Luck)
-        × HoldsStore D.state (made_with w table schema luck) store.new) }
+        × HoldsStore D.state (made_with w table schema luck) store.new
+        × IsCounted D.state (is_failure luck) store.old.tables store.new.tables) }
     ensures outs { store.new.outs ≡ store.old.outs }
     ensures memory { IfErr result (λ e. e ≡ Memory) }
 {
@@ -150,6 +166,8 @@ pub(crate) fn show<D: Disk + Drop>(
         → hosted_at w table ≡ Some hosted → IfOk result (λ answer. (luck : Luck)
         × IsAnswered D.state store.old store.new (row_shown (current_of hosted.store.disk.items row.now))
         (read_moves w luck) answer) }
+    ensures counted { IfOk result (λ answer.
+        IsCounted D.state (is_fault (answer_of answer)) store.old.tables store.new.tables) }
     ensures memory { IfErr result (λ e. e ≡ Memory) }
 {
     match store.show(table, row) {
@@ -174,6 +192,8 @@ fn follow_table<D: Disk + Drop>(
     ensures done { (w : AWorld) → HoldsStore D.state w store.old → is_held ≡ has_node w.holds the_store
         → IfOk result (λ answer. (lucks : List Luck)
         × IsAnswered D.state store.old store.new moves.Done (table_follows table lucks w) answer) }
+    ensures counted { IfOk result (λ answer.
+        IsCounted D.state (is_fault (answer_of answer)) store.old.tables store.new.tables) }
     ensures memory { IfErr result (λ e. e ≡ Memory) }
 {
     if store.is_busy(table) {
@@ -196,6 +216,11 @@ pub(crate) fn take<D: Disk + Drop>(
     ensures done { (w : AWorld) → HoldsStore D.state w store.old → AreFairTables w
         → is_held ≡ has_node w.holds the_store → FitsIn w message.now → IfOk result (λ answer. (lucks : List Luck)
         × IsTakenAs D.state w from (message_of message.now) lucks store.old store.new answer) }
+    ensures counted { IfOk result (λ answer.
+        IsCounted D.state (is_fault (answer_of answer)) store.old.tables store.new.tables) }
+    ensures left { (w : AWorld) → HoldsStore D.state w store.old
+        → IfErr result (λ e. e ≢ Memory → HoldsStore D.state w store.new
+        × (store.new.outs ≡ store.old.outs) × SameFaults D.state store.old.tables store.new.tables) }
     ensures limit { (w : AWorld) → HoldsStore D.state w store.old → IfErr result (λ e. (code count : ℕ)
         → e ≡ LimitPassed code count → (code ≡ 11) × IsSpentIn w message.now) }
     ensures only { IfErr result (λ e. e ≢ DepotFailed) }
@@ -218,6 +243,11 @@ fn take_there<D: Disk + Drop>(
         → is_held ≡ has_node w.holds the_store → FitsIn w message.now
         → hosted_at w (table_of (message_of message.now)) ≡ Some hosted → IfOk result (λ answer. (lucks : List Luck)
         × IsTakenAs D.state w from (message_of message.now) lucks store.old store.new answer) }
+    ensures counted { IfOk result (λ answer.
+        IsCounted D.state (is_fault (answer_of answer)) store.old.tables store.new.tables) }
+    ensures left { (w : AWorld) → HoldsStore D.state w store.old
+        → IfErr result (λ e. e ≢ Memory → HoldsStore D.state w store.new
+        × (store.new.outs ≡ store.old.outs) × SameFaults D.state store.old.tables store.new.tables) }
     ensures limit { (w : AWorld) → HoldsStore D.state w store.old → IfErr result (λ e. (code count : ℕ)
         → e ≡ LimitPassed code count → (code ≡ 11) × IsSpentIn w message.now) }
     ensures only { IfErr result (λ e. e ≢ DepotFailed) }

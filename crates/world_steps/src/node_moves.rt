@@ -6,10 +6,12 @@ ghost use Rattle.step_tables.specs.Lines.{answer_of};
 ghost use Rattle.table_model.specs.declared.event.Event.TheVariants as events;
 ghost use Rattle.world_tables.specs.World.{World as AWorld, step, worked, all_worked, crashed, started, the_store};
 ghost use Rattle.world_tables.specs.World.{is_down, same_node, answered, with_down};
+ghost use Rattle.world_tables.specs.Faults.{is_device_fault, fails_crash};
 ghost use Rattle.store_host.specs.Holds.{IsStore};
 ghost use Rattle.world_steps.specs.declared.fault.WorldFault.TheVariants.{Memory};
 ghost use Rattle.world_steps.specs.Calls.{Comes, HasTold};
-ghost use Rattle.world_steps.specs.Holds.{Holds};
+ghost use Rattle.world_steps.specs.Faults.{AreCounted, ComesCounted};
+ghost use Rattle.world_steps.specs.Holds.{Holds, HasDevices};
 
 use crate::fault::WorldFault;
 use crate::holds::is_owner;
@@ -38,6 +40,7 @@ impl<D: Disk + Drop> World<D> {
         requires held { IsStore D.state self.old.store }
         ensures done { (w : AWorld) → Holds D.state w self.old
             → Comes D.state w (step w (events.Work node)) result self.new }
+        ensures counted { AreCounted D.state result self.old self.new }
         ensures memory { IfErr result (λ e. e ≡ Memory) }
     {
         if self.is_down(node) {
@@ -51,6 +54,7 @@ impl<D: Disk + Drop> World<D> {
         requires up { same_node node the_store ≡ true → self.old.store.is_up ≡ true }
         ensures done { (w : AWorld) → Holds D.state w self.old
             → Comes D.state w (λ lucks. worked w lucks node) result self.new }
+        ensures counted { AreCounted D.state result self.old self.new }
         ensures memory { IfErr result (λ e. e ≡ Memory) }
     {
         if is_owner(node) {
@@ -64,6 +68,7 @@ impl<D: Disk + Drop> World<D> {
         requires up { self.old.store.is_up ≡ true }
         ensures done { (w : AWorld) → Holds D.state w self.old
             → Comes D.state w (λ lucks. worked w lucks the_store) result self.new }
+        ensures counted { AreCounted D.state result self.old self.new }
         ensures memory { IfErr result (λ e. e ≡ Memory) }
     {
         let answer = work_once(&mut self.store)?;
@@ -75,6 +80,7 @@ impl<D: Disk + Drop> World<D> {
         requires held { IsStore D.state self.old.store }
         ensures done { (w : AWorld) → Holds D.state w self.old
             → Comes D.state w (step w (events.WorkAll node)) result self.new }
+        ensures counted { AreCounted D.state result self.old self.new }
         ensures memory { IfErr result (λ e. e ≡ Memory) }
     {
         if self.is_down(node) {
@@ -88,6 +94,7 @@ impl<D: Disk + Drop> World<D> {
         requires up { same_node node the_store ≡ true → self.old.store.is_up ≡ true }
         ensures done { (w : AWorld) → Holds D.state w self.old
             → Comes D.state w (λ lucks. all_worked w lucks node) result self.new }
+        ensures counted { AreCounted D.state result self.old self.new }
         ensures memory { IfErr result (λ e. e ≡ Memory) }
     {
         if is_owner(node) {
@@ -101,17 +108,20 @@ impl<D: Disk + Drop> World<D> {
         requires up { self.old.store.is_up ≡ true }
         ensures done { (w : AWorld) → Holds D.state w self.old
             → Comes D.state w (λ lucks. all_worked w lucks the_store) result self.new }
+        ensures counted { AreCounted D.state result self.old self.new }
         ensures memory { IfErr result (λ e. e ≡ Memory) }
     {
         let answer = work_all(&mut self.store)?;
         self.tell(answer)
     }
 
-    /// The node stops inside its next device write. A client and a gateway have no devices yet, and go on.
+    /// The node stops inside its next device write. A gateway has no devices, and goes on.
     pub(crate) fn crash(&mut self, node: Node, calls: u32, pick: u64) -> Result<Lines, WorldFault>
+        requires devices { HasDevices node }
         requires held { IsStore D.state self.old.store }
         ensures done { (w : AWorld) → Holds D.state w self.old
-            → Comes D.state w (step w (events.Crash node calls pick)) result self.new }
+            → ComesCounted D.state w (step w (events.Crash node calls pick))
+            (λ lucks. is_device_fault w (events.Crash node calls pick) lucks) result self.old self.new }
         ensures memory { IfErr result (λ e. e ≡ Memory) }
     {
         if self.is_down(node) {
@@ -121,10 +131,12 @@ impl<D: Disk + Drop> World<D> {
     }
 
     fn crash_up(&mut self, node: Node, calls: u32, pick: u64) -> Result<Lines, WorldFault>
+        requires devices { HasDevices node }
         requires held { IsStore D.state self.old.store }
         requires up { same_node node the_store ≡ true → self.old.store.is_up ≡ true }
         ensures done { (w : AWorld) → Holds D.state w self.old
-            → Comes D.state w (λ lucks. crashed w calls lucks node) result self.new }
+            → ComesCounted D.state w (λ lucks. crashed w calls lucks node) (λ lucks. fails_crash w lucks node) result
+            self.old self.new }
         ensures memory { IfErr result (λ e. e ≡ Memory) }
     {
         if is_owner(node) {
@@ -137,18 +149,21 @@ impl<D: Disk + Drop> World<D> {
         requires held { IsStore D.state self.old.store }
         requires up { self.old.store.is_up ≡ true }
         ensures done { (w : AWorld) → Holds D.state w self.old
-            → Comes D.state w (λ lucks. crashed w calls lucks the_store) result self.new }
+            → ComesCounted D.state w (λ lucks. crashed w calls lucks the_store)
+            (λ lucks. fails_crash w lucks the_store) result self.old self.new }
         ensures memory { IfErr result (λ e. e ≡ Memory) }
     {
         let answer = crash(&mut self.store, calls, pick);
         self.tell(answer)
     }
 
-    // A Store that has no tables is down; a client and a gateway go on.
+    // A Store that has no tables is down; a gateway goes on.
     fn crash_other(&mut self, node: Node) -> Result<Lines, WorldFault>
-        requires { same_node node the_store ≡ false }
+        requires other { same_node node the_store ≡ false }
+        requires devices { HasDevices node }
         ensures done { (w : AWorld) (calls : ℕ) → Holds D.state w self.old
-            → Comes D.state w (λ lucks. crashed w calls lucks node) result self.new }
+            → ComesCounted D.state w (λ lucks. crashed w calls lucks node) (λ lucks. fails_crash w lucks node) result
+            self.old self.new }
         ensures memory { IfErr result (λ e. e ≡ Memory) }
     {
         match node {
@@ -162,6 +177,7 @@ impl<D: Disk + Drop> World<D> {
         requires { same_node (nodes.Store number) the_store ≡ false }
         ensures done { (w : AWorld) → Holds D.state w self.old → Comes D.state w
             (λ lucks. answered (with_down (nodes.Store number) w) moves.Done) result self.new }
+        ensures same { self.new.store ≡ self.old.store }
         ensures memory { IfErr result (λ e. e ≡ Memory) }
     {
         self.downs.add(Node::Store(number))?;
@@ -173,6 +189,7 @@ impl<D: Disk + Drop> World<D> {
         requires held { IsStore D.state self.old.store }
         ensures done { (w : AWorld) → Holds D.state w self.old
             → Comes D.state w (step w (events.Start node)) result self.new }
+        ensures counted { AreCounted D.state result self.old self.new }
         ensures memory { IfErr result (λ e. e ≡ Memory) }
     {
         if self.is_down(node) {
@@ -186,6 +203,7 @@ impl<D: Disk + Drop> World<D> {
         requires down { same_node node the_store ≡ true → self.old.store.is_up ≡ false }
         ensures done { (w : AWorld) → Holds D.state w self.old → true ≡ is_down w node
             → Comes D.state w (λ lucks. started w lucks node) result self.new }
+        ensures counted { AreCounted D.state result self.old self.new }
         ensures memory { IfErr result (λ e. e ≡ Memory) }
     {
         if is_owner(node) {
@@ -198,6 +216,7 @@ impl<D: Disk + Drop> World<D> {
         requires { same_node node the_store ≡ false }
         ensures done { (w : AWorld) → Holds D.state w self.old → true ≡ is_down w node
             → Comes D.state w (λ lucks. started w lucks node) result self.new }
+        ensures counted { AreCounted D.state result self.old self.new }
         ensures memory { IfErr result (λ e. e ≡ Memory) }
     {
         self.downs.remove(node);
@@ -209,6 +228,7 @@ impl<D: Disk + Drop> World<D> {
         requires down { self.old.store.is_up ≡ false }
         ensures done { (w : AWorld) → Holds D.state w self.old → true ≡ is_down w the_store
             → Comes D.state w (λ lucks. started w lucks the_store) result self.new }
+        ensures counted { AreCounted D.state result self.old self.new }
         ensures memory { IfErr result (λ e. e ≡ Memory) }
     {
         let is_held = self.is_held(STORE);

@@ -13,6 +13,7 @@ ghost use Rattle.world_tables.specs.World.{unless_down, the_store};
 ghost use Rattle.store_host.specs.Holds.{IsStore};
 ghost use Rattle.world_steps.specs.declared.fault.WorldFault.TheVariants.{Memory};
 ghost use Rattle.world_steps.specs.Calls.{Comes};
+ghost use Rattle.world_steps.specs.Faults.{AreCounted};
 ghost use Rattle.world_steps.specs.Holds.{Holds};
 
 use crate::fault::WorldFault;
@@ -67,6 +68,7 @@ impl<D: Disk + Drop> World<D> {
         requires held { IsStore D.state self.old.store }
         ensures done { (w : AWorld) → Holds D.state w self.old
             → Comes D.state w (step w (events.StoreShow table row.now)) result self.new }
+        ensures counted { AreCounted D.state result self.old self.new }
         ensures memory { IfErr result (λ e. e ≡ Memory) }
     {
         if self.store.has(table) {
@@ -81,6 +83,7 @@ impl<D: Disk + Drop> World<D> {
         ensures done { (w : AWorld) (hosted : AHosted) → Holds D.state w self.old → hosted_at w table ≡ Some hosted
             → Comes D.state w (λ lucks. unless_down w the_store (row_read w hosted row.now (first_luck lucks)))
             result self.new }
+        ensures counted { AreCounted D.state result self.old self.new }
         ensures memory { IfErr result (λ e. e ≡ Memory) }
     {
         if self.is_down(STORE) {
@@ -95,6 +98,7 @@ impl<D: Disk + Drop> World<D> {
         requires there { IsSome (tree.get nat_cmp self.old.store.tables table) }
         ensures done { (w : AWorld) (hosted : AHosted) → Holds D.state w self.old → hosted_at w table ≡ Some hosted
             → Comes D.state w (λ lucks. row_read w hosted row.now (first_luck lucks)) result self.new }
+        ensures counted { AreCounted D.state result self.old self.new }
         ensures memory { IfErr result (λ e. e ≡ Memory) }
     {
         let answer = show(&mut self.store, table, row)?;

@@ -1,8 +1,10 @@
-ghost use Rattle.std.specs.Prelude.{◌≡◌, ℕ, IfOk, IfErr};
+ghost use Rattle.std.specs.Prelude.{◌≡◌, ◌≢◌, ℕ, IfOk, IfErr};
 ghost use Rattle.world_tables.specs.World.{World as AWorld, start};
-ghost use Rattle.world_steps.specs.declared.fault.WorldFault.TheVariants.{Depot as DepotFailed, Limit as LimitPassed};
+ghost use Rattle.world_steps.specs.declared.fault.WorldFault.TheVariants.{Depot as DepotFailed, Memory};
+ghost use Rattle.world_steps.specs.declared.fault.WorldFault.TheVariants.{Limit as LimitPassed};
 ghost use Rattle.disk_trait.specs.Calls.{IsCounted};
 ghost use Rattle.world_steps.specs.Holds.{Holds, IsReached, IsBuilt, IsWorld, AreOut};
+ghost use Rattle.world_steps.specs.Faults.{IsUndone};
 ghost use Rattle.world_steps.specs.Steps.{IsStep, Spends};
 
 use crate::fault::WorldFault;
@@ -51,7 +53,8 @@ impl<D: Disk + Drop> World<D> {
     /// numbers 3(T-1), 3(T-1)+1 and 3(T-1)+2, for its chunks, its rows and its log.
     ///
     /// `Limit` where a client has made its last write, or a table has given its last version; `Depot` where the depot
-    /// handed out no disk. What a fault leaves of the world isn't said, but that its disks are out; it ends the run.
+    /// handed out no disk: either leaves the world as it was. What want of memory leaves of it isn't said. Each ends
+    /// the run.
     pub fn step<P: Depot<Disk = D>>(
         &mut self,
         depot: &mut P,
@@ -60,9 +63,11 @@ impl<D: Disk + Drop> World<D> {
         requires built { IsBuilt event.now }
         requires held { IsWorld D.state (P.state depot.old).is_out self.old }
         ensures done { (w : AWorld) → IsReached w → Holds D.state w self.old → AreOut (P.state depot.old).is_out w
-            → IfOk result (λ lines. IsStep D.state w event.now lines (P.state depot.new).is_out self.new) }
+            → IfOk result (λ lines. IsStep D.state w event.now lines (P.state depot.new).is_out self.old self.new) }
         ensures limit { (w : AWorld) → IsReached w → Holds D.state w self.old
             → IfErr result (λ e. (code count : ℕ) → e ≡ LimitPassed code count → (code ≡ 11) × Spends w event.now) }
+        ensures left { (w : AWorld) → IsReached w → Holds D.state w self.old → AreOut (P.state depot.old).is_out w
+            → IfErr result (λ e. e ≢ Memory → IsUndone D.state w (P.state depot.new).is_out self.old self.new) }
         ensures depot { IsCounted DepotFailed (P.state depot.old).faults (P.state depot.new).faults result }
     {
         match event {

@@ -4,4 +4,4 @@ use Rattle.world_steps.proofs.moves.crash.Goals as goal
 
 pub returns : goal.returns
 returns g c w h =
-    let k = c.crash.ensures.crashed w h in (k.0, well_answered g.D.Disk.state _ _ _ _ _ k.1 (crashes_well c.args.calls k.0 w) refl)
+    let k = c.crash.ensures.crashed w h in (k.0, well_answered g.D.Disk.state _ _ _ _ _ k.1 (crashes_well c.args.calls k.0 w) refl, k.2)

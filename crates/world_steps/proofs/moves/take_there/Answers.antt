@@ -1,6 +1,7 @@
 use Rattle.std.proofs.Common.{refl, sym}
 use Rattle.step_tables.specs.Travels.{message_of}
 use Rattle.world_steps.proofs.Taken.{done_ok, busy, fallen}
+use Rattle.world_steps.proofs.Counted.{follow_counted}
 use Rattle.world_steps.proofs.moves.take_there.Goals as goal
 
 pub follow_table-requires-clause-held : goal.follow_table-requires-clause-held
@@ -24,3 +25,8 @@ pub returns-in-Err-Disk-clause-done : goal.returns-in-Err-Disk-clause-done
 returns-in-Err-Disk-clause-done g c w hosted h fair is fits at =
     let k = c.in-Err-Disk.ensures.takes w h in let e = c.in-Err-Disk.field-0-is in
     fallen g.D.Disk.state w c.args.store.now h fair c.args.from (message_of c.args.message.now) hosted at c.deliver.new.self (k.idle (λ b. let f = b.1 in absurd cc) hosted at) (k.fallen cc) _ refl
+
+pub returns-in-Ok-clause-counted : goal.returns-in-Ok-clause-counted
+returns-in-Ok-clause-counted g c =
+    follow_counted g.D.Disk.state c.args.store.now.tables c.deliver.new.self.tables c.follow_table.new.store.tables c.follow_table.result (c.in-Ok.ensures.cause.counted (λ e. absurd cc))
+    c.follow_table.ensures.counted

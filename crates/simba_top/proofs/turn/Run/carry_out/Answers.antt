@@ -1,7 +1,9 @@
 use Rattle.std.proofs.lemmas.Result.{err_from_is_err_and}
 use Rattle.world_tables.specs.World.{start}
 use Rattle.world_tables.specs.Turns.{world_from}
-use Rattle.simba_top.proofs.Sounds.{reached, world_on}
+use Rattle.std.proofs.Common.{refl, ap}
+use Rattle.simba_top.specs.Stops.{of_world}
+use Rattle.simba_top.proofs.Sounds.{reached, world_on, nothing_undone}
 use Rattle.simba_top.proofs.Turns.{carries_out, row_stops, world_stops}
 use Rattle.simba_top.proofs.turn.Run.carry_out.Goals as goal
 
@@ -38,3 +40,23 @@ returns-in_err-lines-clause-texts g c = λ input script told line left has spell
     let p = err_from_is_err_and c.from_residual-in_err-lines.result c.from_residual-in_err-lines.ensures.1 in
     rw (p.1, p.2) (world_stops state input script told line c.args.self.now out left has c.requires.few c.args.event.now c.in_err-lines.field-0.0 c.requires.built
     (c.in_err-lines.ensures.limit (world_from start l.run) (reached state script told c.args.self.now.world out l) l.held))
+
+pub returns-in_err-add-clause-left : goal.returns-in_err-add-clause-left
+returns-in_err-add-clause-left g c = λ w r h out.
+    let p = err_from_is_err_and c.from_residual.result c.from_residual.ensures.1 in
+    rw (p.1, p.2) (λ no. nothing_undone g.D.Disk.state w (g.P.Depot.state c.args.depot.now).is_out c.args.self.now.world h out)
+
+pub returns-in_err-add-2-clause-left : goal.returns-in_err-add-2-clause-left
+returns-in_err-add-2-clause-left g c = λ w r h out.
+    let p = err_from_is_err_and c.from_residual-in_err-add-2.result c.from_residual-in_err-add-2.ensures.1 in
+    rw (p.1, p.2) (λ no. nothing_undone g.D.Disk.state w (g.P.Depot.state c.args.depot.now).is_out c.args.self.now.world h out)
+
+pub returns-in_err-lines-clause-left : goal.returns-in_err-lines-clause-left
+returns-in_err-lines-clause-left g c = λ w r h out.
+    let p = err_from_is_err_and c.from_residual-in_err-lines.result c.from_residual-in_err-lines.ensures.1 in
+    rw (p.1, p.2) (λ no. c.in_err-lines.ensures.left w r h out (λ is. no (ap of_world is)))
+
+pub returns-in_err-texts-clause-left : goal.returns-in_err-texts-clause-left
+returns-in_err-texts-clause-left g c = λ w r h out.
+    let p = err_from_is_err_and c.from_residual-in_err-texts.result c.from_residual-in_err-texts.ensures.1 in
+    rw (p.1, p.2) (λ no. absurd (no refl))

@@ -8,7 +8,7 @@ returns-in-BadLine-clause-ends g c = λ input left before ended.
     let old = g.K.Sink.holds c.args.sink.now in
     let new = g.K.Sink.holds c.put_stop.new.sink in
     let count = c.args.self.now.count in
-    rw (c.unwrap_or.ensures, c.err.ensures.value) (stopped_bad input left before old new count c.in-BadLine.fault c.put_stop.result (rw c.in-BadLine.is at ended)
+    rw (c.unwrap_or.ensures, c.err.ensures.value) (stopped_bad _ input left before old new count c.in-BadLine.fault c.put_stop.result (rw c.in-BadLine.is at ended)
     (written old new (stop_text 3 (count + 1) c.in-BadLine.fault.code ++ 10 ∷ []) c.put_stop.result c.put_stop.ensures.ok c.put_stop.ensures.err))
 
 pub returns-in-Limit-clause-ends : goal.returns-in-Limit-clause-ends
@@ -16,5 +16,5 @@ returns-in-Limit-clause-ends g c = λ input left before ended.
     let old = g.K.Sink.holds c.args.sink.now in
     let new = g.K.Sink.holds c.put_stop-in-Limit.new.sink in
     let count = c.args.self.now.count in
-    rw (c.unwrap_or-in-Limit.ensures, c.err-in-Limit.ensures.value) (stopped_limit input left before old new count c.in-Limit.limit c.put_stop-in-Limit.result (rw c.in-Limit.is at ended)
+    rw (c.unwrap_or-in-Limit.ensures, c.err-in-Limit.ensures.value) (stopped_limit _ input left before old new count c.in-Limit.limit c.put_stop-in-Limit.result (rw c.in-Limit.is at ended)
     (written old new (stop_text 7 (count + 1) c.in-Limit.limit ++ 10 ∷ []) c.put_stop-in-Limit.result c.put_stop-in-Limit.ensures.ok c.put_stop-in-Limit.ensures.err))

@@ -1,4 +1,6 @@
 use Rattle.simba_top.proofs.Events.{built}
+use Rattle.std.proofs.lemmas.Result.{err_from_is_err_and}
+use Rattle.simba_top.proofs.Sounds.{nothing_undone}
 use Rattle.simba_top.proofs.Turns.{passes_over}
 use Rattle.simba_top.proofs.turn.Run.event_texts.Goals as goal
 
@@ -13,3 +15,8 @@ pub returns-in-None-clause-texts : goal.returns-in-None-clause-texts
 returns-in-None-clause-texts g c = λ input script told left has.
     rw c.new.ensures.items (passes_over g.D.Disk.state input script told c.args.line.now c.args.self.now (g.P.Depot.state c.args.depot.now).is_out left has c.requires.few
     (rw c.in-None.is at c.in_ok-event.ensures.passed))
+
+pub returns-in_err-event-clause-left : goal.returns-in_err-event-clause-left
+returns-in_err-event-clause-left g c = λ w r h out.
+    let p = err_from_is_err_and c.from_residual.result c.from_residual.ensures.1 in
+    rw (p.1, p.2) (λ no. nothing_undone g.D.Disk.state w (g.P.Depot.state c.args.depot.now).is_out c.args.self.now.world h out)

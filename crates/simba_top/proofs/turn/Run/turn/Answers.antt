@@ -1,5 +1,12 @@
 use Rattle.std.proofs.lemmas.Result.{err_from_is_err_and}
-use Rattle.simba_top.proofs.Endings.{same_count, ended, tells, put_done, put_failed}
+use Rattle.std.proofs.Common.{sym, subst}
+use Rattle.world_tables.specs.World.{start}
+use Rattle.world_tables.specs.Turns.{world_from}
+use Rattle.world_steps.specs.declared.world.World.{World}
+use Rattle.world_steps.specs.Holds.{IsWorld}
+use Rattle.simba_top.specs.Faults.{Led}
+use Rattle.simba_top.proofs.Sounds.{reached, world_still}
+use Rattle.simba_top.proofs.Endings.{same_count, ended, ended_left, still_tells, world_same, tells, tells_same, put_done, put_failed}
 use Rattle.simba_top.proofs.turn.Run.turn.Goals as goal
 
 pub returns-in_err-line-clause-ends : goal.returns-in_err-line-clause-ends
@@ -8,16 +15,20 @@ returns-in_err-line-clause-ends g c = λ input before goes.
     let left = g.S.Source.left c.args.source.now in
     let now = g.K.Sink.holds c.args.sink.now in
     let p = err_from_is_err_and c.from_residual.result c.from_residual.ensures.1 in
-    rw (p.1, p.2) (ended c.in_err-line.field-0.0 input goes.0 c.args.self.now.count c.next_line.new.self.count (g.S.Source.left c.next_line.new.source) before now
+    rw (p.1, p.2) (ended (Led g.D.Disk.state c.next_line.new.self.world) c.in_err-line.field-0.0 input goes.0 c.args.self.now.count c.next_line.new.self.count
+    (g.S.Source.left c.next_line.new.source) before now
     (same_count c.args.self.now c.next_line.new.self c.in_err-line.ensures.same) (c.in_err-line.ensures.found input goes.0 goes.1 out goes.2)
-    (tells g.D.Disk.state input c.args.self.now out left before now goes))
+    (tells_same g.D.Disk.state input c.args.self.now out left before now goes c.next_line.new.self c.in_err-line.ensures.same))
 
 pub returns-in_default-clause-goes : goal.returns-in_default-clause-goes
 returns-in_default-clause-goes g c = λ input before goes.
     let out = (g.P.Depot.state c.args.depot.now).is_out in
     let left = g.S.Source.left c.args.source.now in
-    let now = g.K.Sink.holds c.args.sink.now in
-    (goes.0, (rw c.in_default.is at (c.in_ok-line.ensures.found input goes.0 goes.1 out goes.2)), tells g.D.Disk.state input c.args.self.now out left before now goes)
+    let now = g.K.Sink.holds c.args.sink.now in (
+      goes.0,
+      (rw c.in_default.is at (c.in_ok-line.ensures.found input goes.0 goes.1 out goes.2)),
+      tells_same g.D.Disk.state input c.args.self.now out left before now goes c.next_line.new.self c.in_ok-line.ensures.same,
+    )
 
 pub returns-in_err-texts-clause-ends : goal.returns-in_err-texts-clause-ends
 returns-in_err-texts-clause-ends g c = λ input before goes.
@@ -26,9 +37,12 @@ returns-in_err-texts-clause-ends g c = λ input before goes.
     let now = g.K.Sink.holds c.args.sink.now in
     let p = err_from_is_err_and c.from_residual-in_err-texts.result c.from_residual-in_err-texts.ensures.1 in
     let has = rw c.in-Some.is at (c.in_ok-line.ensures.found input goes.0 goes.1 out goes.2) in
-    rw (p.1, p.2) (ended c.in_err-texts.field-0.0 input goes.0 c.next_line.new.self.count c.event_texts.new.self.count (g.S.Source.left c.next_line.new.source) before now
+    rw (p.1, p.2) (ended_left (Led g.D.Disk.state c.event_texts.new.self.world) (Led g.D.Disk.state c.args.self.now.world) c.in_err-texts.field-0.0 input goes.0 c.next_line.new.self.count
+    c.event_texts.new.self.count (g.S.Source.left c.next_line.new.source) before now
     c.in_err-texts.ensures.few (c.in_err-texts.ensures.texts input goes.0 goes.1 (g.S.Source.left c.next_line.new.source) (rw c.deref.ensures.value has))
-    (tells g.D.Disk.state input c.args.self.now out left before now goes))
+    (tells g.D.Disk.state input c.args.self.now out left before now goes)
+    (λ no. still_tells g.D.Disk.state goes.0 goes.1 c.next_line.new.self.world c.event_texts.new.self.world out (g.P.Depot.state c.event_texts.new.depot).is_out before now has.world
+    (c.in_err-texts.ensures.left (world_from start has.world.run) (reached g.D.Disk.state goes.0 goes.1 c.next_line.new.self.world out has.world) has.world.held has.world.out no) goes.3))
 
 pub returns-in_err-put_all-clause-ends : goal.returns-in_err-put_all-clause-ends
 returns-in_err-put_all-clause-ends g c = λ input before goes.
@@ -48,3 +62,23 @@ returns-clause-goes g c = λ input before goes.
     let on = c.in_ok-texts.ensures.texts input goes.0 goes.1 (g.S.Source.left c.next_line.new.source) (rw c.deref.ensures.value has) in
     put_done g.D.Disk.state input goes.1 c.event_texts.new.self new (g.S.Source.left c.next_line.new.source) c.in_ok-texts.texts.items before
     (g.K.Sink.holds c.args.sink.now) (g.K.Sink.holds c.put_all.new.sink) on goes.3 (rw c.deref-2.ensures.value at c.in_ok-put_all.ensures.ok)
+
+pub returns-in_err-line-clause-left : goal.returns-in_err-line-clause-left
+returns-in_err-line-clause-left g c =
+    let p = err_from_is_err_and c.from_residual.result c.from_residual.ensures.1 in
+    rw (p.1, p.2) (λ no. subst (λ (w : World g.row.D.Denot). IsWorld g.D.Disk.state (g.P.Depot.state c.args.depot.now).is_out w)
+    (sym (world_same c.args.self.now c.next_line.new.self c.in_err-line.ensures.same)) c.requires.held)
+
+pub returns-in_err-texts-clause-left : goal.returns-in_err-texts-clause-left
+returns-in_err-texts-clause-left g c =
+    let p = err_from_is_err_and c.from_residual-in_err-texts.result c.from_residual-in_err-texts.ensures.1 in
+    let held = subst (λ (w : World g.row.D.Denot). IsWorld g.D.Disk.state (g.P.Depot.state c.args.depot.now).is_out w)
+    (sym (world_same c.args.self.now c.next_line.new.self c.in_ok-line.ensures.same)) c.requires.held in
+    rw (p.1, p.2) (λ no. world_still g.D.Disk.state (g.P.Depot.state c.args.depot.now).is_out
+    (g.P.Depot.state c.event_texts.new.depot).is_out c.next_line.new.self.world c.event_texts.new.self.world held
+    (c.in_err-texts.ensures.left held.w held.reached held.held held.out no))
+
+pub returns-in_err-put_all-clause-left : goal.returns-in_err-put_all-clause-left
+returns-in_err-put_all-clause-left g c =
+    let p = err_from_is_err_and c.from_residual-in_err-put_all.result c.from_residual-in_err-put_all.ensures.1 in
+    rw (p.1, p.2) (λ no. c.in_ok-texts.ensures.held)

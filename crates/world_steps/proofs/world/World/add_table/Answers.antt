@@ -8,6 +8,8 @@ use Rattle.world_tables.specs.World.{made_with}
 use Rattle.store_host.specs.Holds.{HoldsStore}
 use Rattle.table_model.specs.declared.event.Event.TheVariants as events
 use Rattle.table_model.specs.declared.line.TextLine.{TextLine}
+use Rattle.world_tables.specs.Faults.{is_failure}
+use Rattle.world_steps.specs.Faults.{IsCounted}
 use Rattle.world_steps.specs.Steps.{IsStep}
 use Rattle.world_steps.proofs.Declared.{made_ok, not_there, not_out}
 use Rattle.world_steps.proofs.world.World.add_table.Goals as goal
@@ -23,10 +25,11 @@ hand_out_three-requires-clause-free g c =
 pub returns-clause-done : goal.returns-clause-done
 returns-clause-done g c w h out =
     subst (λ (ls : List TextLine). IsStep g.D.Disk.state w (events.Table c.args.table c.args.schema.now) ls (g.P.Depot.state c.hand_out_three.new.depot).is_out
-    (record c.args.self.now { schemas = c.insert.new.self; store = c.add.new.store })) (sym c.new.ensures)
+    c.args.self.now (record c.args.self.now { schemas = c.insert.new.self; store = c.add.new.store })) (sym c.new.ensures)
     (made_ok g.D.Disk.state w c.args.table c.args.schema.now (g.P.Depot.state c.args.depot.now).is_out (g.P.Depot.state c.hand_out_three.new.depot).is_out c.args.self.now c.insert.new.self
-    c.add.new.store h out (not_there g.D.Disk.state w c.args.table c.args.self.now h c.requires.absent) c.requires.made.least
+    c.add.new.store h out (not_there g.D.Disk.state w c.args.table c.args.self.now h c.requires.absent) (c.requires.made.least, c.requires.made.most)
     (subst (λ (s : Schema). (q : ℕ) → tree.get nat_cmp c.insert.new.self q ≡ cond (is_at (nat_cmp c.args.table) q) (Some s) (tree.get nat_cmp c.args.self.now.schemas q)) c.in_ok-known.ensures
     c.in_ok-insert.ensures.updates.0) c.in_ok-disks.ensures.out
-    (subst (λ (s : Schema). (luck : Luck) × HoldsStore g.D.Disk.state (made_with w c.args.table s luck) c.add.new.store) c.in_ok-own.ensures (c.in_ok-add.ensures.added w h.store))
+    (subst (λ (s : Schema). (luck : Luck) × HoldsStore g.D.Disk.state (made_with w c.args.table s luck) c.add.new.store
+    × IsCounted g.D.Disk.state (is_failure luck) c.args.self.now.store.tables c.add.new.store.tables) c.in_ok-own.ensures (c.in_ok-add.ensures.added w h.store))
     c.in_ok-add.ensures.outs)

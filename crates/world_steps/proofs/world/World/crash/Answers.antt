@@ -1,12 +1,20 @@
-use Rattle.std.proofs.Common.{sym, ◌∙◌}
-use Rattle.world_tables.specs.World.{crashed}
-use Rattle.world_steps.proofs.Done.{down_refused, up_goes_on, up_now}
+use Rattle.std.proofs.Common.{Bool, false, refl, ap, sym, ◌∙◌}
+use Rattle.std.specs.Prelude.{if◌then◌else◌}
+use Rattle.step_tables.specs.Facts as facts
+use Rattle.table_model.specs.declared.event.Event.TheVariants as events
+use Rattle.world_tables.specs.World.{crashed, refused, step}
+use Rattle.world_tables.specs.Faults.{is_device_fault, fails_crash}
+use Rattle.world_steps.proofs.Counted.{counted_still, comes_counted_as}
+use Rattle.world_steps.proofs.Done.{down_refused, up_now}
 use Rattle.world_steps.proofs.world.World.crash.Goals as goal
 
 pub returns-then-is_down-clause-done : goal.returns-then-is_down-clause-done
 returns-then-is_down-clause-done g c w h =
-    down_refused g.D.Disk.state w c.args.node (λ lucks. crashed w c.args.calls lucks c.args.node) c.refuse.result c.args.self.now h (sym c.if-is_down.true ∙ c.is_down.ensures.held w h)
-    c.refuse.ensures.lines
+    let event = events.Crash c.args.node c.args.calls c.args.pick in
+    let is = sym c.if-is_down.true ∙ c.is_down.ensures.held w h in
+    counted_still g.D.Disk.state w (step w event) (step w event) (λ lucks. is_device_fault w event lucks) (λ lucks. is_device_fault w event lucks) c.refuse.result c.args.self.now c.args.self.now
+    (λ lucks. ap (λ (b : Bool). if b then false else fails_crash w lucks c.args.node) (sym is)) refl
+    (down_refused g.D.Disk.state w c.args.node (λ lucks. crashed w c.args.calls lucks c.args.node) c.refuse.result c.args.self.now h is c.refuse.ensures.lines)
 
 pub crash_up-requires-clause-up : goal.crash_up-requires-clause-up
 crash_up-requires-clause-up g c is =
@@ -14,5 +22,9 @@ crash_up-requires-clause-up g c is =
 
 pub returns-clause-done : goal.returns-clause-done
 returns-clause-done g c w h =
-    up_goes_on g.D.Disk.state w c.args.node (λ lucks. crashed w c.args.calls lucks c.args.node) c.crash_up.result c.crash_up.new.self (sym c.if-is_down.false ∙ c.is_down.ensures.held w h)
-    (c.crash_up.ensures.done w h)
+    let event = events.Crash c.args.node c.args.calls c.args.pick in
+    let is = sym c.if-is_down.false ∙ c.is_down.ensures.held w h in
+    comes_counted_as g.D.Disk.state w (step w event) (λ lucks. crashed w c.args.calls lucks c.args.node) (λ lucks. is_device_fault w event lucks) (λ lucks. fails_crash w lucks c.args.node)
+    c.crash_up.result c.args.self.now c.crash_up.new.self
+    (λ lucks. ap (λ (b : Bool). if b then refused w (facts.NodeDown c.args.node) else crashed w c.args.calls lucks c.args.node) (sym is))
+    (λ lucks. ap (λ (b : Bool). if b then false else fails_crash w lucks c.args.node) (sym is)) (c.crash_up.ensures.done w h)

@@ -1,18 +1,32 @@
-use Rattle.std.proofs.Common.{refl, sym, ap, ◌∙◌, subst}
+use Rattle.std.proofs.Common.{false, refl, sym, ap, ◌∙◌, subst}
 use Rattle.stab_base.specs.declared.node.Node.{Node}
 use Rattle.stab_base.specs.declared.node.Node.TheVariants as nodes
 use Rattle.step_tables.specs.Facts as facts
-use Rattle.step_tables.specs.Messages.{Luck}
 use Rattle.world_tables.specs.World.{answered, crashed, with_down, same_node, the_store}
-use Rattle.world_steps.specs.Calls.{Comes}
+use Rattle.world_tables.specs.Faults.{fails_crash}
+use Rattle.world_steps.specs.Faults.{ComesCounted}
+use Rattle.world_steps.specs.Holds.{HasDevices}
+use Rattle.world_steps.proofs.Counted.{counted_still}
 use Rattle.world_steps.proofs.Done.{stays, comes_as}
-use Rattle.world_steps.proofs.Others.{other_crashed}
+use Rattle.world_steps.proofs.Others.{other_crashed, other_quiet}
 use Rattle.world_steps.proofs.world.World.crash_other.Goals as goal
 
 pub returns-in-Store-clause-done : goal.returns-in-Store-clause-done
 returns-in-Store-clause-done g c w calls h =
-    let apart = ap (λ (n : Node). same_node n the_store) (sym c.in-Store.is) ∙ c.requires in
-    subst (λ (n : Node). Comes g.D.Disk.state w (λ lucks. crashed w calls lucks n) c.take_down.result c.take_down.new.self) (sym c.in-Store.is)
-    (comes_as g.D.Disk.state w (λ lucks. crashed w calls lucks (nodes.Store c.in-Store.number)) (λ lucks. answered (with_down (nodes.Store c.in-Store.number) w) facts.Done) c.take_down.result
-    c.take_down.new.self
-    (λ lucks. other_crashed w c.in-Store.number calls apart lucks) (c.take_down.ensures.done w h))
+    let apart = ap (λ (n : Node). same_node n the_store) (sym c.in-Store.is) ∙ c.requires.other in
+    let store = nodes.Store c.in-Store.number in
+    subst (λ (n : Node). ComesCounted g.D.Disk.state w (λ lucks. crashed w calls lucks n) (λ lucks. fails_crash w lucks n) c.take_down.result c.args.self.now c.take_down.new.self) (sym c.in-Store.is)
+    (counted_still g.D.Disk.state w (λ lucks. crashed w calls lucks store) (λ lucks. crashed w calls lucks store) (λ lucks. fails_crash w lucks store) (λ lucks. fails_crash w lucks store)
+    c.take_down.result c.args.self.now c.take_down.new.self (λ lucks. other_quiet w c.in-Store.number lucks apart) c.take_down.ensures.same
+    (comes_as g.D.Disk.state w (λ lucks. crashed w calls lucks store) (λ lucks. answered (with_down store w) facts.Done) c.take_down.result c.take_down.new.self
+    (λ lucks. other_crashed w c.in-Store.number calls apart lucks) (c.take_down.ensures.done w h)))
+
+pub returns-in-Client-clause-done : goal.returns-in-Client-clause-done
+returns-in-Client-clause-done g c w calls h =
+    absurd (subst (λ (n : Node). HasDevices n) c.in-Client.is c.requires.devices)
+
+pub returns-in-Gate-clause-done : goal.returns-in-Gate-clause-done
+returns-in-Gate-clause-done g c w calls h =
+    subst (λ (n : Node). ComesCounted g.D.Disk.state w (λ lucks. crashed w calls lucks n) (λ lucks. fails_crash w lucks n) c.only-in-Gate.result c.args.self.now c.args.self.now) (sym c.in-Gate.is)
+    (counted_still g.D.Disk.state w (λ lucks. answered w facts.Done) (λ lucks. answered w facts.Done) (λ lucks. false) (λ lucks. false) c.only-in-Gate.result c.args.self.now c.args.self.now
+    (λ lucks. refl) refl (stays g.D.Disk.state w c.args.self.now h facts.Done c.only-in-Gate.result c.only-in-Gate.ensures.lines))

@@ -7,7 +7,8 @@ use Rattle.world_steps.proofs.world.World.declare.Goals as goal
 
 pub returns-then-has-clause-done : goal.returns-then-has-clause-done
 returns-then-has-clause-done g c w h out =
-    subst (λ (ls : List TextLine). IsStep g.D.Disk.state w (events.Table c.args.table c.args.schema.now) ls (g.P.Depot.state c.args.depot.now).is_out c.args.self.now) (sym c.new.ensures)
+    subst (λ (ls : List TextLine). IsStep g.D.Disk.state w (events.Table c.args.table c.args.schema.now) ls (g.P.Depot.state c.args.depot.now).is_out c.args.self.now c.args.self.now)
+    (sym c.new.ensures)
     (stays_declared g.D.Disk.state w c.args.table c.args.schema.now (g.P.Depot.state c.args.depot.now).is_out (g.P.Depot.state c.args.depot.now).is_out c.args.self.now h out
     (sym c.if-has.true ∙ c.has.ensures.held w h.store))
 

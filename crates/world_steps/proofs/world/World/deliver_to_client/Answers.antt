@@ -1,8 +1,9 @@
-use Rattle.std.proofs.Common.{[]}
+use Rattle.std.proofs.Common.{[], refl}
 use Rattle.step_tables.specs.Facts as facts
 use Rattle.step_tables.specs.Travels.{message_of}
 use Rattle.stab_base.specs.declared.node.Node.TheVariants as nodes
 use Rattle.world_tables.specs.World.{carried, to_there, client_at}
+use Rattle.world_steps.proofs.Counted.{sent_counted}
 use Rattle.world_steps.proofs.Called.{comes_called, there_same, there_none, sent_fair, sent_there, versioned}
 use Rattle.world_steps.proofs.world.World.deliver_to_client.Goals as goal
 
@@ -14,3 +15,8 @@ returns-in-Ok-clause-done g c w packet h at =
     (there_same w c.args.client m [] (client_at w c.args.client)) (there_none w c.args.client m []) (λ lucks. carried w packet lucks (nodes.Client c.args.client))
     (sent_there g.D.Disk.state w c.args.self.now h c.args.number packet at p c.in-Some.ensures c.args.client)
     c.send.new.self c.send.result c.send.ensures.sent
+
+pub returns-in-Ok-clause-counted : goal.returns-in-Ok-clause-counted
+returns-in-Ok-clause-counted g c =
+    sent_counted g.D.Disk.state c.send.result facts.Done c.args.self.now (record c.args.self.now { clients = c.deliver.new.self }) c.send.new.self
+    (nodes.Client c.args.client) _ refl refl c.send.ensures.sent

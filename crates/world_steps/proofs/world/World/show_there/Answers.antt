@@ -1,5 +1,6 @@
 use Rattle.std.proofs.Common.{sym, ◌∙◌, refl}
 use Rattle.world_tables.specs.World.{row_read, first_luck, the_store}
+use Rattle.world_steps.proofs.Counted.{only_counted}
 use Rattle.world_steps.proofs.Done.{down_refused, up_goes_on, up_now}
 use Rattle.world_steps.proofs.world.World.show_there.Goals as goal
 
@@ -16,3 +17,7 @@ pub returns-clause-done : goal.returns-clause-done
 returns-clause-done g c w hosted h at =
     up_goes_on g.D.Disk.state w the_store (λ lucks. row_read w hosted c.args.row.now (first_luck lucks)) c.show_stored.result c.show_stored.new.self
     (sym c.if-is_down.false ∙ c.is_down.ensures.held w h) (c.show_stored.ensures.done w hosted h at)
+
+pub returns-then-is_down-clause-counted : goal.returns-then-is_down-clause-counted
+returns-then-is_down-clause-counted g c =
+    only_counted g.D.Disk.state c.refuse.result _ c.args.self.now c.args.self.now refl refl c.refuse.ensures.lines

@@ -1,6 +1,7 @@
-use Rattle.std.proofs.Common.{sym, ◌∙◌}
+use Rattle.std.proofs.Common.{refl, sym, ◌∙◌}
 use Rattle.world_tables.specs.World.{answered, started}
 use Rattle.step_tables.specs.Facts as facts
+use Rattle.world_steps.proofs.Counted.{only_counted}
 use Rattle.world_steps.proofs.Done.{stays, comes_as, down_now}
 use Rattle.world_steps.proofs.Others.{up_stays}
 use Rattle.world_steps.proofs.world.World.start.Goals as goal
@@ -18,3 +19,7 @@ returns-clause-done g c w h =
     comes_as g.D.Disk.state w (λ lucks. started w lucks c.args.node) (λ lucks. answered w facts.Done) c.only.result c.args.self.now
     (λ lucks. up_stays w c.args.node lucks (sym c.if-is_down.false ∙ c.is_down.ensures.held w h))
     (stays g.D.Disk.state w c.args.self.now h facts.Done c.only.result c.only.ensures.lines)
+
+pub returns-clause-counted : goal.returns-clause-counted
+returns-clause-counted g c =
+    only_counted g.D.Disk.state c.only.result _ c.args.self.now c.args.self.now refl refl c.only.ensures.lines

@@ -1,17 +1,24 @@
-use Rattle.std.proofs.Common.{◌≡◌, ℕ, List, [], sym, subst}
+use Rattle.std.proofs.Common.{◌≡◌, ℕ, false, List, [], refl, sym, subst}
 use Rattle.std.specs.Prelude.{IfOk, IfErr}
 use Rattle.table_model.specs.declared.event.Event.{Event}
+use Rattle.table_model.specs.declared.event.Event.TheVariants as events
+use Rattle.step_tables.specs.Messages.{Luck}
+use Rattle.world_tables.specs.Faults.{is_device_fault, is_fault_answer}
+use Rattle.fault_laws.proofs.Answered.{is_declaration}
+use Rattle.fault_laws.proofs.Well.{fine_step}
 use Rattle.world_tables.specs.World.{step, joined, client_at}
 use Rattle.world_steps.specs.declared.fault.WorldFault.TheVariants.{Limit as LimitPassed}
 use Rattle.world_steps.specs.Calls.{Comes}
+use Rattle.world_steps.specs.Faults.{ComesCounted}
 use Rattle.world_steps.specs.Holds.{Holds, IsBuilt}
 use Rattle.world_steps.specs.Steps.{IsStep, Spends}
-use Rattle.world_steps.proofs.Stepping.{stepped, nothing_done, client_joins, memory_limit, either_limit, other_counted, memory_other, places}
+use Rattle.world_steps.proofs.Counted.{stepped, stepped_still, stepped_counted, never_left, left_still, left_same}
+use Rattle.world_steps.proofs.Stepping.{nothing_done, client_joins, memory_limit, either_limit, other_counted, memory_other, places}
 use Rattle.world_steps.proofs.world.World.step.Goals as goal
 
 pub returns-in-Store-clause-done : goal.returns-in-Store-clause-done
 returns-in-Store-clause-done g c w r h out =
-    subst (λ (e : Event). IsStep g.D.Disk.state w e c.new.result (g.P.Depot.state c.args.depot.now).is_out c.args.self.now) (sym c.in-Store.is)
+    subst (λ (e : Event). IsStep g.D.Disk.state w e c.new.result (g.P.Depot.state c.args.depot.now).is_out c.args.self.now c.args.self.now) (sym c.in-Store.is)
     (nothing_done g.D.Disk.state w _ (g.P.Depot.state c.args.depot.now).is_out c.args.self.now c.new.result h out c.new.ensures)
 
 pub declare-requires-clause-made : goal.declare-requires-clause-made
@@ -24,7 +31,7 @@ declare-requires-clause-held g c =
 
 pub returns-in-Table-clause-done : goal.returns-in-Table-clause-done
 returns-in-Table-clause-done g c w r h out =
-    subst (λ (e : Event). IfOk c.declare.result (λ lines. IsStep g.D.Disk.state w e lines (g.P.Depot.state c.declare.new.depot).is_out c.declare.new.self)) (sym c.in-Table.is)
+    subst (λ (e : Event). IfOk c.declare.result (λ lines. IsStep g.D.Disk.state w e lines (g.P.Depot.state c.declare.new.depot).is_out c.args.self.now c.declare.new.self)) (sym c.in-Table.is)
     (c.declare.ensures.done w h out)
 
 pub returns-in-Table-clause-limit : goal.returns-in-Table-clause-limit
@@ -41,8 +48,8 @@ join-requires-clause-most g c =
 
 pub returns-in-Client-clause-done : goal.returns-in-Client-clause-done
 returns-in-Client-clause-done g c w r h out =
-    subst (λ (e : Event). IfOk c.join.result (λ lines. IsStep g.D.Disk.state w e lines (g.P.Depot.state c.args.depot.now).is_out c.join.new.self)) (sym c.in-Client.is)
-    (client_joins g.D.Disk.state w c.in-Client.client _ _ (g.P.Depot.state c.args.depot.now).is_out c.join.new.self c.join.result out
+    subst (λ (e : Event). IfOk c.join.result (λ lines. IsStep g.D.Disk.state w e lines (g.P.Depot.state c.args.depot.now).is_out c.args.self.now c.join.new.self)) (sym c.in-Client.is)
+    (client_joins g.D.Disk.state w c.in-Client.client _ _ (g.P.Depot.state c.args.depot.now).is_out c.args.self.now c.join.new.self c.join.result out c.join.ensures.same
     (subst (λ (ts : List ℕ). IfOk c.join.result (λ lines. (lines ≡ []) × Holds g.D.Disk.state (joined w c.in-Client.client ts (client_at w c.in-Client.client)) c.join.new.self))
     c.as_slice.ensures (c.join.ensures.done w h)))
 
@@ -56,8 +63,11 @@ returns-in-Client-clause-depot g c =
 
 pub returns-in-Write-clause-done : goal.returns-in-Write-clause-done
 returns-in-Write-clause-done g c w r h out =
-    stepped g.D.Disk.state w c.args.event.now (g.P.Depot.state c.args.depot.now).is_out c.write.new.self c.write.result out
+    stepped g.D.Disk.state w c.args.event.now (g.P.Depot.state c.args.depot.now).is_out c.args.self.now c.write.new.self c.write.result out (subst (λ (e : Event). is_declaration e ≡ false)
+    (sym c.in-Write.is) refl)
+    (subst (λ (e : Event). (lucks : List Luck) → is_device_fault w e lucks ≡ is_fault_answer (step w e lucks).answer) (sym c.in-Write.is) (λ lucks. refl))
     (subst (λ (e : Event). Comes g.D.Disk.state w (step w e) c.write.result c.write.new.self) (sym c.in-Write.is) (c.write.ensures.done w h))
+    (c.write.ensures.counted w h)
 
 pub returns-in-Write-clause-limit : goal.returns-in-Write-clause-limit
 returns-in-Write-clause-limit g c w r h =
@@ -69,8 +79,11 @@ returns-in-Write-clause-depot g c =
 
 pub returns-in-Show-clause-done : goal.returns-in-Show-clause-done
 returns-in-Show-clause-done g c w r h out =
-    stepped g.D.Disk.state w c.args.event.now (g.P.Depot.state c.args.depot.now).is_out c.args.self.now c.show.result out
+    stepped g.D.Disk.state w c.args.event.now (g.P.Depot.state c.args.depot.now).is_out c.args.self.now c.args.self.now c.show.result out (subst (λ (e : Event). is_declaration e ≡ false)
+    (sym c.in-Show.is) refl)
+    (subst (λ (e : Event). (lucks : List Luck) → is_device_fault w e lucks ≡ is_fault_answer (step w e lucks).answer) (sym c.in-Show.is) (λ lucks. refl))
     (subst (λ (e : Event). Comes g.D.Disk.state w (step w e) c.show.result c.args.self.now) (sym c.in-Show.is) (c.show.ensures.done w h))
+    (c.show.ensures.counted w h)
 
 pub returns-in-Show-clause-limit : goal.returns-in-Show-clause-limit
 returns-in-Show-clause-limit g c w r h =
@@ -82,8 +95,11 @@ returns-in-Show-clause-depot g c =
 
 pub returns-in-Sum-clause-done : goal.returns-in-Sum-clause-done
 returns-in-Sum-clause-done g c w r h out =
-    stepped g.D.Disk.state w c.args.event.now (g.P.Depot.state c.args.depot.now).is_out c.args.self.now c.sum.result out
+    stepped g.D.Disk.state w c.args.event.now (g.P.Depot.state c.args.depot.now).is_out c.args.self.now c.args.self.now c.sum.result out (subst (λ (e : Event). is_declaration e ≡ false)
+    (sym c.in-Sum.is) refl)
+    (subst (λ (e : Event). (lucks : List Luck) → is_device_fault w e lucks ≡ is_fault_answer (step w e lucks).answer) (sym c.in-Sum.is) (λ lucks. refl))
     (subst (λ (e : Event). Comes g.D.Disk.state w (step w e) c.sum.result c.args.self.now) (sym c.in-Sum.is) (c.sum.ensures.done w h))
+    (c.sum.ensures.counted w h)
 
 pub returns-in-Sum-clause-limit : goal.returns-in-Sum-clause-limit
 returns-in-Sum-clause-limit g c w r h =
@@ -95,8 +111,11 @@ returns-in-Sum-clause-depot g c =
 
 pub returns-in-Sync-clause-done : goal.returns-in-Sync-clause-done
 returns-in-Sync-clause-done g c w r h out =
-    stepped g.D.Disk.state w c.args.event.now (g.P.Depot.state c.args.depot.now).is_out c.sync.new.self c.sync.result out
+    stepped g.D.Disk.state w c.args.event.now (g.P.Depot.state c.args.depot.now).is_out c.args.self.now c.sync.new.self c.sync.result out (subst (λ (e : Event). is_declaration e ≡ false)
+    (sym c.in-Sync.is) refl)
+    (subst (λ (e : Event). (lucks : List Luck) → is_device_fault w e lucks ≡ is_fault_answer (step w e lucks).answer) (sym c.in-Sync.is) (λ lucks. refl))
     (subst (λ (e : Event). Comes g.D.Disk.state w (step w e) c.sync.result c.sync.new.self) (sym c.in-Sync.is) (c.sync.ensures.done w h))
+    (c.sync.ensures.counted w h)
 
 pub returns-in-Sync-clause-limit : goal.returns-in-Sync-clause-limit
 returns-in-Sync-clause-limit g c w r h =
@@ -108,8 +127,11 @@ returns-in-Sync-clause-depot g c =
 
 pub returns-in-Pull-clause-done : goal.returns-in-Pull-clause-done
 returns-in-Pull-clause-done g c w r h out =
-    stepped g.D.Disk.state w c.args.event.now (g.P.Depot.state c.args.depot.now).is_out c.pull.new.self c.pull.result out
+    stepped g.D.Disk.state w c.args.event.now (g.P.Depot.state c.args.depot.now).is_out c.args.self.now c.pull.new.self c.pull.result out (subst (λ (e : Event). is_declaration e ≡ false)
+    (sym c.in-Pull.is) refl)
+    (subst (λ (e : Event). (lucks : List Luck) → is_device_fault w e lucks ≡ is_fault_answer (step w e lucks).answer) (sym c.in-Pull.is) (λ lucks. refl))
     (subst (λ (e : Event). Comes g.D.Disk.state w (step w e) c.pull.result c.pull.new.self) (sym c.in-Pull.is) (c.pull.ensures.done w h))
+    (c.pull.ensures.counted w h)
 
 pub returns-in-Pull-clause-limit : goal.returns-in-Pull-clause-limit
 returns-in-Pull-clause-limit g c w r h =
@@ -121,8 +143,11 @@ returns-in-Pull-clause-depot g c =
 
 pub returns-in-Deliver-clause-done : goal.returns-in-Deliver-clause-done
 returns-in-Deliver-clause-done g c w r h out =
-    stepped g.D.Disk.state w c.args.event.now (g.P.Depot.state c.args.depot.now).is_out c.deliver.new.self c.deliver.result out
+    stepped g.D.Disk.state w c.args.event.now (g.P.Depot.state c.args.depot.now).is_out c.args.self.now c.deliver.new.self c.deliver.result out (subst (λ
+    (e : Event). is_declaration e ≡ false) (sym c.in-Deliver.is) refl)
+    (subst (λ (e : Event). (lucks : List Luck) → is_device_fault w e lucks ≡ is_fault_answer (step w e lucks).answer) (sym c.in-Deliver.is) (λ lucks. refl))
     (subst (λ (e : Event). Comes g.D.Disk.state w (step w e) c.deliver.result c.deliver.new.self) (sym c.in-Deliver.is) (c.deliver.ensures.done w h (places w r)))
+    c.deliver.ensures.counted
 
 pub returns-in-Deliver-clause-limit : goal.returns-in-Deliver-clause-limit
 returns-in-Deliver-clause-limit g c w r h =
@@ -134,8 +159,11 @@ returns-in-Deliver-clause-depot g c =
 
 pub returns-in-StoreShow-clause-done : goal.returns-in-StoreShow-clause-done
 returns-in-StoreShow-clause-done g c w r h out =
-    stepped g.D.Disk.state w c.args.event.now (g.P.Depot.state c.args.depot.now).is_out c.store_show.new.self c.store_show.result out
+    stepped g.D.Disk.state w c.args.event.now (g.P.Depot.state c.args.depot.now).is_out c.args.self.now c.store_show.new.self c.store_show.result out (subst (λ
+    (e : Event). is_declaration e ≡ false) (sym c.in-StoreShow.is) refl)
+    (subst (λ (e : Event). (lucks : List Luck) → is_device_fault w e lucks ≡ is_fault_answer (step w e lucks).answer) (sym c.in-StoreShow.is) (λ lucks. refl))
     (subst (λ (e : Event). Comes g.D.Disk.state w (step w e) c.store_show.result c.store_show.new.self) (sym c.in-StoreShow.is) (c.store_show.ensures.done w h))
+    c.store_show.ensures.counted
 
 pub returns-in-StoreShow-clause-limit : goal.returns-in-StoreShow-clause-limit
 returns-in-StoreShow-clause-limit g c w r h =
@@ -147,7 +175,8 @@ returns-in-StoreShow-clause-depot g c =
 
 pub returns-in-History-clause-done : goal.returns-in-History-clause-done
 returns-in-History-clause-done g c w r h out =
-    stepped g.D.Disk.state w c.args.event.now (g.P.Depot.state c.args.depot.now).is_out c.args.self.now c.history.result out
+    stepped_still g.D.Disk.state w c.args.event.now (g.P.Depot.state c.args.depot.now).is_out c.args.self.now c.args.self.now c.history.result out
+    (subst (λ (e : Event). (lucks : List Luck) → is_device_fault w e lucks ≡ false) (sym c.in-History.is) (λ lucks. fine_step w (events.History c.in-History.table) lucks)) refl
     (subst (λ (e : Event). Comes g.D.Disk.state w (step w e) c.history.result c.args.self.now) (sym c.in-History.is) (c.history.ensures.done w h))
 
 pub returns-in-History-clause-limit : goal.returns-in-History-clause-limit
@@ -160,7 +189,8 @@ returns-in-History-clause-depot g c =
 
 pub returns-in-Chunks-clause-done : goal.returns-in-Chunks-clause-done
 returns-in-Chunks-clause-done g c w r h out =
-    stepped g.D.Disk.state w c.args.event.now (g.P.Depot.state c.args.depot.now).is_out c.args.self.now c.chunks.result out
+    stepped_still g.D.Disk.state w c.args.event.now (g.P.Depot.state c.args.depot.now).is_out c.args.self.now c.args.self.now c.chunks.result out
+    (subst (λ (e : Event). (lucks : List Luck) → is_device_fault w e lucks ≡ false) (sym c.in-Chunks.is) (λ lucks. fine_step w (events.Chunks c.in-Chunks.table) lucks)) refl
     (subst (λ (e : Event). Comes g.D.Disk.state w (step w e) c.chunks.result c.args.self.now) (sym c.in-Chunks.is) (c.chunks.ensures.done w h))
 
 pub returns-in-Chunks-clause-limit : goal.returns-in-Chunks-clause-limit
@@ -173,7 +203,8 @@ returns-in-Chunks-clause-depot g c =
 
 pub returns-in-Hold-clause-done : goal.returns-in-Hold-clause-done
 returns-in-Hold-clause-done g c w r h out =
-    stepped g.D.Disk.state w c.args.event.now (g.P.Depot.state c.args.depot.now).is_out c.hold.new.self c.hold.result out
+    stepped_still g.D.Disk.state w c.args.event.now (g.P.Depot.state c.args.depot.now).is_out c.args.self.now c.hold.new.self c.hold.result out
+    (subst (λ (e : Event). (lucks : List Luck) → is_device_fault w e lucks ≡ false) (sym c.in-Hold.is) (λ lucks. fine_step w (events.Hold c.in-Hold.node) lucks)) c.hold.ensures.same
     (subst (λ (e : Event). Comes g.D.Disk.state w (step w e) c.hold.result c.hold.new.self) (sym c.in-Hold.is) (c.hold.ensures.done w h))
 
 pub returns-in-Hold-clause-limit : goal.returns-in-Hold-clause-limit
@@ -186,7 +217,8 @@ returns-in-Hold-clause-depot g c =
 
 pub returns-in-Free-clause-done : goal.returns-in-Free-clause-done
 returns-in-Free-clause-done g c w r h out =
-    stepped g.D.Disk.state w c.args.event.now (g.P.Depot.state c.args.depot.now).is_out c.free.new.self c.free.result out
+    stepped_still g.D.Disk.state w c.args.event.now (g.P.Depot.state c.args.depot.now).is_out c.args.self.now c.free.new.self c.free.result out
+    (subst (λ (e : Event). (lucks : List Luck) → is_device_fault w e lucks ≡ false) (sym c.in-Free.is) (λ lucks. fine_step w (events.Free c.in-Free.node) lucks)) c.free.ensures.same
     (subst (λ (e : Event). Comes g.D.Disk.state w (step w e) c.free.result c.free.new.self) (sym c.in-Free.is) (c.free.ensures.done w h))
 
 pub returns-in-Free-clause-limit : goal.returns-in-Free-clause-limit
@@ -199,8 +231,11 @@ returns-in-Free-clause-depot g c =
 
 pub returns-in-Work-clause-done : goal.returns-in-Work-clause-done
 returns-in-Work-clause-done g c w r h out =
-    stepped g.D.Disk.state w c.args.event.now (g.P.Depot.state c.args.depot.now).is_out c.work.new.self c.work.result out
+    stepped g.D.Disk.state w c.args.event.now (g.P.Depot.state c.args.depot.now).is_out c.args.self.now c.work.new.self c.work.result out (subst (λ (e : Event). is_declaration e ≡ false)
+    (sym c.in-Work.is) refl)
+    (subst (λ (e : Event). (lucks : List Luck) → is_device_fault w e lucks ≡ is_fault_answer (step w e lucks).answer) (sym c.in-Work.is) (λ lucks. refl))
     (subst (λ (e : Event). Comes g.D.Disk.state w (step w e) c.work.result c.work.new.self) (sym c.in-Work.is) (c.work.ensures.done w h))
+    c.work.ensures.counted
 
 pub returns-in-Work-clause-limit : goal.returns-in-Work-clause-limit
 returns-in-Work-clause-limit g c w r h =
@@ -212,8 +247,11 @@ returns-in-Work-clause-depot g c =
 
 pub returns-in-WorkAll-clause-done : goal.returns-in-WorkAll-clause-done
 returns-in-WorkAll-clause-done g c w r h out =
-    stepped g.D.Disk.state w c.args.event.now (g.P.Depot.state c.args.depot.now).is_out c.work_all.new.self c.work_all.result out
+    stepped g.D.Disk.state w c.args.event.now (g.P.Depot.state c.args.depot.now).is_out c.args.self.now c.work_all.new.self c.work_all.result out (subst (λ
+    (e : Event). is_declaration e ≡ false) (sym c.in-WorkAll.is) refl)
+    (subst (λ (e : Event). (lucks : List Luck) → is_device_fault w e lucks ≡ is_fault_answer (step w e lucks).answer) (sym c.in-WorkAll.is) (λ lucks. refl))
     (subst (λ (e : Event). Comes g.D.Disk.state w (step w e) c.work_all.result c.work_all.new.self) (sym c.in-WorkAll.is) (c.work_all.ensures.done w h))
+    c.work_all.ensures.counted
 
 pub returns-in-WorkAll-clause-limit : goal.returns-in-WorkAll-clause-limit
 returns-in-WorkAll-clause-limit g c w r h =
@@ -225,8 +263,9 @@ returns-in-WorkAll-clause-depot g c =
 
 pub returns-in-Crash-clause-done : goal.returns-in-Crash-clause-done
 returns-in-Crash-clause-done g c w r h out =
-    stepped g.D.Disk.state w c.args.event.now (g.P.Depot.state c.args.depot.now).is_out c.crash.new.self c.crash.result out
-    (subst (λ (e : Event). Comes g.D.Disk.state w (step w e) c.crash.result c.crash.new.self) (sym c.in-Crash.is) (c.crash.ensures.done w h))
+    stepped_counted g.D.Disk.state w c.args.event.now (g.P.Depot.state c.args.depot.now).is_out c.args.self.now c.crash.new.self c.crash.result out
+    (subst (λ (e : Event). ComesCounted g.D.Disk.state w (step w e) (λ lucks. is_device_fault w e lucks) c.crash.result c.args.self.now c.crash.new.self) (sym c.in-Crash.is)
+    (c.crash.ensures.done w h))
 
 pub returns-in-Crash-clause-limit : goal.returns-in-Crash-clause-limit
 returns-in-Crash-clause-limit g c w r h =
@@ -238,8 +277,11 @@ returns-in-Crash-clause-depot g c =
 
 pub returns-in-Start-clause-done : goal.returns-in-Start-clause-done
 returns-in-Start-clause-done g c w r h out =
-    stepped g.D.Disk.state w c.args.event.now (g.P.Depot.state c.args.depot.now).is_out c.start.new.self c.start.result out
+    stepped g.D.Disk.state w c.args.event.now (g.P.Depot.state c.args.depot.now).is_out c.args.self.now c.start.new.self c.start.result out (subst (λ (e : Event). is_declaration e ≡ false)
+    (sym c.in-Start.is) refl)
+    (subst (λ (e : Event). (lucks : List Luck) → is_device_fault w e lucks ≡ is_fault_answer (step w e lucks).answer) (sym c.in-Start.is) (λ lucks. refl))
     (subst (λ (e : Event). Comes g.D.Disk.state w (step w e) c.start.result c.start.new.self) (sym c.in-Start.is) (c.start.ensures.done w h))
+    c.start.ensures.counted
 
 pub returns-in-Start-clause-limit : goal.returns-in-Start-clause-limit
 returns-in-Start-clause-limit g c w r h =
@@ -248,3 +290,77 @@ returns-in-Start-clause-limit g c w r h =
 pub returns-in-Start-clause-depot : goal.returns-in-Start-clause-depot
 returns-in-Start-clause-depot g c =
     other_counted c.start.result (memory_other c.start.result c.start.ensures.memory) (g.P.Depot.state c.args.depot.now).faults
+
+pub hold-requires : goal.hold-requires
+hold-requires g c = subst (λ (e : Event). IsBuilt e) c.in-Hold.is c.requires.built
+
+pub crash-requires-clause-devices : goal.crash-requires-clause-devices
+crash-requires-clause-devices g c = subst (λ (e : Event). IsBuilt e) c.in-Crash.is c.requires.built
+
+pub returns-in-Write-clause-left : goal.returns-in-Write-clause-left
+returns-in-Write-clause-left g c w r h out =
+    left_still g.D.Disk.state w c.args.event.now (g.P.Depot.state c.args.depot.now).is_out c.args.self.now c.write.new.self c.write.result out (c.write.ensures.left w h)
+
+pub returns-in-Show-clause-left : goal.returns-in-Show-clause-left
+returns-in-Show-clause-left g c w r h out =
+    never_left g.D.Disk.state w c.args.event.now (g.P.Depot.state c.args.depot.now).is_out c.args.self.now c.args.self.now c.show.result out c.show.ensures.memory
+
+pub returns-in-Sum-clause-left : goal.returns-in-Sum-clause-left
+returns-in-Sum-clause-left g c w r h out =
+    never_left g.D.Disk.state w c.args.event.now (g.P.Depot.state c.args.depot.now).is_out c.args.self.now c.args.self.now c.sum.result out c.sum.ensures.memory
+
+pub returns-in-Sync-clause-left : goal.returns-in-Sync-clause-left
+returns-in-Sync-clause-left g c w r h out =
+    never_left g.D.Disk.state w c.args.event.now (g.P.Depot.state c.args.depot.now).is_out c.args.self.now c.sync.new.self c.sync.result out c.sync.ensures.memory
+
+pub returns-in-Pull-clause-left : goal.returns-in-Pull-clause-left
+returns-in-Pull-clause-left g c w r h out =
+    never_left g.D.Disk.state w c.args.event.now (g.P.Depot.state c.args.depot.now).is_out c.args.self.now c.pull.new.self c.pull.result out c.pull.ensures.memory
+
+pub returns-in-Deliver-clause-left : goal.returns-in-Deliver-clause-left
+returns-in-Deliver-clause-left g c w r h out =
+    left_same g.D.Disk.state w c.args.event.now (g.P.Depot.state c.args.depot.now).is_out c.args.self.now c.deliver.new.self c.deliver.result out (c.deliver.ensures.left w h)
+
+pub returns-in-StoreShow-clause-left : goal.returns-in-StoreShow-clause-left
+returns-in-StoreShow-clause-left g c w r h out =
+    never_left g.D.Disk.state w c.args.event.now (g.P.Depot.state c.args.depot.now).is_out c.args.self.now c.store_show.new.self c.store_show.result out c.store_show.ensures.memory
+
+pub returns-in-Work-clause-left : goal.returns-in-Work-clause-left
+returns-in-Work-clause-left g c w r h out =
+    never_left g.D.Disk.state w c.args.event.now (g.P.Depot.state c.args.depot.now).is_out c.args.self.now c.work.new.self c.work.result out c.work.ensures.memory
+
+pub returns-in-WorkAll-clause-left : goal.returns-in-WorkAll-clause-left
+returns-in-WorkAll-clause-left g c w r h out =
+    never_left g.D.Disk.state w c.args.event.now (g.P.Depot.state c.args.depot.now).is_out c.args.self.now c.work_all.new.self c.work_all.result out c.work_all.ensures.memory
+
+pub returns-in-Start-clause-left : goal.returns-in-Start-clause-left
+returns-in-Start-clause-left g c w r h out =
+    never_left g.D.Disk.state w c.args.event.now (g.P.Depot.state c.args.depot.now).is_out c.args.self.now c.start.new.self c.start.result out c.start.ensures.memory
+
+pub returns-in-History-clause-left : goal.returns-in-History-clause-left
+returns-in-History-clause-left g c w r h out =
+    never_left g.D.Disk.state w c.args.event.now (g.P.Depot.state c.args.depot.now).is_out c.args.self.now c.args.self.now c.history.result out c.history.ensures.memory
+
+pub returns-in-Chunks-clause-left : goal.returns-in-Chunks-clause-left
+returns-in-Chunks-clause-left g c w r h out =
+    never_left g.D.Disk.state w c.args.event.now (g.P.Depot.state c.args.depot.now).is_out c.args.self.now c.args.self.now c.chunks.result out c.chunks.ensures.memory
+
+pub returns-in-Hold-clause-left : goal.returns-in-Hold-clause-left
+returns-in-Hold-clause-left g c w r h out =
+    never_left g.D.Disk.state w c.args.event.now (g.P.Depot.state c.args.depot.now).is_out c.args.self.now c.hold.new.self c.hold.result out c.hold.ensures.memory
+
+pub returns-in-Free-clause-left : goal.returns-in-Free-clause-left
+returns-in-Free-clause-left g c w r h out =
+    never_left g.D.Disk.state w c.args.event.now (g.P.Depot.state c.args.depot.now).is_out c.args.self.now c.free.new.self c.free.result out c.free.ensures.memory
+
+pub returns-in-Crash-clause-left : goal.returns-in-Crash-clause-left
+returns-in-Crash-clause-left g c w r h out =
+    never_left g.D.Disk.state w c.args.event.now (g.P.Depot.state c.args.depot.now).is_out c.args.self.now c.crash.new.self c.crash.result out c.crash.ensures.memory
+
+pub returns-in-Table-clause-left : goal.returns-in-Table-clause-left
+returns-in-Table-clause-left g c w r h out =
+    c.declare.ensures.left w h out
+
+pub returns-in-Client-clause-left : goal.returns-in-Client-clause-left
+returns-in-Client-clause-left g c w r h out =
+    never_left g.D.Disk.state w c.args.event.now (g.P.Depot.state c.args.depot.now).is_out c.args.self.now c.join.new.self c.join.result out c.join.ensures.memory

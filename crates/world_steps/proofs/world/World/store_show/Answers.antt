@@ -1,5 +1,6 @@
 use Rattle.std.proofs.Common.{sym, ◌∙◌, refl}
 use Rattle.world_tables.specs.World.{store_shows, chunk_names}
+use Rattle.world_steps.proofs.Counted.{only_counted}
 use Rattle.world_steps.proofs.Showing.{comes_there, comes_not_there, there_now}
 use Rattle.world_steps.proofs.world.World.store_show.Goals as goal
 
@@ -16,3 +17,7 @@ pub returns-clause-done : goal.returns-clause-done
 returns-clause-done g c w h =
     comes_not_there g.D.Disk.state w c.args.self.now h c.args.table (λ lucks o. store_shows w c.args.row.now lucks o) (λ lucks. refl) c.only.result
     (sym c.if-has.false ∙ c.has.ensures.held w h.store) c.only.ensures.lines
+
+pub returns-clause-counted : goal.returns-clause-counted
+returns-clause-counted g c =
+    only_counted g.D.Disk.state c.only.result _ c.args.self.now c.args.self.now refl refl c.only.ensures.lines

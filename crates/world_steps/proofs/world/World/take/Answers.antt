@@ -3,6 +3,7 @@ use Rattle.step_tables.specs.Messages.{table_of}
 use Rattle.step_tables.specs.StoreMoves.{Take}
 use Rattle.step_tables.specs.Travels.{message_of}
 use Rattle.world_tables.specs.World.{Packet, to_hosted, hosted_at}
+use Rattle.world_steps.proofs.Counted.{told_counted}
 use Rattle.world_steps.proofs.Done.{told_moves}
 use Rattle.world_steps.proofs.Taken.{fits}
 use Rattle.world_steps.proofs.Called.{sent_is, sent_fair, any_packet}
@@ -27,3 +28,7 @@ returns-clause-done g c w packet h at =
     (λ lucks. to_hosted w (table_of packet.message) (Take packet.from packet.message) lucks (hosted_at w (table_of packet.message))) k.0
     (ap (λ (x : Packet). to_hosted w (table_of x.message) (Take x.from x.message) k.0 (hosted_at w (table_of x.message)))
     (sent_is g.D.Disk.state w c.args.self.now h c.args.number packet at p c.in-Some.ensures) ∙ k.1.step_is) k.1.answered c.tell.ensures.told
+
+pub returns-clause-counted : goal.returns-clause-counted
+returns-clause-counted g c =
+    told_counted g.D.Disk.state c.tell.result _ c.args.self.now c.tell.new.self c.take.new.store c.in_ok-answer.ensures.counted c.tell.ensures.told

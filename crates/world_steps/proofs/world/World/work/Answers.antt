@@ -1,5 +1,6 @@
-use Rattle.std.proofs.Common.{sym, ◌∙◌}
+use Rattle.std.proofs.Common.{refl, sym, ◌∙◌}
 use Rattle.world_tables.specs.World.{worked}
+use Rattle.world_steps.proofs.Counted.{only_counted}
 use Rattle.world_steps.proofs.Done.{down_refused, up_goes_on, up_now}
 use Rattle.world_steps.proofs.world.World.work.Goals as goal
 
@@ -14,3 +15,7 @@ work_up-requires-clause-up g c is =
 pub returns-clause-done : goal.returns-clause-done
 returns-clause-done g c w h =
     up_goes_on g.D.Disk.state w c.args.node (λ lucks. worked w lucks c.args.node) c.work_up.result c.work_up.new.self (sym c.if-is_down.false ∙ c.is_down.ensures.held w h) (c.work_up.ensures.done w h)
+
+pub returns-then-is_down-clause-counted : goal.returns-then-is_down-clause-counted
+returns-then-is_down-clause-counted g c =
+    only_counted g.D.Disk.state c.refuse.result _ c.args.self.now c.args.self.now refl refl c.refuse.ensures.lines

@@ -1,7 +1,8 @@
-use Rattle.std.proofs.Common.{sym, ◌∙◌}
+use Rattle.std.proofs.Common.{refl, sym, ◌∙◌}
 use Rattle.step_tables.specs.Facts as facts
 use Rattle.stab_base.specs.declared.step.Step.TheVariants as steps
 use Rattle.world_tables.specs.World.{answered, all_worked}
+use Rattle.world_steps.proofs.Counted.{only_counted}
 use Rattle.world_steps.proofs.Done.{stays, comes_as, owner_comes}
 use Rattle.world_steps.proofs.Others.{other_all_worked}
 use Rattle.world_steps.proofs.world.World.work_all_up.Goals as goal
@@ -18,5 +19,9 @@ work_store_all-requires-clause-up g c =
 pub returns-clause-done : goal.returns-clause-done
 returns-clause-done g c w h =
     comes_as g.D.Disk.state w (λ lucks. all_worked w lucks c.args.node) (λ lucks. answered w (facts.Number 0)) c.only.result c.args.self.now
-    (λ lucks. other_all_worked w c.args.node (sym c.is_owner.ensures ∙ c.if-is_owner.false) lucks)
+    (λ lucks. other_all_worked g.D.Disk.state w c.args.self.now h c.args.node (sym c.is_owner.ensures ∙ c.if-is_owner.false) lucks)
     (stays g.D.Disk.state w c.args.self.now h (facts.Number 0) c.only.result c.only.ensures.lines)
+
+pub returns-clause-counted : goal.returns-clause-counted
+returns-clause-counted g c =
+    only_counted g.D.Disk.state c.only.result _ c.args.self.now c.args.self.now refl refl c.only.ensures.lines

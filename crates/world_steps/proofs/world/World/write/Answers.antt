@@ -2,14 +2,19 @@ use Rattle.std.proofs.Common.{[], refl}
 use Rattle.stab_base.specs.declared.node.Node.TheVariants as nodes
 use Rattle.step_tables.specs.ClientMoves as moves
 use Rattle.world_tables.specs.World.{call, client_at}
-use Rattle.world_steps.proofs.Called.{comes_called, call_same, call_none, spent_at, spent_cause}
+use Rattle.table_model.specs.declared.event.Event.TheVariants as events
+use Rattle.world_tables.specs.World.{step}
+use Rattle.fault_laws.proofs.Well.{fine_step}
+use Rattle.world_steps.proofs.Counted.{sent_counted}
+use Rattle.world_steps.proofs.Called.{called_fine, other_clients, comes_called, call_same, call_none, spent_at, spent_cause}
 use Rattle.world_steps.proofs.world.World.write.Goals as goal
 
 pub returns-in-Ok-clause-done : goal.returns-in-Ok-clause-done
 returns-in-Ok-clause-done g c w h =
-    comes_called g.D.Disk.state w c.args.self.now h c.args.client (call w c.args.client (moves.Write c.args.table c.args.row c.args.content.now) []) c.write.new.self _ _
+    comes_called g.D.Disk.state w c.args.self.now h c.args.client (call w c.args.client (moves.Write c.args.table c.args.row c.args.content.now) moves.no_shape []) c.write.new.self _ _
     (c.in-Ok.ensures.called w h.clients) (call_same w c.args.client (moves.Write c.args.table c.args.row c.args.content.now) [] (client_at w c.args.client))
-    (call_none w c.args.client (moves.Write c.args.table c.args.row c.args.content.now) []) (λ lucks. call w c.args.client (moves.Write c.args.table c.args.row c.args.content.now) lucks) refl
+    (call_none w c.args.client (moves.Write c.args.table c.args.row c.args.content.now) [])
+    (λ lucks. call w c.args.client (moves.Write c.args.table c.args.row c.args.content.now) moves.no_shape lucks) refl
     c.send.new.self c.send.result c.send.ensures.sent
 
 pub returns-in-Err-Spent-clause-limit : goal.returns-in-Err-Spent-clause-limit
@@ -18,3 +23,17 @@ returns-in-Err-Spent-clause-limit g c w h code count e = (
   spent_at w c.args.client (moves.Write c.args.table c.args.row c.args.content.now)
       (spent_cause w c.args.client (moves.Write c.args.table c.args.row c.args.content.now) c.in-Err-Spent.field-0 c.in-Err-Spent.field-0-is (c.in-Err-Spent.ensures.cause w h.clients)),
 )
+
+pub returns-in-Ok-clause-counted : goal.returns-in-Ok-clause-counted
+returns-in-Ok-clause-counted g c w h =
+    sent_counted g.D.Disk.state c.send.result _ c.args.self.now (record c.args.self.now { clients = c.write.new.self }) c.send.new.self (nodes.Client c.args.client) _
+    (called_fine w c.args.client (step w (events.Write c.args.client c.args.table c.args.row c.args.content.now) []) _ _ _ (c.in-Ok.ensures.called w h.clients) (fine_step w
+    (events.Write c.args.client c.args.table c.args.row c.args.content.now) [])) refl c.send.ensures.sent
+
+pub returns-in-Err-Spent-clause-left : goal.returns-in-Err-Spent-clause-left
+returns-in-Err-Spent-clause-left g c w h =
+    λ no. (other_clients g.D.Disk.state w c.args.self.now c.write.new.self h (c.in-Err-Spent.ensures.kept w h.clients), refl)
+
+pub returns-in-Err-Memory-clause-left : goal.returns-in-Err-Memory-clause-left
+returns-in-Err-Memory-clause-left g c w h =
+    λ no. absurd (no refl)

@@ -1,0 +1,128 @@
+-- Each event but a declaration has an answer, whatever its lucks are.
+use Rattle.std.proofs.Common.{◌≡◌, ℕ, Bool, true, false, List, [], ◌∷◌, Option, Some, None, refl}
+use Rattle.std.specs.Prelude.{is_some, slice_get, if◌then◌else◌}
+use Rattle.stab_base.specs.declared.node.Node.{Node}
+use Rattle.stab_base.specs.declared.node.Node.TheVariants as nodes
+use Rattle.table_model.specs.declared.event.Event.{Event}
+use Rattle.table_model.specs.declared.event.Event.TheVariants as events
+use Rattle.step_tables.specs.Facts as facts
+use Rattle.step_tables.specs.Messages.{Message, Luck, table_of}
+use Rattle.step_tables.specs.Messages as messages
+use Rattle.step_tables.specs.StoreMoves as store
+use Rattle.step_tables.specs.StoreMoves.{StoreMove, StoreTask}
+use Rattle.step_tables.specs.ClientMoves as client
+use Rattle.step_tables.specs.ClientMoves.{Client, ClientMove}
+use Rattle.world_tables.specs.World.{World, Packet, Hosted, Moved, WorldStep, hosted_at, client_at, the_store, is_down, refused, unless_down, call_there, take_read, take_at, to_hosted, to_there, carried}
+use Rattle.world_tables.specs.World.{delivered, row_read, store_shows, chunk_names, history_lines, worked, all_worked, crashed, started, first_luck, other_lucks, answering, still, store_starts, client_starts, step}
+
+abbrev IsAnswered : WorldStep → Type 0
+IsAnswered s = is_some s.answer ≡ true
+
+up_answered : (w : World) (node : Node) (s : WorldStep) → IsAnswered s → IsAnswered (unless_down w node s)
+up_answered w node s k = go (is_down w node)
+  where
+    go : (b : Bool) → IsAnswered (if b then refused w (facts.NodeDown node) else s)
+    go true = refl
+    go false = k
+
+call_answered : (w : World) (c : ℕ) (move : ClientMove) (lucks : List Luck) (o : Option Client) → IsAnswered (call_there w c move client.no_shape lucks o)
+call_answered w c move lucks None = refl
+call_answered w c move lucks (Some node) = up_answered w (nodes.Client c) _ refl
+
+to_there_answered : (w : World) (c : ℕ) (m : Message) (lucks : List Luck) (o : Option Client) → IsAnswered (to_there w c m lucks o)
+to_there_answered w c m lucks None = refl
+to_there_answered w c m lucks (Some node) = call_answered w c (client.Take m) lucks (Some node)
+
+read_answered : (w : World) (table : ℕ) (hosted : Hosted) (move : StoreMove) (lucks : List Luck) (luck : Luck) → IsAnswered (take_read w table hosted move lucks luck)
+read_answered w table hosted move lucks messages.Done = refl
+read_answered w table hosted move lucks messages.FailedBefore = refl
+read_answered w table hosted move lucks messages.FailedAfter = refl
+
+to_hosted_answered : (w : World) (table : ℕ) (move : StoreMove) (lucks : List Luck) (o : Option Hosted) → IsAnswered (to_hosted w table move lucks o)
+to_hosted_answered w table move lucks None = refl
+to_hosted_answered w table move lucks (Some hosted) = go hosted.store.agenda
+  where
+    go : (agenda : Option (List StoreTask)) → IsAnswered (take_at w table hosted move lucks agenda)
+    go None = refl
+    go (Some []) = read_answered w table hosted move (other_lucks lucks) (first_luck lucks)
+    go (Some (task ∷ tasks)) = refl
+
+carried_answered : (w : World) (packet : Packet) (lucks : List Luck) (to : Node) → IsAnswered (carried w packet lucks to)
+carried_answered w packet lucks (nodes.Store number) =
+    up_answered w (nodes.Store number) _ (to_hosted_answered w (table_of packet.message) (store.Take packet.from packet.message) lucks (hosted_at w (table_of packet.message)))
+carried_answered w packet lucks (nodes.Client c) = to_there_answered w c packet.message lucks (client_at w c)
+carried_answered w packet lucks (nodes.Gate gate) = refl
+
+delivered_answered : (w : World) (lucks : List Luck) (o : Option Packet) → IsAnswered (delivered w lucks o)
+delivered_answered w lucks None = refl
+delivered_answered w lucks (Some packet) = carried_answered w packet lucks packet.to
+
+row_answered : (w : World) (hosted : Hosted) (row : List ℕ) (luck : Luck) → IsAnswered (row_read w hosted row luck)
+row_answered w hosted row messages.Done = refl
+row_answered w hosted row messages.FailedBefore = refl
+row_answered w hosted row messages.FailedAfter = refl
+
+shows_answered : (w : World) (row : List ℕ) (lucks : List Luck) (o : Option Hosted) → IsAnswered (store_shows w row lucks o)
+shows_answered w row lucks None = refl
+shows_answered w row lucks (Some hosted) = up_answered w the_store _ (row_answered w hosted row (first_luck lucks))
+
+history_answered : (w : World) (table : ℕ) (o : Option Hosted) → IsAnswered (history_lines w table o)
+history_answered w table None = refl
+history_answered w table (Some hosted) = refl
+
+names_answered : (w : World) (table : ℕ) (o : Option Hosted) → IsAnswered (chunk_names w table o)
+names_answered w table None = refl
+names_answered w table (Some hosted) = up_answered w the_store _ refl
+
+worked_answered : (w : World) (lucks : List Luck) (node : Node) → IsAnswered (worked w lucks node)
+worked_answered w lucks (nodes.Store number) = refl
+worked_answered w lucks (nodes.Gate gate) = refl
+worked_answered w lucks (nodes.Client c) = refl
+
+all_worked_answered : (w : World) (lucks : List Luck) (node : Node) → IsAnswered (all_worked w lucks node)
+all_worked_answered w lucks (nodes.Store number) = refl
+all_worked_answered w lucks (nodes.Gate gate) = refl
+all_worked_answered w lucks (nodes.Client c) = refl
+
+crashed_answered : (w : World) (calls : ℕ) (lucks : List Luck) (node : Node) → IsAnswered (crashed w calls lucks node)
+crashed_answered w calls lucks (nodes.Store number) = refl
+crashed_answered w calls lucks (nodes.Gate gate) = refl
+crashed_answered w calls lucks (nodes.Client c) = refl
+
+started_answered : (w : World) (lucks : List Luck) (node : Node) → IsAnswered (started w lucks node)
+started_answered w lucks node = at node
+  where
+    up : (b : Bool) (m : Moved) → IsAnswered (if b then answering facts.Done m else answering facts.Done (still w))
+    up true m = refl
+    up false m = refl
+
+    at : (n : Node) → IsAnswered (started w lucks n)
+    at (nodes.Store number) = up (is_down w (nodes.Store number)) (store_starts number lucks w)
+    at (nodes.Gate gate) = refl
+    at (nodes.Client c) = up (is_down w (nodes.Client c)) (client_starts c lucks w)
+
+abbrev pub is_declaration : Event → Bool
+is_declaration (events.Store number) = true
+is_declaration (events.Table table schema) = true
+is_declaration (events.Client c gate tables) = true
+is_declaration other = false
+
+pub step_answered : (w : World) (event : Event) (lucks : List Luck) → is_declaration event ≡ false → IsAnswered (step w event lucks)
+step_answered w (events.Store number) lucks e = absurd cc
+step_answered w (events.Table table schema) lucks e = absurd cc
+step_answered w (events.Client c gate tables) lucks e = absurd cc
+step_answered w (events.Write c table row content) lucks e = call_answered w c (client.Write table row content) lucks (client_at w c)
+step_answered w (events.Show c table row) lucks e = call_answered w c (client.Show table row) lucks (client_at w c)
+step_answered w (events.Sum c table row) lucks e = call_answered w c (client.Sum table row) lucks (client_at w c)
+step_answered w (events.Sync c table) lucks e = call_answered w c (client.Sync table) lucks (client_at w c)
+step_answered w (events.Pull c table) lucks e = call_answered w c (client.Next table) lucks (client_at w c)
+step_answered w (events.Deliver packet) lucks e = delivered_answered w lucks (slice_get w.packets packet)
+step_answered w (events.StoreShow table row) lucks e = shows_answered w row lucks (hosted_at w table)
+step_answered w (events.History table) lucks e = history_answered w table (hosted_at w table)
+step_answered w (events.Chunks table) lucks e = names_answered w table (hosted_at w table)
+step_answered w (events.Hold node) lucks e = up_answered w node _ refl
+step_answered w (events.Free node) lucks e = up_answered w node _ refl
+step_answered w (events.Work node) lucks e = up_answered w node (worked w lucks node) (worked_answered w lucks node)
+step_answered w (events.WorkAll node) lucks e = up_answered w node (all_worked w lucks node) (all_worked_answered w lucks node)
+step_answered w (events.Crash node calls pick) lucks e = up_answered w node (crashed w calls lucks node) (crashed_answered w calls lucks node)
+step_answered w (events.Start node) lucks e = started_answered w lucks node

@@ -1,0 +1,371 @@
+-- Where nothing failed, all lucks that were used were Done: so it is what it is without lucks.
+use Rattle.std.proofs.Common.{◌≡◌, ℕ, zero, suc, Bool, true, false, List, [], ◌∷◌, ◌++◌, length, Option, Some, None, refl, sym, ◌∙◌, ap}
+use Rattle.std.specs.Prelude.{◌||◌, drop, slice_get, if◌then◌else◌}
+use Rattle.stab_base.specs.declared.node.Node.{Node}
+use Rattle.stab_base.specs.declared.node.Node.TheVariants as nodes
+use Rattle.table_model.specs.declared.event.Event.{Event}
+use Rattle.table_model.specs.declared.event.Event.TheVariants as events
+use Rattle.step_tables.specs.Facts as facts
+use Rattle.step_tables.specs.Facts.{Answer}
+use Rattle.step_tables.specs.Messages.{Message, Luck, table_of}
+use Rattle.step_tables.specs.Messages as messages
+use Rattle.step_tables.specs.StoreMoves as store
+use Rattle.step_tables.specs.StoreMoves.{StoreMove, StoreTask}
+use Rattle.step_tables.specs.ClientMoves as client
+use Rattle.step_tables.specs.ClientMoves.{Client, ClientTask, ClientMove, client_step}
+use Rattle.world_tables.specs.World.{World, Packet, Hosted, Moved, WorldStep, hosted_at, client_at, owner, the_store, tables_of, has_node, is_down, still, and_then, and_unless, is_fault}
+use Rattle.world_tables.specs.World.{move_hosted, move_table, move_there, move_client, after_client, tasks_in, first_luck, other_lucks, client_works, client_tasks, client_until_idle, client_follows, client_writes, client_starts, tables_fall, without_down, store_falls}
+use Rattle.world_tables.specs.World.{or_falls, is_at_work, busy_table, write_next, store_works, tasks_of, store_until_idle, store_follows, table_follows, table_starts, tables_start, store_starts}
+use Rattle.world_tables.specs.World.{luck_of, crash_luck, table_crashes, client_crashes, answering, refused, silent, unless_down, gets_tasks, client_follows_from, call_there, take_read, take_at, to_hosted}
+use Rattle.world_tables.specs.World.{to_there, carried, delivered, row_read, store_shows, crashed, started, worked, all_worked, declared, made_with, table_step, step}
+use Rattle.world_tables.specs.Faults.{is_failure, fails_new, fails_cut, fails_write, fails_crash, is_fault_answer, is_device_fault, quiet_lucks}
+
+both_false : (a b : Bool) → a || b ≡ false → (a ≡ false) × (b ≡ false)
+both_false true b e = absurd cc
+both_false false true e = absurd cc
+both_false false false e = (refl, refl)
+
+-- ---- orders of moves
+
+then_same : (m n : Moved) (f g : World → Moved) → (and_then m f).failed ≡ false → (m.failed ≡ false → m ≡ n) → ((x : World) → (f x).failed ≡ false → f x ≡ g x) → and_then m f ≡ and_then n g
+then_same m n f g e first rest =
+    let k = both_false m.failed (f m.world).failed e in
+    ap (λ (r : Moved). record { world = r.world; outs = m.outs ++ r.outs; failed = m.failed || r.failed }) (rest m.world k.1) ∙ ap (λ (x : Moved). and_then x g) (first k.0)
+
+unless_same : (m n : Moved) (f g : World → Moved) → (and_unless m f).failed ≡ false → (m.failed ≡ false → m ≡ n) → ((x : World) → (f x).failed ≡ false → f x ≡ g x) → and_unless m f ≡ and_unless n g
+unless_same m n f g e first rest = go m.failed refl e
+  where
+    go : (b : Bool) → m.failed ≡ b → (λ (x : Moved). x.failed ≡ false) (if b then m else and_then m f) → (if b then m else and_then m f) ≡ and_unless n g
+    go true is e = absurd cc
+    go false is e =
+        then_same m n f g e first rest ∙ sym (ap (λ (b : Bool). if b then n else and_then n g) (ap (λ (x : Moved). x.failed) (sym (first is)) ∙ is))
+
+answering_same : (a : Answer) (m n : Moved) → is_fault (if m.failed then facts.Refuses facts.NoDevice else a) ≡ false → (m.failed ≡ false → m ≡ n) → answering a m ≡ answering a n
+answering_same a m n e first = go m.failed refl e
+  where
+    go : (b : Bool) → m.failed ≡ b → is_fault (if b then facts.Refuses facts.NoDevice else a) ≡ false → answering a m ≡ answering a n
+    go true is e = absurd cc
+    go false is e = ap (λ (x : Moved). answering a x) (first is)
+
+up_same : (w : World) (node : Node) (s t : WorldStep) → is_fault_answer (unless_down w node s).answer ≡ false → (is_fault_answer s.answer ≡ false → s ≡ t) → unless_down w node s ≡ unless_down w node t
+up_same w node s t e same = go (is_down w node) e
+  where
+    go : (b : Bool) → (λ (x : WorldStep). is_fault_answer x.answer ≡ false) (if b then refused w (facts.NodeDown node) else s)
+        → (if b then refused w (facts.NodeDown node) else s) ≡ (if b then refused w (facts.NodeDown node) else t)
+    go true e = refl
+    go false e = same e
+
+-- ---- a client
+
+client_write_same : (c : ℕ) (luck : Luck) (w : World) → (move_client c (client.Work luck) client.no_shape w).failed ≡ false → move_client c (client.Work luck) client.no_shape w ≡ move_client c (client.Work messages.Done) client.no_shape w
+client_write_same c messages.Done w e = refl
+client_write_same c messages.FailedBefore w e = go (client_at w c) e
+  where
+    go : (o : Option Client) → (move_there w c (client.Work messages.FailedBefore) client.no_shape o).failed ≡ false → move_there w c (client.Work messages.FailedBefore) client.no_shape o ≡ move_there w c (client.Work messages.Done) client.no_shape o
+    go None e = refl
+    go (Some node) e = absurd cc
+client_write_same c messages.FailedAfter w e = go (client_at w c) e
+  where
+    go : (o : Option Client) → (move_there w c (client.Work messages.FailedAfter) client.no_shape o).failed ≡ false → move_there w c (client.Work messages.FailedAfter) client.no_shape o ≡ move_there w c (client.Work messages.Done) client.no_shape o
+    go None e = refl
+    go (Some node) e = absurd cc
+
+client_works_same : (c : ℕ) (tasks : List ClientTask) (lucks : List Luck) (w : World) → (client_works c tasks lucks w).failed ≡ false → client_works c tasks lucks w ≡ client_works c tasks [] w
+client_works_same c [] lucks w e = refl
+client_works_same c (task ∷ tasks) lucks w e =
+    then_same (move_client c (client.Work (first_luck lucks)) client.no_shape w) (move_client c (client.Work messages.Done) client.no_shape w) (client_works c tasks (other_lucks lucks)) (client_works c tasks []) e
+    (client_write_same c (first_luck lucks) w) (λ x. client_works_same c tasks (other_lucks lucks) x)
+
+client_follows_same : (c : ℕ) (lucks : List Luck) (w : World) → (client_follows c lucks w).failed ≡ false → client_follows c lucks w ≡ client_follows c [] w
+client_follows_same c lucks w e = go (has_node w.holds (nodes.Client c)) e
+  where
+    go : (b : Bool) → (λ (x : Moved). x.failed ≡ false) (if b then still w else client_until_idle c lucks w)
+        → (if b then still w else client_until_idle c lucks w) ≡ (if b then still w else client_until_idle c [] w)
+    go true e = refl
+    go false e = client_works_same c (client_tasks (client_at w c)) lucks w e
+
+client_writes_same : (c : ℕ) (luck : Luck) (tasks : List ClientTask) (w : World) → (client_writes c luck tasks w).failed ≡ false → client_writes c luck tasks w ≡ client_writes c messages.Done tasks w
+client_writes_same c luck [] w e = refl
+client_writes_same c luck (task ∷ tasks) w e = client_write_same c luck w e
+
+client_starts_same : (c : ℕ) (lucks : List Luck) (w : World) → (client_starts c lucks w).failed ≡ false → client_starts c lucks w ≡ client_starts c [] w
+client_starts_same c lucks w e =
+    then_same (move_client c client.Start client.no_shape w) (move_client c client.Start client.no_shape w) (client_follows c lucks) (client_follows c []) e (λ is. refl)
+    (λ x. client_follows_same c lucks x)
+
+follows_from_same : (agenda : Option (List ClientTask)) (c : ℕ) (lucks : List Luck) (w : World) → (client_follows_from agenda c lucks w).failed ≡ false
+    → client_follows_from agenda c lucks w ≡ client_follows_from agenda c [] w
+follows_from_same agenda c lucks w e = go (gets_tasks agenda w c) e
+  where
+    go : (b : Bool) → (λ (x : Moved). x.failed ≡ false) (if b then client_follows c lucks w else still w) → (if b then client_follows c lucks w else still w) ≡ (if b then client_follows c [] w else still w)
+    go true e = client_follows_same c lucks w e
+    go false e = refl
+
+call_there_same : (w : World) (c : ℕ) (move : ClientMove) (lucks : List Luck) (o : Option Client) → is_fault_answer (call_there w c move client.no_shape lucks o).answer ≡ false
+    → call_there w c move client.no_shape lucks o ≡ call_there w c move client.no_shape [] o
+call_there_same w c move lucks None e = refl
+call_there_same w c move lucks (Some node) e =
+    up_same w (nodes.Client c) (answering (client_step c client.no_shape node move).answer (and_then (move_client c move client.no_shape w) (client_follows_from node.agenda c lucks)))
+    (answering (client_step c client.no_shape node move).answer (and_then (move_client c move client.no_shape w) (client_follows_from node.agenda c []))) e
+    (λ k. answering_same (client_step c client.no_shape node move).answer (and_then (move_client c move client.no_shape w) (client_follows_from node.agenda c lucks))
+    (and_then (move_client c move client.no_shape w) (client_follows_from node.agenda c [])) k
+    (λ none. then_same (move_client c move client.no_shape w) (move_client c move client.no_shape w) (client_follows_from node.agenda c lucks) (client_follows_from node.agenda c []) none (λ is. refl)
+    (λ x. follows_from_same node.agenda c lucks x)))
+
+to_there_same : (w : World) (c : ℕ) (m : Message) (lucks : List Luck) (o : Option Client) → is_fault_answer (to_there w c m lucks o).answer ≡ false → to_there w c m lucks o ≡ to_there w c m [] o
+to_there_same w c m lucks None e = refl
+to_there_same w c m lucks (Some node) e = call_there_same w c (client.Take m) lucks (Some node) e
+
+-- ---- the work of a Store
+
+table_write_same : (number table : ℕ) (luck : Luck) (w : World) → (or_falls number (move_table table (store.Work luck) w)).failed ≡ false
+    → or_falls number (move_table table (store.Work luck) w) ≡ or_falls number (move_table table (store.Work messages.Done) w)
+table_write_same number table messages.Done w e = refl
+table_write_same number table messages.FailedBefore w e = go (hosted_at w table) e
+  where
+    go : (o : Option Hosted) → (or_falls number (move_hosted w table (store.Work messages.FailedBefore) o)).failed ≡ false
+        → or_falls number (move_hosted w table (store.Work messages.FailedBefore) o) ≡ or_falls number (move_hosted w table (store.Work messages.Done) o)
+    go None e = refl
+    go (Some hosted) e = absurd cc
+table_write_same number table messages.FailedAfter w e = go (hosted_at w table) e
+  where
+    go : (o : Option Hosted) → (or_falls number (move_hosted w table (store.Work messages.FailedAfter) o)).failed ≡ false
+        → or_falls number (move_hosted w table (store.Work messages.FailedAfter) o) ≡ or_falls number (move_hosted w table (store.Work messages.Done) o)
+    go None e = refl
+    go (Some hosted) e = absurd cc
+
+write_next_same : (number : ℕ) (luck : Luck) (busy : Option ℕ) (w : World) → (write_next number luck busy w).failed ≡ false → write_next number luck busy w ≡ write_next number messages.Done busy w
+write_next_same number luck None w e = refl
+write_next_same number luck (Some table) w e = table_write_same number table luck w e
+
+store_works_same : (number count : ℕ) (lucks : List Luck) (w : World) → (store_works number count lucks w).failed ≡ false → store_works number count lucks w ≡ store_works number count [] w
+store_works_same number zero lucks w e = refl
+store_works_same number (suc more) lucks w e =
+    unless_same (write_next number (first_luck lucks) (busy_table w number) w) (write_next number messages.Done (busy_table w number) w) (store_works number more (other_lucks lucks))
+    (store_works number more []) e
+    (write_next_same number (first_luck lucks) (busy_table w number) w) (λ x. store_works_same number more (other_lucks lucks) x)
+
+until_idle_same : (number : ℕ) (lucks : List Luck) (w : World) → (store_until_idle number lucks w).failed ≡ false → store_until_idle number lucks w ≡ store_until_idle number [] w
+until_idle_same number lucks w e = store_works_same number (length (tasks_of w number)) lucks w e
+
+store_follows_same : (number : ℕ) (lucks : List Luck) (w : World) → (store_follows number lucks w).failed ≡ false → store_follows number lucks w ≡ store_follows number [] w
+store_follows_same number lucks w e = go (has_node w.holds (nodes.Store number)) e
+  where
+    go : (b : Bool) → (λ (x : Moved). x.failed ≡ false) (if b then still w else store_until_idle number lucks w)
+        → (if b then still w else store_until_idle number lucks w) ≡ (if b then still w else store_until_idle number [] w)
+    go true e = refl
+    go false e = until_idle_same number lucks w e
+
+table_follows_same : (table : ℕ) (lucks : List Luck) (w : World) → (table_follows table lucks w).failed ≡ false → table_follows table lucks w ≡ table_follows table [] w
+table_follows_same table lucks w e = go (is_at_work w table) e
+  where
+    go : (b : Bool) → (λ (x : Moved). x.failed ≡ false) (if b then store_follows owner lucks w else still w)
+        → (if b then store_follows owner lucks w else still w) ≡ (if b then store_follows owner [] w else still w)
+    go true e = store_follows_same owner lucks w e
+    go false e = refl
+
+-- ---- starts
+
+table_starts_same : (table : ℕ) (luck : Luck) (w : World) → (table_starts table luck w).failed ≡ false → table_starts table luck w ≡ table_starts table messages.Done w
+table_starts_same table messages.Done w e = refl
+table_starts_same table messages.FailedBefore w e = absurd cc
+table_starts_same table messages.FailedAfter w e = absurd cc
+
+tables_start_same : (tables : List ℕ) (lucks : List Luck) (w : World) → (tables_start tables lucks w).failed ≡ false → tables_start tables lucks w ≡ tables_start tables [] w
+tables_start_same [] lucks w e = refl
+tables_start_same (table ∷ tables) lucks w e =
+    unless_same (table_starts table (first_luck lucks) w) (table_starts table messages.Done w) (tables_start tables (other_lucks lucks)) (tables_start tables []) e
+    (table_starts_same table (first_luck lucks) w) (λ x. tables_start_same tables (other_lucks lucks) x)
+
+abbrev no_lucks : List Luck
+no_lucks = []
+
+drop_none : (n : ℕ) → drop n no_lucks ≡ no_lucks
+drop_none zero = refl
+drop_none (suc n) = refl
+
+module _ (number : ℕ) (lucks : List Luck) (w : World) where
+  abbrev goes : List Luck → World → Moved
+  goes some x = store_follows number some (without_down (nodes.Store number) x)
+
+  abbrev or_back : Moved → List Luck → Bool → Moved
+  or_back m some b = if b then and_then m (tables_fall (tables_of w number)) else and_then m (goes some)
+
+  store_starts_same : (store_starts number lucks w).failed ≡ false → store_starts number lucks w ≡ store_starts number [] w
+  store_starts_same e = go m.failed refl e
+    where
+      m : Moved
+      m = tables_start (tables_of w number) lucks w
+
+      n : Moved
+      n = tables_start (tables_of w number) [] w
+
+      go : (b : Bool) → m.failed ≡ b → (λ (x : Moved). x.failed ≡ false) (or_back m (drop (length (tables_of w number)) lucks) b)
+          → or_back m (drop (length (tables_of w number)) lucks) b ≡ or_back n (drop (length (tables_of w number)) []) n.failed
+      go true is e = let k = both_false m.failed (tables_fall (tables_of w number) m.world).failed e in absurd cc
+      go false is e =
+          let same : m ≡ n = tables_start_same (tables_of w number) lucks w is in
+          then_same m n (goes (drop (length (tables_of w number)) lucks)) (goes []) e (λ k. same)
+          (λ x. store_follows_same number (drop (length (tables_of w number)) lucks) (without_down (nodes.Store number) x))
+          ∙ (ap (λ (some : List Luck). and_then n (goes some)) (sym (drop_none (length (tables_of w number))))
+          ∙ sym (ap (λ (b : Bool). or_back n (drop (length (tables_of w number)) []) b) (ap (λ (x : Moved). x.failed) (sym same) ∙ is)))
+
+-- ---- packets
+
+take_read_same : (w : World) (table : ℕ) (hosted : Hosted) (move : StoreMove) (lucks : List Luck) (luck : Luck) → is_fault_answer (take_read w table hosted move lucks luck).answer ≡ false
+    → take_read w table hosted move lucks luck ≡ take_read w table hosted move [] messages.Done
+take_read_same w table hosted move lucks messages.Done e =
+    answering_same (table_step w table hosted move).answer (and_then (move_table table move w) (table_follows table lucks)) (and_then (move_table table move w) (table_follows table [])) e
+    (λ none. then_same (move_table table move w) (move_table table move w) (table_follows table lucks) (table_follows table []) none (λ is. refl) (λ x. table_follows_same table lucks x))
+take_read_same w table hosted move lucks messages.FailedBefore e = absurd cc
+take_read_same w table hosted move lucks messages.FailedAfter e = absurd cc
+
+to_hosted_same : (w : World) (table : ℕ) (move : StoreMove) (lucks : List Luck) (o : Option Hosted) → is_fault_answer (to_hosted w table move lucks o).answer ≡ false
+    → to_hosted w table move lucks o ≡ to_hosted w table move [] o
+to_hosted_same w table move lucks None e = refl
+to_hosted_same w table move lucks (Some hosted) e = go hosted.store.agenda e
+  where
+    go : (agenda : Option (List StoreTask)) → is_fault_answer (take_at w table hosted move lucks agenda).answer ≡ false
+        → take_at w table hosted move lucks agenda ≡ take_at w table hosted move [] agenda
+    go None e = refl
+    go (Some []) e = take_read_same w table hosted move (other_lucks lucks) (first_luck lucks) e
+    go (Some (task ∷ tasks)) e = refl
+
+carried_same : (w : World) (packet : Packet) (lucks : List Luck) (to : Node) → is_fault_answer (carried w packet lucks to).answer ≡ false → carried w packet lucks to ≡ carried w packet [] to
+carried_same w packet lucks (nodes.Store number) e =
+    up_same w (nodes.Store number) (to_hosted w (table_of packet.message) (store.Take packet.from packet.message) lucks (hosted_at w (table_of packet.message)))
+    (to_hosted w (table_of packet.message) (store.Take packet.from packet.message) [] (hosted_at w (table_of packet.message))) e
+    (λ k. to_hosted_same w (table_of packet.message) (store.Take packet.from packet.message) lucks (hosted_at w (table_of packet.message)) k)
+carried_same w packet lucks (nodes.Client c) e = to_there_same w c packet.message lucks (client_at w c) e
+carried_same w packet lucks (nodes.Gate gate) e = refl
+
+delivered_same : (w : World) (lucks : List Luck) (o : Option Packet) → is_fault_answer (delivered w lucks o).answer ≡ false → delivered w lucks o ≡ delivered w [] o
+delivered_same w lucks None e = refl
+delivered_same w lucks (Some packet) e = carried_same w packet lucks packet.to e
+
+-- ---- rows
+
+row_read_same : (w : World) (hosted : Hosted) (row : List ℕ) (luck : Luck) → is_fault_answer (row_read w hosted row luck).answer ≡ false
+    → row_read w hosted row luck ≡ row_read w hosted row messages.Done
+row_read_same w hosted row messages.Done e = refl
+row_read_same w hosted row messages.FailedBefore e = absurd cc
+row_read_same w hosted row messages.FailedAfter e = absurd cc
+
+store_shows_same : (w : World) (row : List ℕ) (lucks : List Luck) (o : Option Hosted) → is_fault_answer (store_shows w row lucks o).answer ≡ false → store_shows w row lucks o ≡ store_shows w row [] o
+store_shows_same w row lucks None e = refl
+store_shows_same w row lucks (Some hosted) e =
+    up_same w the_store (row_read w hosted row (first_luck lucks)) (row_read w hosted row messages.Done) e (λ k. row_read_same w hosted row (first_luck lucks) k)
+
+-- ---- what is done to a node
+
+worked_same : (w : World) (lucks : List Luck) (node : Node) → is_fault_answer (worked w lucks node).answer ≡ false → worked w lucks node ≡ worked w [] node
+worked_same w lucks (nodes.Store number) e =
+    answering_same _ (write_next number (first_luck lucks) (busy_table w number) w) (write_next number messages.Done (busy_table w number) w) e
+    (write_next_same number (first_luck lucks) (busy_table w number) w)
+worked_same w lucks (nodes.Gate gate) e = refl
+worked_same w lucks (nodes.Client c) e =
+    let tasks : List ClientTask = client_tasks (client_at w c) in
+    answering_same _ (client_writes c (first_luck lucks) tasks w) (client_writes c messages.Done tasks w) e (client_writes_same c (first_luck lucks) tasks w)
+
+all_worked_same : (w : World) (lucks : List Luck) (node : Node) → is_fault_answer (all_worked w lucks node).answer ≡ false → all_worked w lucks node ≡ all_worked w [] node
+all_worked_same w lucks (nodes.Store number) e = answering_same _ (store_until_idle number lucks w) (store_until_idle number [] w) e (until_idle_same number lucks w)
+all_worked_same w lucks (nodes.Gate gate) e = refl
+all_worked_same w lucks (nodes.Client c) e =
+    answering_same _ (client_until_idle c lucks w) (client_until_idle c [] w) e (client_works_same c (client_tasks (client_at w c)) lucks w)
+
+started_or_up_same : (b : Bool) (w : World) (m n : Moved) → (m.failed ≡ false → m ≡ n) → (λ (x : WorldStep). is_fault_answer x.answer ≡ false) (if b then answering facts.Done m else answering facts.Done (still w))
+    → (if b then answering facts.Done m else answering facts.Done (still w)) ≡ (if b then answering facts.Done n else answering facts.Done (still w))
+started_or_up_same true w m n same e = answering_same facts.Done m n e same
+started_or_up_same false w m n same e = refl
+
+started_same : (w : World) (lucks : List Luck) (node : Node) → is_fault_answer (started w lucks node).answer ≡ false → started w lucks node ≡ started w [] node
+started_same w lucks (nodes.Store number) e =
+    started_or_up_same (is_down w (nodes.Store number)) w (store_starts number lucks w) (store_starts number [] w) (store_starts_same number lucks w) e
+started_same w lucks (nodes.Gate gate) e = refl
+started_same w lucks (nodes.Client c) e =
+    started_or_up_same (is_down w (nodes.Client c)) w (client_starts c lucks w) (client_starts c [] w) (client_starts_same c lucks w) e
+
+-- ---- declarations and crashes
+
+pub done_alone : (luck : Luck) → is_failure luck ≡ false → luck ≡ messages.Done
+done_alone messages.Done e = refl
+done_alone messages.FailedBefore e = absurd cc
+done_alone messages.FailedAfter e = absurd cc
+
+cut_same : (calls : ℕ) (lucks : List Luck) (busy : Option ℕ) (w : World) → fails_cut busy lucks ≡ false
+    → table_crashes (crash_luck calls (other_lucks lucks) (first_luck lucks)) busy w ≡ table_crashes (luck_of calls (first_luck (other_lucks lucks))) busy w
+cut_same calls lucks None w e = refl
+cut_same calls lucks (Some table) w e = ap (λ (luck : Luck). table_crashes (crash_luck calls (other_lucks lucks) luck) (Some table) w) (done_alone (first_luck lucks) e)
+
+-- beside a write the luck of a crash says nothing
+crash_move_same : (c : ℕ) (a b : Luck) (node : Client) → client_tasks (Some node) ≡ [] → client_step c client.no_shape node (client.Crash a) ≡ client_step c client.no_shape node (client.Crash b)
+crash_move_same c a b node none = go node.agenda none
+  where
+    go : (agenda : Option (List ClientTask)) → tasks_in agenda ≡ [] → client.crashed node.disk agenda a ≡ client.crashed node.disk agenda b
+    go None none = refl
+    go (Some []) none = refl
+    go (Some (task ∷ tasks)) none = absurd cc
+
+client_crashes_same : (calls c : ℕ) (lucks : List Luck) (w : World) → fails_write (client_tasks (client_at w c)) lucks ≡ false
+    → client_crashes c calls lucks w ≡ client_crashes c calls (messages.Done ∷ first_luck (other_lucks lucks) ∷ []) w
+client_crashes_same calls c lucks w e = at (client_at w c) e
+  where
+    luck : Luck
+    luck = crash_luck calls (other_lucks lucks) (first_luck lucks)
+
+    quiet : Luck
+    quiet = luck_of calls (first_luck (other_lucks lucks))
+
+    at : (o : Option Client) → fails_write (client_tasks o) lucks ≡ false → move_there w c (client.Crash luck) client.no_shape o ≡ move_there w c (client.Crash quiet) client.no_shape o
+    at None e = refl
+    at (Some node) e = go (client_tasks (Some node)) refl e
+      where
+        go : (tasks : List ClientTask) → client_tasks (Some node) ≡ tasks → fails_write tasks lucks ≡ false
+            → move_there w c (client.Crash luck) client.no_shape (Some node) ≡ move_there w c (client.Crash quiet) client.no_shape (Some node)
+        go [] none e = ap (after_client w c) (crash_move_same c luck quiet node none)
+        go (task ∷ tasks) is e = ap (λ (it : Luck). move_there w c (client.Crash (crash_luck calls (other_lucks lucks) it)) client.no_shape (Some node)) (done_alone (first_luck lucks) e)
+
+crashed_same : (w : World) (calls : ℕ) (lucks : List Luck) (node : Node) → fails_crash w lucks node ≡ false
+    → crashed w calls lucks node ≡ crashed w calls (messages.Done ∷ first_luck (other_lucks lucks) ∷ []) node
+crashed_same w calls lucks (nodes.Store number) e =
+    ap (λ (m : Moved). answering facts.Done (and_then m (store_falls number))) (cut_same calls lucks (busy_table w number) w e)
+crashed_same w calls lucks (nodes.Gate gate) e = refl
+crashed_same w calls lucks (nodes.Client c) e = ap (answering facts.Done) (client_crashes_same calls c lucks w e)
+
+abbrev crashed_at : World → Node → ℕ → List Luck → Bool → WorldStep
+crashed_at w node calls some b = if b then refused w (facts.NodeDown node) else crashed w calls some node
+
+crash_same : (w : World) (node : Node) (calls pick : ℕ) (lucks : List Luck) → is_device_fault w (events.Crash node calls pick) lucks ≡ false
+    → step w (events.Crash node calls pick) lucks ≡ step w (events.Crash node calls pick) (quiet_lucks (events.Crash node calls pick) lucks)
+crash_same w node calls pick lucks e = go (is_down w node) e
+  where
+    go : (b : Bool) → (if b then false else fails_crash w lucks node) ≡ false
+        → crashed_at w node calls lucks b ≡ crashed_at w node calls (quiet_lucks (events.Crash node calls pick) lucks) b
+    go true e = refl
+    go false e = crashed_same w calls lucks node e
+
+-- ---- a step
+
+pub step_same : (w : World) (event : Event) (lucks : List Luck) → is_device_fault w event lucks ≡ false → step w event lucks ≡ step w event (quiet_lucks event lucks)
+step_same w (events.Store number) lucks e = refl
+step_same w (events.Table table schema) lucks e = go (hosted_at w table) e
+  where
+    go : (o : Option Hosted) → fails_new o lucks ≡ false → silent (declared w table schema (first_luck lucks) o) ≡ silent (declared w table schema messages.Done o)
+    go None e = ap (λ (luck : Luck). silent (made_with w table schema luck)) (done_alone (first_luck lucks) e)
+    go (Some hosted) e = refl
+step_same w (events.Client c gate tables) lucks e = refl
+step_same w (events.Write c table row content) lucks e = call_there_same w c (client.Write table row content) lucks (client_at w c) e
+step_same w (events.Show c table row) lucks e = call_there_same w c (client.Show table row) lucks (client_at w c) e
+step_same w (events.Sum c table row) lucks e = call_there_same w c (client.Sum table row) lucks (client_at w c) e
+step_same w (events.Sync c table) lucks e = call_there_same w c (client.Sync table) lucks (client_at w c) e
+step_same w (events.Pull c table) lucks e = call_there_same w c (client.Next table) lucks (client_at w c) e
+step_same w (events.Deliver packet) lucks e = delivered_same w lucks (slice_get w.packets packet) e
+step_same w (events.StoreShow table row) lucks e = store_shows_same w row lucks (hosted_at w table) e
+step_same w (events.History table) lucks e = refl
+step_same w (events.Chunks table) lucks e = refl
+step_same w (events.Hold node) lucks e = refl
+step_same w (events.Free node) lucks e = refl
+step_same w (events.Work node) lucks e = up_same w node (worked w lucks node) (worked w [] node) e (λ k. worked_same w lucks node k)
+step_same w (events.WorkAll node) lucks e = up_same w node (all_worked w lucks node) (all_worked w [] node) e (λ k. all_worked_same w lucks node k)
+step_same w (events.Crash node calls pick) lucks e = crash_same w node calls pick lucks e
+step_same w (events.Start node) lucks e = started_same w lucks node e

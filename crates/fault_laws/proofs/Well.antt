@@ -1,0 +1,344 @@
+-- Where every device call is done, no move fails, and no answer is a device fault.
+use Rattle.std.proofs.Common.{◌≡◌, ℕ, zero, suc, Bool, true, false, List, [], ◌∷◌, length, Option, Some, None, refl, ◌∙◌, ap, arith}
+use Rattle.std.specs.Prelude.{◌||◌, drop, slice_get, if◌then◌else◌}
+use Rattle.std.proofs.lemmas.Bool.Decides.{nat_tests}
+use Rattle.stab_base.specs.declared.chunk_name.ChunkName.{ChunkName}
+use Rattle.row_value.specs.declared.content.Content.{Content}
+use Rattle.stab_base.specs.declared.node.Node.{Node}
+use Rattle.stab_base.specs.declared.node.Node.TheVariants as nodes
+use Rattle.table_model.specs.declared.event.Event.{Event}
+use Rattle.table_model.specs.declared.event.Event.TheVariants as events
+use Rattle.step_tables.specs.Facts as facts
+use Rattle.step_tables.specs.Facts.{Answer, Shown, ShownSum}
+use Rattle.step_tables.specs.Sums.{by_digests, sum_of, or_whole}
+use Rattle.step_tables.specs.Store.{Stored, current_of}
+use Rattle.step_tables.specs.Messages.{Message, Luck, table_of, SyncRequest, SyncResponse, PullRequest, PullResponse}
+use Rattle.step_tables.specs.Messages as messages
+use Rattle.step_tables.specs.StoreMoves as store
+use Rattle.step_tables.specs.StoreMoves.{StoreMove, StoreTask, StoreDisk}
+use Rattle.step_tables.specs.ClientMoves as client
+use Rattle.step_tables.specs.ClientMoves.{Client, ClientDisk, ClientTask, ClientMove, client_step}
+use Rattle.world_tables.specs.World.{World, Packet, Hosted, Moved, WorldStep, hosted_at, client_at, owner, the_store, tables_of, has_node, is_down, still, and_then, and_unless, is_fault, failing}
+use Rattle.world_tables.specs.World.{move_hosted, move_table, move_there, move_client, client_works, client_tasks, client_until_idle, client_follows, client_writes, client_starts, tables_fall, without_down, store_falls, table_falls}
+use Rattle.world_tables.specs.World.{or_falls, is_at_work, busy_table, write_next, store_works, tasks_of, store_until_idle, store_follows, table_follows, table_starts, tables_start, store_starts}
+use Rattle.world_tables.specs.World.{start_hosted, after_table, declared_late, answering, refused, unless_down, gets_tasks, client_follows_from, call_there, call, take_read, take_at}
+use Rattle.world_tables.specs.World.{to_hosted, row_shown}
+use Rattle.world_tables.specs.World.{to_there, carried, delivered, row_read, store_shows, started, worked, all_worked, table_step, step, schema_at, chunk_names, history_lines}
+use Rattle.world_tables.specs.Faults.{fails_new, fails_cut, fails_write, fails_crash, is_fault_answer, is_device_fault, quiet_lucks}
+use Rattle.world_tables.specs.World as moves
+
+abbrev IsWell : Moved → Type 0
+IsWell m = m.failed ≡ false
+
+abbrev IsFine : WorldStep → Type 0
+IsFine s = is_fault_answer s.answer ≡ false
+
+-- ---- orders of moves
+
+then_well : (m : Moved) (f : World → Moved) → IsWell m → ((x : World) → IsWell (f x)) → IsWell (and_then m f)
+then_well m f a b = ap (λ (x : Bool). x || (f m.world).failed) a ∙ b m.world
+
+unless_well : (m : Moved) (f : World → Moved) → IsWell m → ((x : World) → IsWell (f x)) → IsWell (and_unless m f)
+unless_well m f a b = ap (λ (x : Bool). (λ (y : Moved). y.failed) (if x then m else and_then m f)) a ∙ then_well m f a b
+
+answering_fine : (a : Answer) (m : Moved) → is_fault a ≡ false → IsWell m → IsFine (answering a m)
+answering_fine a m fine well = ap (λ (x : Bool). is_fault (if x then facts.Refuses facts.NoDevice else a)) well ∙ fine
+
+up_fine : (w : World) (node : Node) (s : WorldStep) → IsFine s → IsFine (unless_down w node s)
+up_fine w node s fine = go (is_down w node)
+  where
+    go : (b : Bool) → IsFine (if b then refused w (facts.NodeDown node) else s)
+    go true = refl
+    go false = fine
+
+-- ---- a client's answers
+
+write_fine : (c : ℕ) (d : ClientDisk) (agenda : Option (List ClientTask)) (table : ℕ) (row : List ℕ) (content : Content) → is_fault (client.write_step c client.no_shape d agenda table row content).answer ≡ false
+write_fine c d agenda table row content = grind (arith, nat_tests)
+
+show_fine : (d : ClientDisk) (agenda : Option (List ClientTask)) (table : ℕ) (row : List ℕ) → is_fault (client.show_step d agenda table row).answer ≡ false
+show_fine d agenda table row = grind (arith, nat_tests)
+
+digests_fine : (a : Answer) → is_fault a ≡ false → is_fault (by_digests a) ≡ false
+digests_fine facts.Done e = e
+digests_fine (facts.Number n) e = e
+digests_fine (facts.Shows what) e = go (sum_of what)
+  where
+    go : (o : Option ShownSum) → is_fault (or_whole what o) ≡ false
+    go None = refl
+    go (Some sum) = refl
+digests_fine (facts.Sums sum) e = e
+digests_fine (facts.Stores version content) e = e
+digests_fine (facts.Did did) e = e
+digests_fine (facts.Names names) e = e
+digests_fine (facts.Refuses refusal) e = e
+
+sync_fine : (c : ℕ) (d : ClientDisk) (agenda : Option (List ClientTask)) (table : ℕ) → is_fault (client.sync_step c client.no_shape d agenda table).answer ≡ false
+sync_fine c d agenda table = grind (arith, nat_tests)
+
+next_fine : (c : ℕ) (d : ClientDisk) (agenda : Option (List ClientTask)) (table : ℕ) → is_fault (client.next_step c d agenda table).answer ≡ false
+next_fine c d agenda table = grind (arith, nat_tests)
+
+pub take_fine : (c : ℕ) (d : ClientDisk) (agenda : Option (List ClientTask)) (m : Message) → is_fault (client.take_step c client.no_shape d agenda m).answer ≡ false
+take_fine c d agenda m = grind (arith, nat_tests)
+
+client_done_fine : (d : ClientDisk) (agenda : Option (List ClientTask)) → is_fault (client.done d agenda).answer ≡ false
+client_done_fine d None = refl
+client_done_fine d (Some []) = refl
+client_done_fine d (Some (task ∷ tasks)) = refl
+
+-- ---- a client's moves
+
+client_move_well : (c : ℕ) (move : ClientMove) (w : World) → ((node : Client) → is_fault (client_step c client.no_shape node move).answer ≡ false) → IsWell (move_client c move client.no_shape w)
+client_move_well c move w fine = go (client_at w c)
+  where
+    go : (o : Option Client) → IsWell (move_there w c move client.no_shape o)
+    go None = refl
+    go (Some node) = fine node
+
+client_works_well : (c : ℕ) (tasks : List ClientTask) (w : World) → IsWell (client_works c tasks [] w)
+client_works_well c [] w = refl
+client_works_well c (task ∷ tasks) w =
+    then_well (move_client c (client.Work messages.Done) client.no_shape w) (client_works c tasks []) (client_move_well c (client.Work messages.Done) w (λ node. client_done_fine node.disk node.agenda))
+    (client_works_well c tasks)
+
+client_follows_well : (c : ℕ) (w : World) → IsWell (client_follows c [] w)
+client_follows_well c w = go (has_node w.holds (nodes.Client c))
+  where
+    go : (b : Bool) → IsWell (if b then still w else client_until_idle c [] w)
+    go true = refl
+    go false = client_works_well c (client_tasks (client_at w c)) w
+
+client_writes_well : (c : ℕ) (tasks : List ClientTask) (w : World) → IsWell (client_writes c messages.Done tasks w)
+client_writes_well c [] w = refl
+client_writes_well c (task ∷ tasks) w = client_move_well c (client.Work messages.Done) w (λ node. client_done_fine node.disk node.agenda)
+
+client_start_fine : (c : ℕ) (d : ClientDisk) (agenda : Option (List ClientTask)) → is_fault (client.started c client.no_shape d agenda).answer ≡ false
+client_start_fine c d None = refl
+client_start_fine c d (Some tasks) = refl
+
+client_starts_well : (c : ℕ) (w : World) → IsWell (client_starts c [] w)
+client_starts_well c w =
+    then_well (move_client c client.Start client.no_shape w) (client_follows c []) (client_move_well c client.Start w (λ node. client_start_fine c node.disk node.agenda)) (client_follows_well c)
+
+follows_from_well : (agenda : Option (List ClientTask)) (c : ℕ) (w : World) → IsWell (client_follows_from agenda c [] w)
+follows_from_well agenda c w = go (gets_tasks agenda w c)
+  where
+    go : (b : Bool) → IsWell (if b then client_follows c [] w else still w)
+    go true = client_follows_well c w
+    go false = refl
+
+call_there_fine : (w : World) (c : ℕ) (move : ClientMove) (o : Option Client) → ((node : Client) → is_fault (client_step c client.no_shape node move).answer ≡ false) → IsFine (call_there w c move client.no_shape [] o)
+call_there_fine w c move None fine = refl
+call_there_fine w c move (Some node) fine =
+    up_fine w (nodes.Client c) (answering (client_step c client.no_shape node move).answer (and_then (move_client c move client.no_shape w) (client_follows_from node.agenda c [])))
+    (answering_fine (client_step c client.no_shape node move).answer (and_then (move_client c move client.no_shape w) (client_follows_from node.agenda c [])) (fine node)
+    (then_well (move_client c move client.no_shape w) (client_follows_from node.agenda c []) (client_move_well c move w fine) (follows_from_well node.agenda c)))
+
+pub call_fine : (w : World) (c : ℕ) (move : ClientMove) → ((node : Client) → is_fault (client_step c client.no_shape node move).answer ≡ false) → IsFine (call w c move client.no_shape [])
+call_fine w c move fine = call_there_fine w c move (client_at w c) fine
+
+pub to_there_fine : (w : World) (c : ℕ) (m : Message) (o : Option Client) → IsFine (to_there w c m [] o)
+to_there_fine w c m None = refl
+to_there_fine w c m (Some node) = call_there_fine w c (client.Take m) (Some node) (λ it. take_fine c it.disk it.agenda m)
+
+-- ---- a table's moves
+
+store_done_fine : (d : StoreDisk) (agenda : Option (List StoreTask)) → is_fault (store.done d agenda).answer ≡ false
+store_done_fine d None = refl
+store_done_fine d (Some []) = refl
+store_done_fine d (Some (task ∷ tasks)) = refl
+
+started_fine : (number table : ℕ) (d : StoreDisk) (agenda : Option (List StoreTask)) → is_fault (store.started number table d agenda).answer ≡ false
+started_fine number table d agenda = grind (arith, nat_tests)
+
+taken_fine : (w : World) (table : ℕ) (hosted : Hosted) (from : Node) (m : Message) → is_fault (table_step w table hosted (store.Take from m)).answer ≡ false
+taken_fine w table hosted from m = grind (arith, nat_tests)
+
+table_work_well : (table : ℕ) (w : World) → IsWell (move_table table (store.Work messages.Done) w)
+table_work_well table w = go (hosted_at w table)
+  where
+    go : (o : Option Hosted) → IsWell (move_hosted w table (store.Work messages.Done) o)
+    go None = refl
+    go (Some hosted) = store_done_fine hosted.store.disk hosted.store.agenda
+
+table_take_well : (table : ℕ) (from : Node) (m : Message) (w : World) → IsWell (move_table table (store.Take from m) w)
+table_take_well table from m w = go (hosted_at w table)
+  where
+    go : (o : Option Hosted) → IsWell (move_hosted w table (store.Take from m) o)
+    go None = refl
+    go (Some hosted) = taken_fine w table hosted from m
+
+table_start_well : (table : ℕ) (w : World) → IsWell (move_table table store.Start w)
+table_start_well table w = go (hosted_at w table)
+  where
+    go : (o : Option Hosted) → IsWell (move_hosted w table store.Start o)
+    go None = refl
+    go (Some hosted) = started_fine owner table hosted.store.disk hosted.store.agenda
+
+write_next_well : (number : ℕ) (busy : Option ℕ) (w : World) → IsWell (write_next number messages.Done busy w)
+write_next_well number None w = refl
+write_next_well number (Some table) w =
+    let k = table_work_well table w in
+    ap (λ (b : Bool). (λ (x : Moved). x.failed) (if b then and_then (move_table table (store.Work messages.Done) w) (store_falls number) else move_table table (store.Work messages.Done) w)) k ∙ k
+
+store_works_well : (number count : ℕ) (w : World) → IsWell (store_works number count [] w)
+store_works_well number zero w = refl
+store_works_well number (suc more) w =
+    unless_well (write_next number messages.Done (busy_table w number) w) (store_works number more []) (write_next_well number (busy_table w number) w) (store_works_well number more)
+
+store_follows_well : (number : ℕ) (w : World) → IsWell (store_follows number [] w)
+store_follows_well number w = go (has_node w.holds (nodes.Store number))
+  where
+    go : (b : Bool) → IsWell (if b then still w else store_until_idle number [] w)
+    go true = refl
+    go false = store_works_well number (length (tasks_of w number)) w
+
+table_follows_well : (table : ℕ) (w : World) → IsWell (table_follows table [] w)
+table_follows_well table w = go (is_at_work w table)
+  where
+    go : (b : Bool) → IsWell (if b then store_follows owner [] w else still w)
+    go true = store_follows_well owner w
+    go false = refl
+
+table_starts_well : (table : ℕ) (w : World) → IsWell (table_starts table messages.Done w)
+table_starts_well table w = go (hosted_at w table)
+  where
+    made : (b : Bool) (late : Moved) → IsWell late → IsWell (if b then move_table table store.Start w else late)
+    made true late well = table_start_well table w
+    made false late well = well
+
+    go : (o : Option Hosted) → IsWell (start_hosted w table o)
+    go None = refl
+    go (Some hosted) = made hosted.made (after_table w table (record hosted { made = true }) (declared_late table)) refl
+
+tables_start_well : (tables : List ℕ) (w : World) → IsWell (tables_start tables [] w)
+tables_start_well [] w = refl
+tables_start_well (table ∷ tables) w = unless_well (table_starts table messages.Done w) (tables_start tables []) (table_starts_well table w) (tables_start_well tables)
+
+abbrev no_lucks : List Luck
+no_lucks = []
+
+drop_none : (n : ℕ) → drop n no_lucks ≡ no_lucks
+drop_none zero = refl
+drop_none (suc n) = refl
+
+store_starts_well : (number : ℕ) (w : World) → IsWell (store_starts number [] w)
+store_starts_well number w =
+    let m : Moved = tables_start (tables_of w number) [] w in
+    let well : IsWell m = tables_start_well (tables_of w number) w in
+    ap (λ (b : Bool). (λ (x : Moved). x.failed) (if b then and_then m (tables_fall (tables_of w number))
+    else and_then m (λ x. store_follows number (drop (length (tables_of w number)) []) (without_down (nodes.Store number) x)))) well
+    ∙ then_well m (λ x. store_follows number (drop (length (tables_of w number)) []) (without_down (nodes.Store number) x)) well
+    (λ x. ap (λ (some : List Luck). (store_follows number some (without_down (nodes.Store number) x)).failed) (drop_none (length (tables_of w number)))
+    ∙ store_follows_well number (without_down (nodes.Store number) x))
+
+-- ---- packets and rows
+
+to_hosted_fine : (w : World) (table : ℕ) (from : Node) (m : Message) (o : Option Hosted) → IsFine (to_hosted w table (store.Take from m) [] o)
+to_hosted_fine w table from m None = refl
+to_hosted_fine w table from m (Some hosted) = go hosted.store.agenda
+  where
+    a : Answer
+    a = (table_step w table hosted (store.Take from m)).answer
+
+    go : (agenda : Option (List StoreTask)) → IsFine (take_at w table hosted (store.Take from m) [] agenda)
+    go None = answering_fine a (move_table table (store.Take from m) w) (taken_fine w table hosted from m) (table_take_well table from m w)
+    go (Some []) =
+        answering_fine a (and_then (move_table table (store.Take from m) w) (table_follows table [])) (taken_fine w table hosted from m)
+        (then_well (move_table table (store.Take from m) w) (table_follows table []) (table_take_well table from m w) (table_follows_well table))
+    go (Some (task ∷ tasks)) = answering_fine a (move_table table (store.Take from m) w) (taken_fine w table hosted from m) (table_take_well table from m w)
+
+carried_fine : (w : World) (packet : Packet) (to : Node) → IsFine (carried w packet [] to)
+carried_fine w packet (nodes.Store number) =
+    up_fine w (nodes.Store number) (to_hosted w (table_of packet.message) (store.Take packet.from packet.message) [] (hosted_at w (table_of packet.message)))
+    (to_hosted_fine w (table_of packet.message) packet.from packet.message (hosted_at w (table_of packet.message)))
+carried_fine w packet (nodes.Client c) = to_there_fine w c packet.message (client_at w c)
+carried_fine w packet (nodes.Gate gate) = refl
+
+delivered_fine : (w : World) (o : Option Packet) → IsFine (delivered w [] o)
+delivered_fine w None = refl
+delivered_fine w (Some packet) = carried_fine w packet packet.to
+
+shown_fine : (o : Option Stored) → is_fault (row_shown o) ≡ false
+shown_fine None = refl
+shown_fine (Some item) = refl
+
+store_shows_fine : (w : World) (row : List ℕ) (o : Option Hosted) → IsFine (store_shows w row [] o)
+store_shows_fine w row None = refl
+store_shows_fine w row (Some hosted) = up_fine w the_store (row_read w hosted row messages.Done) (shown_fine (current_of hosted.store.disk.items row))
+
+names_fine : (names : List ChunkName) → is_fault (moves.names_answer names) ≡ false
+names_fine [] = refl
+names_fine (name ∷ names) = refl
+
+-- ---- a step
+
+pub fine_step : (w : World) (event : Event) (lucks : List Luck) → is_device_fault w event (quiet_lucks event lucks) ≡ false
+fine_step w (events.Store number) lucks = refl
+fine_step w (events.Table table schema) lucks = go (hosted_at w table)
+  where
+    go : (o : Option Hosted) → fails_new o [] ≡ false
+    go None = refl
+    go (Some hosted) = refl
+fine_step w (events.Client c gate tables) lucks = refl
+fine_step w (events.Write c table row content) lucks = call_fine w c (client.Write table row content) (λ node. write_fine c node.disk node.agenda table row content)
+fine_step w (events.Show c table row) lucks = call_fine w c (client.Show table row) (λ node. show_fine node.disk node.agenda table row)
+fine_step w (events.Sum c table row) lucks =
+    call_fine w c (client.Sum table row) (λ node. digests_fine (client.show_step node.disk node.agenda table row).answer (show_fine node.disk node.agenda table row))
+fine_step w (events.Sync c table) lucks = call_fine w c (client.Sync table) (λ node. sync_fine c node.disk node.agenda table)
+fine_step w (events.Pull c table) lucks = call_fine w c (client.Next table) (λ node. next_fine c node.disk node.agenda table)
+fine_step w (events.Deliver packet) lucks = delivered_fine w (slice_get w.packets packet)
+fine_step w (events.StoreShow table row) lucks = store_shows_fine w row (hosted_at w table)
+fine_step w (events.History table) lucks = go (hosted_at w table)
+  where
+    go : (o : Option Hosted) → IsFine (history_lines w table o)
+    go None = refl
+    go (Some hosted) = refl
+fine_step w (events.Chunks table) lucks = go (hosted_at w table)
+  where
+    go : (o : Option Hosted) → IsFine (chunk_names w table o)
+    go None = refl
+    go (Some hosted) = up_fine w the_store _ (names_fine (moves.names_on (moves.chunk_in (schema_at w table)) hosted.store.disk))
+fine_step w (events.Hold node) lucks = up_fine w node _ refl
+fine_step w (events.Free node) lucks = up_fine w node _ refl
+fine_step w (events.Work node) lucks = up_fine w node (worked w [] node) (go node)
+  where
+    go : (n : Node) → IsFine (worked w [] n)
+    go (nodes.Store number) = answering_fine _ (write_next number messages.Done (busy_table w number) w) refl (write_next_well number (busy_table w number) w)
+    go (nodes.Gate gate) = refl
+    go (nodes.Client c) = answering_fine _ (client_writes c messages.Done (client_tasks (client_at w c)) w) refl (client_writes_well c (client_tasks (client_at w c)) w)
+fine_step w (events.WorkAll node) lucks = up_fine w node (all_worked w [] node) (go node)
+  where
+    go : (n : Node) → IsFine (all_worked w [] n)
+    go (nodes.Store number) = answering_fine _ (store_until_idle number [] w) refl (store_works_well number (length (tasks_of w number)) w)
+    go (nodes.Gate gate) = refl
+    go (nodes.Client c) = answering_fine _ (client_until_idle c [] w) refl (client_works_well c (client_tasks (client_at w c)) w)
+fine_step w (events.Crash node calls pick) lucks = go (is_down w node)
+  where
+    there : (n : Node) → fails_crash w (quiet_lucks (events.Crash node calls pick) lucks) n ≡ false
+    there (nodes.Store number) = cut (busy_table w number)
+      where
+        cut : (busy : Option ℕ) → fails_cut busy (quiet_lucks (events.Crash node calls pick) lucks) ≡ false
+        cut None = refl
+        cut (Some table) = refl
+    there (nodes.Gate gate) = refl
+    there (nodes.Client c) = write (client_tasks (client_at w c))
+      where
+        write : (tasks : List ClientTask) → fails_write tasks (quiet_lucks (events.Crash node calls pick) lucks) ≡ false
+        write [] = refl
+        write (task ∷ tasks) = refl
+
+    go : (b : Bool) → (if b then false else fails_crash w (quiet_lucks (events.Crash node calls pick) lucks) node) ≡ false
+    go true = refl
+    go false = there node
+fine_step w (events.Start node) lucks = go node
+  where
+    up : (b : Bool) (m : Moved) → IsWell m → IsFine (if b then answering facts.Done m else answering facts.Done (still w))
+    up true m well = answering_fine facts.Done m refl well
+    up false m well = refl
+
+    go : (n : Node) → IsFine (started w [] n)
+    go (nodes.Store number) = up (is_down w (nodes.Store number)) (store_starts number [] w) (store_starts_well number w)
+    go (nodes.Gate gate) = refl
+    go (nodes.Client c) = up (is_down w (nodes.Client c)) (client_starts c [] w) (client_starts_well c w)

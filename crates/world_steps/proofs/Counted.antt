@@ -1,0 +1,248 @@
+-- Which disks failed in a call, by its lines.
+use Rattle.std.proofs.Common.{◌≡◌, ◌≢◌, ⊎_elim, ℕ, ◌+◌, ◌<◌, ◌≤◌, Bool, true, false, List, [], ◌∷◌, ◌++◌, length, map, Option, Some, None, Result, Ok, Err, refl, sym, ◌∙◌, ap, subst, arith}
+use Rattle.std.specs.Prelude.{IfOk, IfErr, is_some, option_to_list, if◌then◌else◌}
+use Rattle.std.specs.Ordering.{nat_cmp}
+use Rattle.std.specs.BTreeMap as tree
+use Rattle.std.proofs.lemmas.Bool.Decides.{eqb_tells}
+use Rattle.disk_trait.specs.Calls.{DiskState}
+use Rattle.table_model.specs.declared.event.Event.{Event}
+use Rattle.table_model.specs.declared.line.Answer.{Answer}
+use Rattle.table_model.specs.declared.line.TextLine.{TextLine}
+use Rattle.step_tables.specs.Facts.{Line, AnswerLine}
+use Rattle.step_tables.specs.Facts as facts
+use Rattle.step_tables.specs.Lines.{line_of, answer_of}
+use Rattle.step_tables.specs.Messages.{Luck}
+use Rattle.step_tables.specs.Messages as messages
+use Rattle.world_tables.specs.World.{WorldStep, Hosted, lines_of, lines_from, hosted_at, is_fault, first_luck, busy_table, owner, step, start, schema_at}
+use Rattle.world_tables.specs.World as moves
+use Rattle.world_tables.specs.Faults.{is_failure, fails_cut, is_fault_answer, is_device_fault}
+use Rattle.fault_laws.proofs.Same.{done_alone}
+use Rattle.fault_laws.proofs.Answered.{is_declaration, step_answered}
+use Rattle.store_host.specs.declared.hosted.Hosted.{Hosted as Kept}
+use Rattle.store_host.specs.declared.host.StoreHost.{StoreHost}
+use Rattle.store_host.specs.Holds.{HostedThere, SameFaults, RisenFaults, faults_at, faults_in}
+use Rattle.store_host.specs.Calls.{HasLuck}
+use Rattle.world_steps.specs.declared.fault.WorldFault.{WorldFault}
+use Rattle.world_steps.specs.declared.fault.WorldFault.TheVariants.{Memory}
+use Rattle.world_steps.specs.declared.world.World.{World}
+use Rattle.world_steps.specs.Calls.{IsDone, Comes, HasTold, HasSent}
+use Rattle.world_steps.specs.Faults.{IsCounted, AreCounted, ComesCounted, IsUndone, all_faults, tell_fault}
+use Rattle.world_steps.specs.Holds.{Holds, AreOut}
+use Rattle.world_steps.specs.Steps.{IsStep}
+use Rattle.world_steps.proofs.Sums.{sum_same, sum_rises, sum_none}
+use Rattle.step_tables.specs.declared.out.Out.{Out}
+use Rattle.stab_base.specs.declared.node.Node.{Node}
+
+module _ {D : Type 0} (state : D → DiskState) where
+  -- ---- tables
+
+  pub none_failed : (old new : tree.BTreeMap ℕ (Kept D)) (b : Bool) → b ≡ false → SameFaults state old new → IsCounted state b old new
+  none_failed old new b e same = record { rose = λ t. absurd cc; same = λ f. same }
+
+  pub some_failed : (old new : tree.BTreeMap ℕ (Kept D)) (b : Bool) → b ≡ true → RisenFaults state old new → IsCounted state b old new
+  some_failed old new b e rose = record { rose = λ t. rose; same = λ f. absurd cc }
+
+  pub then_counted : (old mid new : tree.BTreeMap ℕ (Kept D)) (b : Bool) → SameFaults state old mid → IsCounted state b mid new → IsCounted state b old new
+  then_counted old mid new b same k = record {
+    rose = λ t. let r = k.rose t in record {
+      each = λ table. let a = same table in let c = r.each table in omega (arith, a, c);
+      one = (r.one.0, let a = same r.one.0 in let c = r.one.1 in omega (arith, a, c));
+    };
+    same = λ f table. k.same f table ∙ same table;
+  }
+
+  pub follow_counted : (old mid new : tree.BTreeMap ℕ (Kept D)) (result : Result Answer WorldFault) → SameFaults state old mid
+      → IfOk result (λ answer. IsCounted state (is_fault (answer_of answer)) mid new) → IfOk result (λ answer. IsCounted state (is_fault (answer_of answer)) old new)
+  follow_counted old mid new (Err e) same k = tt
+  follow_counted old mid new (Ok answer) same k = then_counted old mid new (is_fault (answer_of answer)) same k
+
+  pub cut_counted : (w : moves.World) (old new : tree.BTreeMap ℕ (Kept D)) (lucks : List Luck) → HasLuck state w old new lucks → IsCounted state (fails_cut (busy_table w owner) lucks) old new
+  cut_counted w old new lucks k = go (busy_table w owner) refl
+    where
+      go : (o : Option ℕ) → busy_table w owner ≡ o → IsCounted state (fails_cut o lucks) old new
+      go None e = none_failed old new false refl (k.counted (k.idle e))
+      go (Some table) e = record {
+        rose = λ t. k.cause (λ done. let no : false ≡ true = ap is_failure (sym done) ∙ t in absurd cc);
+        same = λ f. k.counted (done_alone (first_luck lucks) f);
+      }
+
+  -- a table more, one of whose disks has failed
+  pub added_badly : (old new : tree.BTreeMap ℕ (Kept D)) (table n : ℕ) → tree.get nat_cmp old table ≡ None → n < faults_at state new table
+      → ((q : ℕ) → q ≢ table → faults_at state new q ≡ faults_at state old q) → RisenFaults state old new
+  added_badly old new table n none up others = record {
+    each = λ q. ⊎_elim (λ is. let a = nothing q is.1 in omega (arith, a)) (λ no. let a = others q no.1 in omega (arith, a)) (eqb_tells q table);
+    one = (table, let a = nothing table refl in omega (arith, a, up));
+  }
+    where
+      nothing : (q : ℕ) → q ≡ table → faults_at state old q ≡ 0
+      nothing q is = ap (λ (k : ℕ). faults_at state old k) is ∙ ap (λ (o : Option (Kept D)). faults_in state o) none
+
+  -- ---- all disks
+
+  pub ranged_at : (w : moves.World) (world : World D) → Holds state w world → (table : ℕ) → 0 < faults_at state world.store.tables table → (1 ≤ table) × (table ≤ 64)
+  ranged_at w world h table up = go (tree.get nat_cmp world.store.tables table) up (hosted_at w table) refl (h.store.tables.there table)
+    where
+      go : (it : Option (Kept D)) → 0 < faults_in state it → (o : Option Hosted) → hosted_at w table ≡ o → HostedThere state (schema_at w table) table o it → (1 ≤ table) × (table ≤ 64)
+      go None up o e k = absurd (omega (arith, up))
+      go (Some it) up None e k = absurd k
+      go (Some it) up (Some hosted) e k = h.fair.ranged table (ap (λ (o : Option Hosted). is_some o) e)
+
+  pub all_rise : (w : moves.World) (old new : World D) → Holds state w new → RisenFaults state old.store.tables new.store.tables → all_faults state old < all_faults state new
+  all_rise w old new h rose =
+      let up = rose.one.1 in
+      let range = ranged_at w new h rose.one.0 (omega (arith, up)) in
+      sum_rises (faults_at state old.store.tables) (faults_at state new.store.tables) 64 rose.one.0 rose.each range.0 range.1 up
+
+  pub all_stay : (old new : World D) → SameFaults state old.store.tables new.store.tables → all_faults state new ≡ all_faults state old
+  all_stay old new same = sum_same (faults_at state new.store.tables) (faults_at state old.store.tables) 64 same
+
+  pub all_still : (old new : World D) → new.store ≡ old.store → all_faults state new ≡ all_faults state old
+  all_still old new same = all_stay old new (λ table. ap (λ (s : StoreHost D). faults_at state s.tables table) same)
+
+  -- a world in which nothing is declared has no disks
+  pub no_faults : (world : World D) → Holds state start world → all_faults state world ≡ 0
+  no_faults world h = sum_same (faults_at state world.store.tables) (λ k. 0) 64 (λ table. go table (tree.get nat_cmp world.store.tables table) (h.store.tables.there table)) ∙ sum_none 64
+    where
+      go : (table : ℕ) (it : Option (Kept D)) → HostedThere state (schema_at start table) table None it → faults_in state it ≡ 0
+      go table None k = refl
+      go table (Some it) k = absurd k
+
+  -- ---- lines
+
+  tells : (lines : List Line) (a : facts.Answer) (more : List Line) → lines ≡ AnswerLine a ∷ more → tell_fault lines ≡ is_fault a
+  tells lines a more is = ap tell_fault is
+
+  pub counted_as : (old new : tree.BTreeMap ℕ (Kept D)) (a b : Bool) → a ≡ b → IsCounted state b old new → IsCounted state a old new
+  counted_as old new a b is k = subst (λ (x : Bool). IsCounted state x old new) (sym is) k
+
+  -- an answer alone
+  pub only_counted : (result : Result (List TextLine) WorldFault) (a : facts.Answer) (old new : World D) → is_fault a ≡ false → new.store ≡ old.store
+      → IfOk result (λ lines. map line_of lines ≡ AnswerLine a ∷ []) → AreCounted state result old new
+  only_counted (Err e) a old new fine same k = tt
+  only_counted (Ok lines) a old new fine same k =
+      none_failed old.store.tables new.store.tables (tell_fault (map line_of lines)) (tells (map line_of lines) a [] k ∙ fine)
+      (λ table. ap (λ (s : StoreHost D). faults_at state s.tables table) same)
+
+  -- what a client told and sent
+  pub sent_counted : (result : Result (List TextLine) WorldFault) (a : facts.Answer) (old mid new : World D) (from : Node) (out : Out) → is_fault a ≡ false → mid.store ≡ old.store
+      → IfOk result (λ lines. HasSent mid new from a out lines) → AreCounted state result old new
+  sent_counted (Err e) a old mid new from out fine same k = tt
+  sent_counted (Ok lines) a old mid new from out fine same k =
+      none_failed old.store.tables new.store.tables (tell_fault (map line_of lines)) (tells (map line_of lines) a _ k.lines_are ∙ fine)
+      (λ table. ap (λ (s : StoreHost D). faults_at state s.tables table) (ap (λ (x : World D). x.store) k.same ∙ same))
+
+  -- what the Store told and sent
+  pub told_counted : (result : Result (List TextLine) WorldFault) (a : facts.Answer) (old new : World D) (s : StoreHost D) → IsCounted state (is_fault a) old.store.tables s.tables
+      → IfOk result (λ lines. HasTold (record old { store = s }) new a lines) → AreCounted state result old new
+  told_counted (Err e) a old new s c k = tt
+  told_counted (Ok lines) a old new s c k =
+      counted_as old.store.tables new.store.tables (tell_fault (map line_of lines)) (is_fault a) (tells (map line_of lines) a _ k.lines_are)
+      (subst (λ (x : StoreHost D). IsCounted state (is_fault a) old.store.tables x.tables) (sym k.store) c)
+
+  -- ---- steps
+
+  abbrev Rises : Bool → World D → World D → Type 0
+  Rises b old new = (b ≡ true → all_faults state old < all_faults state new) × (b ≡ false → all_faults state new ≡ all_faults state old)
+
+  pub rises : (w : moves.World) (old new : World D) (b : Bool) → Holds state w new → IsCounted state b old.store.tables new.store.tables → Rises b old new
+  rises w old new b h k = (λ t. all_rise w old new h (k.rose t), λ f. all_stay old new (k.same f))
+
+  fault_told : (w : moves.World) (s : WorldStep) (lines : List TextLine) → is_some s.answer ≡ true → map line_of lines ≡ lines_of w s → tell_fault (map line_of lines) ≡ is_fault_answer s.answer
+  fault_told w s lines some is = ap tell_fault is ∙ go s.answer some
+    where
+      go : (o : Option facts.Answer) → is_some o ≡ true → tell_fault (map AnswerLine (option_to_list o) ++ (s.counted ++ lines_from (length w.packets) s.outs)) ≡ is_fault_answer o
+      go None e = absurd cc
+      go (Some a) e = refl
+
+  module _ (w : moves.World) (event : Event) (is_out : ℕ → Bool) (old new : World D) (result : Result (List TextLine) WorldFault) (out : AreOut is_out w) where
+    out_behind : (lucks : List Luck) → ((table : ℕ) → is_some (hosted_at (step w event lucks).world table) ≡ is_some (hosted_at w table)) → AreOut is_out (step w event lucks).world
+    out_behind lucks tables table disk one small = out table disk one small ∙ sym (tables table)
+
+    -- by the answer
+    pub stepped : is_declaration event ≡ false → ((lucks : List Luck) → is_device_fault w event lucks ≡ is_fault_answer (step w event lucks).answer)
+        → Comes state w (step w event) result new → AreCounted state result old new → IfOk result (λ lines. IsStep state w event lines is_out old new)
+    stepped asks plain k c = go result k c
+      where
+        go : (r : Result (List TextLine) WorldFault) → Comes state w (step w event) r new → AreCounted state r old new → IfOk r (λ lines. IsStep state w event lines is_out old new)
+        go (Err e) k c = tt
+        go (Ok lines) k c =
+            let same : is_device_fault w event k.0 ≡ tell_fault (map line_of lines) =
+            plain k.0 ∙ sym (fault_told w (step w event k.0) lines (step_answered w event k.0 asks) k.1.lines_are) in
+            let r = rises (step w event k.0).world old new (is_device_fault w event k.0) k.1.held (counted_as old.store.tables new.store.tables _ _ same c) in
+            record { lucks = k.0; lines_are = k.1.lines_are; held = k.1.held; out = out_behind k.0 k.1.tables; rose = r.0; same = r.1 }
+
+    -- the Store stays as it is
+    pub stepped_still : ((lucks : List Luck) → is_device_fault w event lucks ≡ false) → new.store ≡ old.store → Comes state w (step w event) result new
+        → IfOk result (λ lines. IsStep state w event lines is_out old new)
+    stepped_still fine same k = go result k
+      where
+        go : (r : Result (List TextLine) WorldFault) → Comes state w (step w event) r new → IfOk r (λ lines. IsStep state w event lines is_out old new)
+        go (Err e) k = tt
+        go (Ok lines) k = record {
+          lucks = k.0;
+          lines_are = k.1.lines_are;
+          held = k.1.held;
+          out = out_behind k.0 k.1.tables;
+          rose = λ t. let no : false ≡ true = sym (fine k.0) ∙ t in absurd cc;
+          same = λ f. all_still old new same;
+        }
+
+    pub stepped_counted : ComesCounted state w (step w event) (λ lucks. is_device_fault w event lucks) result old new → IfOk result (λ lines. IsStep state w event lines is_out old new)
+    stepped_counted k = go result k
+      where
+        go : (r : Result (List TextLine) WorldFault) → ComesCounted state w (step w event) (λ lucks. is_device_fault w event lucks) r old new
+            → IfOk r (λ lines. IsStep state w event lines is_out old new)
+        go (Err e) k = tt
+        go (Ok lines) k =
+            let r = rises (step w event k.0).world old new (is_device_fault w event k.0) k.1.held k.2 in
+            record { lucks = k.0; lines_are = k.1.lines_are; held = k.1.held; out = out_behind k.0 k.1.tables; rose = r.0; same = r.1 }
+
+    -- ---- faults of a run
+
+    pub never_left : IfErr result (λ e. e ≡ Memory) → IfErr result (λ e. e ≢ Memory → IsUndone state w is_out old new)
+    never_left k = go result k
+      where
+        go : (r : Result (List TextLine) WorldFault) → IfErr r (λ e. e ≡ Memory) → IfErr r (λ e. e ≢ Memory → IsUndone state w is_out old new)
+        go (Ok lines) k = tt
+        go (Err e) k = λ no. absurd (no k)
+
+    pub left_still : IfErr result (λ e. e ≢ Memory → Holds state w new × (new.store ≡ old.store)) → IfErr result (λ e. e ≢ Memory → IsUndone state w is_out old new)
+    left_still k = go result k
+      where
+        go : (r : Result (List TextLine) WorldFault) → IfErr r (λ e. e ≢ Memory → Holds state w new × (new.store ≡ old.store)) → IfErr r (λ e. e ≢ Memory → IsUndone state w is_out old new)
+        go (Ok lines) k = tt
+        go (Err e) k = λ no. record { held = (k no).0; out = out; same = all_still old new (k no).1 }
+
+    pub left_same : IfErr result (λ e. e ≢ Memory → Holds state w new × SameFaults state old.store.tables new.store.tables) → IfErr result (λ e. e ≢ Memory → IsUndone state w is_out old new)
+    left_same k = go result k
+      where
+        go : (r : Result (List TextLine) WorldFault) → IfErr r (λ e. e ≢ Memory → Holds state w new × SameFaults state old.store.tables new.store.tables)
+            → IfErr r (λ e. e ≢ Memory → IsUndone state w is_out old new)
+        go (Ok lines) k = tt
+        go (Err e) k = λ no. record { held = (k no).0; out = out; same = all_stay old new (k no).1 }
+
+  -- ---- crashes
+
+  module _ (w : moves.World) (f g : List Luck → WorldStep) (a b : List Luck → Bool) (result : Result (List TextLine) WorldFault) (old new : World D) where
+    pub counted_still : ((lucks : List Luck) → a lucks ≡ false) → new.store ≡ old.store → Comes state w f result new → ComesCounted state w f a result old new
+    counted_still fine same k = go result k
+      where
+        go : (r : Result (List TextLine) WorldFault) → Comes state w f r new → ComesCounted state w f a r old new
+        go (Err e) k = tt
+        go (Ok lines) k = (k.0, k.1, none_failed old.store.tables new.store.tables (a k.0) (fine k.0) (λ table. ap (λ (s : StoreHost D). faults_at state s.tables table) same))
+
+    pub comes_counted_as : ((lucks : List Luck) → f lucks ≡ g lucks) → ((lucks : List Luck) → a lucks ≡ b lucks) → ComesCounted state w g b result old new → ComesCounted state w f a result old new
+    comes_counted_as steps faults k = go result k
+      where
+        go : (r : Result (List TextLine) WorldFault) → ComesCounted state w g b r old new → ComesCounted state w f a r old new
+        go (Err e) k = tt
+        go (Ok lines) k = (k.0, subst (λ (s : WorldStep). IsDone state w s lines new) (sym (steps k.0)) k.1, counted_as old.store.tables new.store.tables (a k.0) (b k.0) (faults k.0) k.2)
+
+    pub counted_done : (lucks : List Luck) (s : StoreHost D) (given : facts.Answer) → IfOk result (λ lines. IsDone state w (f lucks) lines new)
+        → IfOk result (λ lines. HasTold (record old { store = s }) new given lines) → IsCounted state (a lucks) old.store.tables s.tables → ComesCounted state w f a result old new
+    counted_done lucks s given k t c = go result k t
+      where
+        go : (r : Result (List TextLine) WorldFault) → IfOk r (λ lines. IsDone state w (f lucks) lines new) → IfOk r (λ lines. HasTold (record old { store = s }) new given lines)
+            → ComesCounted state w f a r old new
+        go (Err e) k t = tt
+        go (Ok lines) k t = (lucks, k, subst (λ (x : StoreHost D). IsCounted state (a lucks) old.store.tables x.tables) (sym t.store) c)

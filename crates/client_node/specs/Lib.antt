@@ -1,0 +1,4 @@
+pub mod Fault
+pub mod Due
+pub mod Node
+pub mod Calls

@@ -1,0 +1,110 @@
+-- A client's node on its devices, as the state of the client's step table.
+use Rattle.std.specs.Prelude.{◌≡◌, ◌⊎◌, ℕ, Bool, true, false, List, [], ◌∷◌, length, map, Option, Some, None}
+use Rattle.disk_trait.specs.Calls.{DiskState}
+use Rattle.disk_trait.specs.Fuse.{behind, inner_of}
+use Rattle.held_value.specs.declared.local_name.LocalName.{LocalName}
+use Rattle.client_journal.specs.Devs.{ClientDevs, Write, changed_by_all}
+use Rattle.client_journal.specs.NamedSlots.{IsAtRest}
+use Rattle.client_journal.specs.Standing.{devs, writes_of, step_of, AreUp, AreSound, AreSynced, IsReady, DevsLeave}
+use Rattle.step_tables.specs.Facts.{Fact}
+use Rattle.step_tables.specs.Messages.{Send}
+use Rattle.step_tables.specs.ClientMoves.{ClientDisk, ClientTask, Client, changed}
+use Rattle.step_tables.specs.Travels.{send_of}
+use Rattle.journal_laws.specs.Holds.{Stands, Follows}
+use Rattle.journal_laws.specs.Moves.{nothing_there}
+use Rattle.gathering.specs.Room.{HasRoom}
+use Rattle.client_node.specs.Due.{fact_of, is_last_of, told_at, left_at, sent_at}
+use Rattle.client_node.specs.declared.node.ClientNode.{ClientNode}
+use Rattle.client_node.specs.declared.owed.Owed.{Owed}
+use Rattle.client_node.specs.declared.owed.When.{When}
+
+-- ---- what is told and sent
+
+-- what was gathered to be told and sent
+abbrev pub told_by : {D : Type 0} → ClientNode D → List Fact
+told_by node = map fact_of node.facts.items.items
+
+abbrev pub sent_by : {D : Type 0} → ClientNode D → List Send
+sent_by node = map send_of node.messages.items.items
+
+-- what is owed
+abbrev pub facts_owed : Owed → List Fact
+facts_owed owed = map fact_of owed.facts.items
+
+abbrev pub sends_owed : Owed → List Send
+sends_owed owed = map send_of owed.messages.items
+
+-- These tasks tell and send what is owed behind their writes.
+abbrev pub AreOwed : When → List Fact → List Send → List Write → List ClientTask → Type 0
+AreOwed when owed sends [] [] = Unit {0}
+AreOwed when owed sends (w ∷ ws) (task ∷ tasks) = (task.facts ≡ told_at when owed (step_of w) (is_last_of ws))
+    × (task.sends ≡ sent_at sends (is_last_of ws))
+    × AreOwed when (left_at when owed (step_of w) (is_last_of ws)) sends ws tasks
+AreOwed when owed sends ws tasks = ⊥
+
+-- ---- the node
+
+-- the devices stand for this disk, whatever the names stand for
+abbrev pub StandsFor : ℕ → ClientDevs → ClientDisk → Type 0
+StandsFor c d disk = (meaning : LocalName → List ℕ) × Stands c meaning d disk
+
+-- and behind each of these writes, which are those of these tasks
+abbrev pub FollowsFor : ℕ → ClientDevs → List Write → ClientDisk → List ClientTask → Type 0
+FollowsFor c d ws disk tasks = (meaning : LocalName → List ℕ) × Follows c meaning d ws disk tasks
+
+-- Up: the devices hold this disk, and behind each of their writes what the tasks make of it; behind the last nothing is
+-- at work; and there is room for what the tasks tell and send.
+pub record IsWorking {D : Type 0} (state : D → DiskState) (node : ClientNode D) (disk : ClientDisk)
+    (tasks : List ClientTask) : Type 0 where
+  pub declared : node.is_declared ≡ true
+  pub up : AreUp node.devs
+  pub ready : IsReady (behind state) node.devs (writes_of node.devs)
+  pub follows : FollowsFor node.number (devs (behind state) node.devs) (writes_of node.devs) disk tasks
+  pub rests : IsAtRest (changed_by_all (devs (behind state) node.devs) (writes_of node.devs))
+  pub owed : AreOwed node.owed.when (facts_owed node.owed) (sends_owed node.owed) (writes_of node.devs) tasks
+  pub fact_room : HasRoom node.facts (length node.owed.facts.items)
+  pub message_room : HasRoom node.messages (length node.owed.messages.items)
+
+-- Down: its disks were restarted, and hold this. What wasn't declared holds nothing yet.
+pub record IsResting {D : Type 0} (state : D → DiskState) (node : ClientNode D) (disk : ClientDisk) : Type 0 where
+  pub up : AreUp node.devs
+  pub idle : writes_of node.devs ≡ []
+  pub synced : node.is_declared ≡ true → AreSynced (behind state) node.devs
+  pub sound : node.is_declared ≡ true → AreSound (behind state) node.devs
+  pub stands : node.is_declared ≡ true → StandsFor node.number (devs (behind state) node.devs) disk
+  pub nothing : node.is_declared ≡ false → disk ≡ nothing_there
+
+abbrev pub IsAt : {D : Type 0} → (D → DiskState) → ClientNode D → ClientDisk → Option (List ClientTask) → Type 0
+IsAt state node disk None = (node.is_up ≡ false) × IsResting state node disk
+IsAt state node disk (Some tasks) = (node.is_up ≡ true) × IsWorking state node disk tasks
+
+-- the node is in this state of the step table
+pub record IsClient {D : Type 0} (state : D → DiskState) (node : ClientNode D) (s : Client) : Type 0 where
+  pub at : IsAt state node s.disk s.agenda
+
+-- and in one of them
+abbrev pub IsNode : {D : Type 0} → (D → DiskState) → ClientNode D → Type 0
+IsNode state node = (s : Client) × IsClient state node s
+
+-- the disk behind the next task
+abbrev pub behind_next : ClientDisk → Option (List ClientTask) → ClientDisk
+behind_next disk None = disk
+behind_next disk (Some []) = disk
+behind_next disk (Some (task ∷ tasks)) = changed disk task.change
+
+-- a crash at any moment since the old node leaves devices that stand for this disk or for that one
+abbrev pub LeavesEither : {D : Type 0} → (D → DiskState) → (D → ℕ → List ℕ → Type 0) → ClientNode D → ClientNode D
+    → ClientDisk → ClientDisk → Type 0
+LeavesEither state images old new a b =
+    DevsLeave (behind state) (λ f. images (inner_of f)) old.devs new.devs
+    (λ d. StandsFor old.number d a ⊎ StandsFor old.number d b)
+
+-- the same client
+pub record IsSame {D : Type 0} (old new : ClientNode D) : Type 0 where
+  pub number : new.number ≡ old.number
+
+-- whether a write is to be done
+abbrev pub has_task : Option (List ClientTask) → Bool
+has_task None = false
+has_task (Some []) = false
+has_task (Some (task ∷ tasks)) = true

@@ -1,0 +1,14 @@
+pub mod Alike
+pub mod Tables
+pub mod Crashes
+pub mod Redoes
+pub mod Plans
+pub mod Starts
+pub mod Transitions
+pub mod Takes
+pub mod Brought
+pub mod Numbered
+pub mod Becomes
+pub mod Stays
+pub mod Declares
+pub mod Seen

@@ -1,0 +1,4 @@
+pub mod Whole
+pub mod Holds
+pub mod Moves
+pub mod Worked

@@ -3,6 +3,9 @@ use Rattle.std.proofs.Common.{◌≡◌, ◌≢◌, ◌⊎◌, ℕ, Bool, true, 
 use Rattle.std.specs.Prelude.{◌==◌, nat_lt, nat_le, option_map, Result, Ok, Err, if◌then◌else◌}
 use Rattle.std.proofs.lemmas.Bool.Decides.{nat_tests}
 use Rattle.row_value.specs.declared.content.Content.{Content}
+use Rattle.row_value.specs.declared.content.Content.TheVariants.{Gone, Row}
+use Rattle.row_edits.specs.declared.change.Edit.{Edit}
+use Rattle.row_edits.specs.Edit.{edited_to}
 use Rattle.row_value.specs.declared.fit.FitFault.{FitFault}
 use Rattle.row_value.specs.Fit.{fit_of}
 use Rattle.row_value.specs.declared.schema.Scheme.{Scheme}
@@ -19,11 +22,11 @@ use Rattle.step_tables.specs.Messages.{Send, Message, Luck, Response, Pulled, He
 use Rattle.step_tables.specs.Messages as messages
 use Rattle.step_tables.specs.Sayings.{Heard, own_all}
 use Rattle.step_tables.specs.ClientMoves.{Slots, TableDisk, Plan, ClientDisk, ClientTask, Client, Choice, Mine, Theirs, Another, ClientMove}
-use Rattle.step_tables.specs.ClientMoves.{Write, Show, Sum, Sync, Next, Resolve, Take, Work}
+use Rattle.step_tables.specs.ClientMoves.{Write, Change, Show, Sum, Sync, Next, Resolve, Take, Work}
 use Rattle.step_tables.specs.ClientMoves.{Crash, Start, quiet, refused, ignored, seen, planned_in, slots_at, slots_in, slots_of, table_at, put_row, changed, applied, done, crashed}
-use Rattle.step_tables.specs.ClientMoves.{worked, told, Shape, keeps, rest_of, ending, opening, told_at_start, begun, slots_plan, resumed, started, request_for, pull_from, main_of, out_of}
+use Rattle.step_tables.specs.ClientMoves.{worked, told, Shape, keeps, rest_of, ending, opening, told_at_start, told_without, begun, slots_plan, resumed, started, request_for, pull_from, main_of, out_of}
 use Rattle.step_tables.specs.ClientMoves.{write_plan, strong_plan, first_out, write_strong}
-use Rattle.step_tables.specs.ClientMoves.{write_by, write_free, write_idle, write_fitting, write_to, write_step, shown_in, show_answer, show_in, show_step, sum_step, resent, RowOut, first_to_send}
+use Rattle.step_tables.specs.ClientMoves.{write_by, write_free, write_idle, write_fitting, write_to, write_step, content_of, edit_made, edit_over, edit_in, edit_step, shown_in, show_answer, show_in, show_step, sum_step, resent, RowOut, first_to_send}
 use Rattle.step_tables.specs.ClientMoves.{send_plan}
 use Rattle.step_tables.specs.ClientMoves.{sync_first, sync_in, sync_step, next_in, next_step, choose, over_fitting, over_plan, theirs_plan, resolve_over, resolve_in, resolve_step, ack_plan, lost_plan}
 use Rattle.step_tables.specs.ClientMoves.{outcome_taken, response_taken, response_in, row_placed, next_pull, row_plan, position_plan, top, row_taken, pulled_taken, pulled_in, take_step, client_step}
@@ -31,7 +34,7 @@ use Rattle.step_tables.specs.Items.{IsItemOf, IsChange}
 use Rattle.client_laws.specs.Part.{Items, Sending, sendings, Ours, RowTied, Tied, AreOwn, Requests, IsPlan, IsNewPlan, RestsOn, Rests, Runs, IsAt, ClientPart, IsRefused, IsOutcome}
 use Rattle.client_laws.specs.Part.{IsHeader, IsMessage, IsFair, IsShown, IsAnswer, ClientLaw}
 use Rattle.client_laws.proofs.Disks.{opened_by, applied_at, applied_last, put_row_slots}
-use Rattle.client_laws.proofs.PlanRuns.{own-retold, shown_of, rested_of, keeps_run, ending_runs, rest_runs, plan_runs, told_plan}
+use Rattle.client_laws.proofs.PlanRuns.{own-retold, shown_of, rested_of, keeps_run, also_own, own-also, ending_runs, rest_runs, plan_runs, told_plan}
 use Rattle.client_laws.proofs.Plans.{write_is_plan, strong_is_plan, send_is_plan, ack_is_plan, lost_is_plan, over_is_plan, theirs_is_plan}
 use Rattle.client_laws.proofs.Headers.{position_is_plan, row_plan_is}
 use Rattle.client_laws.proofs.Sends.{request_is, sent_tied, IsSent, all_resent, rows_found, first_is}
@@ -95,6 +98,13 @@ module _ (g : ℕ → Scheme) (c : ℕ) (h : Items) (sent : List Sending) (t : H
   torn_own None = (tt, refl)
   torn_own (Some row) = ((tt, tt), refl)
 
+  -- nor does a start that has no write say more by telling that it is over
+  over_own : (fs : List Fact) (tasks : List ClientTask) → AreOwn g c h sent t fs
+      → AreOwn g c h sent t (fs ++ told_without (facts.ClientRecovered c ∷ []) tasks)
+      × (own_all t (fs ++ told_without (facts.ClientRecovered c ∷ []) tasks) ≡ own_all t fs)
+  over_own fs [] k = (also_own g c h sent t fs k, own-also g c h t fs)
+  over_own fs (task ∷ more) k = (subst (λ (l : List Fact). AreOwn g c h sent t l) (sym (append-nil fs)) k, ap (λ (l : List Fact). own_all t l) (append-nil fs))
+
   start_law : (d : ClientDisk) (agenda : Option (List ClientTask)) → IsAt g c h sent d t agenda → ClientLaw g c h sent t Start (started c shape d agenda)
   start_law d (Some agenda) p = quiet_law Start d (Some agenda) facts.Done tt p
   start_law d None rests = by_plan d.plan refl rests
@@ -102,14 +112,16 @@ module _ (g : ℕ → Scheme) (c : ℕ) (h : Items) (sent : List Sending) (t : H
       -- where the writes go well behind what the start tells
       opened_law : (plan : Option Plan) (u : Heard) → AreOwn g c h sent t (told_at_start c shape.torn plan) → own_all t (told_at_start c shape.torn plan) ≡ u
           → Runs g c h sent d u (opening shape plan) → ClientLaw g c h sent t Start (resumed c shape d plan)
-      opened_law plan u now heard runs = record {
-        answer = tt;
-        facts = now;
-        sends = tt;
-        part = subst (λ (y : Heard). Runs g c h (sent ++ []) d y (ending (facts.ClientRecovered c ∷ []) (opening shape plan))) (sym heard)
-            (subst (λ (s : List Sending). Runs g c h s d u (ending (facts.ClientRecovered c ∷ []) (opening shape plan))) (sym (append-nil sent))
-            (ending_runs g c h sent d u (opening shape plan) runs));
-      }
+      opened_law plan u now heard runs =
+          let over = over_own (told_at_start c shape.torn plan) (opening shape plan) now in
+          record {
+            answer = tt;
+            facts = over.0;
+            sends = tt;
+            part = subst (λ (y : Heard). Runs g c h (sent ++ []) d y (ending (facts.ClientRecovered c ∷ []) (opening shape plan))) (sym (over.1 ∙ heard))
+                (subst (λ (s : List Sending). Runs g c h s d u (ending (facts.ClientRecovered c ∷ []) (opening shape plan))) (sym (append-nil sent))
+                (ending_runs g c h sent d u (opening shape plan) runs));
+          }
 
       by_plan : (o : Option Plan) → d.plan ≡ o → RestsOn g c h sent d t d.plan → ClientLaw g c h sent t Start (resumed c shape d o)
       by_plan None is r =
@@ -361,24 +373,48 @@ module _ (g : ℕ → Scheme) (c : ℕ) (h : Items) (sent : List Sending) (t : H
 
   -- ---- all moves
 
+  module _ (d : ClientDisk) (agenda : List ClientTask) (table : ℕ) (row : List ℕ) (p : Runs g c h sent d t agenda) where
+    idle_law : (content : Content) (agenda : List ClientTask) → Runs g c h sent d t agenda → (o : TableDisk) → table_at (seen d) table ≡ Some o
+        → ClientLaw g c h sent t (Write table row content) (write_idle o.schema.scheme c shape d agenda table row o content)
+    idle_law content (task ∷ more) p o is = quiet_law (Write table row content) d (Some (task ∷ more)) _ tt p
+    idle_law content [] p o is = free_law d p table row o content (in_disk d p table (Some o) is) (slots_at o row).conflict refl
+
+    fit_law : (content : Content) (o : TableDisk) → table_at (seen d) table ≡ Some o → (fit : Result (Unit {0}) FitFault)
+        → ClientLaw g c h sent t (Write table row content) (write_fitting o.schema.scheme c shape d agenda table row o content fit)
+    fit_law content o is (Ok fits) = idle_law content agenda p o is
+    fit_law content o is (Err fault) = quiet_law (Write table row content) d (Some agenda) _ tt p
+
+    to_law : (content : Content) (m : Option TableDisk) → table_at (seen d) table ≡ m → ClientLaw g c h sent t (Write table row content) (write_to c shape d agenda table row content m)
+    to_law content None is = quiet_law (Write table row content) d (Some agenda) _ tt p
+    to_law content (Some o) is = fit_law content o is (fit_of o.schema content)
+
+    -- an edit that is refused, or the write of what it makes
+
+    made_law : (edit : Edit) (o : TableDisk) → table_at (seen d) table ≡ Some o → (made : Result Content FitFault)
+        → ClientLaw g c h sent t (Change table row edit) (edit_made c shape d agenda table row o made)
+    made_law edit o is (Ok content) = let k = to_law content (Some o) is in record { answer = tt; facts = k.facts; sends = k.sends; part = k.part }
+    made_law edit o is (Err fault) = quiet_law (Change table row edit) d (Some agenda) _ tt p
+
+    shown_law : (edit : Edit) (o : TableDisk) → table_at (seen d) table ≡ Some o → (shown : Option Content)
+        → ClientLaw g c h sent t (Change table row edit) (edit_over c shape d agenda table row o edit shown)
+    shown_law edit o is None = quiet_law (Change table row edit) d (Some agenda) _ tt p
+    shown_law edit o is (Some Gone) = quiet_law (Change table row edit) d (Some agenda) _ tt p
+    shown_law edit o is (Some (Row some objects)) = made_law edit o is (edited_to o.schema some objects edit)
+
+    edits_law : (edit : Edit) (m : Option TableDisk) → table_at (seen d) table ≡ m → ClientLaw g c h sent t (Change table row edit) (edit_in c shape d agenda table row edit m)
+    edits_law edit None is = quiet_law (Change table row edit) d (Some agenda) _ tt p
+    edits_law edit (Some o) is =
+        let slots : Slots = slots_at o row in shown_law edit o is (option_map content_of (shown_in slots.main slots.conflict slots.shadow))
+
   write_law : (d : ClientDisk) (agenda : Option (List ClientTask)) (table : ℕ) (row : List ℕ) (content : Content) → IsAt g c h sent d t agenda
       → ClientLaw g c h sent t (Write table row content) (write_step c shape d agenda table row content)
   write_law d None table row content p = quiet_law (Write table row content) d None _ tt p
-  write_law d (Some agenda) table row content p = by_table (table_at (seen d) table) refl
-    where
-      idle_law : (agenda : List ClientTask) → Runs g c h sent d t agenda → (o : TableDisk) → table_at (seen d) table ≡ Some o
-          → ClientLaw g c h sent t (Write table row content) (write_idle o.schema.scheme c shape d agenda table row o content)
-      idle_law (task ∷ more) p o is = quiet_law (Write table row content) d (Some (task ∷ more)) _ tt p
-      idle_law [] p o is = free_law d p table row o content (in_disk d p table (Some o) is) (slots_at o row).conflict refl
+  write_law d (Some agenda) table row content p = to_law d agenda table row p content (table_at (seen d) table) refl
 
-      fit_law : (o : TableDisk) → table_at (seen d) table ≡ Some o → (fit : Result (Unit {0}) FitFault)
-          → ClientLaw g c h sent t (Write table row content) (write_fitting o.schema.scheme c shape d agenda table row o content fit)
-      fit_law o is (Ok fits) = idle_law agenda p o is
-      fit_law o is (Err fault) = quiet_law (Write table row content) d (Some agenda) _ tt p
-
-      by_table : (m : Option TableDisk) → table_at (seen d) table ≡ m → ClientLaw g c h sent t (Write table row content) (write_to c shape d agenda table row content m)
-      by_table None is = quiet_law (Write table row content) d (Some agenda) _ tt p
-      by_table (Some o) is = fit_law o is (fit_of o.schema content)
+  edit_law : (d : ClientDisk) (agenda : Option (List ClientTask)) (table : ℕ) (row : List ℕ) (edit : Edit) → IsAt g c h sent d t agenda
+      → ClientLaw g c h sent t (Change table row edit) (edit_step c shape d agenda table row edit)
+  edit_law d None table row edit p = quiet_law (Change table row edit) d None _ tt p
+  edit_law d (Some agenda) table row edit p = edits_law d agenda table row p edit (table_at (seen d) table) refl
 
   show_law : (d : ClientDisk) (agenda : Option (List ClientTask)) (table : ℕ) (row : List ℕ) → IsAt g c h sent d t agenda
       → ClientLaw g c h sent t (Show table row) (show_step d agenda table row)
@@ -412,11 +448,11 @@ module _ (g : ℕ → Scheme) (c : ℕ) (h : Items) (sent : List Sending) (t : H
       by_table (task ∷ more) p (Some o) is = quiet_law (Sync table) d (Some (task ∷ more)) _ tt p
       by_table [] p (Some o) is = sync_first_law d p table o (in_disk d p table (Some o) is) (first_to_send o.rows) refl
 
-  next_law : (d : ClientDisk) (agenda : Option (List ClientTask)) (table : ℕ) → IsAt g c h sent d t agenda → ClientLaw g c h sent t (Next table) (next_step c d agenda table)
+  next_law : (d : ClientDisk) (agenda : Option (List ClientTask)) (table : ℕ) → IsAt g c h sent d t agenda → ClientLaw g c h sent t (Next table) (next_step c shape d agenda table)
   next_law d None table p = quiet_law (Next table) d None _ tt p
   next_law d (Some agenda) table p = by_table agenda p (table_at (seen d) table)
     where
-      by_table : (agenda : List ClientTask) → Runs g c h sent d t agenda → (m : Option TableDisk) → ClientLaw g c h sent t (Next table) (next_in c d agenda table m)
+      by_table : (agenda : List ClientTask) → Runs g c h sent d t agenda → (m : Option TableDisk) → ClientLaw g c h sent t (Next table) (next_in c shape d agenda table m)
       by_table agenda p None = quiet_law (Next table) d (Some agenda) _ tt p
       by_table (task ∷ more) p (Some o) = quiet_law (Next table) d (Some (task ∷ more)) _ tt p
       by_table [] p (Some o) = record { answer = tt; facts = tt; sends = ((refl, refl), tt); part = unsent_part d (Some []) p }
@@ -452,6 +488,7 @@ module _ (g : ℕ → Scheme) (c : ℕ) (h : Items) (sent : List Sending) (t : H
 
   client_laws : (s : Client) (move : ClientMove) → IsFair g c h sent move → ClientPart g c h sent t s → ClientLaw g c h sent t move (client_step c shape s move)
   client_laws s (Write table row content) f p = write_law s.disk s.agenda table row content p
+  client_laws s (Change table row edit) f p = edit_law s.disk s.agenda table row edit p
   client_laws s (Show table row) f p = show_law s.disk s.agenda table row p
   client_laws s (Sum table row) f p = sum_law s.disk s.agenda table row p
   client_laws s (Sync table) f p = sync_law s.disk s.agenda table p

@@ -92,11 +92,11 @@ module _ (g : ℕ → Scheme) (c : ℕ) (h : Items) where
       let rests : Rests g c h sent d t = rested_of sent d t (keeps steps ++ agenda) more in
       (shown_of sent d t (keeps steps ++ agenda) more, rests, rests, tt, tt, unsent_runs sent d t (keeps steps ++ agenda) more)
 
-  also_own : (sent : List Sending) (t : Heard) (fs : List Fact) → AreOwn g c h sent t fs → AreOwn g c h sent t (fs ++ facts.ClientRecovered c ∷ [])
+  pub also_own : (sent : List Sending) (t : Heard) (fs : List Fact) → AreOwn g c h sent t fs → AreOwn g c h sent t (fs ++ facts.ClientRecovered c ∷ [])
   also_own sent t [] k = (tt, tt)
   also_own sent t (f ∷ fs) k = (k.0, also_own sent (own t (saying f)) fs k.1)
 
-  own-also : (t : Heard) (fs : List Fact) → own_all t (fs ++ facts.ClientRecovered c ∷ []) ≡ own_all t fs
+  pub own-also : (t : Heard) (fs : List Fact) → own_all t (fs ++ facts.ClientRecovered c ∷ []) ≡ own_all t fs
   own-also t [] = refl
   own-also t (f ∷ fs) = own-also (own t (saying f)) fs
 

@@ -1,6 +1,6 @@
 -- Each event but a declaration has an answer, whatever its lucks are.
 use Rattle.std.proofs.Common.{◌≡◌, ℕ, Bool, true, false, List, [], ◌∷◌, Option, Some, None, refl}
-use Rattle.std.specs.Prelude.{is_some, slice_get, if◌then◌else◌}
+use Rattle.std.specs.Prelude.{◌&&◌, is_some, slice_get, if◌then◌else◌}
 use Rattle.stab_base.specs.declared.node.Node.{Node}
 use Rattle.stab_base.specs.declared.node.Node.TheVariants as nodes
 use Rattle.table_model.specs.declared.event.Event.{Event}
@@ -11,9 +11,11 @@ use Rattle.step_tables.specs.Messages as messages
 use Rattle.step_tables.specs.StoreMoves as store
 use Rattle.step_tables.specs.StoreMoves.{StoreMove, StoreTask}
 use Rattle.step_tables.specs.ClientMoves as client
-use Rattle.step_tables.specs.ClientMoves.{Client, ClientMove}
+use Rattle.step_tables.specs.ClientMoves.{Client, ClientMove, Shape, is_cut_off}
 use Rattle.world_tables.specs.World.{World, Packet, Hosted, Moved, WorldStep, hosted_at, client_at, the_store, is_down, refused, unless_down, call_there, take_read, take_at, to_hosted, to_there, carried}
 use Rattle.world_tables.specs.World.{delivered, row_read, store_shows, chunk_names, history_lines, worked, all_worked, crashed, started, first_luck, other_lucks, answering, still, store_starts, client_starts, step}
+use Rattle.world_tables.specs.World.{Lucks, is_cut, unless_cut, calls, linked}
+use Rattle.world_tables.specs.World as world
 
 abbrev IsAnswered : WorldStep → Type 0
 IsAnswered s = is_some s.answer ≡ true
@@ -25,13 +27,26 @@ up_answered w node s k = go (is_down w node)
     go true = refl
     go false = k
 
-call_answered : (w : World) (c : ℕ) (move : ClientMove) (lucks : List Luck) (o : Option Client) → IsAnswered (call_there w c move client.no_shape lucks o)
-call_answered w c move lucks None = refl
-call_answered w c move lucks (Some node) = up_answered w (nodes.Client c) _ refl
+call_answered : (w : World) (c : ℕ) (move : ClientMove) (shape : Shape) (lucks : List Luck) (o : Option Client) → IsAnswered (call_there w c move shape lucks o)
+call_answered w c move shape lucks None = refl
+call_answered w c move shape lucks (Some node) = up_answered w (nodes.Client c) _ (reads (first_luck lucks))
+  where
+    by_link : (cut : Bool) → IsAnswered (unless_cut w cut (calls w c move shape (other_lucks lucks) node))
+    by_link true = refl
+    by_link false = refl
 
-to_there_answered : (w : World) (c : ℕ) (m : Message) (lucks : List Luck) (o : Option Client) → IsAnswered (to_there w c m lucks o)
-to_there_answered w c m lucks None = refl
-to_there_answered w c m lucks (Some node) = call_answered w c (client.Take m) lucks (Some node)
+    reads : (luck : Luck) → IsAnswered (world.reads w c luck (unless_cut w (is_cut w c && is_cut_off c shape node move) (calls w c move shape (other_lucks lucks) node)))
+    reads messages.Done = by_link (is_cut w c && is_cut_off c shape node move)
+    reads messages.FailedBefore = refl
+    reads messages.FailedAfter = refl
+
+to_there_answered : (w : World) (c : ℕ) (m : Message) (shape : Shape) (lucks : List Luck) (o : Option Client) → IsAnswered (to_there w c m shape lucks o)
+to_there_answered w c m shape lucks None = refl
+to_there_answered w c m shape lucks (Some node) = call_answered w c (client.Take m) shape lucks (Some node)
+
+linked_answered : (w : World) (c : ℕ) (up : Bool) (o : Option Client) → IsAnswered (linked w c up o)
+linked_answered w c up None = refl
+linked_answered w c up (Some node) = up_answered w (nodes.Client c) _ refl
 
 read_answered : (w : World) (table : ℕ) (hosted : Hosted) (move : StoreMove) (lucks : List Luck) (luck : Luck) → IsAnswered (take_read w table hosted move lucks luck)
 read_answered w table hosted move lucks messages.Done = refl
@@ -47,15 +62,15 @@ to_hosted_answered w table move lucks (Some hosted) = go hosted.store.agenda
     go (Some []) = read_answered w table hosted move (other_lucks lucks) (first_luck lucks)
     go (Some (task ∷ tasks)) = refl
 
-carried_answered : (w : World) (packet : Packet) (lucks : List Luck) (to : Node) → IsAnswered (carried w packet lucks to)
-carried_answered w packet lucks (nodes.Store number) =
+carried_answered : (w : World) (packet : Packet) (shape : Shape) (lucks : List Luck) (to : Node) → IsAnswered (carried w packet shape lucks to)
+carried_answered w packet shape lucks (nodes.Store number) =
     up_answered w (nodes.Store number) _ (to_hosted_answered w (table_of packet.message) (store.Take packet.from packet.message) lucks (hosted_at w (table_of packet.message)))
-carried_answered w packet lucks (nodes.Client c) = to_there_answered w c packet.message lucks (client_at w c)
-carried_answered w packet lucks (nodes.Gate gate) = refl
+carried_answered w packet shape lucks (nodes.Client c) = to_there_answered w c packet.message shape lucks (client_at w c)
+carried_answered w packet shape lucks (nodes.Gate gate) = refl
 
-delivered_answered : (w : World) (lucks : List Luck) (o : Option Packet) → IsAnswered (delivered w lucks o)
-delivered_answered w lucks None = refl
-delivered_answered w lucks (Some packet) = carried_answered w packet lucks packet.to
+delivered_answered : (w : World) (shape : Shape) (lucks : List Luck) (o : Option Packet) → IsAnswered (delivered w shape lucks o)
+delivered_answered w shape lucks None = refl
+delivered_answered w shape lucks (Some packet) = carried_answered w packet shape lucks packet.to
 
 row_answered : (w : World) (hosted : Hosted) (row : List ℕ) (luck : Luck) → IsAnswered (row_read w hosted row luck)
 row_answered w hosted row messages.Done = refl
@@ -89,17 +104,17 @@ crashed_answered w calls lucks (nodes.Store number) = refl
 crashed_answered w calls lucks (nodes.Gate gate) = refl
 crashed_answered w calls lucks (nodes.Client c) = refl
 
-started_answered : (w : World) (lucks : List Luck) (node : Node) → IsAnswered (started w lucks node)
-started_answered w lucks node = at node
+started_answered : (w : World) (shape : Shape) (lucks : List Luck) (node : Node) → IsAnswered (started w shape lucks node)
+started_answered w shape lucks node = at node
   where
     up : (b : Bool) (m : Moved) → IsAnswered (if b then answering facts.Done m else answering facts.Done (still w))
     up true m = refl
     up false m = refl
 
-    at : (n : Node) → IsAnswered (started w lucks n)
+    at : (n : Node) → IsAnswered (started w shape lucks n)
     at (nodes.Store number) = up (is_down w (nodes.Store number)) (store_starts number lucks w)
     at (nodes.Gate gate) = refl
-    at (nodes.Client c) = up (is_down w (nodes.Client c)) (client_starts c lucks w)
+    at (nodes.Client c) = up (is_down w (nodes.Client c)) (client_starts c shape lucks w)
 
 abbrev pub is_declaration : Event → Bool
 is_declaration (events.Store number) = true
@@ -107,22 +122,24 @@ is_declaration (events.Table table schema) = true
 is_declaration (events.Client c gate tables) = true
 is_declaration other = false
 
-pub step_answered : (w : World) (event : Event) (lucks : List Luck) → is_declaration event ≡ false → IsAnswered (step w event lucks)
+pub step_answered : (w : World) (event : Event) (lucks : Lucks) → is_declaration event ≡ false → IsAnswered (step w event lucks)
 step_answered w (events.Store number) lucks e = absurd cc
 step_answered w (events.Table table schema) lucks e = absurd cc
 step_answered w (events.Client c gate tables) lucks e = absurd cc
-step_answered w (events.Write c table row content) lucks e = call_answered w c (client.Write table row content) lucks (client_at w c)
-step_answered w (events.Show c table row) lucks e = call_answered w c (client.Show table row) lucks (client_at w c)
-step_answered w (events.Sum c table row) lucks e = call_answered w c (client.Sum table row) lucks (client_at w c)
-step_answered w (events.Sync c table) lucks e = call_answered w c (client.Sync table) lucks (client_at w c)
-step_answered w (events.Pull c table) lucks e = call_answered w c (client.Next table) lucks (client_at w c)
-step_answered w (events.Deliver packet) lucks e = delivered_answered w lucks (slice_get w.packets packet)
-step_answered w (events.StoreShow table row) lucks e = shows_answered w row lucks (hosted_at w table)
+step_answered w (events.Write c table row content) lucks e = call_answered w c (client.Write table row content) lucks.shape lucks.calls (client_at w c)
+step_answered w (events.Edit c table row edit) lucks e = call_answered w c (client.Change table row edit) lucks.shape lucks.calls (client_at w c)
+step_answered w (events.Link c up) lucks e = linked_answered w c up (client_at w c)
+step_answered w (events.Show c table row) lucks e = call_answered w c (client.Show table row) lucks.shape lucks.calls (client_at w c)
+step_answered w (events.Sum c table row) lucks e = call_answered w c (client.Sum table row) lucks.shape lucks.calls (client_at w c)
+step_answered w (events.Sync c table) lucks e = call_answered w c (client.Sync table) lucks.shape lucks.calls (client_at w c)
+step_answered w (events.Pull c table) lucks e = call_answered w c (client.Next table) lucks.shape lucks.calls (client_at w c)
+step_answered w (events.Deliver packet) lucks e = delivered_answered w lucks.shape lucks.calls (slice_get w.packets packet)
+step_answered w (events.StoreShow table row) lucks e = shows_answered w row lucks.calls (hosted_at w table)
 step_answered w (events.History table) lucks e = history_answered w table (hosted_at w table)
 step_answered w (events.Chunks table) lucks e = names_answered w table (hosted_at w table)
 step_answered w (events.Hold node) lucks e = up_answered w node _ refl
 step_answered w (events.Free node) lucks e = up_answered w node _ refl
-step_answered w (events.Work node) lucks e = up_answered w node (worked w lucks node) (worked_answered w lucks node)
-step_answered w (events.WorkAll node) lucks e = up_answered w node (all_worked w lucks node) (all_worked_answered w lucks node)
-step_answered w (events.Crash node calls pick) lucks e = up_answered w node (crashed w calls lucks node) (crashed_answered w calls lucks node)
-step_answered w (events.Start node) lucks e = started_answered w lucks node
+step_answered w (events.Work node) lucks e = up_answered w node (worked w lucks.calls node) (worked_answered w lucks.calls node)
+step_answered w (events.WorkAll node) lucks e = up_answered w node (all_worked w lucks.calls node) (all_worked_answered w lucks.calls node)
+step_answered w (events.Crash node calls pick) lucks e = up_answered w node (crashed w calls lucks.calls node) (crashed_answered w calls lucks.calls node)
+step_answered w (events.Start node) lucks e = started_answered w lucks.shape lucks.calls node

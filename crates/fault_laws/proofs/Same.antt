@@ -1,6 +1,6 @@
 -- Where nothing failed, all lucks that were used were Done: so it is what it is without lucks.
 use Rattle.std.proofs.Common.{◌≡◌, ℕ, zero, suc, Bool, true, false, List, [], ◌∷◌, ◌++◌, length, Option, Some, None, refl, sym, ◌∙◌, ap}
-use Rattle.std.specs.Prelude.{◌||◌, drop, slice_get, if◌then◌else◌}
+use Rattle.std.specs.Prelude.{◌&&◌, ◌||◌, drop, slice_get, if◌then◌else◌}
 use Rattle.stab_base.specs.declared.node.Node.{Node}
 use Rattle.stab_base.specs.declared.node.Node.TheVariants as nodes
 use Rattle.table_model.specs.declared.event.Event.{Event}
@@ -12,13 +12,15 @@ use Rattle.step_tables.specs.Messages as messages
 use Rattle.step_tables.specs.StoreMoves as store
 use Rattle.step_tables.specs.StoreMoves.{StoreMove, StoreTask}
 use Rattle.step_tables.specs.ClientMoves as client
-use Rattle.step_tables.specs.ClientMoves.{Client, ClientTask, ClientMove, client_step}
+use Rattle.step_tables.specs.ClientMoves.{Client, ClientTask, ClientMove, Shape, client_step, is_cut_off}
 use Rattle.world_tables.specs.World.{World, Packet, Hosted, Moved, WorldStep, hosted_at, client_at, owner, the_store, tables_of, has_node, is_down, still, and_then, and_unless, is_fault}
 use Rattle.world_tables.specs.World.{move_hosted, move_table, move_there, move_client, after_client, tasks_in, first_luck, other_lucks, client_works, client_tasks, client_until_idle, client_follows, client_writes, client_starts, tables_fall, without_down, store_falls}
 use Rattle.world_tables.specs.World.{or_falls, is_at_work, busy_table, write_next, store_works, tasks_of, store_until_idle, store_follows, table_follows, table_starts, tables_start, store_starts}
 use Rattle.world_tables.specs.World.{luck_of, crash_luck, table_crashes, client_crashes, answering, refused, silent, unless_down, gets_tasks, client_follows_from, call_there, take_read, take_at, to_hosted}
 use Rattle.world_tables.specs.World.{to_there, carried, delivered, row_read, store_shows, crashed, started, worked, all_worked, declared, made_with, table_step, step}
-use Rattle.world_tables.specs.Faults.{is_failure, fails_new, fails_cut, fails_write, fails_crash, is_fault_answer, is_device_fault, quiet_lucks}
+use Rattle.world_tables.specs.World.{Lucks, starts_by, is_cut, unless_cut, calls, joined}
+use Rattle.world_tables.specs.World as world
+use Rattle.world_tables.specs.Faults.{is_failure, fails_new, fails_joined, fails_cut, fails_write, fails_crash, is_fault_answer, is_device_fault, quiet_lucks}
 
 both_false : (a b : Bool) → a || b ≡ false → (a ≡ false) × (b ≡ false)
 both_false true b e = absurd cc
@@ -88,10 +90,15 @@ client_writes_same : (c : ℕ) (luck : Luck) (tasks : List ClientTask) (w : Worl
 client_writes_same c luck [] w e = refl
 client_writes_same c luck (task ∷ tasks) w e = client_write_same c luck w e
 
-client_starts_same : (c : ℕ) (lucks : List Luck) (w : World) → (client_starts c lucks w).failed ≡ false → client_starts c lucks w ≡ client_starts c [] w
-client_starts_same c lucks w e =
-    then_same (move_client c client.Start client.no_shape w) (move_client c client.Start client.no_shape w) (client_follows c lucks) (client_follows c []) e (λ is. refl)
-    (λ x. client_follows_same c lucks x)
+client_starts_same : (c : ℕ) (shape : Shape) (lucks : List Luck) (w : World) → (client_starts c shape lucks w).failed ≡ false → client_starts c shape lucks w ≡ client_starts c shape [] w
+client_starts_same c shape lucks w e = go (first_luck lucks) (other_lucks lucks) e
+  where
+    go : (luck : Luck) (more : List Luck) → (starts_by c shape luck more w).failed ≡ false → starts_by c shape luck more w ≡ starts_by c shape messages.Done [] w
+    go messages.Done more e =
+        then_same (move_client c client.Start shape w) (move_client c client.Start shape w) (client_follows c more) (client_follows c []) e (λ is. refl)
+        (λ x. client_follows_same c more x)
+    go messages.FailedBefore more e = absurd cc
+    go messages.FailedAfter more e = absurd cc
 
 follows_from_same : (agenda : Option (List ClientTask)) (c : ℕ) (lucks : List Luck) (w : World) → (client_follows_from agenda c lucks w).failed ≡ false
     → client_follows_from agenda c lucks w ≡ client_follows_from agenda c [] w
@@ -101,20 +108,36 @@ follows_from_same agenda c lucks w e = go (gets_tasks agenda w c) e
     go true e = client_follows_same c lucks w e
     go false e = refl
 
-call_there_same : (w : World) (c : ℕ) (move : ClientMove) (lucks : List Luck) (o : Option Client) → is_fault_answer (call_there w c move client.no_shape lucks o).answer ≡ false
-    → call_there w c move client.no_shape lucks o ≡ call_there w c move client.no_shape [] o
-call_there_same w c move lucks None e = refl
-call_there_same w c move lucks (Some node) e =
-    up_same w (nodes.Client c) (answering (client_step c client.no_shape node move).answer (and_then (move_client c move client.no_shape w) (client_follows_from node.agenda c lucks)))
-    (answering (client_step c client.no_shape node move).answer (and_then (move_client c move client.no_shape w) (client_follows_from node.agenda c []))) e
-    (λ k. answering_same (client_step c client.no_shape node move).answer (and_then (move_client c move client.no_shape w) (client_follows_from node.agenda c lucks))
-    (and_then (move_client c move client.no_shape w) (client_follows_from node.agenda c [])) k
-    (λ none. then_same (move_client c move client.no_shape w) (move_client c move client.no_shape w) (client_follows_from node.agenda c lucks) (client_follows_from node.agenda c []) none (λ is. refl)
-    (λ x. follows_from_same node.agenda c lucks x)))
+call_there_same : (w : World) (c : ℕ) (move : ClientMove) (shape : Shape) (lucks : List Luck) (o : Option Client) → is_fault_answer (call_there w c move shape lucks o).answer ≡ false
+    → call_there w c move shape lucks o ≡ call_there w c move shape [] o
+call_there_same w c move shape lucks None e = refl
+call_there_same w c move shape lucks (Some node) e =
+    up_same w (nodes.Client c) (read (first_luck lucks) (other_lucks lucks)) (read messages.Done []) e (λ k. reads_same (first_luck lucks) (other_lucks lucks) k)
+  where
+    cut : Bool
+    cut = is_cut w c && is_cut_off c shape node move
 
-to_there_same : (w : World) (c : ℕ) (m : Message) (lucks : List Luck) (o : Option Client) → is_fault_answer (to_there w c m lucks o).answer ≡ false → to_there w c m lucks o ≡ to_there w c m [] o
-to_there_same w c m lucks None e = refl
-to_there_same w c m lucks (Some node) e = call_there_same w c (client.Take m) lucks (Some node) e
+    read : Luck → List Luck → WorldStep
+    read luck more = world.reads w c luck (unless_cut w cut (calls w c move shape more node))
+
+    by_link : (b : Bool) (more : List Luck) → is_fault_answer (unless_cut w b (calls w c move shape more node)).answer ≡ false
+        → unless_cut w b (calls w c move shape more node) ≡ unless_cut w b (calls w c move shape [] node)
+    by_link true more k = refl
+    by_link false more k =
+        answering_same (client_step c shape node move).answer (and_then (move_client c move shape w) (client_follows_from node.agenda c more))
+        (and_then (move_client c move shape w) (client_follows_from node.agenda c [])) k
+        (λ none. then_same (move_client c move shape w) (move_client c move shape w) (client_follows_from node.agenda c more) (client_follows_from node.agenda c []) none (λ is. refl)
+        (λ x. follows_from_same node.agenda c more x))
+
+    reads_same : (luck : Luck) (more : List Luck) → is_fault_answer (read luck more).answer ≡ false → read luck more ≡ read messages.Done []
+    reads_same messages.Done more k = by_link cut more k
+    reads_same messages.FailedBefore more k = absurd cc
+    reads_same messages.FailedAfter more k = absurd cc
+
+to_there_same : (w : World) (c : ℕ) (m : Message) (shape : Shape) (lucks : List Luck) (o : Option Client) → is_fault_answer (to_there w c m shape lucks o).answer ≡ false
+    → to_there w c m shape lucks o ≡ to_there w c m shape [] o
+to_there_same w c m shape lucks None e = refl
+to_there_same w c m shape lucks (Some node) e = call_there_same w c (client.Take m) shape lucks (Some node) e
 
 -- ---- the work of a Store
 
@@ -231,17 +254,18 @@ to_hosted_same w table move lucks (Some hosted) e = go hosted.store.agenda e
     go (Some []) e = take_read_same w table hosted move (other_lucks lucks) (first_luck lucks) e
     go (Some (task ∷ tasks)) e = refl
 
-carried_same : (w : World) (packet : Packet) (lucks : List Luck) (to : Node) → is_fault_answer (carried w packet lucks to).answer ≡ false → carried w packet lucks to ≡ carried w packet [] to
-carried_same w packet lucks (nodes.Store number) e =
+carried_same : (w : World) (packet : Packet) (shape : Shape) (lucks : List Luck) (to : Node) → is_fault_answer (carried w packet shape lucks to).answer ≡ false
+    → carried w packet shape lucks to ≡ carried w packet shape [] to
+carried_same w packet shape lucks (nodes.Store number) e =
     up_same w (nodes.Store number) (to_hosted w (table_of packet.message) (store.Take packet.from packet.message) lucks (hosted_at w (table_of packet.message)))
     (to_hosted w (table_of packet.message) (store.Take packet.from packet.message) [] (hosted_at w (table_of packet.message))) e
     (λ k. to_hosted_same w (table_of packet.message) (store.Take packet.from packet.message) lucks (hosted_at w (table_of packet.message)) k)
-carried_same w packet lucks (nodes.Client c) e = to_there_same w c packet.message lucks (client_at w c) e
-carried_same w packet lucks (nodes.Gate gate) e = refl
+carried_same w packet shape lucks (nodes.Client c) e = to_there_same w c packet.message shape lucks (client_at w c) e
+carried_same w packet shape lucks (nodes.Gate gate) e = refl
 
-delivered_same : (w : World) (lucks : List Luck) (o : Option Packet) → is_fault_answer (delivered w lucks o).answer ≡ false → delivered w lucks o ≡ delivered w [] o
-delivered_same w lucks None e = refl
-delivered_same w lucks (Some packet) e = carried_same w packet lucks packet.to e
+delivered_same : (w : World) (shape : Shape) (lucks : List Luck) (o : Option Packet) → is_fault_answer (delivered w shape lucks o).answer ≡ false → delivered w shape lucks o ≡ delivered w shape [] o
+delivered_same w shape lucks None e = refl
+delivered_same w shape lucks (Some packet) e = carried_same w packet shape lucks packet.to e
 
 -- ---- rows
 
@@ -278,12 +302,12 @@ started_or_up_same : (b : Bool) (w : World) (m n : Moved) → (m.failed ≡ fals
 started_or_up_same true w m n same e = answering_same facts.Done m n e same
 started_or_up_same false w m n same e = refl
 
-started_same : (w : World) (lucks : List Luck) (node : Node) → is_fault_answer (started w lucks node).answer ≡ false → started w lucks node ≡ started w [] node
-started_same w lucks (nodes.Store number) e =
+started_same : (w : World) (shape : Shape) (lucks : List Luck) (node : Node) → is_fault_answer (started w shape lucks node).answer ≡ false → started w shape lucks node ≡ started w shape [] node
+started_same w shape lucks (nodes.Store number) e =
     started_or_up_same (is_down w (nodes.Store number)) w (store_starts number lucks w) (store_starts number [] w) (store_starts_same number lucks w) e
-started_same w lucks (nodes.Gate gate) e = refl
-started_same w lucks (nodes.Client c) e =
-    started_or_up_same (is_down w (nodes.Client c)) w (client_starts c lucks w) (client_starts c [] w) (client_starts_same c lucks w) e
+started_same w shape lucks (nodes.Gate gate) e = refl
+started_same w shape lucks (nodes.Client c) e =
+    started_or_up_same (is_down w (nodes.Client c)) w (client_starts c shape lucks w) (client_starts c shape [] w) (client_starts_same c shape lucks w) e
 
 -- ---- declarations and crashes
 
@@ -335,37 +359,43 @@ crashed_same w calls lucks (nodes.Client c) e = ap (answering facts.Done) (clien
 abbrev crashed_at : World → Node → ℕ → List Luck → Bool → WorldStep
 crashed_at w node calls some b = if b then refused w (facts.NodeDown node) else crashed w calls some node
 
-crash_same : (w : World) (node : Node) (calls pick : ℕ) (lucks : List Luck) → is_device_fault w (events.Crash node calls pick) lucks ≡ false
+crash_same : (w : World) (node : Node) (calls pick : ℕ) (lucks : Lucks) → is_device_fault w (events.Crash node calls pick) lucks ≡ false
     → step w (events.Crash node calls pick) lucks ≡ step w (events.Crash node calls pick) (quiet_lucks (events.Crash node calls pick) lucks)
 crash_same w node calls pick lucks e = go (is_down w node) e
   where
-    go : (b : Bool) → (if b then false else fails_crash w lucks node) ≡ false
-        → crashed_at w node calls lucks b ≡ crashed_at w node calls (quiet_lucks (events.Crash node calls pick) lucks) b
+    go : (b : Bool) → (if b then false else fails_crash w lucks.calls node) ≡ false
+        → crashed_at w node calls lucks.calls b ≡ crashed_at w node calls (messages.Done ∷ first_luck (other_lucks lucks.calls) ∷ []) b
     go true e = refl
-    go false e = crashed_same w calls lucks node e
+    go false e = crashed_same w calls lucks.calls node e
 
 -- ---- a step
 
-pub step_same : (w : World) (event : Event) (lucks : List Luck) → is_device_fault w event lucks ≡ false → step w event lucks ≡ step w event (quiet_lucks event lucks)
+pub step_same : (w : World) (event : Event) (lucks : Lucks) → is_device_fault w event lucks ≡ false → step w event lucks ≡ step w event (quiet_lucks event lucks)
 step_same w (events.Store number) lucks e = refl
 step_same w (events.Table table schema) lucks e = go (hosted_at w table) e
   where
-    go : (o : Option Hosted) → fails_new o lucks ≡ false → silent (declared w table schema (first_luck lucks) o) ≡ silent (declared w table schema messages.Done o)
-    go None e = ap (λ (luck : Luck). silent (made_with w table schema luck)) (done_alone (first_luck lucks) e)
+    go : (o : Option Hosted) → fails_new o lucks.calls ≡ false → silent (declared w table schema (first_luck lucks.calls) o) ≡ silent (declared w table schema messages.Done o)
+    go None e = ap (λ (luck : Luck). silent (made_with w table schema luck)) (done_alone (first_luck lucks.calls) e)
     go (Some hosted) e = refl
-step_same w (events.Client c gate tables) lucks e = refl
-step_same w (events.Write c table row content) lucks e = call_there_same w c (client.Write table row content) lucks (client_at w c) e
-step_same w (events.Show c table row) lucks e = call_there_same w c (client.Show table row) lucks (client_at w c) e
-step_same w (events.Sum c table row) lucks e = call_there_same w c (client.Sum table row) lucks (client_at w c) e
-step_same w (events.Sync c table) lucks e = call_there_same w c (client.Sync table) lucks (client_at w c) e
-step_same w (events.Pull c table) lucks e = call_there_same w c (client.Next table) lucks (client_at w c) e
-step_same w (events.Deliver packet) lucks e = delivered_same w lucks (slice_get w.packets packet) e
-step_same w (events.StoreShow table row) lucks e = store_shows_same w row lucks (hosted_at w table) e
+step_same w (events.Client c gate tables) lucks e = go (client_at w c) e
+  where
+    go : (o : Option Client) → fails_joined o lucks.calls ≡ false → silent (joined w c tables (first_luck lucks.calls) o) ≡ silent (joined w c tables messages.Done o)
+    go None e = ap (λ (luck : Luck). silent (joined w c tables luck None)) (done_alone (first_luck lucks.calls) e)
+    go (Some node) e = refl
+step_same w (events.Write c table row content) lucks e = call_there_same w c (client.Write table row content) lucks.shape lucks.calls (client_at w c) e
+step_same w (events.Edit c table row edit) lucks e = call_there_same w c (client.Change table row edit) lucks.shape lucks.calls (client_at w c) e
+step_same w (events.Show c table row) lucks e = call_there_same w c (client.Show table row) lucks.shape lucks.calls (client_at w c) e
+step_same w (events.Sum c table row) lucks e = call_there_same w c (client.Sum table row) lucks.shape lucks.calls (client_at w c) e
+step_same w (events.Sync c table) lucks e = call_there_same w c (client.Sync table) lucks.shape lucks.calls (client_at w c) e
+step_same w (events.Pull c table) lucks e = call_there_same w c (client.Next table) lucks.shape lucks.calls (client_at w c) e
+step_same w (events.Link c up) lucks e = refl
+step_same w (events.Deliver packet) lucks e = delivered_same w lucks.shape lucks.calls (slice_get w.packets packet) e
+step_same w (events.StoreShow table row) lucks e = store_shows_same w row lucks.calls (hosted_at w table) e
 step_same w (events.History table) lucks e = refl
 step_same w (events.Chunks table) lucks e = refl
 step_same w (events.Hold node) lucks e = refl
 step_same w (events.Free node) lucks e = refl
-step_same w (events.Work node) lucks e = up_same w node (worked w lucks node) (worked w [] node) e (λ k. worked_same w lucks node k)
-step_same w (events.WorkAll node) lucks e = up_same w node (all_worked w lucks node) (all_worked w [] node) e (λ k. all_worked_same w lucks node k)
+step_same w (events.Work node) lucks e = up_same w node (worked w lucks.calls node) (worked w [] node) e (λ k. worked_same w lucks.calls node k)
+step_same w (events.WorkAll node) lucks e = up_same w node (all_worked w lucks.calls node) (all_worked w [] node) e (λ k. all_worked_same w lucks.calls node k)
 step_same w (events.Crash node calls pick) lucks e = crash_same w node calls pick lucks e
-step_same w (events.Start node) lucks e = started_same w lucks node e
+step_same w (events.Start node) lucks e = started_same w lucks.shape lucks.calls node e

@@ -1,9 +1,10 @@
 -- Where every device call is done, no move fails, and no answer is a device fault.
 use Rattle.std.proofs.Common.{◌≡◌, ℕ, zero, suc, Bool, true, false, List, [], ◌∷◌, length, Option, Some, None, refl, ◌∙◌, ap, arith}
-use Rattle.std.specs.Prelude.{◌||◌, drop, slice_get, if◌then◌else◌}
+use Rattle.std.specs.Prelude.{◌&&◌, ◌||◌, drop, slice_get, if◌then◌else◌}
 use Rattle.std.proofs.lemmas.Bool.Decides.{nat_tests}
 use Rattle.stab_base.specs.declared.chunk_name.ChunkName.{ChunkName}
 use Rattle.row_value.specs.declared.content.Content.{Content}
+use Rattle.row_edits.specs.declared.change.Edit.{Edit}
 use Rattle.stab_base.specs.declared.node.Node.{Node}
 use Rattle.stab_base.specs.declared.node.Node.TheVariants as nodes
 use Rattle.table_model.specs.declared.event.Event.{Event}
@@ -17,14 +18,15 @@ use Rattle.step_tables.specs.Messages as messages
 use Rattle.step_tables.specs.StoreMoves as store
 use Rattle.step_tables.specs.StoreMoves.{StoreMove, StoreTask, StoreDisk}
 use Rattle.step_tables.specs.ClientMoves as client
-use Rattle.step_tables.specs.ClientMoves.{Client, ClientDisk, ClientTask, ClientMove, client_step}
+use Rattle.step_tables.specs.ClientMoves.{Client, ClientDisk, ClientTask, ClientMove, Shape, client_step, is_cut_off}
 use Rattle.world_tables.specs.World.{World, Packet, Hosted, Moved, WorldStep, hosted_at, client_at, owner, the_store, tables_of, has_node, is_down, still, and_then, and_unless, is_fault, failing}
 use Rattle.world_tables.specs.World.{move_hosted, move_table, move_there, move_client, client_works, client_tasks, client_until_idle, client_follows, client_writes, client_starts, tables_fall, without_down, store_falls, table_falls}
 use Rattle.world_tables.specs.World.{or_falls, is_at_work, busy_table, write_next, store_works, tasks_of, store_until_idle, store_follows, table_follows, table_starts, tables_start, store_starts}
 use Rattle.world_tables.specs.World.{start_hosted, after_table, declared_late, answering, refused, unless_down, gets_tasks, client_follows_from, call_there, call, take_read, take_at}
 use Rattle.world_tables.specs.World.{to_hosted, row_shown}
 use Rattle.world_tables.specs.World.{to_there, carried, delivered, row_read, store_shows, started, worked, all_worked, table_step, step, schema_at, chunk_names, history_lines}
-use Rattle.world_tables.specs.Faults.{fails_new, fails_cut, fails_write, fails_crash, is_fault_answer, is_device_fault, quiet_lucks}
+use Rattle.world_tables.specs.World.{Lucks, is_cut, unless_cut, calls, linked}
+use Rattle.world_tables.specs.Faults.{fails_new, fails_joined, fails_cut, fails_write, fails_crash, is_fault_answer, is_device_fault, quiet_calls, quiet_lucks}
 use Rattle.world_tables.specs.World as moves
 
 abbrev IsWell : Moved → Type 0
@@ -53,8 +55,13 @@ up_fine w node s fine = go (is_down w node)
 
 -- ---- a client's answers
 
-write_fine : (c : ℕ) (d : ClientDisk) (agenda : Option (List ClientTask)) (table : ℕ) (row : List ℕ) (content : Content) → is_fault (client.write_step c client.no_shape d agenda table row content).answer ≡ false
-write_fine c d agenda table row content = grind (arith, nat_tests)
+write_fine : (c : ℕ) (shape : Shape) (d : ClientDisk) (agenda : Option (List ClientTask)) (table : ℕ) (row : List ℕ) (content : Content)
+    → is_fault (client.write_step c shape d agenda table row content).answer ≡ false
+write_fine c shape d agenda table row content = grind (arith, nat_tests)
+
+edit_fine : (c : ℕ) (shape : Shape) (d : ClientDisk) (agenda : Option (List ClientTask)) (table : ℕ) (row : List ℕ) (edit : Edit)
+    → is_fault (client.edit_step c shape d agenda table row edit).answer ≡ false
+edit_fine c shape d agenda table row edit = grind (arith, nat_tests)
 
 show_fine : (d : ClientDisk) (agenda : Option (List ClientTask)) (table : ℕ) (row : List ℕ) → is_fault (client.show_step d agenda table row).answer ≡ false
 show_fine d agenda table row = grind (arith, nat_tests)
@@ -73,14 +80,14 @@ digests_fine (facts.Did did) e = e
 digests_fine (facts.Names names) e = e
 digests_fine (facts.Refuses refusal) e = e
 
-sync_fine : (c : ℕ) (d : ClientDisk) (agenda : Option (List ClientTask)) (table : ℕ) → is_fault (client.sync_step c client.no_shape d agenda table).answer ≡ false
-sync_fine c d agenda table = grind (arith, nat_tests)
+sync_fine : (c : ℕ) (shape : Shape) (d : ClientDisk) (agenda : Option (List ClientTask)) (table : ℕ) → is_fault (client.sync_step c shape d agenda table).answer ≡ false
+sync_fine c shape d agenda table = grind (arith, nat_tests)
 
-next_fine : (c : ℕ) (d : ClientDisk) (agenda : Option (List ClientTask)) (table : ℕ) → is_fault (client.next_step c d agenda table).answer ≡ false
-next_fine c d agenda table = grind (arith, nat_tests)
+next_fine : (c : ℕ) (shape : Shape) (d : ClientDisk) (agenda : Option (List ClientTask)) (table : ℕ) → is_fault (client.next_step c shape d agenda table).answer ≡ false
+next_fine c shape d agenda table = grind (arith, nat_tests)
 
-pub take_fine : (c : ℕ) (d : ClientDisk) (agenda : Option (List ClientTask)) (m : Message) → is_fault (client.take_step c client.no_shape d agenda m).answer ≡ false
-take_fine c d agenda m = grind (arith, nat_tests)
+pub take_fine : (c : ℕ) (shape : Shape) (d : ClientDisk) (agenda : Option (List ClientTask)) (m : Message) → is_fault (client.take_step c shape d agenda m).answer ≡ false
+take_fine c shape d agenda m = grind (arith, nat_tests)
 
 client_done_fine : (d : ClientDisk) (agenda : Option (List ClientTask)) → is_fault (client.done d agenda).answer ≡ false
 client_done_fine d None = refl
@@ -89,17 +96,17 @@ client_done_fine d (Some (task ∷ tasks)) = refl
 
 -- ---- a client's moves
 
-client_move_well : (c : ℕ) (move : ClientMove) (w : World) → ((node : Client) → is_fault (client_step c client.no_shape node move).answer ≡ false) → IsWell (move_client c move client.no_shape w)
-client_move_well c move w fine = go (client_at w c)
+client_move_well : (c : ℕ) (move : ClientMove) (shape : Shape) (w : World) → ((node : Client) → is_fault (client_step c shape node move).answer ≡ false) → IsWell (move_client c move shape w)
+client_move_well c move shape w fine = go (client_at w c)
   where
-    go : (o : Option Client) → IsWell (move_there w c move client.no_shape o)
+    go : (o : Option Client) → IsWell (move_there w c move shape o)
     go None = refl
     go (Some node) = fine node
 
 client_works_well : (c : ℕ) (tasks : List ClientTask) (w : World) → IsWell (client_works c tasks [] w)
 client_works_well c [] w = refl
 client_works_well c (task ∷ tasks) w =
-    then_well (move_client c (client.Work messages.Done) client.no_shape w) (client_works c tasks []) (client_move_well c (client.Work messages.Done) w (λ node. client_done_fine node.disk node.agenda))
+    then_well (move_client c (client.Work messages.Done) client.no_shape w) (client_works c tasks []) (client_move_well c (client.Work messages.Done) client.no_shape w (λ node. client_done_fine node.disk node.agenda))
     (client_works_well c tasks)
 
 client_follows_well : (c : ℕ) (w : World) → IsWell (client_follows c [] w)
@@ -111,15 +118,15 @@ client_follows_well c w = go (has_node w.holds (nodes.Client c))
 
 client_writes_well : (c : ℕ) (tasks : List ClientTask) (w : World) → IsWell (client_writes c messages.Done tasks w)
 client_writes_well c [] w = refl
-client_writes_well c (task ∷ tasks) w = client_move_well c (client.Work messages.Done) w (λ node. client_done_fine node.disk node.agenda)
+client_writes_well c (task ∷ tasks) w = client_move_well c (client.Work messages.Done) client.no_shape w (λ node. client_done_fine node.disk node.agenda)
 
-client_start_fine : (c : ℕ) (d : ClientDisk) (agenda : Option (List ClientTask)) → is_fault (client.started c client.no_shape d agenda).answer ≡ false
-client_start_fine c d None = refl
-client_start_fine c d (Some tasks) = refl
+client_start_fine : (c : ℕ) (shape : Shape) (d : ClientDisk) (agenda : Option (List ClientTask)) → is_fault (client.started c shape d agenda).answer ≡ false
+client_start_fine c shape d None = refl
+client_start_fine c shape d (Some tasks) = refl
 
-client_starts_well : (c : ℕ) (w : World) → IsWell (client_starts c [] w)
-client_starts_well c w =
-    then_well (move_client c client.Start client.no_shape w) (client_follows c []) (client_move_well c client.Start w (λ node. client_start_fine c node.disk node.agenda)) (client_follows_well c)
+client_starts_well : (c : ℕ) (shape : Shape) (w : World) → IsWell (client_starts c shape [] w)
+client_starts_well c shape w =
+    then_well (move_client c client.Start shape w) (client_follows c []) (client_move_well c client.Start shape w (λ node. client_start_fine c shape node.disk node.agenda)) (client_follows_well c)
 
 follows_from_well : (agenda : Option (List ClientTask)) (c : ℕ) (w : World) → IsWell (client_follows_from agenda c [] w)
 follows_from_well agenda c w = go (gets_tasks agenda w c)
@@ -128,19 +135,23 @@ follows_from_well agenda c w = go (gets_tasks agenda w c)
     go true = client_follows_well c w
     go false = refl
 
-call_there_fine : (w : World) (c : ℕ) (move : ClientMove) (o : Option Client) → ((node : Client) → is_fault (client_step c client.no_shape node move).answer ≡ false) → IsFine (call_there w c move client.no_shape [] o)
-call_there_fine w c move None fine = refl
-call_there_fine w c move (Some node) fine =
-    up_fine w (nodes.Client c) (answering (client_step c client.no_shape node move).answer (and_then (move_client c move client.no_shape w) (client_follows_from node.agenda c [])))
-    (answering_fine (client_step c client.no_shape node move).answer (and_then (move_client c move client.no_shape w) (client_follows_from node.agenda c [])) (fine node)
-    (then_well (move_client c move client.no_shape w) (client_follows_from node.agenda c []) (client_move_well c move w fine) (follows_from_well node.agenda c)))
+call_there_fine : (w : World) (c : ℕ) (move : ClientMove) (shape : Shape) (o : Option Client) → ((node : Client) → is_fault (client_step c shape node move).answer ≡ false)
+    → IsFine (call_there w c move shape [] o)
+call_there_fine w c move shape None fine = refl
+call_there_fine w c move shape (Some node) fine = up_fine w (nodes.Client c) _ (by_link (is_cut w c && is_cut_off c shape node move))
+  where
+    by_link : (cut : Bool) → IsFine (unless_cut w cut (calls w c move shape [] node))
+    by_link true = refl
+    by_link false =
+        answering_fine (client_step c shape node move).answer (and_then (move_client c move shape w) (client_follows_from node.agenda c [])) (fine node)
+        (then_well (move_client c move shape w) (client_follows_from node.agenda c []) (client_move_well c move shape w fine) (follows_from_well node.agenda c))
 
-pub call_fine : (w : World) (c : ℕ) (move : ClientMove) → ((node : Client) → is_fault (client_step c client.no_shape node move).answer ≡ false) → IsFine (call w c move client.no_shape [])
-call_fine w c move fine = call_there_fine w c move (client_at w c) fine
+pub call_fine : (w : World) (c : ℕ) (move : ClientMove) (shape : Shape) → ((node : Client) → is_fault (client_step c shape node move).answer ≡ false) → IsFine (call w c move shape [])
+call_fine w c move shape fine = call_there_fine w c move shape (client_at w c) fine
 
-pub to_there_fine : (w : World) (c : ℕ) (m : Message) (o : Option Client) → IsFine (to_there w c m [] o)
-to_there_fine w c m None = refl
-to_there_fine w c m (Some node) = call_there_fine w c (client.Take m) (Some node) (λ it. take_fine c it.disk it.agenda m)
+pub to_there_fine : (w : World) (c : ℕ) (m : Message) (shape : Shape) (o : Option Client) → IsFine (to_there w c m shape [] o)
+to_there_fine w c m shape None = refl
+to_there_fine w c m shape (Some node) = call_there_fine w c (client.Take m) shape (Some node) (λ it. take_fine c shape it.disk it.agenda m)
 
 -- ---- a table's moves
 
@@ -249,16 +260,16 @@ to_hosted_fine w table from m (Some hosted) = go hosted.store.agenda
         (then_well (move_table table (store.Take from m) w) (table_follows table []) (table_take_well table from m w) (table_follows_well table))
     go (Some (task ∷ tasks)) = answering_fine a (move_table table (store.Take from m) w) (taken_fine w table hosted from m) (table_take_well table from m w)
 
-carried_fine : (w : World) (packet : Packet) (to : Node) → IsFine (carried w packet [] to)
-carried_fine w packet (nodes.Store number) =
+carried_fine : (w : World) (packet : Packet) (shape : Shape) (to : Node) → IsFine (carried w packet shape [] to)
+carried_fine w packet shape (nodes.Store number) =
     up_fine w (nodes.Store number) (to_hosted w (table_of packet.message) (store.Take packet.from packet.message) [] (hosted_at w (table_of packet.message)))
     (to_hosted_fine w (table_of packet.message) packet.from packet.message (hosted_at w (table_of packet.message)))
-carried_fine w packet (nodes.Client c) = to_there_fine w c packet.message (client_at w c)
-carried_fine w packet (nodes.Gate gate) = refl
+carried_fine w packet shape (nodes.Client c) = to_there_fine w c packet.message shape (client_at w c)
+carried_fine w packet shape (nodes.Gate gate) = refl
 
-delivered_fine : (w : World) (o : Option Packet) → IsFine (delivered w [] o)
-delivered_fine w None = refl
-delivered_fine w (Some packet) = carried_fine w packet packet.to
+delivered_fine : (w : World) (shape : Shape) (o : Option Packet) → IsFine (delivered w shape [] o)
+delivered_fine w shape None = refl
+delivered_fine w shape (Some packet) = carried_fine w packet shape packet.to
 
 shown_fine : (o : Option Stored) → is_fault (row_shown o) ≡ false
 shown_fine None = refl
@@ -274,21 +285,31 @@ names_fine (name ∷ names) = refl
 
 -- ---- a step
 
-pub fine_step : (w : World) (event : Event) (lucks : List Luck) → is_device_fault w event (quiet_lucks event lucks) ≡ false
+pub fine_step : (w : World) (event : Event) (lucks : Lucks) → is_device_fault w event (quiet_lucks event lucks) ≡ false
 fine_step w (events.Store number) lucks = refl
 fine_step w (events.Table table schema) lucks = go (hosted_at w table)
   where
     go : (o : Option Hosted) → fails_new o [] ≡ false
     go None = refl
     go (Some hosted) = refl
-fine_step w (events.Client c gate tables) lucks = refl
-fine_step w (events.Write c table row content) lucks = call_fine w c (client.Write table row content) (λ node. write_fine c node.disk node.agenda table row content)
-fine_step w (events.Show c table row) lucks = call_fine w c (client.Show table row) (λ node. show_fine node.disk node.agenda table row)
+fine_step w (events.Client c gate tables) lucks = go (client_at w c)
+  where
+    go : (o : Option Client) → fails_joined o [] ≡ false
+    go None = refl
+    go (Some node) = refl
+fine_step w (events.Write c table row content) lucks = call_fine w c (client.Write table row content) lucks.shape (λ node. write_fine c lucks.shape node.disk node.agenda table row content)
+fine_step w (events.Edit c table row edit) lucks = call_fine w c (client.Change table row edit) lucks.shape (λ node. edit_fine c lucks.shape node.disk node.agenda table row edit)
+fine_step w (events.Show c table row) lucks = call_fine w c (client.Show table row) lucks.shape (λ node. show_fine node.disk node.agenda table row)
 fine_step w (events.Sum c table row) lucks =
-    call_fine w c (client.Sum table row) (λ node. digests_fine (client.show_step node.disk node.agenda table row).answer (show_fine node.disk node.agenda table row))
-fine_step w (events.Sync c table) lucks = call_fine w c (client.Sync table) (λ node. sync_fine c node.disk node.agenda table)
-fine_step w (events.Pull c table) lucks = call_fine w c (client.Next table) (λ node. next_fine c node.disk node.agenda table)
-fine_step w (events.Deliver packet) lucks = delivered_fine w (slice_get w.packets packet)
+    call_fine w c (client.Sum table row) lucks.shape (λ node. digests_fine (client.show_step node.disk node.agenda table row).answer (show_fine node.disk node.agenda table row))
+fine_step w (events.Sync c table) lucks = call_fine w c (client.Sync table) lucks.shape (λ node. sync_fine c lucks.shape node.disk node.agenda table)
+fine_step w (events.Pull c table) lucks = call_fine w c (client.Next table) lucks.shape (λ node. next_fine c lucks.shape node.disk node.agenda table)
+fine_step w (events.Link c up) lucks = go (client_at w c)
+  where
+    go : (o : Option Client) → IsFine (linked w c up o)
+    go None = refl
+    go (Some node) = up_fine w (nodes.Client c) _ refl
+fine_step w (events.Deliver packet) lucks = delivered_fine w lucks.shape (slice_get w.packets packet)
 fine_step w (events.StoreShow table row) lucks = store_shows_fine w row (hosted_at w table)
 fine_step w (events.History table) lucks = go (hosted_at w table)
   where
@@ -316,20 +337,20 @@ fine_step w (events.WorkAll node) lucks = up_fine w node (all_worked w [] node) 
     go (nodes.Client c) = answering_fine _ (client_until_idle c [] w) refl (client_works_well c (client_tasks (client_at w c)) w)
 fine_step w (events.Crash node calls pick) lucks = go (is_down w node)
   where
-    there : (n : Node) → fails_crash w (quiet_lucks (events.Crash node calls pick) lucks) n ≡ false
+    there : (n : Node) → fails_crash w (quiet_calls (events.Crash node calls pick) lucks.calls) n ≡ false
     there (nodes.Store number) = cut (busy_table w number)
       where
-        cut : (busy : Option ℕ) → fails_cut busy (quiet_lucks (events.Crash node calls pick) lucks) ≡ false
+        cut : (busy : Option ℕ) → fails_cut busy (quiet_calls (events.Crash node calls pick) lucks.calls) ≡ false
         cut None = refl
         cut (Some table) = refl
     there (nodes.Gate gate) = refl
     there (nodes.Client c) = write (client_tasks (client_at w c))
       where
-        write : (tasks : List ClientTask) → fails_write tasks (quiet_lucks (events.Crash node calls pick) lucks) ≡ false
+        write : (tasks : List ClientTask) → fails_write tasks (quiet_calls (events.Crash node calls pick) lucks.calls) ≡ false
         write [] = refl
         write (task ∷ tasks) = refl
 
-    go : (b : Bool) → (if b then false else fails_crash w (quiet_lucks (events.Crash node calls pick) lucks) node) ≡ false
+    go : (b : Bool) → (if b then false else fails_crash w (quiet_calls (events.Crash node calls pick) lucks.calls) node) ≡ false
     go true = refl
     go false = there node
 fine_step w (events.Start node) lucks = go node
@@ -338,7 +359,7 @@ fine_step w (events.Start node) lucks = go node
     up true m well = answering_fine facts.Done m refl well
     up false m well = refl
 
-    go : (n : Node) → IsFine (started w [] n)
+    go : (n : Node) → IsFine (started w lucks.shape [] n)
     go (nodes.Store number) = up (is_down w (nodes.Store number)) (store_starts number [] w) (store_starts_well number w)
     go (nodes.Gate gate) = refl
-    go (nodes.Client c) = up (is_down w (nodes.Client c)) (client_starts c [] w) (client_starts_well c w)
+    go (nodes.Client c) = up (is_down w (nodes.Client c)) (client_starts c lucks.shape [] w) (client_starts_well c lucks.shape w)

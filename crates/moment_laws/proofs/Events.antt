@@ -1,6 +1,6 @@
 -- What is kept of every table along the moves of each event.
 use Rattle.std.proofs.Common.{◌≡◌, ⊎_elim, ℕ, Bool, true, false, List, [], ◌∷◌, length, Option, Some, None, refl, sym, ◌∙◌, subst}
-use Rattle.std.specs.Prelude.{not, slice_get, if◌then◌else◌}
+use Rattle.std.specs.Prelude.{◌&&◌, not, slice_get, if◌then◌else◌}
 use Rattle.stab_base.specs.declared.node.Node.{Node}
 use Rattle.stab_base.specs.declared.node.Node.TheVariants as nodes
 use Rattle.row_value.specs.declared.schema.Schema.{Schema}
@@ -12,13 +12,15 @@ use Rattle.step_tables.specs.Messages as messages
 use Rattle.step_tables.specs.StoreMoves as store
 use Rattle.step_tables.specs.StoreMoves.{StoreTask, StoreMove, StoreStep}
 use Rattle.step_tables.specs.ClientMoves as client
-use Rattle.step_tables.specs.ClientMoves.{Client, ClientTask, ClientMove, Shape}
+use Rattle.step_tables.specs.ClientMoves.{Client, ClientTask, ClientMove, Shape, is_cut_off}
 use Rattle.world_tables.specs.World.{World, Packet, Hosted, WorldStep, owner, the_store, hosted_at, client_at, tables_of, has_node, is_down, still}
 use Rattle.world_tables.specs.World.{table_step, move_table, move_there, move_client, first_luck, other_lucks, client_works, client_tasks, client_until_idle, client_follows, client_writes, client_starts, store_falls, busy_table, tasks_of}
 use Rattle.world_tables.specs.World.{crash_luck, declared_late, store_starts}
 use Rattle.world_tables.specs.World.{answering, answered, refused, unless_down, agenda_of, with_table, declared, joined, gets_tasks}
 use Rattle.world_tables.specs.World.{call_there, take_read, take_at, to_hosted, to_there, carried, delivered, row_read, store_shows, chunk_names, history_lines, worked, all_worked, crashed}
 use Rattle.world_tables.specs.World.{started, step}
+use Rattle.world_tables.specs.World.{Lucks, starts_by, client_falls, is_cut, with_link, unless_cut, calls, linked}
+use Rattle.world_tables.specs.World as world
 use Rattle.world_tables.specs.Passed.{taken_by, taken_from, taken_part, started_at, first_part}
 use Rattle.world_laws.proofs.Looks.{look_cases}
 use Rattle.moment_laws.proofs.Along as along
@@ -75,7 +77,7 @@ module _ (P : ℕ → Hosted → Type 0)
 
   call_all : (w : World) (c : ℕ) (move : ClientMove) (shape : Shape) (lucks : List Luck) → All P w → (o : Option Client) → All P (call_there w c move shape lucks o).world
   call_all w c move shape lucks all None = all
-  call_all w c move shape lucks all (Some node) = unless_down_all w (nodes.Client c) _ all (go (gets_tasks node.agenda v c))
+  call_all w c move shape lucks all (Some node) = unless_down_all w (nodes.Client c) _ all (reads (first_luck lucks))
     where
       v : World
       v = (move_client c move shape w).world
@@ -83,9 +85,21 @@ module _ (P : ℕ → Hosted → Type 0)
       first : All P v
       first = client_all w c move shape all
 
-      go : (b : Bool) → All P (if b then client_follows c lucks v else still v).world
-      go true = client_follows_all c lucks v first
-      go false = first
+      follows : (b : Bool) → All P (if b then client_follows c (other_lucks lucks) v else still v).world
+      follows true = client_follows_all c (other_lucks lucks) v first
+      follows false = first
+
+      by_link : (cut : Bool) → All P (unless_cut w cut (calls w c move shape (other_lucks lucks) node)).world
+      by_link true = all
+      by_link false = follows (gets_tasks node.agenda v c)
+
+      fallen : All P (client_falls c w).world
+      fallen = client_all w c (client.Crash messages.FailedBefore) client.no_shape all
+
+      reads : (luck : Luck) → All P (world.reads w c luck (unless_cut w (is_cut w c && is_cut_off c shape node move) (calls w c move shape (other_lucks lucks) node))).world
+      reads messages.Done = by_link (is_cut w c && is_cut_off c shape node move)
+      reads messages.FailedBefore = fallen
+      reads messages.FailedAfter = fallen
 
   -- ---- messages
 
@@ -103,19 +117,19 @@ module _ (P : ℕ → Hosted → Type 0)
       go (Some (task ∷ more)) = first
       go (Some []) = reads (first_luck lucks)
 
-  carried_all : (w : World) (p : Packet) (lucks : List Luck) → All P w → (to : Node) → All P (taken_by w p to) → All P (carried w p lucks to).world
-  carried_all w p lucks all (nodes.Store number) first =
+  carried_all : (w : World) (p : Packet) (shape : Shape) (lucks : List Luck) → All P w → (to : Node) → All P (taken_by w p to) → All P (carried w p shape lucks to).world
+  carried_all w p shape lucks all (nodes.Store number) first =
       unless_down_all w (nodes.Store number) _ all (hosted_all w (table_of p.message) (store.Take p.from p.message) lucks all first (hosted_at w (table_of p.message)))
-  carried_all w p lucks all (nodes.Gate gate) first = all
-  carried_all w p lucks all (nodes.Client c) first = go (client_at w c)
+  carried_all w p shape lucks all (nodes.Gate gate) first = all
+  carried_all w p shape lucks all (nodes.Client c) first = go (client_at w c)
     where
-      go : (o : Option Client) → All P (to_there w c p.message lucks o).world
+      go : (o : Option Client) → All P (to_there w c p.message shape lucks o).world
       go None = all
-      go (Some node) = call_all w c (client.Take p.message) client.no_shape lucks all (Some node)
+      go (Some node) = call_all w c (client.Take p.message) shape lucks all (Some node)
 
-  delivered_all : (w : World) (lucks : List Luck) → All P w → (o : Option Packet) → All P (taken_from w o) → All P (delivered w lucks o).world
-  delivered_all w lucks all None first = all
-  delivered_all w lucks all (Some p) first = carried_all w p lucks all p.to first
+  delivered_all : (w : World) (shape : Shape) (lucks : List Luck) → All P w → (o : Option Packet) → All P (taken_from w o) → All P (delivered w shape lucks o).world
+  delivered_all w shape lucks all None first = all
+  delivered_all w shape lucks all (Some p) first = carried_all w p shape lucks all p.to first
 
   -- ---- questions and declarations
 
@@ -148,9 +162,17 @@ module _ (P : ℕ → Hosted → Type 0)
   declared_all w table schema messages.FailedBefore all f None at = falls (with_table w table schema false false) (with_all w table schema false false all (f table at).1)
   declared_all w table schema messages.FailedAfter all f None at = falls (with_table w table schema false false) (with_all w table schema false false all (f table at).1)
 
-  joined_all : (w : World) (c : ℕ) (tables : List ℕ) → All P w → (o : Option Client) → All P (joined w c tables o)
-  joined_all w c tables all None = all
-  joined_all w c tables all (Some node) = all
+  joined_all : (w : World) (c : ℕ) (tables : List ℕ) (luck : Luck) → All P w → (o : Option Client) → All P (joined w c tables luck o)
+  joined_all w c tables luck all None = all
+  joined_all w c tables luck all (Some node) = all
+
+  linked_all : (w : World) (c : ℕ) (up : Bool) → All P w → (o : Option Client) → All P (linked w c up o).world
+  linked_all w c up all None = all
+  linked_all w c up all (Some node) = unless_down_all w (nodes.Client c) _ all (moved up)
+    where
+      moved : (b : Bool) → All P (with_link c b w)
+      moved true = all
+      moved false = all
 
   -- ---- what is done to a node
 
@@ -169,47 +191,54 @@ module _ (P : ℕ → Hosted → Type 0)
   crashed_all w calls lucks all (nodes.Client c) = client_all w c (client.Crash (crash_luck calls (other_lucks lucks) (first_luck lucks))) client.no_shape all
   crashed_all w calls lucks all (nodes.Gate gate) = all
 
-  started_all : (w : World) (lucks : List Luck) → All P w → (node : Node) → All P (started w lucks node).world
-  started_all w lucks all (nodes.Store number) = go (is_down w (nodes.Store number))
+  started_all : (w : World) (shape : Shape) (lucks : List Luck) → All P w → (node : Node) → All P (started w shape lucks node).world
+  started_all w shape lucks all (nodes.Store number) = go (is_down w (nodes.Store number))
     where
       go : (b : Bool) → All P (if b then answering facts.Done (store_starts number lucks w) else answered w facts.Done).world
       go true = along.starts_all P works crashes starts late number lucks w all
       go false = all
-  started_all w lucks all (nodes.Client c) = go (is_down w (nodes.Client c))
+  started_all w shape lucks all (nodes.Client c) = go (is_down w (nodes.Client c))
     where
-      go : (b : Bool) → All P (if b then answering facts.Done (client_starts c lucks w) else answered w facts.Done).world
-      go true = client_follows_all c lucks (move_client c client.Start client.no_shape w).world (client_all w c client.Start client.no_shape all)
+      started_by : (luck : Luck) (more : List Luck) → All P (starts_by c shape luck more w).world
+      started_by messages.Done more = client_follows_all c more (move_client c client.Start shape w).world (client_all w c client.Start shape all)
+      started_by messages.FailedBefore more = all
+      started_by messages.FailedAfter more = all
+
+      go : (b : Bool) → All P (if b then answering facts.Done (client_starts c shape lucks w) else answered w facts.Done).world
+      go true = started_by (first_luck lucks) (other_lucks lucks)
       go false = all
-  started_all w lucks all (nodes.Gate gate) = all
+  started_all w shape lucks all (nodes.Gate gate) = all
 
   -- ---- an event
 
-  pub step_all : (w : World) (event : Event) (lucks : List Luck) → All P w → All P (taken_part w event) → Fresh P w → All P (step w event lucks).world
+  pub step_all : (w : World) (event : Event) (lucks : Lucks) → All P w → All P (taken_part w event) → Fresh P w → All P (step w event lucks).world
   step_all w (events.Store number) lucks all first f = all
-  step_all w (events.Table table schema) lucks all first f = declared_all w table schema (first_luck lucks) all f (hosted_at w table) refl
-  step_all w (events.Client c gate tables) lucks all first f = joined_all w c tables all (client_at w c)
-  step_all w (events.Write c table row x) lucks all first f = call_all w c (client.Write table row x) client.no_shape lucks all (client_at w c)
-  step_all w (events.Show c table row) lucks all first f = call_all w c (client.Show table row) client.no_shape lucks all (client_at w c)
-  step_all w (events.Sum c table row) lucks all first f = call_all w c (client.Sum table row) client.no_shape lucks all (client_at w c)
-  step_all w (events.Sync c table) lucks all first f = call_all w c (client.Sync table) client.no_shape lucks all (client_at w c)
-  step_all w (events.Pull c table) lucks all first f = call_all w c (client.Next table) client.no_shape lucks all (client_at w c)
-  step_all w (events.Deliver n) lucks all first f = delivered_all w lucks all (slice_get w.packets n) first
-  step_all w (events.StoreShow table row) lucks all first f = shows_all w row lucks all (hosted_at w table)
+  step_all w (events.Table table schema) lucks all first f = declared_all w table schema (first_luck lucks.calls) all f (hosted_at w table) refl
+  step_all w (events.Client c gate tables) lucks all first f = joined_all w c tables (first_luck lucks.calls) all (client_at w c)
+  step_all w (events.Write c table row x) lucks all first f = call_all w c (client.Write table row x) lucks.shape lucks.calls all (client_at w c)
+  step_all w (events.Edit c table row x) lucks all first f = call_all w c (client.Change table row x) lucks.shape lucks.calls all (client_at w c)
+  step_all w (events.Link c up) lucks all first f = linked_all w c up all (client_at w c)
+  step_all w (events.Show c table row) lucks all first f = call_all w c (client.Show table row) lucks.shape lucks.calls all (client_at w c)
+  step_all w (events.Sum c table row) lucks all first f = call_all w c (client.Sum table row) lucks.shape lucks.calls all (client_at w c)
+  step_all w (events.Sync c table) lucks all first f = call_all w c (client.Sync table) lucks.shape lucks.calls all (client_at w c)
+  step_all w (events.Pull c table) lucks all first f = call_all w c (client.Next table) lucks.shape lucks.calls all (client_at w c)
+  step_all w (events.Deliver n) lucks all first f = delivered_all w lucks.shape lucks.calls all (slice_get w.packets n) first
+  step_all w (events.StoreShow table row) lucks all first f = shows_all w row lucks.calls all (hosted_at w table)
   step_all w (events.History table) lucks all first f = history_all w table all (hosted_at w table)
   step_all w (events.Chunks table) lucks all first f = chunks_all w table all (hosted_at w table)
   step_all w (events.Hold node) lucks all first f = unless_down_all w node _ all all
   step_all w (events.Free node) lucks all first f = unless_down_all w node _ all all
-  step_all w (events.Work node) lucks all first f = unless_down_all w node _ all (worked_all w lucks all node)
-  step_all w (events.WorkAll node) lucks all first f = unless_down_all w node _ all (all_worked_all w lucks all node)
-  step_all w (events.Crash node calls pick) lucks all first f = unless_down_all w node _ all (crashed_all w calls lucks all node)
-  step_all w (events.Start node) lucks all first f = started_all w lucks all node
+  step_all w (events.Work node) lucks all first f = unless_down_all w node _ all (worked_all w lucks.calls all node)
+  step_all w (events.WorkAll node) lucks all first f = unless_down_all w node _ all (all_worked_all w lucks.calls all node)
+  step_all w (events.Crash node calls pick) lucks all first f = unless_down_all w node _ all (crashed_all w calls lucks.calls all node)
+  step_all w (events.Start node) lucks all first f = started_all w lucks.shape lucks.calls all node
 
   started_at_all : (w : World) (lucks : List Luck) (node : Node) → All P w → All P (started_at w lucks node)
   started_at_all w lucks (nodes.Store number) all = along.tables_start_all P works crashes starts late (tables_of w number) lucks w all
   started_at_all w lucks (nodes.Client c) all = all
   started_at_all w lucks (nodes.Gate gate) all = all
 
-  pub first_all : (w : World) (event : Event) (lucks : List Luck) → All P w → All P (taken_part w event) → All P (first_part w event lucks)
+  pub first_all : (w : World) (event : Event) (lucks : Lucks) → All P w → All P (taken_part w event) → All P (first_part w event lucks)
   first_all w (events.Deliver n) lucks all first = first
-  first_all w (events.Start node) lucks all first = started_at_all w lucks node all
+  first_all w (events.Start node) lucks all first = started_at_all w lucks.calls node all
   first_all w other lucks all first = all

@@ -282,7 +282,7 @@ module _ (g : Scheme) (size table : ℕ) (h : List Entry) (d : StoreDisk) (made 
 
   pub taken : (a : Option (List StoreTask)) (from : Node) (m : Message) → IsKept h d a made → Takes h d a made (store.taken g size table d a from m)
   taken None from m k = stays None (facts.Refuses facts.Down) k
-  taken (Some (task ∷ more)) from m k = stays (Some (task ∷ more)) (facts.Refuses facts.Busy) k
+  taken (Some (task ∷ more)) from m k = stays (Some (task ∷ more)) (facts.Refuses (facts.Busy (store.version_at d task.change))) k
   taken (Some []) from (SyncRequest request) k = decided from request (store.yours_in d.items request.client request.row) k
   taken (Some []) from (PullRequest pull) k = sends _ k
   taken (Some []) from (SyncResponse response) k = stays (Some []) facts.Done k

@@ -11,7 +11,7 @@ use Rattle.step_tables.specs.Messages.{Luck, Message, table_of}
 use Rattle.step_tables.specs.Store.{Stored}
 use Rattle.step_tables.specs.StoreMoves as store
 use Rattle.world_tables.specs.Turns.{Happening, world_from}
-use Rattle.world_tables.specs.World.{World, Packet, Hosted, start, owner, schema_at, scheme_in, chunk_in, hosted_at, table_step, move_table, declared_late, step}
+use Rattle.world_tables.specs.World.{Lucks, World, Packet, Hosted, start, owner, schema_at, scheme_in, chunk_in, hosted_at, table_step, move_table, declared_late, step}
 use Rattle.world_tables.specs.Passed.{items_behind, entries_of, IsBetween, taken_by, taken_from, taken_part, first_part}
 use Rattle.moment_laws.proofs.Kept.{IsKeptTable, Near, IsWithinTable}
 use Rattle.moment_laws.proofs.Landing.{near_here}
@@ -65,7 +65,7 @@ kept_taken : (w : World) (event : Event) → All KeptAt w → All KeptAt (taken_
 kept_taken w (events.Deliver n) all = kept_taken_from w (slice_get w.packets n) all
 kept_taken w other all = all
 
-kept_step : (w : World) (event : Event) (lucks : List Luck) → All KeptAt w → All KeptAt (step w event lucks).world
+kept_step : (w : World) (event : Event) (lucks : Lucks) → All KeptAt w → All KeptAt (step w event lucks).world
 kept_step w event lucks all = step_all KeptAt kept_works kept_crashes kept_starts kept_late w event lucks all (kept_taken w event all) (kept_fresh w)
 
 kept_from : (run : List Happening) (w : World) → All KeptAt w → All KeptAt (world_from w run)
@@ -191,7 +191,7 @@ module _ (q : ℕ) (w : World) (x : Hosted) (there : hosted_at w q ≡ Some x) (
             to = inl ([], m.2 ∙ (ap (λ (i : Stored). x.history ++ i.entry ∷ []) same ∙ sym (append-nil (x.history ++ n.0.entry ∷ []))));
           }
 
-  module _ (event : Event) (lucks : List Luck) (after : Hosted) (is_after : hosted_at (step w event lucks).world q ≡ Some after) where
+  module _ (event : Event) (lucks : Lucks) (after : Hosted) (is_after : hosted_at (step w event lucks).world q ≡ Some after) where
     told_near : (l : IsLanding q w event x) → Near x.history l.item after.history
     told_near l = ((step_all (NearAt q x.history l.item) (near_works q x.history l.item) (near_crashes q x.history l.item) (near_starts q x.history l.item) (near_late q x.history l.item)
         w event lucks l.before l.behind (near_fresh q x.history l.item w x there) q after is_after).1 refl).told
@@ -206,11 +206,11 @@ module _ (q : ℕ) (w : World) (x : Hosted) (there : hosted_at w q ≡ Some x) (
         w event lucks l.before l.behind in
         between_of l.item after.history (items_behind middle k) (told_near l) (((first q middle at).1 refl).items k)
 
-pub rows_stay_before : (run : List Happening) (event : Event) (lucks : List Luck) (table k : ℕ) (before after : Hosted) → hosted_at (world_from start run) table ≡ Some before
+pub rows_stay_before : (run : List Happening) (event : Event) (lucks : Lucks) (table k : ℕ) (before after : Hosted) → hosted_at (world_from start run) table ≡ Some before
     → hosted_at (step (world_from start run) event lucks).world table ≡ Some after → IsBetween before.history after.history (items_behind before k)
 rows_stay_before run event lucks table k before after there is_after = stays_before table (world_from start run) before there (kept_run run) event lucks after is_after k
 
-pub rows_stay_between : (run : List Happening) (event : Event) (lucks : List Luck) (table k : ℕ) (before middle after : Hosted) → hosted_at (world_from start run) table ≡ Some before
+pub rows_stay_between : (run : List Happening) (event : Event) (lucks : Lucks) (table k : ℕ) (before middle after : Hosted) → hosted_at (world_from start run) table ≡ Some before
     → hosted_at (first_part (world_from start run) event lucks) table ≡ Some middle
     → hosted_at (step (world_from start run) event lucks).world table ≡ Some after → IsBetween before.history after.history (items_behind middle k)
 rows_stay_between run event lucks table k before middle after there at is_after = stays_between table (world_from start run) before there (kept_run run) event lucks after is_after middle at k

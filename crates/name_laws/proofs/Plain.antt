@@ -1,15 +1,18 @@
 -- No move tells that a packet was sent, and what moves send goes to clients, gateways and the one Store.
-use Rattle.std.proofs.Common.{◌≡◌, ℕ, Bool, true, false, List, [], ◌∷◌, ◌++◌, Option, Some, None, Result, Ok, Err, refl, subst, append-nil}
+use Rattle.std.proofs.Common.{◌≡◌, ℕ, Bool, true, false, List, [], ◌∷◌, ◌++◌, Option, Some, None, Result, Ok, Err, refl, sym, subst, append-nil}
 use Rattle.std.specs.Prelude.{map, if◌then◌else◌, ◌==◌, nat_le, nat_lt, option_map, option_to_list}
 use Rattle.stab_base.specs.declared.node.Node.{Node}
 use Rattle.stab_base.specs.declared.step.Step.{Step}
 use Rattle.stab_base.specs.declared.node.Node.TheVariants as nodes
 use Rattle.stab_base.specs.declared.chunk_name.ChunkName.{ChunkName}
 use Rattle.row_value.specs.declared.content.Content.{Content}
+use Rattle.row_value.specs.declared.content.Content.TheVariants.{Gone, Row}
 use Rattle.row_value.specs.declared.schema.Scheme.{Scheme}
 use Rattle.row_value.specs.declared.schema.Scheme.TheVariants.{Strong, Causal, Eventual}
 use Rattle.row_value.specs.declared.fit.FitFault.{FitFault}
 use Rattle.row_value.specs.Fit.{fit_of}
+use Rattle.row_edits.specs.declared.change.Edit.{Edit}
+use Rattle.row_edits.specs.Edit.{edited_to}
 use Rattle.step_tables.specs.declared.slots.InFlight.{InFlight}
 use Rattle.step_tables.specs.declared.slots.Shadow.{Shadow}
 use Rattle.step_tables.specs.Facts.{Fact, ClientFact, Answer}
@@ -124,6 +127,26 @@ module _ (c : ℕ) (shape : Shape) (d : ClientDisk) where
   write_plain None table row x p = quiet_plain d None _ tt
   write_plain (Some agenda) table row x p = write_to_plain agenda table row x (client.table_at (client.seen d) table) p
 
+  made_plain : (agenda : List ClientTask) (table : ℕ) (row : List ℕ) (opened : TableDisk) (made : Result Content FitFault) → ArePlainTasks agenda
+      → IsPlainStep (client.edit_made c shape d agenda table row opened made)
+  made_plain agenda table row opened (Ok x) p = write_to_plain agenda table row x (Some opened) p
+  made_plain agenda table row opened (Err fault) p = quiet_plain d (Some agenda) _ p
+
+  over_plain : (agenda : List ClientTask) (table : ℕ) (row : List ℕ) (opened : TableDisk) (edit : Edit) (shown : Option Content) → ArePlainTasks agenda
+      → IsPlainStep (client.edit_over c shape d agenda table row opened edit shown)
+  over_plain agenda table row opened edit None p = quiet_plain d (Some agenda) _ p
+  over_plain agenda table row opened edit (Some Gone) p = quiet_plain d (Some agenda) _ p
+  over_plain agenda table row opened edit (Some (Row some objects)) p = made_plain agenda table row opened (edited_to opened.schema some objects edit) p
+
+  edit_in_plain : (agenda : List ClientTask) (table : ℕ) (row : List ℕ) (edit : Edit) (o : Option TableDisk) → ArePlainTasks agenda → IsPlainStep (client.edit_in c shape d agenda table row edit o)
+  edit_in_plain agenda table row edit None p = quiet_plain d (Some agenda) _ p
+  edit_in_plain agenda table row edit (Some opened) p =
+      let slots : Slots = client.slots_at opened row in over_plain agenda table row opened edit (option_map client.content_of (client.shown_in slots.main slots.conflict slots.shadow)) p
+
+  edit_plain : (agenda : Option (List ClientTask)) (table : ℕ) (row : List ℕ) (edit : Edit) → IsPlainAgenda agenda → IsPlainStep (client.edit_step c shape d agenda table row edit)
+  edit_plain None table row edit p = quiet_plain d None _ tt
+  edit_plain (Some agenda) table row edit p = edit_in_plain agenda table row edit (client.table_at (client.seen d) table) p
+
   show_plain : (agenda : Option (List ClientTask)) (table : ℕ) (row : List ℕ) → IsPlainAgenda agenda → IsPlainStep (client.show_step d agenda table row)
   show_plain None table row p = quiet_plain d None _ tt
   show_plain (Some agenda) table row p = quiet_plain d (Some agenda) _ p
@@ -154,12 +177,12 @@ module _ (c : ℕ) (shape : Shape) (d : ClientDisk) where
   sync_plain None table p = quiet_plain d None _ tt
   sync_plain (Some agenda) table p = sync_in_plain agenda table (client.table_at (client.seen d) table) p
 
-  next_in_plain : (agenda : List ClientTask) (table : ℕ) (o : Option TableDisk) → ArePlainTasks agenda → IsPlainStep (client.next_in c d agenda table o)
+  next_in_plain : (agenda : List ClientTask) (table : ℕ) (o : Option TableDisk) → ArePlainTasks agenda → IsPlainStep (client.next_in c shape d agenda table o)
   next_in_plain agenda table None p = quiet_plain d (Some agenda) _ p
   next_in_plain (task ∷ more) table (Some opened) p = quiet_plain d (Some (task ∷ more)) _ p
   next_in_plain [] table (Some opened) p = idle_sends _ (refl, tt)
 
-  next_plain : (agenda : Option (List ClientTask)) (table : ℕ) → IsPlainAgenda agenda → IsPlainStep (client.next_step c d agenda table)
+  next_plain : (agenda : Option (List ClientTask)) (table : ℕ) → IsPlainAgenda agenda → IsPlainStep (client.next_step c shape d agenda table)
   next_plain None table p = quiet_plain d None _ tt
   next_plain (Some agenda) table p = next_in_plain agenda table (client.table_at (client.seen d) table) p
 
@@ -255,9 +278,13 @@ module _ (c : ℕ) (shape : Shape) (d : ClientDisk) where
   told_at_start_plain (Some row) None = (tt, tt)
   told_at_start_plain None None = tt
 
+  over_plain_facts : (some : List Fact) (tasks : List ClientTask) → ArePlainFacts some → ArePlainFacts (some ++ client.told_without (facts.ClientRecovered c ∷ []) tasks)
+  over_plain_facts some [] p = also_plain some p
+  over_plain_facts some (task ∷ more) p = subst (λ (fs : List Fact). ArePlainFacts fs) (sym (append-nil some)) p
+
   start_plain : (agenda : Option (List ClientTask)) → IsPlainAgenda agenda → IsPlainStep (client.started c shape d agenda)
   start_plain (Some agenda) p = quiet_plain d (Some agenda) _ p
-  start_plain None p = record { facts = told_at_start_plain shape.torn d.plan; sends = tt; agenda = ending_plain (client.opening shape d.plan) (opening_plain d.plan) }
+  start_plain None p = record { facts = over_plain_facts _ (client.opening shape d.plan) (told_at_start_plain shape.torn d.plan); sends = tt; agenda = ending_plain (client.opening shape d.plan) (opening_plain d.plan) }
 
 -- the moves that the world makes of a client: all but one that resolves a conflict
 abbrev pub IsWorldly : ClientMove → Type 0
@@ -266,6 +293,7 @@ IsWorldly other = Unit {0}
 
 pub client_plain : (c : ℕ) (shape : Shape) (s : Client) (move : ClientMove) → IsWorldly move → IsPlainAgenda s.agenda → IsPlainStep (client_step c shape s move)
 client_plain c shape s (client.Write table row x) f p = write_plain c shape s.disk s.agenda table row x p
+client_plain c shape s (client.Change table row edit) f p = edit_plain c shape s.disk s.agenda table row edit p
 client_plain c shape s (client.Show table row) f p = show_plain c shape s.disk s.agenda table row p
 client_plain c shape s (client.Sum table row) f p = sum_plain c shape s.disk s.agenda table row p
 client_plain c shape s (client.Sync table) f p = sync_plain c shape s.disk s.agenda table p

@@ -1,6 +1,6 @@
 -- Where the Store is quiet, none of its tables has writes to do.
 use Rattle.std.proofs.Common.{◌≡◌, ◌⊎◌, inl, inr, ⊎_elim, ℕ, zero, suc, Bool, true, false, List, [], ◌∷◌, ◌++◌, length, Option, Some, None, refl, sym, ◌∙◌, ap, subst, arith, true≢false}
-use Rattle.std.specs.Prelude.{map, not, drop, ◌==◌, ◌||◌, slice_get, option_map, if◌then◌else◌}
+use Rattle.std.specs.Prelude.{map, not, drop, ◌==◌, ◌&&◌, ◌||◌, slice_get, option_map, if◌then◌else◌}
 use Rattle.std.specs.List.{flat_map, find}
 use Rattle.std.specs.Map.{keys_of}
 use Rattle.std.proofs.lemmas.Bool.Decides.{nat_tests}
@@ -16,7 +16,7 @@ use Rattle.step_tables.specs.Messages as messages
 use Rattle.step_tables.specs.StoreMoves as store
 use Rattle.step_tables.specs.StoreMoves.{StoreTask}
 use Rattle.step_tables.specs.ClientMoves as client
-use Rattle.step_tables.specs.ClientMoves.{Client, ClientTask, ClientMove, Shape, no_shape, client_step}
+use Rattle.step_tables.specs.ClientMoves.{Client, ClientTask, ClientMove, Shape, no_shape, client_step, is_cut_off}
 use Rattle.step_tables.proofs.Lists.{among_get}
 use Rattle.world_tables.specs.Quiet.{Quiet, sent_in, comes_to, if_done, held_after, loud_after, after, at_first}
 use Rattle.world_tables.specs.World.{client_until_idle, client_writes, client_starts, client_crashes}
@@ -28,6 +28,8 @@ use Rattle.world_tables.specs.World.{store_follows, table_crashes, crash_luck, s
 use Rattle.world_tables.specs.World.{answering, answered, refused, unless_down, agenda_of, with_table, declared, joined}
 use Rattle.world_tables.specs.World.{call_there, call, take_read, take_at, to_hosted, to_there, carried, delivered, row_read, store_shows, chunk_names, history_lines, worked, all_worked}
 use Rattle.world_tables.specs.World.{crashed, started, step}
+use Rattle.world_tables.specs.World.{Lucks, starts_by, client_falls, is_cut, with_link, unless_cut, calls, linked}
+use Rattle.world_tables.specs.World as world
 use Rattle.world_laws.proofs.Looks.{look_cases}
 use Rattle.name_laws.proofs.Plain.{IsPlace}
 use Rattle.name_laws.proofs.Moves.{IsFine, packets_in}
@@ -75,7 +77,21 @@ down_tables w node s same = go (is_down w node)
 
 call_tables : (w : World) (c : ℕ) (move : ClientMove) (shape : Shape) (lucks : List Luck) (o : Option Client) → (call_there w c move shape lucks o).world.tables ≡ w.tables
 call_tables w c move shape lucks None = refl
-call_tables w c move shape lucks (Some node) = down_tables w (nodes.Client c) _ (follows_tables node.agenda c lucks (move_client c move shape w).world ∙ client_tables w c move shape)
+call_tables w c move shape lucks (Some node) = down_tables w (nodes.Client c) _ (reads (first_luck lucks))
+  where
+    by_link : (cut : Bool) → (unless_cut w cut (calls w c move shape (other_lucks lucks) node)).world.tables ≡ w.tables
+    by_link true = refl
+    by_link false = follows_tables node.agenda c (other_lucks lucks) (move_client c move shape w).world ∙ client_tables w c move shape
+
+    reads : (luck : Luck) → (world.reads w c luck (unless_cut w (is_cut w c && is_cut_off c shape node move) (calls w c move shape (other_lucks lucks) node))).world.tables ≡ w.tables
+    reads messages.Done = by_link (is_cut w c && is_cut_off c shape node move)
+    reads messages.FailedBefore = client_tables w c (client.Crash messages.FailedBefore) no_shape
+    reads messages.FailedAfter = client_tables w c (client.Crash messages.FailedBefore) no_shape
+
+starts_tables : (c : ℕ) (shape : Shape) (luck : Luck) (more : List Luck) (w : World) → (starts_by c shape luck more w).world.tables ≡ w.tables
+starts_tables c shape messages.Done more w = client_follows_tables c more (move_client c client.Start shape w).world ∙ client_tables w c client.Start shape
+starts_tables c shape messages.FailedBefore more w = refl
+starts_tables c shape messages.FailedAfter more w = refl
 
 same_idle : (w x : World) → x.tables ≡ w.tables → Idle w → Idle x
 same_idle w x same idle q hosted at = idle q hosted (ap (λ ts. hosted_at (record w { tables = ts }) q) (sym same) ∙ at)
@@ -172,25 +188,25 @@ module _ (w : World) (f : IsFine w) where
       go (Some (task ∷ more)) is = absurd (let none : [] ≡ task ∷ more = sym (idle table hosted at) ∙ ap tasks_in is in cc)
       go None is = subst (λ (o : Option Hosted). Idle (move_hosted w table (store.Take from m) o).world) (sym at) (down_idle w table hosted from m idle is)
 
-  carried_idle : (q : Quiet) → q.held ≡ w.holds → (p : Packet) (lucks : List Luck) → IsPlace p.from → IsPlace p.to → (IsLoud q.loud ≡ false → Idle w) → (to : Node) → p.to ≡ to
-      → IsLoud (comes_to q (Some to)) ≡ false → Idle (carried w p lucks to).world
-  carried_idle q held p lucks from place idle (nodes.Store number) is quiet =
+  carried_idle : (q : Quiet) → q.held ≡ w.holds → (p : Packet) (shape : Shape) (lucks : List Luck) → IsPlace p.from → IsPlace p.to → (IsLoud q.loud ≡ false → Idle w) → (to : Node) → p.to ≡ to
+      → IsLoud (comes_to q (Some to)) ≡ false → Idle (carried w p shape lucks to).world
+  carried_idle q held p shape lucks from place idle (nodes.Store number) is quiet =
       let number_is : number ≡ owner = subst IsPlace is place in
       let here : IsLoud (comes_to q (Some the_store)) ≡ false = subst (λ (n : ℕ). IsLoud (comes_to q (Some (nodes.Store n))) ≡ false) number_is quiet in
       let rest : Idle w = idle (comes_less q (Some (nodes.Store number)) quiet) in
       down_idle_step w (nodes.Store number) _ rest
       (hosted_idle (table_of p.message) p.from p.message lucks from rest (ap (λ (hs : List Node). has_node hs the_store) (sym held) ∙ comes_free q here) (hosted_at w (table_of p.message)) refl)
-  carried_idle q held p lucks from place idle (nodes.Gate gate) is quiet = idle (comes_less q (Some (nodes.Gate gate)) quiet)
-  carried_idle q held p lucks from place idle (nodes.Client c) is quiet =
-      same_idle w (to_there w c p.message lucks (client_at w c)).world (go (client_at w c)) (idle (comes_less q (Some (nodes.Client c)) quiet))
+  carried_idle q held p shape lucks from place idle (nodes.Gate gate) is quiet = idle (comes_less q (Some (nodes.Gate gate)) quiet)
+  carried_idle q held p shape lucks from place idle (nodes.Client c) is quiet =
+      same_idle w (to_there w c p.message shape lucks (client_at w c)).world (go (client_at w c)) (idle (comes_less q (Some (nodes.Client c)) quiet))
     where
-      go : (o : Option Client) → (to_there w c p.message lucks o).world.tables ≡ w.tables
+      go : (o : Option Client) → (to_there w c p.message shape lucks o).world.tables ≡ w.tables
       go None = refl
-      go (Some node) = call_tables w c (client.Take p.message) no_shape lucks (Some node)
+      go (Some node) = call_tables w c (client.Take p.message) shape lucks (Some node)
 
-  delivered_idle : (q : Quiet) → q.held ≡ w.holds → q.sent ≡ map (λ (p : Packet). p.to) w.packets → (n : ℕ) (lucks : List Luck) → (IsLoud q.loud ≡ false → Idle w)
-      → IsLoud (comes_to q (slice_get q.sent n)) ≡ false → Idle (delivered w lucks (slice_get w.packets n)).world
-  delivered_idle q held sent n lucks idle quiet = go (slice_get w.packets n) refl
+  delivered_idle : (q : Quiet) → q.held ≡ w.holds → q.sent ≡ map (λ (p : Packet). p.to) w.packets → (n : ℕ) (shape : Shape) (lucks : List Luck) → (IsLoud q.loud ≡ false → Idle w)
+      → IsLoud (comes_to q (slice_get q.sent n)) ≡ false → Idle (delivered w shape lucks (slice_get w.packets n)).world
+  delivered_idle q held sent n shape lucks idle quiet = go (slice_get w.packets n) refl
     where
       get_map : (ps : List Packet) (k : ℕ) → slice_get (map (λ (p : Packet). p.to) ps) k ≡ option_map (λ (p : Packet). p.to) (slice_get ps k)
       get_map [] k = refl
@@ -200,11 +216,11 @@ module _ (w : World) (f : IsFine w) where
       found : slice_get q.sent n ≡ option_map (λ (p : Packet). p.to) (slice_get w.packets n)
       found = ap (λ (ns : List Node). slice_get ns n) sent ∙ get_map w.packets n
 
-      go : (o : Option Packet) → slice_get w.packets n ≡ o → Idle (delivered w lucks o).world
+      go : (o : Option Packet) → slice_get w.packets n ≡ o → Idle (delivered w shape lucks o).world
       go None at = idle (comes_less q (slice_get q.sent n) quiet)
       go (Some p) at =
           let places = f.places p (among_get w.packets n p at) in
-          carried_idle q held p lucks places.0 places.1 idle p.to refl
+          carried_idle q held p shape lucks places.0 places.1 idle p.to refl
           (subst (λ (o : Option Node). IsLoud (comes_to q o) ≡ false) (found ∙ ap (option_map (λ (x : Packet). x.to)) at) quiet)
 
   shows_idle : (row : List ℕ) (lucks : List Luck) → Idle w → (o : Option Hosted) → Idle (store_shows w row lucks o).world
@@ -238,9 +254,17 @@ module _ (w : World) (f : IsFine w) where
   history_idle table idle None = idle
   history_idle table idle (Some hosted) = idle
 
-  joined_idle : (c : ℕ) (tables : List ℕ) → Idle w → (o : Option Client) → Idle (joined w c tables o)
-  joined_idle c tables idle None = idle
-  joined_idle c tables idle (Some node) = idle
+  joined_idle : (c : ℕ) (tables : List ℕ) (luck : Luck) → Idle w → (o : Option Client) → Idle (joined w c tables luck o)
+  joined_idle c tables luck idle None = idle
+  joined_idle c tables luck idle (Some node) = idle
+
+  linked_idle : (c : ℕ) (up : Bool) → Idle w → (o : Option Client) → Idle (linked w c up o).world
+  linked_idle c up idle None = idle
+  linked_idle c up idle (Some node) = down_idle_step w (nodes.Client c) _ idle (moved up)
+    where
+      moved : (b : Bool) → Idle (with_link c b w)
+      moved true = idle
+      moved false = idle
 
   chunks_idle : (table : ℕ) → Idle w → (o : Option Hosted) → Idle (chunk_names w table o).world
   chunks_idle table idle None = idle
@@ -315,20 +339,17 @@ module _ (w : World) (f : IsFine w) where
       same_idle w (client_crashes c calls lucks w).world (client_tables w c (client.Crash (crash_luck calls (other_lucks lucks) (first_luck lucks))) no_shape) idle
   crashed_idle calls lucks idle (nodes.Gate gate) = idle
 
-  started_idle : (q : Quiet) → q.held ≡ w.holds → (lucks : List Luck) → (IsLoud q.loud ≡ false → Idle w) → (node : Node) → IsLoud (comes_to q (Some node)) ≡ false → Idle (started w lucks node).world
-  started_idle q held lucks idle (nodes.Client c) quiet = go (is_down w (nodes.Client c))
+  started_idle : (q : Quiet) → q.held ≡ w.holds → (shape : Shape) (lucks : List Luck) → (IsLoud q.loud ≡ false → Idle w) → (node : Node) → IsLoud (comes_to q (Some node)) ≡ false → Idle (started w shape lucks node).world
+  started_idle q held shape lucks idle (nodes.Client c) quiet = go (is_down w (nodes.Client c))
     where
       rest : Idle w
       rest = idle (comes_less q (Some (nodes.Client c)) quiet)
 
-      first : Moved
-      first = move_client c client.Start no_shape w
-
-      go : (b : Bool) → Idle (if b then answering facts.Done (client_starts c lucks w) else answered w facts.Done).world
-      go true = same_idle w (client_starts c lucks w).world (client_follows_tables c lucks first.world ∙ client_tables w c client.Start no_shape) rest
+      go : (b : Bool) → Idle (if b then answering facts.Done (client_starts c shape lucks w) else answered w facts.Done).world
+      go true = same_idle w (client_starts c shape lucks w).world (starts_tables c shape (first_luck lucks) (other_lucks lucks) w) rest
       go false = rest
-  started_idle q held lucks idle (nodes.Gate gate) quiet = idle (comes_less q (Some (nodes.Gate gate)) quiet)
-  started_idle q held lucks idle (nodes.Store number) quiet = go (is_down w (nodes.Store number))
+  started_idle q held shape lucks idle (nodes.Gate gate) quiet = idle (comes_less q (Some (nodes.Gate gate)) quiet)
+  started_idle q held shape lucks idle (nodes.Store number) quiet = go (is_down w (nodes.Store number))
     where
       rest : Idle w
       rest = idle (comes_less q (Some (nodes.Store number)) quiet)
@@ -356,25 +377,27 @@ module _ (w : World) (f : IsFine w) where
       go true = ⊎_elim here (λ e. elsewhere e.0) (other_node number)
       go false = rest
 
-  step_idle : (q : Quiet) → q.held ≡ w.holds → q.sent ≡ map (λ (p : Packet). p.to) w.packets → (event : Event) (lucks : List Luck) → (IsLoud q.loud ≡ false → Idle w)
+  step_idle : (q : Quiet) → q.held ≡ w.holds → q.sent ≡ map (λ (p : Packet). p.to) w.packets → (event : Event) (lucks : Lucks) → (IsLoud q.loud ≡ false → Idle w)
       → IsLoud (loud_after q event (step w event lucks).answer) ≡ false → Idle (step w event lucks).world
   step_idle q held sent (events.Store number) lucks idle quiet = idle quiet
-  step_idle q held sent (events.Table table schema) lucks idle quiet = declared_idle table schema (first_luck lucks) (idle quiet) (hosted_at w table)
-  step_idle q held sent (events.Client c gate tables) lucks idle quiet = joined_idle c tables (idle quiet) (client_at w c)
-  step_idle q held sent (events.Write c table row x) lucks idle quiet = call_idle c (client.Write table row x) no_shape lucks (idle quiet)
-  step_idle q held sent (events.Show c table row) lucks idle quiet = call_idle c (client.Show table row) no_shape lucks (idle quiet)
-  step_idle q held sent (events.Sum c table row) lucks idle quiet = call_idle c (client.Sum table row) no_shape lucks (idle quiet)
-  step_idle q held sent (events.Sync c table) lucks idle quiet = call_idle c (client.Sync table) no_shape lucks (idle quiet)
-  step_idle q held sent (events.Pull c table) lucks idle quiet = call_idle c (client.Next table) no_shape lucks (idle quiet)
-  step_idle q held sent (events.Deliver n) lucks idle quiet = delivered_idle q held sent n lucks idle quiet
-  step_idle q held sent (events.StoreShow table row) lucks idle quiet = shows_idle row lucks (idle quiet) (hosted_at w table)
+  step_idle q held sent (events.Table table schema) lucks idle quiet = declared_idle table schema (first_luck lucks.calls) (idle quiet) (hosted_at w table)
+  step_idle q held sent (events.Client c gate tables) lucks idle quiet = joined_idle c tables (first_luck lucks.calls) (idle quiet) (client_at w c)
+  step_idle q held sent (events.Write c table row x) lucks idle quiet = call_idle c (client.Write table row x) lucks.shape lucks.calls (idle quiet)
+  step_idle q held sent (events.Edit c table row x) lucks idle quiet = call_idle c (client.Change table row x) lucks.shape lucks.calls (idle quiet)
+  step_idle q held sent (events.Link c up) lucks idle quiet = linked_idle c up (idle quiet) (client_at w c)
+  step_idle q held sent (events.Show c table row) lucks idle quiet = call_idle c (client.Show table row) lucks.shape lucks.calls (idle quiet)
+  step_idle q held sent (events.Sum c table row) lucks idle quiet = call_idle c (client.Sum table row) lucks.shape lucks.calls (idle quiet)
+  step_idle q held sent (events.Sync c table) lucks idle quiet = call_idle c (client.Sync table) lucks.shape lucks.calls (idle quiet)
+  step_idle q held sent (events.Pull c table) lucks idle quiet = call_idle c (client.Next table) lucks.shape lucks.calls (idle quiet)
+  step_idle q held sent (events.Deliver n) lucks idle quiet = delivered_idle q held sent n lucks.shape lucks.calls idle quiet
+  step_idle q held sent (events.StoreShow table row) lucks idle quiet = shows_idle row lucks.calls (idle quiet) (hosted_at w table)
   step_idle q held sent (events.History table) lucks idle quiet = history_idle table (idle quiet) (hosted_at w table)
   step_idle q held sent (events.Hold node) lucks idle quiet = down_idle_step w node _ (idle quiet) (idle quiet)
   step_idle q held sent (events.Free node) lucks idle quiet = down_idle_step w node _ (idle quiet) (idle quiet)
-  step_idle q held sent (events.Work node) lucks idle quiet = down_idle_step w node _ (idle quiet) (worked_idle lucks (idle quiet) node)
-  step_idle q held sent (events.WorkAll node) lucks idle quiet = all_idle_by q.loud node lucks idle quiet
-  step_idle q held sent (events.Crash node calls pick) lucks idle quiet = down_idle_step w node _ (idle quiet) (crashed_idle calls lucks (idle quiet) node)
-  step_idle q held sent (events.Start node) lucks idle quiet = started_idle q held lucks idle node quiet
+  step_idle q held sent (events.Work node) lucks idle quiet = down_idle_step w node _ (idle quiet) (worked_idle lucks.calls (idle quiet) node)
+  step_idle q held sent (events.WorkAll node) lucks idle quiet = all_idle_by q.loud node lucks.calls idle quiet
+  step_idle q held sent (events.Crash node calls pick) lucks idle quiet = down_idle_step w node _ (idle quiet) (crashed_idle calls lucks.calls (idle quiet) node)
+  step_idle q held sent (events.Start node) lucks idle quiet = started_idle q held lucks.shape lucks.calls idle node quiet
   step_idle q held sent (events.Chunks table) lucks idle quiet = chunks_idle table (idle quiet) (hosted_at w table)
 
 -- ---- what is followed along the lines
@@ -393,7 +416,7 @@ held_same q w (events.Hold node) answer same = ap (λ (held : List Node). if_don
 held_same q w (events.Free node) answer same = ap (λ (held : List Node). if_done answer (without_node held node) held) same
 held_same q w other answer same = same
 
-pub step_follows : (w : World) (q : Quiet) (event : Event) (lucks : List Luck) → Follows w q
+pub step_follows : (w : World) (q : Quiet) (event : Event) (lucks : Lucks) → Follows w q
     → Follows (step w event lucks).world (after q (record { event = event; lines = lines_of w (step w event lucks) }))
 step_follows w q event lucks k =
     let s : WorldStep = step w event lucks in

@@ -20,7 +20,7 @@ use Rattle.world_tables.specs.Chunks.{AreChunks}
 use Rattle.world_tables.specs.Quiet.{Quiet, at_first, names_in, AreTheChunks, size_for, IsListed, AreListedFrom, AreListed, after}
 use Rattle.world_tables.specs.Sound.{scheme_for}
 use Rattle.world_tables.specs.Turns.{Happening, Turn, turns_from, turns}
-use Rattle.world_tables.specs.World.{World, Hosted, WorldStep, start, owner, the_store, hosted_at, schema_at, chunk_in, has_node, is_down, tasks_in, lines_of, first_luck, store_falls}
+use Rattle.world_tables.specs.World.{Lucks, World, Hosted, WorldStep, start, owner, the_store, hosted_at, schema_at, chunk_in, has_node, is_down, tasks_in, lines_of, first_luck, store_falls}
 use Rattle.world_tables.specs.World.{answered, refused, agenda_of, with_table, made_with, declared, names_on, names_answer}
 use Rattle.world_tables.specs.World.{chunk_names, step}
 use Rattle.world_laws.proofs.Kept.{KnownIn, Kept}
@@ -58,14 +58,14 @@ declared_there w table schema luck (Some hosted) at none = absurd (let both : So
 declared_there w table schema luck None at none = new_there w table schema luck none
 
 -- a table that isn't there behind an event wasn't declared by it
-size_on : (w : World) (event : Event) (lucks : List Luck) (es : List Event) (table : ℕ) → hosted_at (step w event lucks).world table ≡ None → size_for (event ∷ es) table ≡ size_for es table
+size_on : (w : World) (event : Event) (lucks : Lucks) (es : List Event) (table : ℕ) → hosted_at (step w event lucks).world table ≡ None → size_for (event ∷ es) table ≡ size_for es table
 size_on w (events.Table number schema) lucks es table none = go (number == table) refl
   where
     go : (b : Bool) → (number == table) ≡ b → (if b then schema.chunk else size_for es table) ≡ size_for es table
     go false e = refl
     go true e =
         let same : number ≡ table = grind (arith, nat_tests, e) in
-        absurd (declared_there w number schema (first_luck lucks) (hosted_at w number) refl
+        absurd (declared_there w number schema (first_luck lucks.calls) (hosted_at w number) refl
         (subst (λ (n : ℕ). hosted_at (step w (events.Table number schema) lucks).world n ≡ None) (sym same) none))
 size_on w other lucks es table none = refl
 
@@ -101,11 +101,11 @@ module _ (sizes : ℕ → ℕ) (w : World) (fine : IsFine w) where
       go true e = refl
       go false e = absurd (grind (arith, nat_tests, e))
 
-  event_put : (event : Event) (lucks : List Luck) (es : List Event) → IsSized sizes w (event ∷ es) → ArePut sizes (schemas_by w event lucks)
-  event_put (events.Table table schema) lucks es s = declared_put table schema (first_luck lucks) (hosted_at w table) (λ none. s.later table none ∙ first_size table schema es) s.here
+  event_put : (event : Event) (lucks : Lucks) (es : List Event) → IsSized sizes w (event ∷ es) → ArePut sizes (schemas_by w event lucks)
+  event_put (events.Table table schema) lucks es s = declared_put table schema (first_luck lucks.calls) (hosted_at w table) (λ none. s.later table none ∙ first_size table schema es) s.here
   event_put other lucks es s = s.here
 
-  step_sized : (event : Event) (lucks : List Luck) (es : List Event) → ((table : ℕ) → hosted_at (step w event lucks).world table ≡ None → hosted_at w table ≡ None) → IsSized sizes w (event ∷ es)
+  step_sized : (event : Event) (lucks : Lucks) (es : List Event) → ((table : ℕ) → hosted_at (step w event lucks).world table ≡ None → hosted_at w table ≡ None) → IsSized sizes w (event ∷ es)
       → IsSized sizes (step w event lucks).world es
   step_sized event lucks es there s = record {
     here = subst (ArePut sizes) (sym (step_stepped w event lucks fine).schemas_are) (event_put event lucks es s);
@@ -142,7 +142,7 @@ module _ (g : ℕ → Scheme) (sizes : ℕ → ℕ) (w : World) (s : Said) (q : 
       go true down = λ some quiet. tt
       go false is_up = λ some quiet. subst (λ (o : Option (List ChunkName)). AreTheChunks s table (sizes table) o) (sym (names_listed names)) (on_devices table hosted at is_up some quiet)
 
-  event_listed : (event : Event) (lucks : List Luck) → IsListed sizes s q event (step w event lucks).answer
+  event_listed : (event : Event) (lucks : Lucks) → IsListed sizes s q event (step w event lucks).answer
   event_listed (events.Chunks table) lucks = chunks_listed table (hosted_at w table) refl
   event_listed other lucks = tt
 

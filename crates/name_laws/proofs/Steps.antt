@@ -1,6 +1,6 @@
 -- What each event keeps of the tables, the packets and the nodes on hold.
 use Rattle.std.proofs.Common.{◌≡◌, ⊎_elim, ℕ, ◌+◌, Bool, true, false, List, [], ◌∷◌, ◌++◌, length, Option, Some, None, refl, sym, ◌∙◌, ap, subst, append-nil}
-use Rattle.std.specs.Prelude.{map, not, slice_get, option_to_list, if◌then◌else◌}
+use Rattle.std.specs.Prelude.{map, ◌&&◌, not, slice_get, option_to_list, if◌then◌else◌}
 use Rattle.stab_base.specs.declared.node.Node.{Node}
 use Rattle.stab_base.specs.declared.node.Node.TheVariants as nodes
 use Rattle.row_value.specs.declared.schema.Schema.{Schema}
@@ -14,7 +14,7 @@ use Rattle.step_tables.specs.Messages as messages
 use Rattle.step_tables.specs.StoreMoves as store
 use Rattle.step_tables.specs.StoreMoves.{StoreTask}
 use Rattle.step_tables.specs.ClientMoves as client
-use Rattle.step_tables.specs.ClientMoves.{Client, ClientTask, ClientMove, Shape, no_shape, client_step}
+use Rattle.step_tables.specs.ClientMoves.{Client, ClientTask, ClientMove, Shape, no_shape, client_step, is_cut_off}
 use Rattle.step_tables.proofs.Lists.{among_get, among_none}
 use Rattle.world_tables.specs.Quiet.{Quiet, sent_in, answer_in, held_after}
 use Rattle.world_tables.specs.World.{crash_luck, client_tasks, client_until_idle, client_follows, client_writes, client_starts, client_crashes, next_write}
@@ -26,6 +26,8 @@ use Rattle.world_tables.specs.World.{answering, answered, refused, silent, unles
 use Rattle.world_tables.specs.World.{joined, client_follows_from}
 use Rattle.world_tables.specs.World.{call_there, take_read, take_at, to_hosted, to_there, carried, delivered, row_read, row_shown, store_shows, names_on, names_answer, chunk_names}
 use Rattle.world_tables.specs.World.{entry_lines, history_lines, worked, all_worked, crashed, started, step}
+use Rattle.world_tables.specs.World.{Lucks, starts_by, client_falls, first_agenda, is_cut, with_link, unless_cut, calls, linked}
+use Rattle.world_tables.specs.World as world
 use Rattle.step_tables.specs.Store.{current_of}
 use Rattle.world_tables.specs.World.{new_client, open_all, schema_at, chunk_in}
 use Rattle.world_laws.proofs.Looks.{look_cases}
@@ -127,10 +129,23 @@ fallen_stepped w f = answering_stepped w facts.Done (failing (store_falls owner 
 call_stepped : (w : World) (c : ℕ) (move : ClientMove) (shape : Shape) (lucks : List Luck) → IsWorldly move → IsFine w → (o : Option Client)
     → Stepped w w.holds w.schemas (call_there w c move shape lucks o)
 call_stepped w c move shape lucks worldly f None = answered_stepped w (facts.Refuses facts.NoTable) f
-call_stepped w c move shape lucks worldly f (Some node) =
-    let m : Moved = move_client c move shape w in
-    down_stepped w (nodes.Client c) _ f (answering_stepped w (client_step c shape node move).answer (and_then m (client_follows_from node.agenda c lucks))
-    (then_went w m (client_follows_from node.agenda c lucks) (client_went w c move shape worldly f) (λ x. follows_from_went node.agenda c lucks m.world x)))
+call_stepped w c move shape lucks worldly f (Some node) = down_stepped w (nodes.Client c) _ f (reads (first_luck lucks))
+  where
+    m : Moved
+    m = move_client c move shape w
+
+    by_link : (cut : Bool) → Stepped w w.holds w.schemas (unless_cut w cut (calls w c move shape (other_lucks lucks) node))
+    by_link true = answered_stepped w (facts.Refuses facts.Offline) f
+    by_link false = answering_stepped w (client_step c shape node move).answer (and_then m (client_follows_from node.agenda c (other_lucks lucks)))
+        (then_went w m (client_follows_from node.agenda c (other_lucks lucks)) (client_went w c move shape worldly f) (λ x. follows_from_went node.agenda c (other_lucks lucks) m.world x))
+
+    fallen : Stepped w w.holds w.schemas (answering facts.Done (failing (client_falls c w)))
+    fallen = answering_stepped w facts.Done (failing (client_falls c w)) (failing_went w (client_falls c w) (client_went w c (client.Crash messages.FailedBefore) no_shape tt f))
+
+    reads : (luck : Luck) → Stepped w w.holds w.schemas (world.reads w c luck (unless_cut w (is_cut w c && is_cut_off c shape node move) (calls w c move shape (other_lucks lucks) node)))
+    reads messages.Done = by_link (is_cut w c && is_cut_off c shape node move)
+    reads messages.FailedBefore = fallen
+    reads messages.FailedAfter = fallen
 
 hosted_stepped : (w : World) (table : ℕ) (from : Node) (m : Message) (lucks : List Luck) → IsPlace from → IsFine w → (o : Option Hosted)
     → Stepped w w.holds w.schemas (to_hosted w table (store.Take from m) lucks o)
@@ -157,19 +172,20 @@ hosted_stepped w table from m lucks place f (Some hosted) = go hosted.store.agen
     go (Some (task ∷ more)) = alone
     go (Some []) = reads (first_luck lucks)
 
-carried_stepped : (w : World) (p : Packet) (lucks : List Luck) → IsPlace p.from → IsFine w → (to : Node) → Stepped w w.holds w.schemas (carried w p lucks to)
-carried_stepped w p lucks place f (nodes.Store number) =
+carried_stepped : (w : World) (p : Packet) (shape : Shape) (lucks : List Luck) → IsPlace p.from → IsFine w → (to : Node) → Stepped w w.holds w.schemas (carried w p shape lucks to)
+carried_stepped w p shape lucks place f (nodes.Store number) =
     down_stepped w (nodes.Store number) _ f (hosted_stepped w (table_of p.message) p.from p.message lucks place f (hosted_at w (table_of p.message)))
-carried_stepped w p lucks place f (nodes.Gate gate) = answered_stepped w facts.Done f
-carried_stepped w p lucks place f (nodes.Client c) = go (client_at w c)
+carried_stepped w p shape lucks place f (nodes.Gate gate) = answered_stepped w facts.Done f
+carried_stepped w p shape lucks place f (nodes.Client c) = go (client_at w c)
   where
-    go : (o : Option Client) → Stepped w w.holds w.schemas (to_there w c p.message lucks o)
+    go : (o : Option Client) → Stepped w w.holds w.schemas (to_there w c p.message shape lucks o)
     go None = answered_stepped w facts.Done f
-    go (Some node) = call_stepped w c (client.Take p.message) no_shape lucks tt f (Some node)
+    go (Some node) = call_stepped w c (client.Take p.message) shape lucks tt f (Some node)
 
-delivered_stepped : (w : World) (n : ℕ) (lucks : List Luck) → IsFine w → (o : Option Packet) → slice_get w.packets n ≡ o → Stepped w w.holds w.schemas (delivered w lucks o)
-delivered_stepped w n lucks f None at = answered_stepped w (facts.Refuses (facts.NoPacket (length w.packets))) f
-delivered_stepped w n lucks f (Some p) at = carried_stepped w p lucks (f.places p (among_get w.packets n p at)).0 f p.to
+delivered_stepped : (w : World) (n : ℕ) (shape : Shape) (lucks : List Luck) → IsFine w → (o : Option Packet) → slice_get w.packets n ≡ o
+    → Stepped w w.holds w.schemas (delivered w shape lucks o)
+delivered_stepped w n shape lucks f None at = answered_stepped w (facts.Refuses (facts.NoPacket (length w.packets))) f
+delivered_stepped w n shape lucks f (Some p) at = carried_stepped w p shape lucks (f.places p (among_get w.packets n p at)).0 f p.to
 
 shows_stepped : (w : World) (row : List ℕ) (lucks : List Luck) → IsFine w → (o : Option Hosted) → Stepped w w.holds w.schemas (store_shows w row lucks o)
 shows_stepped w row lucks f None = answered_stepped w (facts.Refuses facts.NoTable) f
@@ -248,19 +264,24 @@ declared_stepped w table schema luck f None = go luck
     go messages.FailedBefore = fallen
     go messages.FailedAfter = fallen
 
-joined_stepped : (w : World) (c : ℕ) (tables : List ℕ) → IsFine w → (o : Option Client) → Stepped w w.holds w.schemas (silent (joined w c tables o))
-joined_stepped w c tables f (Some node) = silent_stepped w w f refl refl
-joined_stepped w c tables f None = silent_stepped w (joined w c tables None) (record {
+joined_stepped : (w : World) (c : ℕ) (tables : List ℕ) (luck : Luck) → IsFine w → (o : Option Client) → Stepped w w.holds w.schemas (silent (joined w c tables luck o))
+joined_stepped w c tables luck f (Some node) = silent_stepped w w f refl refl
+joined_stepped w c tables luck f None = silent_stepped w (joined w c tables luck None) (record {
   keys = f.keys;
   tables = f.tables;
   clients = λ q x at. ⊎_elim
-      (λ e. let both : Some new ≡ Some x = sym e.1 ∙ at in let same : new ≡ x = cc in subst (λ (y : Client). IsPlainAgenda y.agenda) same tt)
+      (λ e. let both : Some new ≡ Some x = sym e.1 ∙ at in let same : new ≡ x = cc in subst (λ (y : Client). IsPlainAgenda y.agenda) same (none luck))
       (λ e. f.clients q x (sym e.1 ∙ at)) (look_cases w.clients c new q);
   places = f.places;
 }) refl refl
   where
     new : Client
-    new = new_client (open_all w [] tables)
+    new = new_client (open_all w [] tables) (first_agenda luck)
+
+    none : (x : Luck) → IsPlainAgenda (first_agenda x)
+    none messages.Done = tt
+    none messages.FailedBefore = tt
+    none messages.FailedAfter = tt
 
 -- ---- what is done to a node
 
@@ -286,22 +307,46 @@ crashed_stepped w calls lucks f (nodes.Client c) = answering_stepped w facts.Don
     (client_went w c (client.Crash (crash_luck calls (other_lucks lucks) (first_luck lucks))) no_shape tt f)
 crashed_stepped w calls lucks f (nodes.Gate gate) = answered_stepped w _ f
 
-started_stepped : (w : World) (lucks : List Luck) → IsFine w → (node : Node) → Stepped w w.holds w.schemas (started w lucks node)
-started_stepped w lucks f (nodes.Store number) = go (is_down w (nodes.Store number))
+started_stepped : (w : World) (shape : Shape) (lucks : List Luck) → IsFine w → (node : Node) → Stepped w w.holds w.schemas (started w shape lucks node)
+started_stepped w shape lucks f (nodes.Store number) = go (is_down w (nodes.Store number))
   where
     go : (b : Bool) → Stepped w w.holds w.schemas (if b then answering facts.Done (store_starts number lucks w) else answered w facts.Done)
     go true = answering_stepped w facts.Done (store_starts number lucks w) (starts_went number lucks w f)
     go false = answered_stepped w facts.Done f
-started_stepped w lucks f (nodes.Client c) = go (is_down w (nodes.Client c))
+started_stepped w shape lucks f (nodes.Client c) = go (is_down w (nodes.Client c))
   where
     first : Moved
-    first = move_client c client.Start no_shape w
+    first = move_client c client.Start shape w
 
-    go : (b : Bool) → Stepped w w.holds w.schemas (if b then answering facts.Done (client_starts c lucks w) else answered w facts.Done)
-    go true = answering_stepped w facts.Done (client_starts c lucks w)
-        (then_went w first (client_follows c lucks) (client_went w c client.Start no_shape tt f) (λ x. client_follows_went c lucks first.world x))
+    started_by : (luck : Luck) (more : List Luck) → Went w (starts_by c shape luck more w)
+    started_by messages.Done more = then_went w first (client_follows c more) (client_went w c client.Start shape tt f) (λ x. client_follows_went c more first.world x)
+    started_by messages.FailedBefore more = failing_went w (still w) (still_went w f)
+    started_by messages.FailedAfter more = failing_went w (still w) (still_went w f)
+
+    go : (b : Bool) → Stepped w w.holds w.schemas (if b then answering facts.Done (client_starts c shape lucks w) else answered w facts.Done)
+    go true = answering_stepped w facts.Done (client_starts c shape lucks w) (started_by (first_luck lucks) (other_lucks lucks))
     go false = answered_stepped w facts.Done f
-started_stepped w lucks f (nodes.Gate gate) = answered_stepped w _ f
+started_stepped w shape lucks f (nodes.Gate gate) = answered_stepped w _ f
+
+-- a link that goes up or down
+linked_stepped : (w : World) (c : ℕ) (up : Bool) → IsFine w → (o : Option Client) → Stepped w w.holds w.schemas (linked w c up o)
+linked_stepped w c up f None = answered_stepped w facts.Done f
+linked_stepped w c up f (Some node) = down_stepped w (nodes.Client c) _ f (moved up)
+  where
+    cut : (cuts : List Node) → Stepped w w.holds w.schemas (answered (record w { cuts = cuts }) facts.Done)
+    cut cuts = record {
+      fine = record { keys = f.keys; tables = f.tables; clients = f.clients; places = f.places };
+      packets = sym (append-nil w.packets);
+      plain = tt;
+      holds_are = refl;
+      schemas_are = refl;
+      counted = λ rest. refl;
+      unanswered = λ none. absurd cc;
+    }
+
+    moved : (b : Bool) → Stepped w w.holds w.schemas (answered (with_link c b w) facts.Done)
+    moved true = cut (without_node w.cuts (nodes.Client c))
+    moved false = cut (nodes.Client c ∷ w.cuts)
 
 chunks_stepped : (w : World) (table : ℕ) → IsFine w → (o : Option Hosted) → Stepped w w.holds w.schemas (chunk_names w table o)
 chunks_stepped w table f None = answered_stepped w (facts.Refuses facts.NoTable) f
@@ -327,10 +372,10 @@ abbrev pub holding : World → Quiet
 holding w = record { held = w.holds; loud = []; sent = [] }
 
 -- the nodes on hold behind an event
-abbrev pub holds_by : World → Event → List Luck → List Node
+abbrev pub holds_by : World → Event → Lucks → List Node
 holds_by w event lucks = held_after (holding w) event (step w event lucks).answer
 
-held_stepped : (w : World) (node : Node) (lucks : List Luck) → IsFine w → Stepped w (holds_by w (events.Hold node) lucks) w.schemas (step w (events.Hold node) lucks)
+held_stepped : (w : World) (node : Node) (lucks : Lucks) → IsFine w → Stepped w (holds_by w (events.Hold node) lucks) w.schemas (step w (events.Hold node) lucks)
 held_stepped w node lucks f = go (is_down w node)
   where
     go : (b : Bool)
@@ -339,7 +384,7 @@ held_stepped w node lucks f = go (is_down w node)
     go true = answered_stepped w (facts.Refuses (facts.NodeDown node)) f
     go false = holds_stepped w (node ∷ w.holds) f
 
-freed_stepped : (w : World) (node : Node) (lucks : List Luck) → IsFine w → Stepped w (holds_by w (events.Free node) lucks) w.schemas (step w (events.Free node) lucks)
+freed_stepped : (w : World) (node : Node) (lucks : Lucks) → IsFine w → Stepped w (holds_by w (events.Free node) lucks) w.schemas (step w (events.Free node) lucks)
 freed_stepped w node lucks f = go (is_down w node)
   where
     go : (b : Bool)
@@ -349,28 +394,30 @@ freed_stepped w node lucks f = go (is_down w node)
     go false = holds_stepped w (without_node w.holds node) f
 
 -- the schemas behind an event
-abbrev pub schemas_by : World → Event → List Luck → List (ℕ × Schema)
-schemas_by w (events.Table table schema) lucks = (declared w table schema (first_luck lucks) (hosted_at w table)).schemas
+abbrev pub schemas_by : World → Event → Lucks → List (ℕ × Schema)
+schemas_by w (events.Table table schema) lucks = (declared w table schema (first_luck lucks.calls) (hosted_at w table)).schemas
 schemas_by w other lucks = w.schemas
 
-pub step_stepped : (w : World) (event : Event) (lucks : List Luck) → IsFine w → Stepped w (holds_by w event lucks) (schemas_by w event lucks) (step w event lucks)
+pub step_stepped : (w : World) (event : Event) (lucks : Lucks) → IsFine w → Stepped w (holds_by w event lucks) (schemas_by w event lucks) (step w event lucks)
 step_stepped w (events.Store number) lucks f = silent_stepped w w f refl refl
-step_stepped w (events.Table table schema) lucks f = declared_stepped w table schema (first_luck lucks) f (hosted_at w table)
-step_stepped w (events.Client c gate tables) lucks f = joined_stepped w c tables f (client_at w c)
-step_stepped w (events.Write c table row x) lucks f = call_stepped w c (client.Write table row x) no_shape lucks tt f (client_at w c)
-step_stepped w (events.Show c table row) lucks f = call_stepped w c (client.Show table row) no_shape lucks tt f (client_at w c)
-step_stepped w (events.Sum c table row) lucks f = call_stepped w c (client.Sum table row) no_shape lucks tt f (client_at w c)
-step_stepped w (events.Sync c table) lucks f = call_stepped w c (client.Sync table) no_shape lucks tt f (client_at w c)
-step_stepped w (events.Pull c table) lucks f = call_stepped w c (client.Next table) no_shape lucks tt f (client_at w c)
-step_stepped w (events.Deliver n) lucks f = delivered_stepped w n lucks f (slice_get w.packets n) refl
-step_stepped w (events.StoreShow table row) lucks f = shows_stepped w row lucks f (hosted_at w table)
+step_stepped w (events.Table table schema) lucks f = declared_stepped w table schema (first_luck lucks.calls) f (hosted_at w table)
+step_stepped w (events.Client c gate tables) lucks f = joined_stepped w c tables (first_luck lucks.calls) f (client_at w c)
+step_stepped w (events.Write c table row x) lucks f = call_stepped w c (client.Write table row x) lucks.shape lucks.calls tt f (client_at w c)
+step_stepped w (events.Edit c table row x) lucks f = call_stepped w c (client.Change table row x) lucks.shape lucks.calls tt f (client_at w c)
+step_stepped w (events.Link c up) lucks f = linked_stepped w c up f (client_at w c)
+step_stepped w (events.Show c table row) lucks f = call_stepped w c (client.Show table row) lucks.shape lucks.calls tt f (client_at w c)
+step_stepped w (events.Sum c table row) lucks f = call_stepped w c (client.Sum table row) lucks.shape lucks.calls tt f (client_at w c)
+step_stepped w (events.Sync c table) lucks f = call_stepped w c (client.Sync table) lucks.shape lucks.calls tt f (client_at w c)
+step_stepped w (events.Pull c table) lucks f = call_stepped w c (client.Next table) lucks.shape lucks.calls tt f (client_at w c)
+step_stepped w (events.Deliver n) lucks f = delivered_stepped w n lucks.shape lucks.calls f (slice_get w.packets n) refl
+step_stepped w (events.StoreShow table row) lucks f = shows_stepped w row lucks.calls f (hosted_at w table)
 step_stepped w (events.History table) lucks f = history_stepped w table f (hosted_at w table)
 step_stepped w (events.Hold node) lucks f = held_stepped w node lucks f
 step_stepped w (events.Free node) lucks f = freed_stepped w node lucks f
-step_stepped w (events.Work node) lucks f = down_stepped w node _ f (worked_stepped w lucks f node)
-step_stepped w (events.WorkAll node) lucks f = down_stepped w node _ f (all_worked_stepped w lucks f node)
-step_stepped w (events.Crash node calls pick) lucks f = down_stepped w node _ f (crashed_stepped w calls lucks f node)
-step_stepped w (events.Start node) lucks f = started_stepped w lucks f node
+step_stepped w (events.Work node) lucks f = down_stepped w node _ f (worked_stepped w lucks.calls f node)
+step_stepped w (events.WorkAll node) lucks f = down_stepped w node _ f (all_worked_stepped w lucks.calls f node)
+step_stepped w (events.Crash node calls pick) lucks f = down_stepped w node _ f (crashed_stepped w calls lucks.calls f node)
+step_stepped w (events.Start node) lucks f = started_stepped w lucks.shape lucks.calls f node
 step_stepped w (events.Chunks table) lucks f = chunks_stepped w table f (hosted_at w table)
 
 pub start_fine : IsFine start

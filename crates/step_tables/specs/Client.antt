@@ -14,7 +14,8 @@ use Rattle.row_value.specs.Fit.{fit_of}
 use Rattle.table_model.specs.declared.line.Answer.{Answer}
 use Rattle.table_model.specs.declared.line.Answer.TheVariants as answers
 use Rattle.table_model.specs.declared.line.Fact.{Fact}
-use Rattle.table_model.specs.declared.line.Fact.TheVariants as facts
+use Rattle.table_model.specs.declared.line.Fact.TheVariants as told
+use Rattle.table_model.specs.declared.line.ClientFact.TheVariants as facts
 use Rattle.table_model.specs.declared.line.Refusal.{Refusal}
 use Rattle.table_model.specs.declared.line.Refusal.TheVariants as refusals
 use Rattle.table_model.specs.declared.line.Shown.{Shown}
@@ -113,14 +114,14 @@ written client number table row content =
           (with_slots table row (record slots { main = Some main }));
       answer = answers.Number main.number;
       messages = [];
-      facts = facts.Wrote (record {
+      facts = told.Client (facts.Wrote (record {
         client = client.number;
         number = main.number;
         table = number;
         row = row;
         read = main.read;
         content = content;
-      }) ∷ [];
+      })) ∷ [];
     }
 
 abbrev pub write_fitting : Client → ℕ → ClientTable → List ℕ → Content → Result (Unit {0}) FitFault → ClientStep
@@ -245,7 +246,7 @@ without number None = None
 without number (Some main) = if main.number == number then None else Some main
 
 abbrev pub acked : ℕ → ℕ → List ℕ → ℕ → ℕ → Fact
-acked client table row number version = facts.Acked client number table row version
+acked client table row number version = told.Client (facts.Acked client number table row version)
 
 -- Out's write was accepted at this version
 abbrev pub take_accepted : Client → ℕ → ClientTable → List ℕ → Slots → InFlight → ℕ → ClientStep
@@ -292,18 +293,18 @@ shadow_of header = record { version = header.version; content = header.content }
 abbrev pub newer : ℕ → ℕ → RowHeader → Slots → Option InFlight → Taken
 newer client table header slots None = record {
   slots = record slots { shadow = Some (shadow_of header) };
-  facts = facts.New client table header.row header.version ∷ [];
+  facts = told.Client (facts.New client table header.row header.version) ∷ [];
 }
 newer client table header slots (Some out) =
     if nat_le out.number header.yours.number
     then record {
       slots = record { main = without out.number slots.main; shadow = Some (shadow_of header); out = None };
       facts = acked client table header.row out.number header.yours.version
-          ∷ facts.New client table header.row header.version ∷ [];
+          ∷ told.Client (facts.New client table header.row header.version) ∷ [];
     }
     else record {
       slots = record slots { shadow = Some (shadow_of header) };
-      facts = facts.New client table header.row header.version ∷ [];
+      facts = told.Client (facts.New client table header.row header.version) ∷ [];
     }
 
 -- a row that isn't newer than the one read changes no slot
@@ -321,7 +322,7 @@ take_row client number table response header taken = record {
   client = with_table client number (record (with_slots table header.row taken.slots) { position = response.to });
   answer = answers.Done;
   messages = next_pull client.number number response;
-  facts = taken.facts ++ facts.Position client.number number response.to ∷ [];
+  facts = taken.facts ++ told.Client (facts.Position client.number number response.to) ∷ [];
 }
 
 -- an answer to another position than the client's is dropped, and one without a row changes nothing

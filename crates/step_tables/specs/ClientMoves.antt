@@ -1,6 +1,7 @@
 -- A client's step table: what a move makes of it, what it answers, and what is told and sent. Its state is what its
 -- devices stand for, and the device writes that it has begun.
-use Rattle.std.specs.Prelude.{ℕ, ◌+◌, ◌==◌, nat_lt, nat_le, Bool, true, List, [], ◌∷◌, ◌++◌, length, map, Option, Some}
+use Rattle.std.specs.Prelude.{ℕ, ◌+◌, ◌==◌, nat_lt, nat_le, Bool, true, false, not, ◌&&◌, ◌||◌, List, [], ◌∷◌, ◌++◌}
+use Rattle.std.specs.Prelude.{length, map, Option, Some}
 use Rattle.std.specs.Prelude.{None, option_map, option_to_list, Result, Ok, Err, if◌then◌else◌}
 use Rattle.std.specs.Ordering.{nat_cmp}
 use Rattle.std.specs.Map.{lookup}
@@ -8,11 +9,14 @@ use Rattle.std.specs.BTreeMap.{is_at, insert_entry}
 use Rattle.stab_base.specs.declared.step.Step.{Step}
 use Rattle.stab_base.specs.declared.step.Step.TheVariants as steps
 use Rattle.row_value.specs.declared.content.Content.{Content}
+use Rattle.row_value.specs.declared.content.Content.TheVariants.{Gone, Row}
 use Rattle.row_value.specs.declared.schema.Schema.{Schema}
 use Rattle.row_value.specs.declared.schema.Scheme.{Scheme}
 use Rattle.row_value.specs.declared.schema.Scheme.TheVariants.{Strong, Causal, Eventual}
 use Rattle.row_value.specs.declared.fit.FitFault.{FitFault}
 use Rattle.row_value.specs.Fit.{fit_of}
+use Rattle.row_edits.specs.declared.change.Edit.{Edit}
+use Rattle.row_edits.specs.Edit.{edited_to}
 use Rattle.step_tables.specs.declared.slots.Main.{Main}
 use Rattle.step_tables.specs.declared.slots.InFlight.{InFlight}
 use Rattle.step_tables.specs.declared.slots.Shadow.{Shadow}
@@ -75,8 +79,8 @@ pub record ClientTask : Type 0 where
   pub sends : List Send
 
 -- The device writes of a plan or a start beside those that change what the devices stand for, by their names, before
--- the plan's and behind them; the number of the plan; and the row from the Store whose plan was cut short before its
--- commit, with its table. A client names its chunks itself, and how many there are isn't said here.
+-- the plan's and behind them; the number of the plan, or of the one at work; and the row from the Store whose plan was
+-- cut short before its commit, with its table. A client names its chunks itself, and how many there are isn't said here.
 pub record Shape : Type 0 where
   pub plan : ℕ
   pub before : List Step
@@ -99,6 +103,7 @@ pub data Choice : Type 0 where
 
 pub data ClientMove : Type 0 where
   Write : (table : ℕ) → (row : List ℕ) → (content : Content) → ClientMove
+  Change : (table : ℕ) → (row : List ℕ) → (edit : Edit) → ClientMove
   Show : (table : ℕ) → (row : List ℕ) → ClientMove
   Sum : (table : ℕ) → (row : List ℕ) → ClientMove
   Sync : (table : ℕ) → ClientMove
@@ -300,13 +305,22 @@ told_at_start c torn (Some p) = retold p
 told_at_start c (Some row) None = facts.Torn c row.0 row.1 ∷ []
 told_at_start c None None = []
 
+-- what the last of some writes would tell is told at once where there is none
+abbrev pub told_without : List Fact → List ClientTask → List Fact
+told_without some [] = some
+told_without some (task ∷ more) = []
+
+-- a client that has recovered says so; one whose declaration failed is made without a write
 abbrev pub resumed : ℕ → Shape → ClientDisk → Option Plan → ClientStep
-resumed c shape d plan = record {
-  client = record { disk = d; agenda = Some (ending (facts.ClientRecovered c ∷ []) (opening shape plan)) };
-  answer = facts.Done;
-  facts = told_at_start c shape.torn plan;
-  sends = [];
-}
+resumed c shape d plan =
+    let tasks : List ClientTask = opening shape plan in
+    let recovered : List Fact = facts.ClientRecovered c ∷ [] in
+    record {
+      client = record { disk = d; agenda = Some (ending recovered tasks) };
+      answer = facts.Done;
+      facts = told_at_start c shape.torn plan ++ told_without recovered tasks;
+      sends = [];
+    }
 
 -- a client that is up goes on
 abbrev pub started : ℕ → Shape → ClientDisk → Option (List ClientTask) → ClientStep
@@ -396,7 +410,8 @@ write_free g c shape d table row opened slots content (Some x) = refused d (fact
 -- nor is one while a plan is at work
 abbrev pub write_idle : Scheme → ℕ → Shape → ClientDisk → List ClientTask → ℕ → List ℕ → TableDisk → Content
     → ClientStep
-write_idle g c shape d (task ∷ more) table row opened content = quiet d (Some (task ∷ more)) (facts.Refuses facts.Busy)
+write_idle g c shape d (task ∷ more) table row opened content =
+    quiet d (Some (task ∷ more)) (facts.Refuses (facts.Busy shape.plan))
 write_idle g c shape d [] table row opened content =
     let slots : Slots = slots_at opened row in write_free g c shape d table row opened slots content slots.conflict
 
@@ -438,6 +453,37 @@ show_in row (Some table) = let slots : Slots = slots_at table row in
 abbrev pub show_step : ClientDisk → Option (List ClientTask) → ℕ → List ℕ → ClientStep
 show_step d None table row = down d
 show_step d (Some agenda) table row = quiet d (Some agenda) (show_in row (table_at (seen d) table))
+
+-- ---- an edit: what it makes of the content that is shown is written; there is nothing to edit where nothing is shown,
+-- nor where a row is shown that is gone
+
+abbrev pub content_of : Shown → Content
+content_of (facts.Clean version content) = content
+content_of (facts.Mine number content) = content
+content_of (facts.Contended number version content) = content
+
+abbrev pub edit_made : ℕ → Shape → ClientDisk → List ClientTask → ℕ → List ℕ → TableDisk → Result Content FitFault
+    → ClientStep
+edit_made c shape d agenda table row opened (Ok content) = write_to c shape d agenda table row content (Some opened)
+edit_made c shape d agenda table row opened (Err fault) = quiet d (Some agenda) (facts.Refuses (facts.Unfit fault))
+
+abbrev pub edit_over : ℕ → Shape → ClientDisk → List ClientTask → ℕ → List ℕ → TableDisk → Edit → Option Content
+    → ClientStep
+edit_over c shape d agenda table row opened edit None = quiet d (Some agenda) (facts.Refuses facts.NoRow)
+edit_over c shape d agenda table row opened edit (Some Gone) = quiet d (Some agenda) (facts.Refuses facts.NoRow)
+edit_over c shape d agenda table row opened edit (Some (Row some objects)) =
+    edit_made c shape d agenda table row opened (edited_to opened.schema some objects edit)
+
+abbrev pub edit_in : ℕ → Shape → ClientDisk → List ClientTask → ℕ → List ℕ → Edit → Option TableDisk → ClientStep
+edit_in c shape d agenda table row edit None = quiet d (Some agenda) (facts.Refuses facts.NoTable)
+edit_in c shape d agenda table row edit (Some opened) = let slots : Slots = slots_at opened row in
+    edit_over c shape d agenda table row opened edit
+    (option_map content_of (shown_in slots.main slots.conflict slots.shadow))
+
+abbrev pub edit_step : ℕ → Shape → ClientDisk → Option (List ClientTask) → ℕ → List ℕ → Edit → ClientStep
+edit_step c shape d None table row edit = down d
+edit_step c shape d (Some agenda) table row edit =
+    edit_in c shape d agenda table row edit (table_at (seen d) table)
 
 -- ---- sum: what is shown, its objects by their digests
 
@@ -489,7 +535,8 @@ sync_first c shape d table again (Some x) =
 
 abbrev pub sync_in : ℕ → Shape → ClientDisk → List ClientTask → ℕ → Option TableDisk → ClientStep
 sync_in c shape d agenda table None = quiet d (Some agenda) (facts.Refuses facts.NoTable)
-sync_in c shape d (task ∷ more) table (Some opened) = quiet d (Some (task ∷ more)) (facts.Refuses facts.Busy)
+sync_in c shape d (task ∷ more) table (Some opened) =
+    quiet d (Some (task ∷ more)) (facts.Refuses (facts.Busy shape.plan))
 sync_in c shape d [] table (Some opened) =
     sync_first c shape d table (resent c table opened.rows) (first_to_send opened.rows)
 
@@ -499,14 +546,15 @@ sync_step c shape d (Some agenda) table = sync_in c shape d agenda table (table_
 
 -- ---- the next change
 
-abbrev pub next_in : ℕ → ClientDisk → List ClientTask → ℕ → Option TableDisk → ClientStep
-next_in c d agenda table None = quiet d (Some agenda) (facts.Refuses facts.NoTable)
-next_in c d (task ∷ more) table (Some opened) = quiet d (Some (task ∷ more)) (facts.Refuses facts.Busy)
-next_in c d [] table (Some opened) = record (ignored d) { sends = pull_from c table opened.position ∷ [] }
+abbrev pub next_in : ℕ → Shape → ClientDisk → List ClientTask → ℕ → Option TableDisk → ClientStep
+next_in c shape d agenda table None = quiet d (Some agenda) (facts.Refuses facts.NoTable)
+next_in c shape d (task ∷ more) table (Some opened) =
+    quiet d (Some (task ∷ more)) (facts.Refuses (facts.Busy shape.plan))
+next_in c shape d [] table (Some opened) = record (ignored d) { sends = pull_from c table opened.position ∷ [] }
 
-abbrev pub next_step : ℕ → ClientDisk → Option (List ClientTask) → ℕ → ClientStep
-next_step c d None table = down d
-next_step c d (Some agenda) table = next_in c d agenda table (table_at (seen d) table)
+abbrev pub next_step : ℕ → Shape → ClientDisk → Option (List ClientTask) → ℕ → ClientStep
+next_step c shape d None table = down d
+next_step c shape d (Some agenda) table = next_in c shape d agenda table (table_at (seen d) table)
 
 -- ---- resolving: the row in conflict is read, and a new write stands over it, or none
 
@@ -549,7 +597,7 @@ abbrev pub resolve_in : ℕ → Shape → ClientDisk → List ClientTask → ℕ
     → ClientStep
 resolve_in c shape d agenda table row version choice None = quiet d (Some agenda) (facts.Refuses facts.NoTable)
 resolve_in c shape d (task ∷ more) table row version choice (Some opened) =
-    quiet d (Some (task ∷ more)) (facts.Refuses facts.Busy)
+    quiet d (Some (task ∷ more)) (facts.Refuses (facts.Busy shape.plan))
 resolve_in c shape d [] table row version choice (Some opened) =
     let slots : Slots = slots_at opened row in
     resolve_over c shape d table row opened.schema slots version choice slots.main slots.conflict
@@ -695,7 +743,7 @@ pulled_in c shape d pulled (Some opened) = pulled_taken c shape d pulled opened 
 -- a client at work doesn't take a message, and one that no rule takes is dropped
 abbrev pub take_step : ℕ → Shape → ClientDisk → Option (List ClientTask) → Message → ClientStep
 take_step c shape d None message = down d
-take_step c shape d (Some (task ∷ more)) message = quiet d (Some (task ∷ more)) (facts.Refuses facts.Busy)
+take_step c shape d (Some (task ∷ more)) message = quiet d (Some (task ∷ more)) (facts.Refuses (facts.Busy shape.plan))
 take_step c shape d (Some []) (SyncRequest request) = ignored d
 take_step c shape d (Some []) (PullRequest pull) = ignored d
 take_step c shape d (Some []) (SyncResponse response) =
@@ -705,13 +753,58 @@ take_step c shape d (Some []) (PullResponse pulled) = pulled_in c shape d pulled
 -- what a move makes of a client of this number, where its devices are written so beside
 abbrev pub client_step : ℕ → Shape → Client → ClientMove → ClientStep
 client_step c shape s (Write table row content) = write_step c shape s.disk s.agenda table row content
+client_step c shape s (Change table row edit) = edit_step c shape s.disk s.agenda table row edit
 client_step c shape s (Show table row) = show_step s.disk s.agenda table row
 client_step c shape s (Sum table row) = sum_step s.disk s.agenda table row
 client_step c shape s (Sync table) = sync_step c shape s.disk s.agenda table
-client_step c shape s (Next table) = next_step c s.disk s.agenda table
+client_step c shape s (Next table) = next_step c shape s.disk s.agenda table
 client_step c shape s (Resolve table row version choice) =
     resolve_step c shape s.disk s.agenda table row version choice
 client_step c shape s (Take message) = take_step c shape s.disk s.agenda message
 client_step c shape s (Work luck) = worked s.disk s.agenda luck
 client_step c shape s (Crash luck) = crashed s.disk s.agenda luck
 client_step c shape s Start = started c shape s.disk s.agenda
+
+-- ---- a client whose link is down: it takes no message, sends and asks for nothing when it is called, and begins no
+-- write of a strong table. What it refuses before it looks at its link, it refuses all the same
+
+-- whether a client whose link is up would refuse before it looks at it
+abbrev pub is_before_link : Answer → Bool
+is_before_link facts.Done = false
+is_before_link (facts.Number number) = false
+is_before_link (facts.Shows shown) = false
+is_before_link (facts.Sums sum) = false
+is_before_link (facts.Stores version content) = false
+is_before_link (facts.Did step) = false
+is_before_link (facts.Names names) = false
+is_before_link (facts.Refuses refusal) = is_before refusal
+  where
+    is_before : Refusal → Bool
+    is_before (facts.Outstanding number) = false
+    is_before other = true
+
+abbrev pub is_strong : Scheme → Bool
+is_strong Strong = true
+is_strong Causal = false
+is_strong Eventual = false
+
+abbrev pub is_strong_in : Option TableDisk → Bool
+is_strong_in None = false
+is_strong_in (Some table) = is_strong table.schema.scheme
+
+abbrev pub needs_link : ClientDisk → ClientMove → Bool
+needs_link d (Write table row content) = is_strong_in (table_at (seen d) table)
+needs_link d (Change table row edit) = is_strong_in (table_at (seen d) table)
+needs_link d (Sync table) = true
+needs_link d (Next table) = true
+needs_link d (Take message) = true
+needs_link d other = false
+
+abbrev pub is_taking : ClientMove → Bool
+is_taking (Take message) = true
+is_taking other = false
+
+-- whether it refuses the move for its link
+abbrev pub is_cut_off : ℕ → Shape → Client → ClientMove → Bool
+is_cut_off c shape s move =
+    needs_link s.disk move && (is_taking move || not (is_before_link (client_step c shape s move).answer))

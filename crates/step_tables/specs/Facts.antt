@@ -52,10 +52,11 @@ pub data ShownSum : Type 0 where
 pub data Refusal : Type 0 where
   NoDevice : Refusal
   Unfit : (fault : FitFault) → Refusal
-  Busy : Refusal
+  Busy : (with : ℕ) → Refusal
   NoTable : Refusal
   NoConflict : Refusal
   Moved : (seen now : ℕ) → Refusal
+  Offline : Refusal
   Outstanding : (number : ℕ) → Refusal
   Conflicted : (version : ℕ) → Refusal
   NoRow : Refusal

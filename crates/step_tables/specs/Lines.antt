@@ -2,6 +2,8 @@
 use Rattle.row_value.specs.declared.fit.FitFault.TheVariants as faults
 use Rattle.table_model.specs.declared.line.Answer.{Answer}
 use Rattle.table_model.specs.declared.line.Answer.TheVariants as answers
+use Rattle.table_model.specs.declared.line.ClientFact.{ClientFact}
+use Rattle.table_model.specs.declared.line.ClientFact.TheVariants as client
 use Rattle.table_model.specs.declared.line.Fact.{Fact}
 use Rattle.table_model.specs.declared.line.Fact.TheVariants as told
 use Rattle.table_model.specs.declared.line.Refusal.{Refusal}
@@ -16,7 +18,7 @@ use Rattle.step_tables.specs.Facts as facts
 
 abbrev pub refusal_of : Refusal → facts.Refusal
 refusal_of refusals.NoDevice = facts.NoDevice
-refusal_of (refusals.Busy with) = facts.Busy
+refusal_of (refusals.Busy with) = facts.Busy with
 refusal_of (refusals.Down node) = facts.NodeDown node
 refusal_of (refusals.BadCell column) = facts.Unfit (faults.BadCell column)
 refusal_of (refusals.BadObject column len) = facts.Unfit (faults.BadObject column len)
@@ -24,6 +26,7 @@ refusal_of (refusals.RowTooLarge len) = facts.Unfit (faults.RowTooLarge len)
 refusal_of (refusals.TooManyChunks count) = facts.Unfit (faults.TooManyChunks count)
 refusal_of refusals.NoTable = facts.NoTable
 refusal_of refusals.NoRow = facts.NoRow
+refusal_of refusals.Offline = facts.Offline
 refusal_of (refusals.NoPacket sent) = facts.NoPacket sent
 
 abbrev pub shown_of : Shown → facts.Shown
@@ -44,16 +47,25 @@ answer_of (answers.Did step) = facts.Did step
 answer_of (answers.Names names) = facts.Names names
 answer_of (answers.Refused refusal) = facts.Refuses (refusal_of refusal)
 
+abbrev pub client_fact_of : ClientFact → facts.ClientFact
+client_fact_of (client.Wrote write) = facts.Wrote write
+client_fact_of (client.Acked c number table row version) = facts.Acked c number table row version
+client_fact_of (client.Refused c number table row latest) = facts.Refused c number table row latest
+client_fact_of (client.Conflict c number table row version) = facts.Conflict c number table row version
+client_fact_of (client.Resolved c number table row version) = facts.Resolved c number table row version
+client_fact_of (client.New c table row version) = facts.New c table row version
+client_fact_of (client.Position c table position) = facts.Position c table position
+
 abbrev pub fact_of : Fact → facts.Fact
 fact_of (told.Sent packet from to name) = facts.Sent packet from to name
-fact_of (told.Wrote write) = facts.Client (facts.Wrote write)
-fact_of (told.Acked c number table row version) = facts.Client (facts.Acked c number table row version)
-fact_of (told.New c table row version) = facts.Client (facts.New c table row version)
-fact_of (told.Position c table position) = facts.Client (facts.Position c table position)
+fact_of (told.Client fact) = facts.Client (client_fact_of fact)
+fact_of (told.Redone fact) = facts.Redone (client_fact_of fact)
+fact_of (told.Torn c table row) = facts.Torn c table row
+fact_of (told.ClientRecovered c) = facts.ClientRecovered c
 fact_of (told.Accepted table entry) = facts.Accepted table entry
 fact_of (told.Forward table entry) = facts.Forward table entry
 fact_of (told.Back table version) = facts.Back table version
-fact_of (told.Recovered store table) = facts.StoreRecovered store table
+fact_of (told.StoreRecovered store table) = facts.StoreRecovered store table
 
 abbrev pub line_of : TextLine → facts.Line
 line_of (lines.Answer answer) = facts.AnswerLine (answer_of answer)

@@ -284,11 +284,19 @@ answered d from pull =
       message = PullResponse (pulled_for d.items pull (next_changed pull.position d.items));
     } ∷ [])
 
+-- ---- what is at work: an update, from its first write on, or the end of one that a start found; else 0
+
+-- where this is the next write
+abbrev pub version_at : StoreDisk → StoreChange → ℕ
+version_at d (Open item) = item.entry.version
+version_at d other = version_of d.pending
+
 -- ---- a message; a table at work doesn't take it, and one that no rule takes is dropped
 
 abbrev pub taken : Scheme → ℕ → ℕ → StoreDisk → Option (List StoreTask) → Node → Message → StoreStep
 taken g size table d None from message = down d
-taken g size table d (Some (task ∷ more)) from message = quiet d (Some (task ∷ more)) (facts.Refuses facts.Busy)
+taken g size table d (Some (task ∷ more)) from message =
+    quiet d (Some (task ∷ more)) (facts.Refuses (facts.Busy (version_at d task.change)))
 taken g size table d (Some []) from (SyncRequest request) =
     decided g size table d from request (yours_in d.items request.client request.row)
 taken g size table d (Some []) from (PullRequest pull) = answered d from pull

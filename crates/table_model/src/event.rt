@@ -1,3 +1,4 @@
+use row_edits::Edit;
 use row_value::{ClientNo, Content, GateNo, RowId, Schema, Sequence, StoreNo, TableNo};
 use stab_base::Node;
 
@@ -28,6 +29,18 @@ pub enum Event {
         table: TableNo,
         row: RowId,
         content: Content,
+    },
+    /// The client writes what an edit makes of the content that it shows of a row.
+    Edit {
+        client: ClientNo,
+        table: TableNo,
+        row: RowId,
+        edit: Edit,
+    },
+    /// The client's link goes up or down.
+    Link {
+        client: ClientNo,
+        up: bool,
     },
     /// The client shows a row.
     Show {

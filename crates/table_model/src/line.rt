@@ -54,6 +54,8 @@ pub enum Refusal {
     Busy { with: u64 },
     /// 18: the client hasn't opened the table.
     NoTable,
+    /// 24: the client's link is down.
+    Offline,
     /// 27: nothing is shown of the row.
     NoRow,
     /// 29: no packet of this number was sent yet, but so many.
@@ -83,20 +85,37 @@ pub enum Answer {
     Refused(Refusal),
 }
 
-/// What a party did.
+/// What a client tells when a change of its rows is committed.
 #[derive(Debug, Drop)]
-pub enum Fact {
-    /// A packet was sent, of this number among all packets, from 0.
-    Sent {
-        packet: u64,
-        from: Node,
-        to: Node,
-        name: MessageName,
-    },
-    /// A client's write is committed at the client.
+pub enum ClientFact {
+    /// A write was made.
     Wrote(Write),
     /// The client has learnt that its write was accepted at this version.
     Acked {
+        client: ClientNo,
+        number: WriteNo,
+        table: TableNo,
+        row: RowId,
+        version: Version,
+    },
+    /// The client has learnt that its write was refused for good; the row's version was `latest`.
+    Refused {
+        client: ClientNo,
+        number: WriteNo,
+        table: TableNo,
+        row: RowId,
+        latest: Version,
+    },
+    /// The client's write is in conflict with the row at this version.
+    Conflict {
+        client: ClientNo,
+        number: WriteNo,
+        table: TableNo,
+        row: RowId,
+        version: Version,
+    },
+    /// The conflict of the client's write with the row at this version is resolved.
+    Resolved {
         client: ClientNo,
         number: WriteNo,
         table: TableNo,
@@ -116,6 +135,32 @@ pub enum Fact {
         table: TableNo,
         position: Version,
     },
+}
+
+/// What a party did.
+#[derive(Debug, Drop)]
+pub enum Fact {
+    /// A packet was sent, of this number among all packets, from 0.
+    Sent {
+        packet: u64,
+        from: Node,
+        to: Node,
+        name: MessageName,
+    },
+    /// A change at a client is committed.
+    Client(ClientFact),
+    /// A client that starts has found that this was committed, and may have been told before.
+    Redone(ClientFact),
+    /// A client that starts has found that the chunks of this row from the Store were being brought.
+    Torn {
+        client: ClientNo,
+        table: TableNo,
+        row: RowId,
+    },
+    /// A client has done what its start had to do.
+    ClientRecovered {
+        client: ClientNo,
+    },
     /// The Store has accepted a write.
     Accepted {
         table: TableNo,
@@ -132,7 +177,7 @@ pub enum Fact {
         version: Version,
     },
     /// A table at a Store has done what its start had to do.
-    Recovered {
+    StoreRecovered {
         store: StoreNo,
         table: TableNo,
     },

@@ -1,7 +1,7 @@
 -- The versions of a table, and the numbers of a client's writes, are no more than the events of a run.
 use Rattle.std.proofs.Common.{◌≡◌, ⊎_elim, ℕ, zero, suc, ◌+◌, ◌≤◌, Bool, true, false, List, [], ◌∷◌, ◌++◌, length, Option, Some, None, Result, Ok, Err, refl, sym, ◌∙◌, subst, arith, length-append}
 use Rattle.std.proofs.Common.{append-nil}
-use Rattle.std.specs.Prelude.{◌==◌, not, nat_le, nat_lt, drop, slice_get, if◌then◌else◌}
+use Rattle.std.specs.Prelude.{◌==◌, ◌&&◌, option_map, not, nat_le, nat_lt, drop, slice_get, if◌then◌else◌}
 use Rattle.std.specs.Ordering.{nat_cmp}
 use Rattle.std.specs.Map.{lookup}
 use Rattle.std.specs.BTreeMap.{is_at, insert_entry}
@@ -10,6 +10,9 @@ use Rattle.stab_base.specs.declared.node.Node.{Node}
 use Rattle.stab_base.specs.declared.node.Node.TheVariants as nodes
 use Rattle.stab_base.specs.declared.step.Step.{Step}
 use Rattle.row_value.specs.declared.content.Content.{Content}
+use Rattle.row_value.specs.declared.content.Content.TheVariants.{Gone, Row}
+use Rattle.row_edits.specs.declared.change.Edit.{Edit}
+use Rattle.row_edits.specs.Edit.{edited_to}
 use Rattle.row_value.specs.declared.fit.FitFault.{FitFault}
 use Rattle.row_value.specs.declared.schema.Schema.{Schema}
 use Rattle.row_value.specs.declared.schema.Scheme.{Scheme}
@@ -28,8 +31,9 @@ use Rattle.step_tables.specs.Messages as messages
 use Rattle.step_tables.specs.StoreMoves as store
 use Rattle.step_tables.specs.StoreMoves.{StoreDisk, StoreChange, StoreTask, TableStore, StoreMove, store_step}
 use Rattle.step_tables.specs.ClientMoves as client
-use Rattle.step_tables.specs.ClientMoves.{Slots, TableDisk, RowPut, Plan, ClientDisk, ClientChange, ClientTask, Client, ClientMove, Shape, RowOut, no_shape, slots_at, table_at, seen, client_step}
-use Rattle.world_tables.specs.World.{client_until_idle, client_writes, client_starts}
+use Rattle.step_tables.specs.ClientMoves.{Slots, TableDisk, RowPut, Plan, ClientDisk, ClientChange, ClientTask, Client, ClientMove, Shape, RowOut, no_shape, slots_at, table_at, seen, client_step, is_cut_off}
+use Rattle.world_tables.specs.World.{client_until_idle, client_writes, starts_by, client_starts, client_falls, Lucks, first_agenda, is_cut, with_link, unless_cut, calls, linked}
+use Rattle.world_tables.specs.World as world
 use Rattle.world_tables.specs.World.{World, Packet, Hosted, Moved, WorldStep, start, hosted_at, client_at, schema_at, scheme_in, chunk_in, owner, the_store, is_down, has_node, tables_of}
 use Rattle.world_tables.specs.World.{still, and_then, and_unless, tasks_in, after_table, move_hosted, move_table, move_there, move_client, first_luck, other_lucks, client_works}
 use Rattle.world_tables.specs.World.{client_tasks, client_follows, tables_fall, without_down, store_falls, or_falls, is_at_work, busy_table, write_next, store_works, tasks_of}
@@ -342,17 +346,36 @@ module _ (n c : ℕ) (shape : Shape) (d : ClientDisk) (few : DiskUpTo n d) where
   idle_up_to g (task ∷ more) tasks table row opened x = (later, later_tasks (task ∷ more) tasks)
   idle_up_to g [] tasks table row opened x = free_up_to g table row opened (slots_at opened row) x (slots_at opened row).conflict
 
-  write_up_to : (agenda : Option (List ClientTask)) → TasksUpTo n (tasks_in agenda) → (table : ℕ) (row : List ℕ) (x : Content) → IsUpTo (n + 1) (client.write_step c shape d agenda table row x).client
-  write_up_to None tasks table row x = (later, tt)
-  write_up_to (Some agenda) tasks table row x = there (table_at (seen d) table)
+  to_up_to : (agenda : List ClientTask) → TasksUpTo n agenda → (table : ℕ) (row : List ℕ) (x : Content) (o : Option TableDisk)
+      → IsUpTo (n + 1) (client.write_to c shape d agenda table row x o).client
+  to_up_to agenda tasks table row x None = (later, later_tasks agenda tasks)
+  to_up_to agenda tasks table row x (Some opened) = fitting opened.schema.scheme opened (fit_of opened.schema x)
     where
       fitting : (g : Scheme) (opened : TableDisk) (fit : Result (Unit {0}) FitFault) → IsUpTo (n + 1) (client.write_fitting g c shape d agenda table row opened x fit).client
       fitting g opened (Ok fits) = idle_up_to g agenda tasks table row opened x
       fitting g opened (Err fault) = (later, later_tasks agenda tasks)
 
-      there : (o : Option TableDisk) → IsUpTo (n + 1) (client.write_to c shape d agenda table row x o).client
+  write_up_to : (agenda : Option (List ClientTask)) → TasksUpTo n (tasks_in agenda) → (table : ℕ) (row : List ℕ) (x : Content) → IsUpTo (n + 1) (client.write_step c shape d agenda table row x).client
+  write_up_to None tasks table row x = (later, tt)
+  write_up_to (Some agenda) tasks table row x = to_up_to agenda tasks table row x (table_at (seen d) table)
+
+  edit_up_to : (agenda : Option (List ClientTask)) → TasksUpTo n (tasks_in agenda) → (table : ℕ) (row : List ℕ) (edit : Edit) → IsUpTo (n + 1) (client.edit_step c shape d agenda table row edit).client
+  edit_up_to None tasks table row edit = (later, tt)
+  edit_up_to (Some agenda) tasks table row edit = there (table_at (seen d) table)
+    where
+      made : (opened : TableDisk) (result : Result Content FitFault) → IsUpTo (n + 1) (client.edit_made c shape d agenda table row opened result).client
+      made opened (Ok x) = to_up_to agenda tasks table row x (Some opened)
+      made opened (Err fault) = (later, later_tasks agenda tasks)
+
+      over : (opened : TableDisk) (shown : Option Content) → IsUpTo (n + 1) (client.edit_over c shape d agenda table row opened edit shown).client
+      over opened None = (later, later_tasks agenda tasks)
+      over opened (Some Gone) = (later, later_tasks agenda tasks)
+      over opened (Some (Row some objects)) = made opened (edited_to opened.schema some objects edit)
+
+      there : (o : Option TableDisk) → IsUpTo (n + 1) (client.edit_in c shape d agenda table row edit o).client
       there None = (later, later_tasks agenda tasks)
-      there (Some opened) = fitting opened.schema.scheme opened (fit_of opened.schema x)
+      there (Some opened) =
+          let slots : Slots = slots_at opened row in over opened (option_map client.content_of (client.shown_in slots.main slots.conflict slots.shadow))
 
   show_up_to : (agenda : Option (List ClientTask)) → TasksUpTo n (tasks_in agenda) → (table : ℕ) (row : List ℕ) → IsUpTo (n + 1) (client.show_step d agenda table row).client
   show_up_to None tasks table row = (later, tt)
@@ -367,12 +390,12 @@ module _ (n c : ℕ) (shape : Shape) (d : ClientDisk) (few : DiskUpTo n d) where
   sync_up_to None tasks table = (later, tt)
   sync_up_to (Some agenda) tasks table = sync_in_up_to agenda tasks table (table_at (seen d) table)
 
-  next_in_up_to : (agenda : List ClientTask) → TasksUpTo n agenda → (table : ℕ) (o : Option TableDisk) → IsUpTo (n + 1) (client.next_in c d agenda table o).client
+  next_in_up_to : (agenda : List ClientTask) → TasksUpTo n agenda → (table : ℕ) (o : Option TableDisk) → IsUpTo (n + 1) (client.next_in c shape d agenda table o).client
   next_in_up_to agenda tasks table None = (later, later_tasks agenda tasks)
   next_in_up_to (task ∷ more) tasks table (Some opened) = (later, later_tasks (task ∷ more) tasks)
   next_in_up_to [] tasks table (Some opened) = (later, tt)
 
-  next_up_to : (agenda : Option (List ClientTask)) → TasksUpTo n (tasks_in agenda) → (table : ℕ) → IsUpTo (n + 1) (client.next_step c d agenda table).client
+  next_up_to : (agenda : Option (List ClientTask)) → TasksUpTo n (tasks_in agenda) → (table : ℕ) → IsUpTo (n + 1) (client.next_step c shape d agenda table).client
   next_up_to None tasks table = (later, tt)
   next_up_to (Some agenda) tasks table = next_in_up_to agenda tasks table (table_at (seen d) table)
 
@@ -410,6 +433,7 @@ module _ (n c : ℕ) (shape : Shape) where
   no_call_up_to s (client.Crash luck) none few = crashed_up_to n s.disk s.agenda luck few.0 few.1
   no_call_up_to s client.Start none few = started_up_to s.disk s.agenda few.0 few.1
   no_call_up_to s (client.Write table row content) none few = absurd none
+  no_call_up_to s (client.Change table row edit) none few = absurd none
   no_call_up_to s (client.Show table row) none few = absurd none
   no_call_up_to s (client.Sum table row) none few = absurd none
   no_call_up_to s (client.Sync table) none few = absurd none
@@ -604,7 +628,7 @@ module _ (n : ℕ) (w : World) (few : AreFew n w) where
   call_few : (c : ℕ) (move : ClientMove) (shape : Shape) (lucks : List Luck) → ((node : Client) → client_at w c ≡ Some node → IsUpTo (n + 1) (client_step c shape node move).client)
       → (o : Option Client) → client_at w c ≡ o → AreFew (n + 1) (call_there w c move shape lucks o).world
   call_few c move shape lucks most None at = after
-  call_few c move shape lucks most (Some node) at = down_few (nodes.Client c) _ (follows (gets_tasks node.agenda v c))
+  call_few c move shape lucks most (Some node) at = down_few (nodes.Client c) _ (reads (first_luck lucks))
     where
       v : World
       v = (move_client c move shape w).world
@@ -613,29 +637,45 @@ module _ (n : ℕ) (w : World) (few : AreFew n w) where
       moved None is = after
       moved (Some x) is = (after.0, put_client (n + 1) w.clients c _ after.1 (most x is))
 
-      follows : (b : Bool) → AreFew (n + 1) (if b then client_follows c lucks v else still v).world
-      follows true = client_follows_few (n + 1) c lucks v (moved (client_at w c) refl)
+      follows : (b : Bool) → AreFew (n + 1) (if b then client_follows c (other_lucks lucks) v else still v).world
+      follows true = client_follows_few (n + 1) c (other_lucks lucks) v (moved (client_at w c) refl)
       follows false = moved (client_at w c) refl
 
-  write_event : (c table : ℕ) (row : List ℕ) (x : Content) (lucks : List Luck) → AreFew (n + 1) (call w c (client.Write table row x) no_shape lucks).world
-  write_event c table row x lucks = call_few c (client.Write table row x) no_shape lucks
-      (λ node at. let old : IsUpTo n node = few.1 c node at in write_up_to n c no_shape node.disk old.0 node.agenda old.1 table row x) (client_at w c) refl
+      by_link : (cut : Bool) → AreFew (n + 1) (unless_cut w cut (calls w c move shape (other_lucks lucks) node)).world
+      by_link true = after
+      by_link false = follows (gets_tasks node.agenda v c)
 
-  show_event : (c table : ℕ) (row : List ℕ) (lucks : List Luck) → AreFew (n + 1) (call w c (client.Show table row) no_shape lucks).world
-  show_event c table row lucks = call_few c (client.Show table row) no_shape lucks
-      (λ node at. let old : IsUpTo n node = few.1 c node at in show_up_to n c no_shape node.disk old.0 node.agenda old.1 table row) (client_at w c) refl
+      fallen : AreFew (n + 1) (client_falls c w).world
+      fallen = client_few (n + 1) w c (client.Crash messages.FailedBefore) no_shape tt after
 
-  sum_event : (c table : ℕ) (row : List ℕ) (lucks : List Luck) → AreFew (n + 1) (call w c (client.Sum table row) no_shape lucks).world
-  sum_event c table row lucks = call_few c (client.Sum table row) no_shape lucks
-      (λ node at. let old : IsUpTo n node = few.1 c node at in show_up_to n c no_shape node.disk old.0 node.agenda old.1 table row) (client_at w c) refl
+      reads : (luck : Luck) → AreFew (n + 1) (world.reads w c luck (unless_cut w (is_cut w c && is_cut_off c shape node move) (calls w c move shape (other_lucks lucks) node))).world
+      reads messages.Done = by_link (is_cut w c && is_cut_off c shape node move)
+      reads messages.FailedBefore = fallen
+      reads messages.FailedAfter = fallen
 
-  sync_event : (c table : ℕ) (lucks : List Luck) → AreFew (n + 1) (call w c (client.Sync table) no_shape lucks).world
-  sync_event c table lucks = call_few c (client.Sync table) no_shape lucks
-      (λ node at. let old : IsUpTo n node = few.1 c node at in sync_up_to n c no_shape node.disk old.0 node.agenda old.1 table) (client_at w c) refl
+  write_event : (c table : ℕ) (row : List ℕ) (x : Content) (shape : Shape) (lucks : List Luck) → AreFew (n + 1) (call w c (client.Write table row x) shape lucks).world
+  write_event c table row x shape lucks = call_few c (client.Write table row x) shape lucks
+      (λ node at. let old : IsUpTo n node = few.1 c node at in write_up_to n c shape node.disk old.0 node.agenda old.1 table row x) (client_at w c) refl
 
-  next_event : (c table : ℕ) (lucks : List Luck) → AreFew (n + 1) (call w c (client.Next table) no_shape lucks).world
-  next_event c table lucks = call_few c (client.Next table) no_shape lucks
-      (λ node at. let old : IsUpTo n node = few.1 c node at in next_up_to n c no_shape node.disk old.0 node.agenda old.1 table) (client_at w c) refl
+  edit_event : (c table : ℕ) (row : List ℕ) (x : Edit) (shape : Shape) (lucks : List Luck) → AreFew (n + 1) (call w c (client.Change table row x) shape lucks).world
+  edit_event c table row x shape lucks = call_few c (client.Change table row x) shape lucks
+      (λ node at. let old : IsUpTo n node = few.1 c node at in edit_up_to n c shape node.disk old.0 node.agenda old.1 table row x) (client_at w c) refl
+
+  show_event : (c table : ℕ) (row : List ℕ) (shape : Shape) (lucks : List Luck) → AreFew (n + 1) (call w c (client.Show table row) shape lucks).world
+  show_event c table row shape lucks = call_few c (client.Show table row) shape lucks
+      (λ node at. let old : IsUpTo n node = few.1 c node at in show_up_to n c shape node.disk old.0 node.agenda old.1 table row) (client_at w c) refl
+
+  sum_event : (c table : ℕ) (row : List ℕ) (shape : Shape) (lucks : List Luck) → AreFew (n + 1) (call w c (client.Sum table row) shape lucks).world
+  sum_event c table row shape lucks = call_few c (client.Sum table row) shape lucks
+      (λ node at. let old : IsUpTo n node = few.1 c node at in show_up_to n c shape node.disk old.0 node.agenda old.1 table row) (client_at w c) refl
+
+  sync_event : (c table : ℕ) (shape : Shape) (lucks : List Luck) → AreFew (n + 1) (call w c (client.Sync table) shape lucks).world
+  sync_event c table shape lucks = call_few c (client.Sync table) shape lucks
+      (λ node at. let old : IsUpTo n node = few.1 c node at in sync_up_to n c shape node.disk old.0 node.agenda old.1 table) (client_at w c) refl
+
+  next_event : (c table : ℕ) (shape : Shape) (lucks : List Luck) → AreFew (n + 1) (call w c (client.Next table) shape lucks).world
+  next_event c table shape lucks = call_few c (client.Next table) shape lucks
+      (λ node at. let old : IsUpTo n node = few.1 c node at in next_up_to n c shape node.disk old.0 node.agenda old.1 table) (client_at w c) refl
 
   -- ---- deliveries
 
@@ -656,19 +696,19 @@ module _ (n : ℕ) (w : World) (few : AreFew n w) where
       go (Some (task ∷ more)) = first
       go (Some []) = reads (first_luck lucks)
 
-  carried_few : (p : Packet) (lucks : List Luck) (to : Node) → AreFew (n + 1) (carried w p lucks to).world
-  carried_few p lucks (nodes.Store number) = down_few (nodes.Store number) _ (hosted_few (table_of p.message) p.from p.message lucks (hosted_at w (table_of p.message)))
-  carried_few p lucks (nodes.Gate gate) = after
-  carried_few p lucks (nodes.Client c) = go (client_at w c) refl
+  carried_few : (p : Packet) (shape : Shape) (lucks : List Luck) (to : Node) → AreFew (n + 1) (carried w p shape lucks to).world
+  carried_few p shape lucks (nodes.Store number) = down_few (nodes.Store number) _ (hosted_few (table_of p.message) p.from p.message lucks (hosted_at w (table_of p.message)))
+  carried_few p shape lucks (nodes.Gate gate) = after
+  carried_few p shape lucks (nodes.Client c) = go (client_at w c) refl
     where
-      go : (o : Option Client) → client_at w c ≡ o → AreFew (n + 1) (to_there w c p.message lucks o).world
+      go : (o : Option Client) → client_at w c ≡ o → AreFew (n + 1) (to_there w c p.message shape lucks o).world
       go None at = after
-      go (Some node) at = call_few c (client.Take p.message) no_shape lucks
-          (λ x is. let old : IsUpTo n x = few.1 c x is in take_up_to n c no_shape x.disk old.0 x.agenda old.1 p.message) (Some node) at
+      go (Some node) at = call_few c (client.Take p.message) shape lucks
+          (λ x is. let old : IsUpTo n x = few.1 c x is in take_up_to n c shape x.disk old.0 x.agenda old.1 p.message) (Some node) at
 
-  delivered_few : (lucks : List Luck) (o : Option Packet) → AreFew (n + 1) (delivered w lucks o).world
-  delivered_few lucks None = after
-  delivered_few lucks (Some p) = carried_few p lucks p.to
+  delivered_few : (shape : Shape) (lucks : List Luck) (o : Option Packet) → AreFew (n + 1) (delivered w shape lucks o).world
+  delivered_few shape lucks None = after
+  delivered_few shape lucks (Some p) = carried_few p shape lucks p.to
 
   -- ---- declarations, and what the Store has
 
@@ -688,9 +728,22 @@ module _ (n : ℕ) (w : World) (few : AreFew n w) where
       go messages.FailedBefore = store_falls_few (n + 1) owner (with_table w table schema false false) (with_new false false)
       go messages.FailedAfter = store_falls_few (n + 1) owner (with_table w table schema false false) (with_new false false)
 
-  joined_few : (c : ℕ) (tables : List ℕ) (o : Option Client) → AreFew (n + 1) (joined w c tables o)
-  joined_few c tables (Some node) = after
-  joined_few c tables None = (after.0, put_client (n + 1) w.clients c (new_client (open_all w [] tables)) after.1 ((omega arith, tt), tt))
+  joined_few : (c : ℕ) (tables : List ℕ) (luck : Luck) (o : Option Client) → AreFew (n + 1) (joined w c tables luck o)
+  joined_few c tables luck (Some node) = after
+  joined_few c tables luck None = (after.0, put_client (n + 1) w.clients c (new_client (open_all w [] tables) (first_agenda luck)) after.1 (fresh luck))
+    where
+      fresh : (x : Luck) → IsUpTo (n + 1) (new_client (open_all w [] tables) (first_agenda x))
+      fresh messages.Done = ((omega arith, tt), tt)
+      fresh messages.FailedBefore = ((omega arith, tt), tt)
+      fresh messages.FailedAfter = ((omega arith, tt), tt)
+
+  linked_few : (c : ℕ) (up : Bool) (o : Option Client) → AreFew (n + 1) (linked w c up o).world
+  linked_few c up None = after
+  linked_few c up (Some node) = down_few (nodes.Client c) _ (moved up)
+    where
+      moved : (b : Bool) → AreFew (n + 1) (with_link c b w)
+      moved true = after
+      moved false = after
 
   shows_few : (row : List ℕ) (lucks : List Luck) (o : Option Hosted) → AreFew (n + 1) (store_shows w row lucks o).world
   shows_few row lucks None = after
@@ -726,38 +779,45 @@ module _ (n : ℕ) (w : World) (few : AreFew n w) where
   crashed_node_few calls lucks (nodes.Client c) = client_few (n + 1) w c (client.Crash (crash_luck calls (other_lucks lucks) (first_luck lucks))) no_shape tt after
   crashed_node_few calls lucks (nodes.Gate gate) = after
 
-  started_node_few : (lucks : List Luck) (node : Node) → AreFew (n + 1) (started w lucks node).world
-  started_node_few lucks (nodes.Client c) = go (is_down w (nodes.Client c))
+  started_node_few : (shape : Shape) (lucks : List Luck) (node : Node) → AreFew (n + 1) (started w shape lucks node).world
+  started_node_few shape lucks (nodes.Client c) = go (is_down w (nodes.Client c))
     where
-      go : (b : Bool) → AreFew (n + 1) (if b then answering facts.Done (client_starts c lucks w) else answered w facts.Done).world
-      go true = client_follows_few (n + 1) c lucks (move_client c client.Start no_shape w).world (client_few (n + 1) w c client.Start no_shape tt after)
+      started_by : (luck : Luck) (more : List Luck) → AreFew (n + 1) (starts_by c shape luck more w).world
+      started_by messages.Done more = client_follows_few (n + 1) c more (move_client c client.Start shape w).world (client_few (n + 1) w c client.Start shape tt after)
+      started_by messages.FailedBefore more = after
+      started_by messages.FailedAfter more = after
+
+      go : (b : Bool) → AreFew (n + 1) (if b then answering facts.Done (client_starts c shape lucks w) else answered w facts.Done).world
+      go true = started_by (first_luck lucks) (other_lucks lucks)
       go false = after
-  started_node_few lucks (nodes.Gate gate) = after
-  started_node_few lucks (nodes.Store number) = go (is_down w (nodes.Store number))
+  started_node_few shape lucks (nodes.Gate gate) = after
+  started_node_few shape lucks (nodes.Store number) = go (is_down w (nodes.Store number))
     where
       go : (b : Bool) → AreFew (n + 1) (if b then answering facts.Done (store_starts number lucks w) else answered w facts.Done).world
       go true = store_starts_few (n + 1) number lucks w after
       go false = after
 
-  step_few : (event : Event) (lucks : List Luck) → AreFew (n + 1) (step w event lucks).world
+  step_few : (event : Event) (lucks : Lucks) → AreFew (n + 1) (step w event lucks).world
   step_few (events.Store number) lucks = after
-  step_few (events.Table table schema) lucks = declared_few table schema (first_luck lucks) (hosted_at w table)
-  step_few (events.Client c gate tables) lucks = joined_few c tables (client_at w c)
-  step_few (events.Write c table row x) lucks = write_event c table row x lucks
-  step_few (events.Show c table row) lucks = show_event c table row lucks
-  step_few (events.Sum c table row) lucks = sum_event c table row lucks
-  step_few (events.Sync c table) lucks = sync_event c table lucks
-  step_few (events.Pull c table) lucks = next_event c table lucks
-  step_few (events.Deliver packet) lucks = delivered_few lucks (slice_get w.packets packet)
-  step_few (events.StoreShow table row) lucks = shows_few row lucks (hosted_at w table)
+  step_few (events.Table table schema) lucks = declared_few table schema (first_luck lucks.calls) (hosted_at w table)
+  step_few (events.Client c gate tables) lucks = joined_few c tables (first_luck lucks.calls) (client_at w c)
+  step_few (events.Write c table row x) lucks = write_event c table row x lucks.shape lucks.calls
+  step_few (events.Edit c table row x) lucks = edit_event c table row x lucks.shape lucks.calls
+  step_few (events.Link c up) lucks = linked_few c up (client_at w c)
+  step_few (events.Show c table row) lucks = show_event c table row lucks.shape lucks.calls
+  step_few (events.Sum c table row) lucks = sum_event c table row lucks.shape lucks.calls
+  step_few (events.Sync c table) lucks = sync_event c table lucks.shape lucks.calls
+  step_few (events.Pull c table) lucks = next_event c table lucks.shape lucks.calls
+  step_few (events.Deliver packet) lucks = delivered_few lucks.shape lucks.calls (slice_get w.packets packet)
+  step_few (events.StoreShow table row) lucks = shows_few row lucks.calls (hosted_at w table)
   step_few (events.History table) lucks = history_few table (hosted_at w table)
   step_few (events.Chunks table) lucks = chunks_few table (hosted_at w table)
   step_few (events.Hold node) lucks = down_few node _ after
   step_few (events.Free node) lucks = down_few node _ after
-  step_few (events.Work node) lucks = down_few node _ (worked_node_few lucks node)
-  step_few (events.WorkAll node) lucks = down_few node _ (all_worked_few lucks node)
-  step_few (events.Crash node calls pick) lucks = down_few node _ (crashed_node_few calls lucks node)
-  step_few (events.Start node) lucks = started_node_few lucks node
+  step_few (events.Work node) lucks = down_few node _ (worked_node_few lucks.calls node)
+  step_few (events.WorkAll node) lucks = down_few node _ (all_worked_few lucks.calls node)
+  step_few (events.Crash node calls pick) lucks = down_few node _ (crashed_node_few calls lucks.calls node)
+  step_few (events.Start node) lucks = started_node_few lucks.shape lucks.calls node
 
 -- ---- runs
 

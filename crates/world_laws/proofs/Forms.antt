@@ -1,11 +1,14 @@
 -- Each move of a client answers in a form of its command.
 use Rattle.std.proofs.Common.{ℕ, Bool, true, false, List, [], ◌∷◌, Option, Some, None, Result, Ok, Err}
-use Rattle.std.specs.Prelude.{if◌then◌else◌, ◌==◌, nat_le, nat_lt}
+use Rattle.std.specs.Prelude.{if◌then◌else◌, option_map, ◌==◌, nat_le, nat_lt}
 use Rattle.row_value.specs.declared.content.Content.{Content}
+use Rattle.row_value.specs.declared.content.Content.TheVariants.{Gone, Row}
 use Rattle.row_value.specs.declared.schema.Scheme.{Scheme}
 use Rattle.row_value.specs.declared.schema.Scheme.TheVariants.{Strong, Causal, Eventual}
 use Rattle.row_value.specs.declared.fit.FitFault.{FitFault}
 use Rattle.row_value.specs.Fit.{fit_of}
+use Rattle.row_edits.specs.declared.change.Edit.{Edit}
+use Rattle.row_edits.specs.Edit.{edited_to}
 use Rattle.step_tables.specs.declared.slots.InFlight.{InFlight}
 use Rattle.step_tables.specs.declared.slots.Shadow.{Shadow}
 use Rattle.step_tables.specs.Facts.{Answer, Shown, ShownSum}
@@ -18,7 +21,7 @@ use Rattle.step_tables.specs.Store.{current_of}
 use Rattle.step_tables.specs.StoreMoves as store
 use Rattle.step_tables.specs.StoreMoves.{StoreDisk, StoreTask}
 use Rattle.step_tables.specs.ClientMoves.{Slots, TableDisk, ClientDisk, ClientTask, Shape, RowOut, slots_at, table_at, seen, shown_in, show_answer, show_in, write_step, write_to}
-use Rattle.step_tables.specs.ClientMoves.{write_fitting}
+use Rattle.step_tables.specs.ClientMoves.{write_fitting, content_of, edit_made, edit_over, edit_in, edit_step}
 use Rattle.step_tables.specs.ClientMoves.{write_idle, write_free, write_by, write_strong, first_out, show_step, sync_step, sync_in, sync_first, resent, first_to_send, next_step, next_in, take_step}
 use Rattle.step_tables.specs.ClientMoves.{response_in, response_taken, outcome_taken, pulled_in, pulled_taken, row_taken, top, begun, position_plan, row_plan, row_placed, next_pull}
 
@@ -90,6 +93,27 @@ module _ (c : ℕ) (shape : Shape) (d : ClientDisk) where
   write_form None table row x = tt
   write_form (Some agenda) table row x = to_form agenda table row x (table_at (seen d) table)
 
+  -- an edit is refused, or what it makes is written
+
+  made_form : (agenda : List ClientTask) (table : ℕ) (row : List ℕ) (opened : TableDisk) (made : Result Content FitFault) → IsNumber (edit_made c shape d agenda table row opened made).answer
+  made_form agenda table row opened (Ok content) = to_form agenda table row content (Some opened)
+  made_form agenda table row opened (Err fault) = tt
+
+  over_form : (agenda : List ClientTask) (table : ℕ) (row : List ℕ) (opened : TableDisk) (edit : Edit) (shown : Option Content)
+      → IsNumber (edit_over c shape d agenda table row opened edit shown).answer
+  over_form agenda table row opened edit None = tt
+  over_form agenda table row opened edit (Some Gone) = tt
+  over_form agenda table row opened edit (Some (Row some objects)) = made_form agenda table row opened (edited_to opened.schema some objects edit)
+
+  edit_in_form : (agenda : List ClientTask) (table : ℕ) (row : List ℕ) (edit : Edit) (o : Option TableDisk) → IsNumber (edit_in c shape d agenda table row edit o).answer
+  edit_in_form agenda table row edit None = tt
+  edit_in_form agenda table row edit (Some opened) =
+      let slots : Slots = slots_at opened row in over_form agenda table row opened edit (option_map content_of (shown_in slots.main slots.conflict slots.shadow))
+
+  pub edit_form : (agenda : Option (List ClientTask)) (table : ℕ) (row : List ℕ) (edit : Edit) → IsNumber (edit_step c shape d agenda table row edit).answer
+  edit_form None table row edit = tt
+  edit_form (Some agenda) table row edit = edit_in_form agenda table row edit (table_at (seen d) table)
+
   shown_form : (o : Option Shown) → IsShow (show_answer o)
   shown_form None = tt
   shown_form (Some what) = tt
@@ -115,12 +139,12 @@ module _ (c : ℕ) (shape : Shape) (d : ClientDisk) where
   sync_form None table = tt
   sync_form (Some agenda) table = sync_in_form agenda table (table_at (seen d) table)
 
-  next_in_form : (agenda : List ClientTask) (table : ℕ) (o : Option TableDisk) → IsDone (next_in c d agenda table o).answer
+  next_in_form : (agenda : List ClientTask) (table : ℕ) (o : Option TableDisk) → IsDone (next_in c shape d agenda table o).answer
   next_in_form agenda table None = tt
   next_in_form (task ∷ more) table (Some opened) = tt
   next_in_form [] table (Some opened) = tt
 
-  pub next_form : (agenda : Option (List ClientTask)) (table : ℕ) → IsDone (next_step c d agenda table).answer
+  pub next_form : (agenda : Option (List ClientTask)) (table : ℕ) → IsDone (next_step c shape d agenda table).answer
   next_form None table = tt
   next_form (Some agenda) table = next_in_form agenda table (table_at (seen d) table)
 

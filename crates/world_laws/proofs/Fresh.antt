@@ -8,6 +8,7 @@ use Rattle.row_value.specs.declared.schema.Scheme.{Scheme}
 use Rattle.row_value.specs.declared.schema.Scheme.TheVariants.{Strong, Causal, Eventual}
 use Rattle.step_tables.specs.declared.slots.Main.{Main}
 use Rattle.step_tables.specs.Store.{Stored}
+use Rattle.step_tables.specs.Messages as messages
 use Rattle.step_tables.specs.Sayings.{nothing_heard, no_row, open_in}
 use Rattle.step_tables.specs.ClientMoves.{Slots, TableDisk, no_slots, slots_of, slots_in, slots_at, position_in}
 use Rattle.step_tables.proofs.Lists.{among_none}
@@ -46,8 +47,8 @@ row_fresh g c h table row = record {
   based = omega arith;
 }
 
-pub fresh_part : FreshParts
-fresh_part g c h tables fresh = (
+tied_part : (g : ℕ → Scheme) (c : ℕ) (h : Items) (tables : List (ℕ × TableDisk)) → AreFresh g tables → ClientPart g c h [] nothing_heard (new_client tables (Some []))
+tied_part g c h tables fresh = (
   record {
     last = refl;
     rows = λ table row. subst (λ (s : Slots). RowTied (g table) c (h table) table row s [] no_row []) (sym (slots table row)) (row_fresh (g table) c (h table) table row);
@@ -74,3 +75,9 @@ fresh_part g c h tables fresh = (
         go : (o : Option TableDisk) → lookup (is_at (nat_cmp table)) tables ≡ o → position_in o ≡ 0
         go None at = refl
         go (Some x) at = (fresh table x at).1
+
+-- a client in whose declaration a disk failed has nothing either
+pub fresh_part : FreshParts
+fresh_part g c h tables messages.Done fresh = tied_part g c h tables fresh
+fresh_part g c h tables messages.FailedBefore fresh = (tied_part g c h tables fresh).0
+fresh_part g c h tables messages.FailedAfter fresh = (tied_part g c h tables fresh).0

@@ -14,9 +14,9 @@ module _ (g : ℕ → Scheme) where
   pub still_sound : (w : World) (s : Said) (number : ℕ) → Kept g w s → MoveSound g s w number (still w)
   still_sound w s number k = record { lines = tt; kept = k; there = λ table none. none }
 
-  -- what is on hold and what is down is no part of it
-  pub nodes_kept : (w : World) (s : Said) (holds downs : List Node) → Kept g w s → Kept g (record w { holds = holds; downs = downs }) s
-  nodes_kept w s holds downs k = record {
+  -- what is on hold, what is down and which links are down is no part of it
+  pub nodes_kept : (w : World) (s : Said) (holds downs cuts : List Node) → Kept g w s → Kept g (record w { holds = holds; downs = downs; cuts = cuts }) s
+  nodes_kept w s holds downs cuts k = record {
     items = k.items;
     sent = k.sent;
     told = k.told;
@@ -33,8 +33,9 @@ module _ (g : ℕ → Scheme) where
     packets = k.packets;
   }
 
-  pub nodes_sound : (w : World) (s : Said) (number : ℕ) (holds downs : List Node) → Kept g w s → MoveSound g s w number (still (record w { holds = holds; downs = downs }))
-  nodes_sound w s number holds downs k = record { lines = tt; kept = nodes_kept w s holds downs k; there = λ table none. none }
+  pub nodes_sound : (w : World) (s : Said) (number : ℕ) (holds downs cuts : List Node) → Kept g w s
+      → MoveSound g s w number (still (record w { holds = holds; downs = downs; cuts = cuts }))
+  nodes_sound w s number holds downs cuts k = record { lines = tt; kept = nodes_kept w s holds downs cuts k; there = λ table none. none }
 
   pub both_sound : (w : World) (s : Said) (number : ℕ) (m : Moved) (f : World → Moved) → MoveSound g s w number m
       → ((x : Said) → Kept g m.world x → MoveSound g x m.world (number + sent_by g m.outs) (f m.world)) → MoveSound g s w number (and_then m f)

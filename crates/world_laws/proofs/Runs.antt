@@ -1,7 +1,7 @@
 -- Every event keeps the world, and every run is sound.
 use Rattle.std.proofs.Common.{◌≡◌, ℕ, ◌+◌, Bool, true, false, List, [], ◌∷◌, ◌++◌, length, Option, Some, None, refl, sym, ap, ◌∙◌, subst, arith, inl, inr, ⊎_elim, append-nil}
 use Rattle.std.proofs.Common.{true≢false}
-use Rattle.std.specs.Prelude.{map, slice_get, ◌==◌, not, if◌then◌else◌}
+use Rattle.std.specs.Prelude.{map, slice_get, ◌==◌, ◌&&◌, not, if◌then◌else◌}
 use Rattle.std.proofs.lemmas.Bool.Decides.{nat_tests}
 use Rattle.std.specs.Ordering.{nat_cmp}
 use Rattle.std.specs.Map.{lookup}
@@ -15,6 +15,7 @@ use Rattle.row_value.specs.declared.schema.Scheme.{Scheme}
 use Rattle.table_model.specs.declared.entry.Entry.{Entry}
 use Rattle.table_model.specs.declared.event.Event.{Event}
 use Rattle.table_model.specs.declared.event.Event.TheVariants as events
+use Rattle.row_edits.specs.declared.change.Edit.{Edit}
 use Rattle.stab_base.specs.declared.step.Step.TheVariants as steps
 use Rattle.step_tables.specs.Store.{Stored, entries_of, current_of}
 use Rattle.step_tables.specs.Facts.{Fact, Answer, Refusal, Line, AnswerLine, EntryLine, FactLine}
@@ -26,14 +27,16 @@ use Rattle.step_tables.specs.Sayings.{Heard, nothing_heard, Said, nothing_said, 
 use Rattle.step_tables.specs.StoreMoves as store
 use Rattle.step_tables.specs.StoreMoves.{StoreDisk, StoreTask, TableStore, StoreMove, StoreStep, store_step}
 use Rattle.step_tables.specs.ClientMoves as client
-use Rattle.step_tables.specs.ClientMoves.{TableDisk, ClientDisk, Client, ClientTask, ClientMove, ClientStep, Shape, no_shape, client_step}
+use Rattle.step_tables.specs.ClientMoves.{TableDisk, ClientDisk, Client, ClientTask, ClientMove, ClientStep, Shape, no_shape, client_step, is_cut_off}
 use Rattle.step_tables.proofs.Lists.{among_get, among_none}
 use Rattle.store_laws.specs.Part.{Known, StoreLaw, StorePart, IsWayTo, Runs}
 use Rattle.store_laws.specs.Part as store_part
 use Rattle.store_laws.proofs.Law.{store_law}
 use Rattle.client_laws.specs.Part.{Items, Sending, Ours, ClientPart, ClientLaw}
 use Rattle.client_laws.specs.Part as part
-use Rattle.world_tables.specs.World.{has_node, packets_from, crash_luck, client_until_idle, client_writes, client_starts, client_crashes, next_write}
+use Rattle.world_tables.specs.World.{has_node, packets_from, crash_luck, client_until_idle, client_writes, starts_by, client_starts, client_crashes, client_falls, next_write}
+use Rattle.world_tables.specs.World.{Lucks, first_agenda, is_cut, with_link, unless_cut, calls, linked}
+use Rattle.world_tables.specs.World as world
 use Rattle.world_tables.specs.World.{World, Packet, Hosted, Outbox, Moved, WorldStep, start, chunk_in, schema_at, hosted_at, client_at, scheme_in, owner, the_store, is_down, still, and_then, failing}
 use Rattle.world_tables.specs.World.{after_table, table_step, move_hosted}
 use Rattle.world_tables.specs.World.{move_table, move_there, move_client, first_luck, other_lucks, client_works, client_tasks, client_follows, table_follows, store_falls, declared_late}
@@ -58,7 +61,7 @@ use Rattle.world_laws.proofs.ClientMoves.{ours, client_moves}
 use Rattle.world_laws.proofs.TableMoves.{ClientGrows, LapsedGrows}
 use Rattle.world_laws.proofs.StoreMoves.{table_moves}
 use Rattle.world_laws.proofs.Showings.{show_sum, answer_shows, row_stored}
-use Rattle.world_laws.proofs.Forms.{IsNumber, IsDone, IsShow, IsShowOrSum, sum_form, write_form, show_form, sync_form, next_form, take_form, taken_form}
+use Rattle.world_laws.proofs.Forms.{IsNumber, IsDone, IsShow, IsShowOrSum, sum_form, write_form, edit_form, show_form, sync_form, next_form, take_form, taken_form}
 
 -- what a client's crate gives besides
 abbrev pub ClientLaws : Type 0
@@ -71,7 +74,8 @@ abbrev pub AreFresh : (ℕ → Scheme) → List (ℕ × TableDisk) → Type 0
 AreFresh g tables = (table : ℕ) (x : TableDisk) → lookup (is_at (nat_cmp table)) tables ≡ Some x → (x.schema.scheme ≡ g table) × (x.position ≡ 0) × (x.rows ≡ [])
 
 abbrev pub FreshParts : Type 0
-FreshParts = (g : ℕ → Scheme) (c : ℕ) (h : Items) (tables : List (ℕ × TableDisk)) → AreFresh g tables → ClientPart g c h [] nothing_heard (new_client tables)
+FreshParts = (g : ℕ → Scheme) (c : ℕ) (h : Items) (tables : List (ℕ × TableDisk)) (luck : Luck) → AreFresh g tables
+    → ClientPart g c h [] nothing_heard (new_client tables (first_agenda luck))
 
 module _ (client_law : ClientLaws) (client_grows : ClientGrows) (lapsed_grows : LapsedGrows) (fresh_part : FreshParts) (g : ℕ → Scheme) where
   -- ---- moves
@@ -293,24 +297,46 @@ module _ (client_law : ClientLaws) (client_grows : ClientGrows) (lapsed_grows : 
       go false is = up is
 
   module _ (w : World) (s : Said) (k : Kept g w s) where
+    -- a disk of a client that can't be read takes it down
+    unread_sound : (event : Event) (c : ℕ) → CanTurn s event → IsQuiet event [] → IsGoodAnswer s event (facts.Refuses facts.NoDevice)
+        → StepSound s w event (answering facts.Done (failing (client_falls c w)))
+    unread_sound event c turn quiet fault =
+        telling_sound s w event (facts.Refuses facts.NoDevice) (failing (client_falls c w)) turn []
+        (silent_lines (length w.packets) (client_falls c w).outs (client_crash_silent c messages.FailedBefore w)) quiet fault fault
+        (failing_sound g w s (length w.packets) (client_falls c w) (client_move w s k c (client.Crash messages.FailedBefore) no_shape (length w.packets) tt))
+
     -- a client's move with the work that follows
     there_sound : (event : Event) (c : ℕ) (move : ClientMove) (shape : Shape) (lucks : List Luck) → CanTurn s event → ((told : List Fact) → IsQuiet event told)
         → IsGoodAnswer s event (facts.Refuses facts.NoDevice) → IsGoodAnswer s event (facts.Refuses facts.NoTable) → IsGoodAnswer s event (facts.Refuses (facts.NodeDown (nodes.Client c)))
+        → IsGoodAnswer s event (facts.Refuses facts.Offline)
         → part.IsFair g c k.items (k.sent c) move
         → ((node : Client) → client_at w c ≡ Some node → IsGoodAnswer s event (client_step c shape node move).answer)
         → (o : Option Client) → client_at w c ≡ o → StepSound s w event (call_there w c move shape lucks o)
-    there_sound event c move shape lucks turn quiet fault missing down fair good None at = answered_sound w s k event (facts.Refuses facts.NoTable) turn (quiet []) missing fault
-    there_sound event c move shape lucks turn quiet fault missing down fair good (Some node) at =
-        unless_down_sound w s k event (nodes.Client c) _ turn (quiet []) down fault
-        (λ up. answering_sound s w event (client_step c shape node move).answer (and_then (move_client c move shape w) (client_follows_from node.agenda c lucks)) turn (quiet _) (good node at) fault
-        (both_sound g w s (length w.packets) (move_client c move shape w) (client_follows_from node.agenda c lucks) (client_move w s k c move shape (length w.packets) fair)
-        (λ x now. client_follows_from_sound node.agenda c lucks (move_client c move shape w).world x _ now)))
+    there_sound event c move shape lucks turn quiet fault missing down offline fair good None at = answered_sound w s k event (facts.Refuses facts.NoTable) turn (quiet []) missing fault
+    there_sound event c move shape lucks turn quiet fault missing down offline fair good (Some node) at =
+        unless_down_sound w s k event (nodes.Client c) _ turn (quiet []) down fault (λ up. reads (first_luck lucks))
+      where
+        called : StepSound s w event (calls w c move shape (other_lucks lucks) node)
+        called = answering_sound s w event (client_step c shape node move).answer (and_then (move_client c move shape w) (client_follows_from node.agenda c (other_lucks lucks)))
+            turn (quiet _) (good node at) fault
+            (both_sound g w s (length w.packets) (move_client c move shape w) (client_follows_from node.agenda c (other_lucks lucks)) (client_move w s k c move shape (length w.packets) fair)
+            (λ x now. client_follows_from_sound node.agenda c (other_lucks lucks) (move_client c move shape w).world x _ now))
 
-    write_sound : (c table : ℕ) (row : List ℕ) (x : Content) (lucks : List Luck) → StepSound s w (events.Write c table row x) (call w c (client.Write table row x) no_shape lucks)
-    write_sound c table row x lucks =
-        there_sound (events.Write c table row x) c (client.Write table row x) no_shape lucks (λ lines a. a) (λ told. tt)
-        (record { form = tt; counts = refl; is = tt }) (record { form = tt; counts = refl; is = tt }) (record { form = tt; counts = refl; is = tt }) tt
-        (λ node at. good (client_step c no_shape node (client.Write table row x)).answer (write_form c no_shape node.disk node.agenda table row x)) (client_at w c) refl
+        by_link : (cut : Bool) → StepSound s w event (unless_cut w cut (calls w c move shape (other_lucks lucks) node))
+        by_link true = answered_sound w s k event (facts.Refuses facts.Offline) turn (quiet []) offline fault
+        by_link false = called
+
+        reads : (luck : Luck) → StepSound s w event (world.reads w c luck (unless_cut w (is_cut w c && is_cut_off c shape node move) (calls w c move shape (other_lucks lucks) node)))
+        reads messages.Done = by_link (is_cut w c && is_cut_off c shape node move)
+        reads messages.FailedBefore = unread_sound event c turn (quiet []) fault
+        reads messages.FailedAfter = unread_sound event c turn (quiet []) fault
+
+    write_sound : (c table : ℕ) (row : List ℕ) (x : Content) (shape : Shape) (lucks : List Luck) → StepSound s w (events.Write c table row x) (call w c (client.Write table row x) shape lucks)
+    write_sound c table row x shape lucks =
+        there_sound (events.Write c table row x) c (client.Write table row x) shape lucks (λ lines a. a) (λ told. tt)
+        (record { form = tt; counts = refl; is = tt }) (record { form = tt; counts = refl; is = tt }) (record { form = tt; counts = refl; is = tt })
+        (record { form = tt; counts = refl; is = tt }) tt
+        (λ node at. good (client_step c shape node (client.Write table row x)).answer (write_form c shape node.disk node.agenda table row x)) (client_at w c) refl
       where
         good : (a : Answer) → IsNumber a → IsGoodAnswer s (events.Write c table row x) a
         good (facts.Number n) f = record { form = tt; counts = refl; is = tt }
@@ -322,12 +348,30 @@ module _ (client_law : ClientLaws) (client_grows : ClientGrows) (lapsed_grows : 
         good (facts.Did y) f = absurd f
         good (facts.Names y) f = absurd f
 
-    show_sound : (c table : ℕ) (row : List ℕ) (lucks : List Luck) → StepSound s w (events.Show c table row) (call w c (client.Show table row) no_shape lucks)
-    show_sound c table row lucks =
-        there_sound (events.Show c table row) c (client.Show table row) no_shape lucks (λ lines a. a) (λ told. tt)
-        (record { form = tt; counts = refl; is = tt }) (record { form = tt; counts = refl; is = tt }) (record { form = tt; counts = refl; is = tt }) tt
-        (λ node at. good (client_step c no_shape node (client.Show table row)).answer (show_form c no_shape node.disk node.agenda table row)
-        (answer_shows g w s k c table row (client_step c no_shape node (client.Show table row)).answer (law_of w s k c no_shape node at (client.Show table row) tt).answer)) (client_at w c) refl
+    edit_sound : (c table : ℕ) (row : List ℕ) (x : Edit) (shape : Shape) (lucks : List Luck) → StepSound s w (events.Edit c table row x) (call w c (client.Change table row x) shape lucks)
+    edit_sound c table row x shape lucks =
+        there_sound (events.Edit c table row x) c (client.Change table row x) shape lucks (λ lines a. a) (λ told. tt)
+        (record { form = tt; counts = refl; is = tt }) (record { form = tt; counts = refl; is = tt }) (record { form = tt; counts = refl; is = tt })
+        (record { form = tt; counts = refl; is = tt }) tt
+        (λ node at. good (client_step c shape node (client.Change table row x)).answer (edit_form c shape node.disk node.agenda table row x)) (client_at w c) refl
+      where
+        good : (a : Answer) → IsNumber a → IsGoodAnswer s (events.Edit c table row x) a
+        good (facts.Number n) f = record { form = tt; counts = refl; is = tt }
+        good (facts.Refuses r) f = record { form = tt; counts = refl; is = tt }
+        good facts.Done f = absurd f
+        good (facts.Shows y) f = absurd f
+        good (facts.Sums y) f = absurd f
+        good (facts.Stores v y) f = absurd f
+        good (facts.Did y) f = absurd f
+        good (facts.Names y) f = absurd f
+
+    show_sound : (c table : ℕ) (row : List ℕ) (shape : Shape) (lucks : List Luck) → StepSound s w (events.Show c table row) (call w c (client.Show table row) shape lucks)
+    show_sound c table row shape lucks =
+        there_sound (events.Show c table row) c (client.Show table row) shape lucks (λ lines a. a) (λ told. tt)
+        (record { form = tt; counts = refl; is = tt }) (record { form = tt; counts = refl; is = tt }) (record { form = tt; counts = refl; is = tt })
+        (record { form = tt; counts = refl; is = tt }) tt
+        (λ node at. good (client_step c shape node (client.Show table row)).answer (show_form c shape node.disk node.agenda table row)
+        (answer_shows g w s k c table row (client_step c shape node (client.Show table row)).answer (law_of w s k c shape node at (client.Show table row) tt).answer)) (client_at w c) refl
       where
         good : (a : Answer) → IsShow a → IsAnswer g s (events.Show c table row) a [] → IsGoodAnswer s (events.Show c table row) a
         good (facts.Shows y) f is = record { form = tt; counts = refl; is = is }
@@ -339,15 +383,16 @@ module _ (client_law : ClientLaws) (client_grows : ClientGrows) (lapsed_grows : 
         good (facts.Did y) f is = absurd f
         good (facts.Names y) f is = absurd f
 
-    sum_sound : (c table : ℕ) (row : List ℕ) (lucks : List Luck) → StepSound s w (events.Sum c table row) (call w c (client.Sum table row) no_shape lucks)
-    sum_sound c table row lucks =
-        there_sound (events.Sum c table row) c (client.Sum table row) no_shape lucks (λ lines a. a) (λ told. tt)
-        (record { form = tt; counts = refl; is = tt }) (record { form = tt; counts = refl; is = tt }) (record { form = tt; counts = refl; is = tt }) tt
+    sum_sound : (c table : ℕ) (row : List ℕ) (shape : Shape) (lucks : List Luck) → StepSound s w (events.Sum c table row) (call w c (client.Sum table row) shape lucks)
+    sum_sound c table row shape lucks =
+        there_sound (events.Sum c table row) c (client.Sum table row) shape lucks (λ lines a. a) (λ told. tt)
+        (record { form = tt; counts = refl; is = tt }) (record { form = tt; counts = refl; is = tt }) (record { form = tt; counts = refl; is = tt })
+        (record { form = tt; counts = refl; is = tt }) tt
         (λ node at.
-        let shown : Answer = (client_step c no_shape node (client.Show table row)).answer in
-        let form : IsShow shown = show_form c no_shape node.disk node.agenda table row in
+        let shown : Answer = (client_step c shape node (client.Show table row)).answer in
+        let form : IsShow shown = show_form c shape node.disk node.agenda table row in
         good (by_digests shown) (sum_form shown form)
-        (show_sum (shown_of g s c table row) shown form (answer_shows g w s k c table row shown (law_of w s k c no_shape node at (client.Show table row) tt).answer))) (client_at w c) refl
+        (show_sum (shown_of g s c table row) shown form (answer_shows g w s k c table row shown (law_of w s k c shape node at (client.Show table row) tt).answer))) (client_at w c) refl
       where
         good : (a : Answer) → IsShowOrSum a → IsAnswer g s (events.Sum c table row) a [] → IsGoodAnswer s (events.Sum c table row) a
         good (facts.Shows y) f is = record { form = tt; counts = refl; is = is }
@@ -359,11 +404,12 @@ module _ (client_law : ClientLaws) (client_grows : ClientGrows) (lapsed_grows : 
         good (facts.Did y) f is = absurd f
         good (facts.Names y) f is = absurd f
 
-    sync_sound : (c table : ℕ) (lucks : List Luck) → StepSound s w (events.Sync c table) (call w c (client.Sync table) no_shape lucks)
-    sync_sound c table lucks =
-        there_sound (events.Sync c table) c (client.Sync table) no_shape lucks (λ lines a. a) (λ told. tt)
-        (record { form = tt; counts = refl; is = tt }) (record { form = tt; counts = refl; is = tt }) (record { form = tt; counts = refl; is = tt }) tt
-        (λ node at. good (client_step c no_shape node (client.Sync table)).answer (sync_form c no_shape node.disk node.agenda table)) (client_at w c) refl
+    sync_sound : (c table : ℕ) (shape : Shape) (lucks : List Luck) → StepSound s w (events.Sync c table) (call w c (client.Sync table) shape lucks)
+    sync_sound c table shape lucks =
+        there_sound (events.Sync c table) c (client.Sync table) shape lucks (λ lines a. a) (λ told. tt)
+        (record { form = tt; counts = refl; is = tt }) (record { form = tt; counts = refl; is = tt }) (record { form = tt; counts = refl; is = tt })
+        (record { form = tt; counts = refl; is = tt }) tt
+        (λ node at. good (client_step c shape node (client.Sync table)).answer (sync_form c shape node.disk node.agenda table)) (client_at w c) refl
       where
         good : (a : Answer) → IsNumber a → IsGoodAnswer s (events.Sync c table) a
         good (facts.Number n) f = record { form = tt; counts = refl; is = tt }
@@ -375,11 +421,12 @@ module _ (client_law : ClientLaws) (client_grows : ClientGrows) (lapsed_grows : 
         good (facts.Did y) f = absurd f
         good (facts.Names y) f = absurd f
 
-    pull_sound : (c table : ℕ) (lucks : List Luck) → StepSound s w (events.Pull c table) (call w c (client.Next table) no_shape lucks)
-    pull_sound c table lucks =
-        there_sound (events.Pull c table) c (client.Next table) no_shape lucks (λ lines a. a) (λ told. tt)
-        (record { form = tt; counts = refl; is = tt }) (record { form = tt; counts = refl; is = tt }) (record { form = tt; counts = refl; is = tt }) tt
-        (λ node at. good (client_step c no_shape node (client.Next table)).answer (next_form c no_shape node.disk node.agenda table)) (client_at w c) refl
+    pull_sound : (c table : ℕ) (shape : Shape) (lucks : List Luck) → StepSound s w (events.Pull c table) (call w c (client.Next table) shape lucks)
+    pull_sound c table shape lucks =
+        there_sound (events.Pull c table) c (client.Next table) shape lucks (λ lines a. a) (λ told. tt)
+        (record { form = tt; counts = refl; is = tt }) (record { form = tt; counts = refl; is = tt }) (record { form = tt; counts = refl; is = tt })
+        (record { form = tt; counts = refl; is = tt }) tt
+        (λ node at. good (client_step c shape node (client.Next table)).answer (next_form c shape node.disk node.agenda table)) (client_at w c) refl
       where
         good : (a : Answer) → IsDone a → IsGoodAnswer s (events.Pull c table) a
         good facts.Done f = record { form = tt; counts = refl; is = tt }
@@ -464,33 +511,34 @@ module _ (client_law : ClientLaws) (client_grows : ClientGrows) (lapsed_grows : 
         go (Some (task ∷ more)) = alone
         go (Some []) = reads (first_luck lucks)
 
-    taken_sound : (n : ℕ) (c : ℕ) (m : Message) (lucks : List Luck) → part.IsFair g c k.items (k.sent c) (client.Take m) → (o : Option Client) → client_at w c ≡ o
-        → StepSound s w (events.Deliver n) (to_there w c m lucks o)
-    taken_sound n c m lucks fair None at =
+    taken_sound : (n : ℕ) (c : ℕ) (m : Message) (shape : Shape) (lucks : List Luck) → part.IsFair g c k.items (k.sent c) (client.Take m) → (o : Option Client) → client_at w c ≡ o
+        → StepSound s w (events.Deliver n) (to_there w c m shape lucks o)
+    taken_sound n c m shape lucks fair None at =
         answering_sound s w (events.Deliver n) facts.Done (still w) (λ lines a. a) tt
         (delivered_good n facts.Done tt) (delivered_good n (facts.Refuses facts.NoDevice) tt) (still_sound g w s (length w.packets) k)
-    taken_sound n c m lucks fair (Some node) at =
-        there_sound (events.Deliver n) c (client.Take m) no_shape lucks (λ lines a. a) (λ told. tt)
-        (delivered_good n (facts.Refuses facts.NoDevice) tt) (delivered_good n (facts.Refuses facts.NoTable) tt) (delivered_good n (facts.Refuses (facts.NodeDown (nodes.Client c))) tt) fair
-        (λ x is. delivered_good n _ (take_form c no_shape x.disk x.agenda m)) (Some node) at
+    taken_sound n c m shape lucks fair (Some node) at =
+        there_sound (events.Deliver n) c (client.Take m) shape lucks (λ lines a. a) (λ told. tt)
+        (delivered_good n (facts.Refuses facts.NoDevice) tt) (delivered_good n (facts.Refuses facts.NoTable) tt) (delivered_good n (facts.Refuses (facts.NodeDown (nodes.Client c))) tt)
+        (delivered_good n (facts.Refuses facts.Offline) tt) fair
+        (λ x is. delivered_good n _ (take_form c shape x.disk x.agenda m)) (Some node) at
 
-    carried_sound : (n : ℕ) (p : Packet) (lucks : List Luck) → IsFairPacket g s.heard k.items k.sent p → (to : Node) → p.to ≡ to → StepSound s w (events.Deliver n) (carried w p lucks to)
-    carried_sound n p lucks fair (nodes.Store number) is =
+    carried_sound : (n : ℕ) (p : Packet) (shape : Shape) (lucks : List Luck) → IsFairPacket g s.heard k.items k.sent p → (to : Node) → p.to ≡ to → StepSound s w (events.Deliver n) (carried w p shape lucks to)
+    carried_sound n p shape lucks fair (nodes.Store number) is =
         unless_down_sound w s k (events.Deliver n) (nodes.Store number) _ (λ lines a. a) tt
         (delivered_good n (facts.Refuses (facts.NodeDown (nodes.Store number))) tt) (delivered_good n (facts.Refuses facts.NoDevice) tt)
         (λ up. hosted_sound n (table_of p.message) p.from p.message lucks (store_fair p.from p.to p.message fair) (hosted_at w (table_of p.message)) refl)
-    carried_sound n p lucks fair (nodes.Client c) is =
-        taken_sound n c p.message lucks (client_fair c p.from p.message (subst (λ (x : Node). kept.IsFairMessage g s.heard k.items k.sent p.from x p.message) is fair)) (client_at w c) refl
-    carried_sound n p lucks fair (nodes.Gate gate) is =
+    carried_sound n p shape lucks fair (nodes.Client c) is =
+        taken_sound n c p.message shape lucks (client_fair c p.from p.message (subst (λ (x : Node). kept.IsFairMessage g s.heard k.items k.sent p.from x p.message) is fair)) (client_at w c) refl
+    carried_sound n p shape lucks fair (nodes.Gate gate) is =
         answering_sound s w (events.Deliver n) facts.Done (still w) (λ lines a. a) tt
         (delivered_good n facts.Done tt) (delivered_good n (facts.Refuses facts.NoDevice) tt) (still_sound g w s (length w.packets) k)
 
-    delivered_sound : (n : ℕ) (lucks : List Luck) (o : Option Packet) → slice_get w.packets n ≡ o → StepSound s w (events.Deliver n) (delivered w lucks o)
-    delivered_sound n lucks None at =
+    delivered_sound : (n : ℕ) (shape : Shape) (lucks : List Luck) (o : Option Packet) → slice_get w.packets n ≡ o → StepSound s w (events.Deliver n) (delivered w shape lucks o)
+    delivered_sound n shape lucks None at =
         answering_sound s w (events.Deliver n) (facts.Refuses (facts.NoPacket (length w.packets))) (still w) (λ lines a. a) tt
         (delivered_good n (facts.Refuses (facts.NoPacket (length w.packets))) tt)
         (delivered_good n (facts.Refuses facts.NoDevice) tt) (still_sound g w s (length w.packets) k)
-    delivered_sound n lucks (Some p) at = carried_sound n p lucks (k.packets p (among_get w.packets n p at)) p.to refl
+    delivered_sound n shape lucks (Some p) at = carried_sound n p shape lucks (k.packets p (among_get w.packets n p at)) p.to refl
 
     -- ---- what the Store has
 
@@ -660,8 +708,8 @@ module _ (client_law : ClientLaws) (client_grows : ClientGrows) (lapsed_grows : 
             ))
             (λ e. f q x (sym e.1 ∙ is)) (look_cases some table (opened schema) q)
 
-    pub joined_kept : (c : ℕ) (tables : List ℕ) → client_at w c ≡ None → Kept g (joined w c tables None) s
-    joined_kept c tables none = record {
+    pub joined_kept : (c : ℕ) (tables : List ℕ) (luck : Luck) → client_at w c ≡ None → Kept g (joined w c tables luck None) s
+    joined_kept c tables luck none = record {
       items = k.items;
       sent = k.sent;
       told = k.told;
@@ -682,13 +730,13 @@ module _ (client_law : ClientLaws) (client_grows : ClientGrows) (lapsed_grows : 
     }
       where
         new : Client
-        new = new_client (open_all w [] tables)
+        new = new_client (open_all w [] tables) (first_agenda luck)
 
         new_part : (q : ℕ) → client_at w q ≡ None → ClientPart g q k.items (k.sent q) (s.heard q) new
         new_part q absent =
             let f = k.no_client q absent in
             subst (λ (xs : List Sending). ClientPart g q k.items xs (s.heard q) new) (sym f.1)
-            (subst (λ (t : Heard). ClientPart g q k.items [] t new) (sym f.0) (fresh_part g q k.items (open_all w [] tables) (fresh_all tables [] (λ table x at. absurd cc))))
+            (subst (λ (t : Heard). ClientPart g q k.items [] t new) (sym f.0) (fresh_part g q k.items (open_all w [] tables) luck (fresh_all tables [] (λ table x at. absurd cc))))
 
     declare_sound : (table : ℕ) (schema : Schema) (luck : Luck) → (hosted_at w table ≡ None → schema.scheme ≡ g table) → (o : Option Hosted) → hosted_at w table ≡ o
         → StepSound s w (events.Table table schema) (silent (declared w table schema luck o))
@@ -696,9 +744,9 @@ module _ (client_law : ClientLaws) (client_grows : ClientGrows) (lapsed_grows : 
     declare_sound table schema luck scheme None at =
         record { turn = refl; lines = tt; kept = declared_kept table schema luck at (scheme at); there = λ q none. declared_there table schema luck at q none }
 
-    join_sound : (c : ℕ) (gate : Option ℕ) (tables : List ℕ) (o : Option Client) → client_at w c ≡ o → StepSound s w (events.Client c gate tables) (silent (joined w c tables o))
-    join_sound c gate tables (Some node) at = record { turn = refl; lines = tt; kept = k; there = λ q none. none }
-    join_sound c gate tables None at = record { turn = refl; lines = tt; kept = joined_kept c tables at; there = λ q none. none }
+    join_sound : (c : ℕ) (gate : Option ℕ) (tables : List ℕ) (luck : Luck) (o : Option Client) → client_at w c ≡ o → StepSound s w (events.Client c gate tables) (silent (joined w c tables luck o))
+    join_sound c gate tables luck (Some node) at = record { turn = refl; lines = tt; kept = k; there = λ q none. none }
+    join_sound c gate tables luck None at = record { turn = refl; lines = tt; kept = joined_kept c tables luck at; there = λ q none. none }
 
     -- ---- what is done to a node
 
@@ -706,13 +754,26 @@ module _ (client_law : ClientLaws) (client_grows : ClientGrows) (lapsed_grows : 
     held_sound node =
         unless_down_sound w s k (events.Hold node) node _ (λ lines a. a) refl (record { form = tt; counts = refl; is = tt }) (record { form = tt; counts = refl; is = tt })
         (λ up. telling_sound s w (events.Hold node) facts.Done (still (record w { holds = node ∷ w.holds })) (λ lines a. a) [] refl refl (record { form = tt; counts = refl; is = tt })
-        (record { form = tt; counts = refl; is = tt }) (nodes_sound g w s (length w.packets) (node ∷ w.holds) w.downs k))
+        (record { form = tt; counts = refl; is = tt }) (nodes_sound g w s (length w.packets) (node ∷ w.holds) w.downs w.cuts k))
 
     freed_sound : (node : Node) → StepSound s w (events.Free node) (unless_down w node (answered (record w { holds = without_node w.holds node }) facts.Done))
     freed_sound node =
         unless_down_sound w s k (events.Free node) node _ (λ lines a. a) refl (record { form = tt; counts = refl; is = tt }) (record { form = tt; counts = refl; is = tt })
         (λ up. telling_sound s w (events.Free node) facts.Done (still (record w { holds = without_node w.holds node })) (λ lines a. a) [] refl refl (record { form = tt; counts = refl; is = tt })
-        (record { form = tt; counts = refl; is = tt }) (nodes_sound g w s (length w.packets) (without_node w.holds node) w.downs k))
+        (record { form = tt; counts = refl; is = tt }) (nodes_sound g w s (length w.packets) (without_node w.holds node) w.downs w.cuts k))
+
+    -- a link that goes up or down
+    linked_sound : (c : ℕ) (up : Bool) (o : Option Client) → StepSound s w (events.Link c up) (linked w c up o)
+    linked_sound c up None =
+        answered_sound w s k (events.Link c up) facts.Done (λ lines a. a) tt (record { form = tt; counts = refl; is = tt }) (record { form = tt; counts = refl; is = tt })
+    linked_sound c up (Some node) =
+        unless_down_sound w s k (events.Link c up) (nodes.Client c) _ (λ lines a. a) tt (record { form = tt; counts = refl; is = tt }) (record { form = tt; counts = refl; is = tt })
+        (λ is. telling_sound s w (events.Link c up) facts.Done (still (with_link c up w)) (λ lines a. a) [] refl tt (record { form = tt; counts = refl; is = tt })
+        (record { form = tt; counts = refl; is = tt }) (moved up))
+      where
+        moved : (b : Bool) → MoveSound g s w (length w.packets) (still (with_link c b w))
+        moved true = nodes_sound g w s (length w.packets) w.holds w.downs (without_node w.cuts (nodes.Client c)) k
+        moved false = nodes_sound g w s (length w.packets) w.holds w.downs (nodes.Client c ∷ w.cuts) k
 
     idle_sound : (node : Node) → StepSound s w (events.Work node) (answered w (facts.Did steps.Idle))
     idle_sound node = answered_sound w s k (events.Work node) (facts.Did steps.Idle) (λ lines a. a) tt (record { form = tt; counts = refl; is = tt }) (record { form = tt; counts = refl; is = tt })
@@ -761,8 +822,8 @@ module _ (client_law : ClientLaws) (client_grows : ClientGrows) (lapsed_grows : 
     goes_on_sound : (node : Node) → StepSound s w (events.Start node) (answered w facts.Done)
     goes_on_sound node = answered_sound w s k (events.Start node) facts.Done (λ lines a. a) tt (record { form = tt; counts = refl; is = tt }) (record { form = tt; counts = refl; is = tt })
 
-    started_sound : (lucks : List Luck) (node : Node) → StepSound s w (events.Start node) (started w lucks node)
-    started_sound lucks (nodes.Store number) = go (is_down w (nodes.Store number))
+    started_sound : (shape : Shape) (lucks : List Luck) (node : Node) → StepSound s w (events.Start node) (started w shape lucks node)
+    started_sound shape lucks (nodes.Store number) = go (is_down w (nodes.Store number))
       where
         go : (down : Bool) → StepSound s w (events.Start (nodes.Store number)) (if down then answering facts.Done (store_starts number lucks w) else answered w facts.Done)
         go true =
@@ -770,49 +831,56 @@ module _ (client_law : ClientLaws) (client_grows : ClientGrows) (lapsed_grows : 
             (record { form = tt; counts = refl; is = tt }) (record { form = tt; counts = refl; is = tt })
             (works.starts_sound g table_work table_start number lucks w s (length w.packets) k)
         go false = goes_on_sound (nodes.Store number)
-    started_sound lucks (nodes.Client c) = go (is_down w (nodes.Client c))
+    started_sound shape lucks (nodes.Client c) = go (is_down w (nodes.Client c))
       where
         first : Moved
-        first = move_client c client.Start no_shape w
+        first = move_client c client.Start shape w
 
-        go : (down : Bool) → StepSound s w (events.Start (nodes.Client c)) (if down then answering facts.Done (client_starts c lucks w) else answered w facts.Done)
+        started_by : (luck : Luck) (more : List Luck) → MoveSound g s w (length w.packets) (starts_by c shape luck more w)
+        started_by messages.Done more =
+            both_sound g w s (length w.packets) first (client_follows c more) (client_move w s k c client.Start shape (length w.packets) tt)
+            (λ x now. client_follows_sound c more first.world x _ now)
+        started_by messages.FailedBefore more = failing_sound g w s (length w.packets) (still w) (still_sound g w s (length w.packets) k)
+        started_by messages.FailedAfter more = failing_sound g w s (length w.packets) (still w) (still_sound g w s (length w.packets) k)
+
+        go : (down : Bool) → StepSound s w (events.Start (nodes.Client c)) (if down then answering facts.Done (client_starts c shape lucks w) else answered w facts.Done)
         go true =
-            answering_sound s w (events.Start (nodes.Client c)) facts.Done (client_starts c lucks w) (λ lines a. a) tt
-            (record { form = tt; counts = refl; is = tt }) (record { form = tt; counts = refl; is = tt })
-            (both_sound g w s (length w.packets) first (client_follows c lucks) (client_move w s k c client.Start no_shape (length w.packets) tt)
-            (λ x now. client_follows_sound c lucks first.world x _ now))
+            answering_sound s w (events.Start (nodes.Client c)) facts.Done (client_starts c shape lucks w) (λ lines a. a) tt
+            (record { form = tt; counts = refl; is = tt }) (record { form = tt; counts = refl; is = tt }) (started_by (first_luck lucks) (other_lucks lucks))
         go false = goes_on_sound (nodes.Client c)
-    started_sound lucks (nodes.Gate gate) = goes_on_sound (nodes.Gate gate)
+    started_sound shape lucks (nodes.Gate gate) = goes_on_sound (nodes.Gate gate)
 
     -- where a table is declared first, it is of its scheme
     abbrev pub IsFirst : Event → Type 0
     IsFirst (events.Table table schema) = hosted_at w table ≡ None → schema.scheme ≡ g table
     IsFirst other = Unit {0}
 
-    pub step_sound : IsUp w → (event : Event) (lucks : List Luck) → IsFirst event → StepSound s w event (step w event lucks)
+    pub step_sound : IsUp w → (event : Event) (lucks : Lucks) → IsFirst event → StepSound s w event (step w event lucks)
     step_sound up (events.Store number) lucks first = record { turn = refl; lines = tt; kept = k; there = λ q none. none }
-    step_sound up (events.Table table schema) lucks first = declare_sound table schema (first_luck lucks) first (hosted_at w table) refl
-    step_sound up (events.Client c gate tables) lucks first = join_sound c gate tables (client_at w c) refl
-    step_sound up (events.Write c table row x) lucks first = write_sound c table row x lucks
-    step_sound up (events.Show c table row) lucks first = show_sound c table row lucks
-    step_sound up (events.Sum c table row) lucks first = sum_sound c table row lucks
-    step_sound up (events.Sync c table) lucks first = sync_sound c table lucks
-    step_sound up (events.Pull c table) lucks first = pull_sound c table lucks
-    step_sound up (events.Deliver n) lucks first = delivered_sound n lucks (slice_get w.packets n) refl
-    step_sound up (events.StoreShow table row) lucks first = shows_sound up table row lucks (hosted_at w table) refl
+    step_sound up (events.Table table schema) lucks first = declare_sound table schema (first_luck lucks.calls) first (hosted_at w table) refl
+    step_sound up (events.Client c gate tables) lucks first = join_sound c gate tables (first_luck lucks.calls) (client_at w c) refl
+    step_sound up (events.Write c table row x) lucks first = write_sound c table row x lucks.shape lucks.calls
+    step_sound up (events.Edit c table row x) lucks first = edit_sound c table row x lucks.shape lucks.calls
+    step_sound up (events.Link c is_up) lucks first = linked_sound c is_up (client_at w c)
+    step_sound up (events.Show c table row) lucks first = show_sound c table row lucks.shape lucks.calls
+    step_sound up (events.Sum c table row) lucks first = sum_sound c table row lucks.shape lucks.calls
+    step_sound up (events.Sync c table) lucks first = sync_sound c table lucks.shape lucks.calls
+    step_sound up (events.Pull c table) lucks first = pull_sound c table lucks.shape lucks.calls
+    step_sound up (events.Deliver n) lucks first = delivered_sound n lucks.shape lucks.calls (slice_get w.packets n) refl
+    step_sound up (events.StoreShow table row) lucks first = shows_sound up table row lucks.calls (hosted_at w table) refl
     step_sound up (events.History table) lucks first = history_sound table (hosted_at w table) refl
     step_sound up (events.Hold node) lucks first = held_sound node
     step_sound up (events.Free node) lucks first = freed_sound node
     step_sound up (events.Work node) lucks first =
         unless_down_sound w s k (events.Work node) node _ (λ lines a. a) tt (record { form = tt; counts = refl; is = tt }) (record { form = tt; counts = refl; is = tt })
-        (λ is. worked_sound lucks node)
+        (λ is. worked_sound lucks.calls node)
     step_sound up (events.WorkAll node) lucks first =
         unless_down_sound w s k (events.WorkAll node) node _ (λ lines a. a) tt
-        (record { form = tt; counts = refl; is = tt }) (record { form = tt; counts = refl; is = tt }) (λ is. all_worked_sound lucks node)
+        (record { form = tt; counts = refl; is = tt }) (record { form = tt; counts = refl; is = tt }) (λ is. all_worked_sound lucks.calls node)
     step_sound up (events.Crash node calls pick) lucks first =
         unless_down_sound w s k (events.Crash node calls pick) node _ (λ lines a. a) refl (record { form = tt; counts = refl; is = tt }) (record { form = tt; counts = refl; is = tt })
-        (λ is. crashed_sound calls pick lucks node)
-    step_sound up (events.Start node) lucks first = started_sound lucks node
+        (λ is. crashed_sound calls pick lucks.calls node)
+    step_sound up (events.Start node) lucks first = started_sound lucks.shape lucks.calls node
     step_sound up (events.Chunks table) lucks first = chunks_sound table (hosted_at w table)
 
   -- ---- runs
@@ -842,13 +910,13 @@ module _ (client_law : ClientLaws) (client_grows : ClientGrows) (lapsed_grows : 
   new_there w number schema messages.FailedBefore table same none = with_new_there w number schema false false table same (store_falls_there owner (with_table w number schema false false) table none)
   new_there w number schema messages.FailedAfter table same none = with_new_there w number schema false false table same (store_falls_there owner (with_table w number schema false false) table none)
 
-  pub scheme_on : (w : World) (event : Event) (lucks : List Luck) (es : List Event) (table : ℕ) → hosted_at (step w event lucks).world table ≡ None
+  pub scheme_on : (w : World) (event : Event) (lucks : Lucks) (es : List Event) (table : ℕ) → hosted_at (step w event lucks).world table ≡ None
       → scheme_for (event ∷ es) table ≡ scheme_for es table
   scheme_on w (events.Table number schema) lucks es table none = go (number == table) refl
     where
-      there : number ≡ table → (o : Option Hosted) → hosted_at w number ≡ o → hosted_at (declared w number schema (first_luck lucks) o) table ≡ None → ⊥
+      there : number ≡ table → (o : Option Hosted) → hosted_at w number ≡ o → hosted_at (declared w number schema (first_luck lucks.calls) o) table ≡ None → ⊥
       there same (Some x) at none_2 = absurd (let both : Some x ≡ None = sym at ∙ (ap (hosted_at w) same ∙ none_2) in cc)
-      there same None at none_2 = new_there w number schema (first_luck lucks) table (sym same) none_2
+      there same None at none_2 = new_there w number schema (first_luck lucks.calls) table (sym same) none_2
 
       go : (b : Bool) → (number == table) ≡ b → (if b then schema.scheme else scheme_for es table) ≡ scheme_for es table
       go false e = refl

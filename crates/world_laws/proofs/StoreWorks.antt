@@ -108,7 +108,7 @@ module _ (g : ℕ → Scheme) (table_work : TableWorks g) where
   pub store_falls_sound : (node : ℕ) (w : World) (s : Said) (number : ℕ) → Kept g w s → MoveSound g s w number (store_falls node w)
   store_falls_sound node w s number k =
       both_sound g w s number (tables_fall (tables_of w node) w) (λ x. still (with_down (nodes.Store node) x)) (falls_sound (tables_of w node) w s number k)
-      (λ x now. nodes_sound g (tables_fall (tables_of w node) w).world x _ (tables_fall (tables_of w node) w).world.holds (nodes.Store node ∷ (tables_fall (tables_of w node) w).world.downs) now)
+      (λ x now. let v : World = (tables_fall (tables_of w node) w).world in nodes_sound g v x _ v.holds (nodes.Store node ∷ v.downs) v.cuts now)
 
   or_falls_sound : (node : ℕ) (w : World) (s : Said) (number : ℕ) (m : Moved) → MoveSound g s w number m → MoveSound g s w number (or_falls node m)
   or_falls_sound node w s number m a = go m.failed
@@ -189,6 +189,6 @@ module _ (g : ℕ → Scheme) (table_work : TableWorks g) where
           where
             follows : (x : Said) → Kept g m.world x → MoveSound g x m.world (number + sent_by g m.outs) (store_follows node (drop (length tables) lucks) (up m.world))
             follows x now =
-                let held = nodes_kept g m.world x m.world.holds (without_node m.world.downs (nodes.Store node)) now in
+                let held = nodes_kept g m.world x m.world.holds (without_node m.world.downs (nodes.Store node)) m.world.cuts now in
                 let a = follows_sound node (drop (length tables) lucks) (up m.world) x (number + sent_by g m.outs) held in
                 record { lines = a.lines; kept = a.kept; there = a.there }

@@ -1,6 +1,6 @@
 -- Where the Store isn't down, each of its tables is up.
 use Rattle.std.proofs.Common.{◌≡◌, ◌≢◌, ◌⊎◌, inl, inr, ℕ, zero, suc, Bool, true, false, List, [], ◌∷◌, length, Option, Some, None, refl, sym, ap, ◌∙◌, subst, arith, ⊎_elim, true≢false}
-use Rattle.std.specs.Prelude.{◌==◌, ◌||◌, not, nat_lt, drop, slice_get, if◌then◌else◌}
+use Rattle.std.specs.Prelude.{◌==◌, ◌&&◌, ◌||◌, not, nat_lt, drop, slice_get, if◌then◌else◌}
 use Rattle.std.specs.List.{find}
 use Rattle.std.proofs.lemmas.Bool.Decides.{nat_tests}
 use Rattle.std.specs.Ordering.{nat_cmp}
@@ -21,9 +21,10 @@ use Rattle.step_tables.specs.Messages as messages
 use Rattle.step_tables.specs.StoreMoves as store
 use Rattle.step_tables.specs.StoreMoves.{StoreDisk, StoreTask, StoreMove, StoreStep}
 use Rattle.step_tables.specs.ClientMoves as client
-use Rattle.step_tables.specs.ClientMoves.{Client, ClientTask, ClientMove, Shape, no_shape}
+use Rattle.step_tables.specs.ClientMoves.{Client, ClientTask, ClientMove, Shape, no_shape, is_cut_off}
 use Rattle.step_tables.proofs.Lists.{among_none, among_cons, among_here, among_next}
-use Rattle.world_tables.specs.World.{client_until_idle, client_writes, client_starts}
+use Rattle.world_tables.specs.World.{client_until_idle, client_writes, starts_by, client_starts, client_falls, Lucks, is_cut, with_link, unless_cut, calls, linked}
+use Rattle.world_tables.specs.World as world
 use Rattle.world_tables.specs.World.{World, Packet, Hosted, Moved, WorldStep, start, schema_at, hosted_at, client_at, scheme_in, chunk_in, owner, the_store, tables_of, same_node, has_node}
 use Rattle.world_tables.specs.World.{without_node, is_down, still, and_then, and_unless, is_fault}
 use Rattle.world_tables.specs.World.{history_on, after_table, table_step, move_hosted, move_table, move_there, move_client, first_luck, other_lucks, client_works, client_tasks, client_follows}
@@ -403,7 +404,7 @@ unless_down_up w node s up then_up = go (is_down w node)
 
 call_up : (w : World) (c : ℕ) (move : ClientMove) (shape : Shape) (lucks : List Luck) → IsUp w → (o : Option Client) → IsUp (call_there w c move shape lucks o).world
 call_up w c move shape lucks up None = up
-call_up w c move shape lucks up (Some node) = unless_down_up w (nodes.Client c) _ up (go (gets_tasks node.agenda v c))
+call_up w c move shape lucks up (Some node) = unless_down_up w (nodes.Client c) _ up (reads (first_luck lucks))
   where
     v : World
     v = (move_client c move shape w).world
@@ -411,9 +412,21 @@ call_up w c move shape lucks up (Some node) = unless_down_up w (nodes.Client c) 
     first : IsUp v
     first = same_up w v (client_same w c move shape) up
 
-    go : (b : Bool) → IsUp (if b then client_follows c lucks v else still v).world
-    go true = client_follows_up c lucks v first
-    go false = first
+    follows : (b : Bool) → IsUp (if b then client_follows c (other_lucks lucks) v else still v).world
+    follows true = client_follows_up c (other_lucks lucks) v first
+    follows false = first
+
+    by_link : (cut : Bool) → IsUp (unless_cut w cut (calls w c move shape (other_lucks lucks) node)).world
+    by_link true = up
+    by_link false = follows (gets_tasks node.agenda v c)
+
+    fallen : IsUp (client_falls c w).world
+    fallen = same_up w (client_falls c w).world (client_same w c (client.Crash messages.FailedBefore) no_shape) up
+
+    reads : (luck : Luck) → IsUp (world.reads w c luck (unless_cut w (is_cut w c && is_cut_off c shape node move) (calls w c move shape (other_lucks lucks) node))).world
+    reads messages.Done = by_link (is_cut w c && is_cut_off c shape node move)
+    reads messages.FailedBefore = fallen
+    reads messages.FailedAfter = fallen
 
 hosted_up : (w : World) (table : ℕ) (from : Node) (m : Message) (lucks : List Luck) → IsUp w → (o : Option Hosted) → IsUp (to_hosted w table (store.Take from m) lucks o).world
 hosted_up w table from m lucks up None = up
@@ -432,18 +445,18 @@ hosted_up w table from m lucks up (Some hosted) = go hosted.store.agenda
     go (Some (task ∷ more)) = first
     go (Some []) = reads (first_luck lucks)
 
-carried_up : (w : World) (p : Packet) (lucks : List Luck) → IsUp w → (to : Node) → IsUp (carried w p lucks to).world
-carried_up w p lucks up (nodes.Store number) = unless_down_up w (nodes.Store number) _ up (hosted_up w (table_of p.message) p.from p.message lucks up (hosted_at w (table_of p.message)))
-carried_up w p lucks up (nodes.Gate gate) = up
-carried_up w p lucks up (nodes.Client c) = go (client_at w c)
+carried_up : (w : World) (p : Packet) (shape : Shape) (lucks : List Luck) → IsUp w → (to : Node) → IsUp (carried w p shape lucks to).world
+carried_up w p shape lucks up (nodes.Store number) = unless_down_up w (nodes.Store number) _ up (hosted_up w (table_of p.message) p.from p.message lucks up (hosted_at w (table_of p.message)))
+carried_up w p shape lucks up (nodes.Gate gate) = up
+carried_up w p shape lucks up (nodes.Client c) = go (client_at w c)
   where
-    go : (o : Option Client) → IsUp (to_there w c p.message lucks o).world
+    go : (o : Option Client) → IsUp (to_there w c p.message shape lucks o).world
     go None = up
-    go (Some node) = call_up w c (client.Take p.message) no_shape lucks up (Some node)
+    go (Some node) = call_up w c (client.Take p.message) shape lucks up (Some node)
 
-delivered_up : (w : World) (lucks : List Luck) → IsUp w → (o : Option Packet) → IsUp (delivered w lucks o).world
-delivered_up w lucks up None = up
-delivered_up w lucks up (Some p) = carried_up w p lucks up p.to
+delivered_up : (w : World) (shape : Shape) (lucks : List Luck) → IsUp w → (o : Option Packet) → IsUp (delivered w shape lucks o).world
+delivered_up w shape lucks up None = up
+delivered_up w shape lucks up (Some p) = carried_up w p shape lucks up p.to
 
 shows_up : (w : World) (row : List ℕ) (lucks : List Luck) → IsUp w → (o : Option Hosted) → IsUp (store_shows w row lucks o).world
 shows_up w row lucks up None = up
@@ -474,9 +487,17 @@ declared_up w table schema messages.Done up None = λ is q found at. ⊎_elim
     new : Hosted
     new = record { store = record { disk = record { items = []; pending = None; left = [] }; agenda = agenda_of (not (is_down w the_store)) }; history = []; made = true }
 
-joined_up : (w : World) (c : ℕ) (tables : List ℕ) → IsUp w → (o : Option Client) → IsUp (joined w c tables o)
-joined_up w c tables up None = up
-joined_up w c tables up (Some node) = up
+joined_up : (w : World) (c : ℕ) (tables : List ℕ) (luck : Luck) → IsUp w → (o : Option Client) → IsUp (joined w c tables luck o)
+joined_up w c tables luck up None = up
+joined_up w c tables luck up (Some node) = up
+
+linked_up : (w : World) (c : ℕ) (link : Bool) → IsUp w → (o : Option Client) → IsUp (linked w c link o).world
+linked_up w c link up None = up
+linked_up w c link up (Some node) = unless_down_up w (nodes.Client c) _ up (moved link)
+  where
+    moved : (b : Bool) → IsUp (with_link c b w)
+    moved true = up
+    moved false = up
 
 worked_node_up : (w : World) (lucks : List Luck) → IsUp w → (node : Node) → IsUp (worked w lucks node).world
 worked_node_up w lucks up (nodes.Store number) = next_up number (first_luck lucks) w up
@@ -494,36 +515,43 @@ crashed_up w calls lucks up (nodes.Client c) =
     let move : ClientMove = client.Crash (crash_luck calls (other_lucks lucks) (first_luck lucks)) in same_up w (move_client c move no_shape w).world (client_same w c move no_shape) up
 crashed_up w calls lucks up (nodes.Gate gate) = up
 
-started_up : (w : World) (lucks : List Luck) → IsUp w → (node : Node) → IsUp (started w lucks node).world
-started_up w lucks up (nodes.Store number) = go (is_down w (nodes.Store number)) refl
+started_up : (w : World) (shape : Shape) (lucks : List Luck) → IsUp w → (node : Node) → IsUp (started w shape lucks node).world
+started_up w shape lucks up (nodes.Store number) = go (is_down w (nodes.Store number)) refl
   where
     go : (b : Bool) → is_down w (nodes.Store number) ≡ b → IsUp (if b then answering facts.Done (store_starts number lucks w) else answered w facts.Done).world
     go true is = starts_up number lucks w is up
     go false is = up
-started_up w lucks up (nodes.Client c) = go (is_down w (nodes.Client c))
+started_up w shape lucks up (nodes.Client c) = go (is_down w (nodes.Client c))
   where
-    go : (b : Bool) → IsUp (if b then answering facts.Done (client_starts c lucks w) else answered w facts.Done).world
-    go true =
-        client_follows_up c lucks (move_client c client.Start no_shape w).world (same_up w (move_client c client.Start no_shape w).world (client_same w c client.Start no_shape) up)
-    go false = up
-started_up w lucks up (nodes.Gate gate) = up
+    started_by : (luck : Luck) (more : List Luck) → IsUp (starts_by c shape luck more w).world
+    started_by messages.Done more =
+        client_follows_up c more (move_client c client.Start shape w).world (same_up w (move_client c client.Start shape w).world (client_same w c client.Start shape) up)
+    started_by messages.FailedBefore more = up
+    started_by messages.FailedAfter more = up
 
-pub step_up : (w : World) (event : Event) (lucks : List Luck) → IsUp w → IsUp (step w event lucks).world
+    go : (b : Bool) → IsUp (if b then answering facts.Done (client_starts c shape lucks w) else answered w facts.Done).world
+    go true = started_by (first_luck lucks) (other_lucks lucks)
+    go false = up
+started_up w shape lucks up (nodes.Gate gate) = up
+
+pub step_up : (w : World) (event : Event) (lucks : Lucks) → IsUp w → IsUp (step w event lucks).world
 step_up w (events.Store number) lucks up = up
-step_up w (events.Table table schema) lucks up = declared_up w table schema (first_luck lucks) up (hosted_at w table)
-step_up w (events.Client c gate tables) lucks up = joined_up w c tables up (client_at w c)
-step_up w (events.Write c table row x) lucks up = call_up w c (client.Write table row x) no_shape lucks up (client_at w c)
-step_up w (events.Show c table row) lucks up = call_up w c (client.Show table row) no_shape lucks up (client_at w c)
-step_up w (events.Sum c table row) lucks up = call_up w c (client.Sum table row) no_shape lucks up (client_at w c)
-step_up w (events.Sync c table) lucks up = call_up w c (client.Sync table) no_shape lucks up (client_at w c)
-step_up w (events.Pull c table) lucks up = call_up w c (client.Next table) no_shape lucks up (client_at w c)
-step_up w (events.Deliver n) lucks up = delivered_up w lucks up (slice_get w.packets n)
-step_up w (events.StoreShow table row) lucks up = shows_up w row lucks up (hosted_at w table)
+step_up w (events.Table table schema) lucks up = declared_up w table schema (first_luck lucks.calls) up (hosted_at w table)
+step_up w (events.Client c gate tables) lucks up = joined_up w c tables (first_luck lucks.calls) up (client_at w c)
+step_up w (events.Write c table row x) lucks up = call_up w c (client.Write table row x) lucks.shape lucks.calls up (client_at w c)
+step_up w (events.Edit c table row x) lucks up = call_up w c (client.Change table row x) lucks.shape lucks.calls up (client_at w c)
+step_up w (events.Link c link) lucks up = linked_up w c link up (client_at w c)
+step_up w (events.Show c table row) lucks up = call_up w c (client.Show table row) lucks.shape lucks.calls up (client_at w c)
+step_up w (events.Sum c table row) lucks up = call_up w c (client.Sum table row) lucks.shape lucks.calls up (client_at w c)
+step_up w (events.Sync c table) lucks up = call_up w c (client.Sync table) lucks.shape lucks.calls up (client_at w c)
+step_up w (events.Pull c table) lucks up = call_up w c (client.Next table) lucks.shape lucks.calls up (client_at w c)
+step_up w (events.Deliver n) lucks up = delivered_up w lucks.shape lucks.calls up (slice_get w.packets n)
+step_up w (events.StoreShow table row) lucks up = shows_up w row lucks.calls up (hosted_at w table)
 step_up w (events.History table) lucks up = history_up w table up (hosted_at w table)
 step_up w (events.Hold node) lucks up = unless_down_up w node _ up up
 step_up w (events.Free node) lucks up = unless_down_up w node _ up up
-step_up w (events.Work node) lucks up = unless_down_up w node _ up (worked_node_up w lucks up node)
-step_up w (events.WorkAll node) lucks up = unless_down_up w node _ up (all_worked_up w lucks up node)
-step_up w (events.Crash node calls pick) lucks up = unless_down_up w node _ up (crashed_up w calls lucks up node)
-step_up w (events.Start node) lucks up = started_up w lucks up node
+step_up w (events.Work node) lucks up = unless_down_up w node _ up (worked_node_up w lucks.calls up node)
+step_up w (events.WorkAll node) lucks up = unless_down_up w node _ up (all_worked_up w lucks.calls up node)
+step_up w (events.Crash node calls pick) lucks up = unless_down_up w node _ up (crashed_up w calls lucks.calls up node)
+step_up w (events.Start node) lucks up = started_up w lucks.shape lucks.calls up node
 step_up w (events.Chunks table) lucks up = chunks_up w table up (hosted_at w table)

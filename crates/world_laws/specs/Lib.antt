@@ -2,3 +2,4 @@ pub mod Worked
 pub mod WorkedCrashes
 pub mod WorkedClients
 pub mod Bad
+pub mod WorkedEdits

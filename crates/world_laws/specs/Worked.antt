@@ -20,7 +20,7 @@ use Rattle.step_tables.specs.Facts.{ClientFact, Fact, Shown, Line, AnswerLine, F
 use Rattle.step_tables.specs.Facts as facts
 use Rattle.step_tables.specs.Messages.{Luck}
 use Rattle.step_tables.specs.Messages as lucks
-use Rattle.world_tables.specs.World.{the_store}
+use Rattle.world_tables.specs.World.{the_store, no_lucks}
 use Rattle.step_tables.specs.Sayings.{Said, nothing_said, hear_lines}
 use Rattle.world_tables.specs.Turns.{Turn, Happening, transcript_of}
 use Rattle.world_tables.specs.Sound.{scheme_for}
@@ -41,7 +41,7 @@ abbrev pub the_row : List ℕ
 the_row = 0 ∷ 0 ∷ 0 ∷ 0 ∷ 0 ∷ 0 ∷ 64 ∷ 0 ∷ 128 ∷ 0 ∷ 0 ∷ 0 ∷ 0 ∷ 0 ∷ 0 ∷ 1 ∷ []
 
 abbrev pub happens : Event → Happening
-happens event = record { event = event; lucks = [] }
+happens event = record { event = event; lucks = no_lucks }
 
 abbrev pub turn : Event → List Line → Turn
 turn event lines = record { event = event; lines = lines }

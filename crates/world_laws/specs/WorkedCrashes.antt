@@ -14,13 +14,13 @@ use Rattle.step_tables.specs.Facts.{Line, AnswerLine, FactLine}
 use Rattle.step_tables.specs.Facts as facts
 use Rattle.step_tables.specs.Messages.{Luck}
 use Rattle.step_tables.specs.Messages as lucks
-use Rattle.world_tables.specs.World.{the_store, names_answer}
+use Rattle.world_tables.specs.World.{the_store, names_answer, no_lucks}
 use Rattle.world_tables.specs.Turns.{Turn, Happening}
 use Rattle.world_laws.specs.Worked.{notes, int, the_row, happens, turn, told, wrote_content, wrote, accepted, sent}
 use Rattle.world_laws.specs.Worked.{pictures, object}
 
 abbrev pub done_so : List Luck → Event → Happening
-done_so lucks event = record { event = event; lucks = lucks }
+done_so lucks event = record { event = event; lucks = record no_lucks { calls = lucks } }
 
 abbrev pub did : Step → Turn
 did step = turn (events.Work the_store) (AnswerLine (facts.Did step) ∷ [])
@@ -161,7 +161,7 @@ two_tables_written =
     ∷ turn (events.Deliver 1) (AnswerLine facts.Done ∷ [])
     ∷ did steps.LogOpen
     ∷ turn (events.Deliver 0) (AnswerLine facts.Done ∷ [])
-    ∷ turn (events.Deliver 0) (AnswerLine (facts.Refuses facts.Busy) ∷ [])
+    ∷ turn (events.Deliver 0) (AnswerLine (facts.Refuses (facts.Busy 1)) ∷ [])
     ∷ did steps.LogOpen
     ∷ turn (events.Free the_store) (AnswerLine facts.Done ∷ [])
     ∷ turn (events.Crash the_store 4 0) (AnswerLine facts.Done ∷ [])

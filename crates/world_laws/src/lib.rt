@@ -26,7 +26,9 @@ ghost use Rattle.world_laws.specs.Bad.{conflict_twice, resolved_twice, new_twice
 ghost use Rattle.world_laws.specs.Worked.{schemes_of, read_before_write, int, starts_retell};
 ghost use Rattle.step_tables.specs.Messages as lucks;
 ghost use Rattle.world_laws.specs.WorkedClients.{crash_in_commit, landed_commit_written, lost_commit_written};
-ghost use Rattle.world_laws.specs.WorkedClients.{failed_commit, failed_commit_written};
+ghost use Rattle.world_laws.specs.WorkedClients.{failed_commit, failed_commit_written, failed_reads};
+ghost use Rattle.world_laws.specs.WorkedClients.{failed_reads_written, own_writes, own_writes_written};
+ghost use Rattle.world_laws.specs.WorkedEdits.{edits_in_turn, edits_in_turn_written, cut_link, cut_link_written};
 ghost use Rattle.world_laws.specs.WorkedCrashes.{landed_put, landed_put_written, lost_put, lost_put_written};
 ghost use Rattle.world_laws.specs.WorkedCrashes.{failed_put, failed_put_written, failed_declaration};
 ghost use Rattle.world_laws.specs.WorkedCrashes.{failed_declaration_written, crash_between_chunks};
@@ -52,14 +54,16 @@ pub fn the_fold_is_the_whole_list()
 {}
 
 /// Every run's transcript is sound, whatever is delivered, lost, repeated or overtaken, wherever a device call fails
-/// and takes its node down, and for tables of all three schemes. A run is a list of events: calls, deliveries,
-/// questions, holds and freeings of a node, its device writes one by one or all at once, crashes of the Store inside
-/// any device write, undone or done, or beside any, and starts of a Store that is down, also of one whose start failed
-/// or crashed. Each event has one answer in a form of its command, and a crash, a hold and a freeing tell nothing; the
-/// versions of each table's history are 1, 2, 3; the writes of each client are numbered 1, 2, 3, and each entry is one
-/// of them, accepted once, by the rule of its table's scheme; a write in a conflict or refused is never accepted; each
-/// `show` gives what the client's lines make it show, and each `sshow` and `history` what was accepted; what a client
-/// has read never falls, and what its position covers it has read; and no write is lost from sight.
+/// and takes its node down, and for tables of all three schemes. A run is a list of events: calls and edits,
+/// deliveries, questions, links that go down and up, holds and freeings of a node, its device writes one by one or all
+/// at once, crashes of a node inside any device write, undone or done, or beside any, and starts of a node that is
+/// down, also of one whose start failed or crashed, whichever writes of its own a client has in it beside those that
+/// change what its devices stand for. Each event has one answer in a form of its command, and a crash, a hold and a
+/// freeing tell nothing; the versions of each table's history are 1, 2, 3; the writes of each client are numbered 1, 2,
+/// 3, and each entry is one of them, accepted once, by the rule of its table's scheme; a write in a conflict or refused
+/// is never accepted; each `show` gives what the client's lines make it show, and each `sshow` and `history` what was
+/// accepted; what a client has read never falls, and what its position covers it has read; and no write is lost from
+/// sight.
 pub fn every_run_is_sound()
     ensures { (happenings : List Happening) → IsSound (turns happenings) }
 {}
@@ -146,6 +150,30 @@ pub fn a_crash_inside_a_clients_commit()
 /// and its start tells and does what had landed.
 pub fn a_failed_write_takes_the_client_down()
     ensures { turns failed_commit ≡ failed_commit_written }
+{}
+
+/// A client's declaration, call and start in which a disk fails, computed: each leaves it down, with its devices as
+/// they were, and the next start brings it up.
+pub fn a_failed_read_takes_the_client_down()
+    ensures { turns failed_reads ≡ failed_reads_written }
+{}
+
+/// A client's own device writes round those of its plans and starts, computed one by one, with crashes behind a plan's
+/// commit and before one.
+pub fn a_clients_own_writes()
+    ensures { turns own_writes ≡ own_writes_written }
+{}
+
+/// Edits of a row with an object, computed: an update, a patch and a delete in turn, and those that find nothing to
+/// edit or don't fit.
+pub fn an_edit_of_each_kind()
+    ensures { turns edits_in_turn ≡ edits_in_turn_written }
+{}
+
+/// A client whose link is down, computed: it neither sends nor takes a message, and a strong table isn't written; what
+/// it can do alone it does. Once the link is up the message that it didn't take comes again.
+pub fn a_link_that_is_down()
+    ensures { turns cut_link ≡ cut_link_written }
 {}
 
 /// A table whose declaration failed, computed: it is there behind the Store's next start.

@@ -7,9 +7,9 @@ use Rattle.table_model.specs.declared.event.Event.TheVariants as events
 use Rattle.step_tables.specs.Facts.{Answer}
 use Rattle.step_tables.specs.Messages.{Luck}
 use Rattle.step_tables.specs.Messages as messages
-use Rattle.step_tables.specs.ClientMoves.{ClientTask}
+use Rattle.step_tables.specs.ClientMoves.{Client, ClientTask}
 use Rattle.world_tables.specs.World.{World, Hosted, step, hosted_at, client_at, busy_table, client_tasks, is_down}
-use Rattle.world_tables.specs.World.{is_fault, first_luck, other_lucks}
+use Rattle.world_tables.specs.World.{Lucks, is_fault, first_luck, other_lucks}
 use Rattle.world_tables.specs.Turns.{Happening}
 
 abbrev pub is_failure : Luck → Bool
@@ -21,6 +21,11 @@ is_failure messages.FailedAfter = true
 abbrev pub fails_new : Option Hosted → List Luck → Bool
 fails_new None lucks = is_failure (first_luck lucks)
 fails_new (Some hosted) lucks = false
+
+-- and neither is a client
+abbrev pub fails_joined : Option Client → List Luck → Bool
+fails_joined None lucks = is_failure (first_luck lucks)
+fails_joined (Some node) lucks = false
 
 -- a disk fails by itself in the write that a crash cuts; beside a write no disk is called
 abbrev pub fails_cut : Option ℕ → List Luck → Bool
@@ -42,11 +47,13 @@ abbrev pub is_fault_answer : Option Answer → Bool
 is_fault_answer None = false
 is_fault_answer (Some answer) = is_fault answer
 
--- whether a device fault shows in an event: it is answered so; a declaration leaves its Store down; or a disk fails by
+-- whether a device fault shows in an event: it is answered so; a declaration leaves its node down; or a disk fails by
 -- itself in the write that a crash cuts
-abbrev pub is_device_fault : World → Event → List Luck → Bool
-is_device_fault w (events.Table table schema) lucks = fails_new (hosted_at w table) lucks
-is_device_fault w (events.Crash node calls pick) lucks = if is_down w node then false else fails_crash w lucks node
+abbrev pub is_device_fault : World → Event → Lucks → Bool
+is_device_fault w (events.Table table schema) lucks = fails_new (hosted_at w table) lucks.calls
+is_device_fault w (events.Client c gate tables) lucks = fails_joined (client_at w c) lucks.calls
+is_device_fault w (events.Crash node calls pick) lucks =
+    if is_down w node then false else fails_crash w lucks.calls node
 is_device_fault w event lucks = is_fault_answer (step w event lucks).answer
 
 abbrev pub one_if : Bool → ℕ
@@ -60,6 +67,9 @@ device_faults w (h ∷ more) =
     one_if (is_device_fault w h.event h.lucks) + device_faults (step w h.event h.lucks).world more
 
 -- the lucks where no disk fails: all is done, and in a crash the write at work goes by its second luck
-abbrev pub quiet_lucks : Event → List Luck → List Luck
-quiet_lucks (events.Crash node calls pick) lucks = messages.Done ∷ first_luck (other_lucks lucks) ∷ []
-quiet_lucks event lucks = []
+abbrev pub quiet_calls : Event → List Luck → List Luck
+quiet_calls (events.Crash node calls pick) lucks = messages.Done ∷ first_luck (other_lucks lucks) ∷ []
+quiet_calls event lucks = []
+
+abbrev pub quiet_lucks : Event → Lucks → Lucks
+quiet_lucks event lucks = record lucks { calls = quiet_calls event lucks.calls }

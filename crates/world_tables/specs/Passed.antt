@@ -9,7 +9,7 @@ use Rattle.step_tables.specs.Store.{Stored}
 use Rattle.step_tables.specs.Messages.{Luck, table_of}
 use Rattle.step_tables.specs.StoreMoves as store
 use Rattle.step_tables.specs.StoreMoves.{StoreDisk, StoreTask, changed}
-use Rattle.world_tables.specs.World.{World, Packet, Hosted, tables_of, tasks_in, move_table, tables_start}
+use Rattle.world_tables.specs.World.{World, Lucks, Packet, Hosted, tables_of, tasks_in, move_table, tables_start}
 
 -- the disk behind the first so many of these tasks
 abbrev pub after_tasks : ℕ → StoreDisk → List StoreTask → StoreDisk
@@ -52,6 +52,6 @@ started_at w lucks (nodes.Store number) = (tables_start (tables_of w number) luc
 started_at w lucks (nodes.Client c) = w
 started_at w lucks (nodes.Gate gate) = w
 
-abbrev pub first_part : World → Event → List Luck → World
-first_part w (events.Start node) lucks = started_at w lucks node
+abbrev pub first_part : World → Event → Lucks → World
+first_part w (events.Start node) lucks = started_at w lucks.calls node
 first_part w other lucks = taken_part w other

@@ -216,6 +216,8 @@ is_declaration other = false
 abbrev pub IsForm : Event → Answer → Type 0
 IsForm event (facts.Refuses refusal) = Unit {0}
 IsForm (events.Write client table row content) (facts.Number number) = Unit {0}
+IsForm (events.Edit client table row edit) (facts.Number number) = Unit {0}
+IsForm (events.Link client up) facts.Done = Unit {0}
 IsForm (events.Show client table row) (facts.Shows what) = Unit {0}
 IsForm (events.Sum client table row) (facts.Shows what) = Unit {0}
 IsForm (events.Sum client table row) (facts.Sums sum) = Unit {0}

@@ -3,13 +3,12 @@ use Rattle.std.specs.Prelude.{List, [], ◌∷◌}
 use Rattle.std.specs.List.{flat_map}
 use Rattle.table_model.specs.declared.event.Event.{Event}
 use Rattle.step_tables.specs.Facts.{Line}
-use Rattle.step_tables.specs.Messages.{Luck}
-use Rattle.world_tables.specs.World.{World, start, step, lines_of}
+use Rattle.world_tables.specs.World.{World, Lucks, start, step, lines_of}
 
--- an event, and how the device calls go that it does
+-- an event, and what of it isn't in the script
 pub record Happening : Type 0 where
   pub event : Event
-  pub lucks : List Luck
+  pub lucks : Lucks
 
 -- an event with the lines that it wrote
 pub record Turn : Type 0 where

@@ -1,5 +1,5 @@
 -- The world: what an event makes of all nodes and of the network, with the lucks of the device calls that it does.
-use Rattle.std.specs.Prelude.{ℕ, zero, suc, ◌+◌, ◌==◌, nat_le, nat_lt, Bool, true, false, ◌||◌, not, List, []}
+use Rattle.std.specs.Prelude.{ℕ, zero, suc, ◌+◌, ◌==◌, nat_le, nat_lt, Bool, true, false, ◌&&◌, ◌||◌, not, List, []}
 use Rattle.std.specs.Prelude.{◌∷◌, ◌++◌, length, map, filter, drop, slice_get, Option, Some, None, option_to_list}
 use Rattle.std.specs.Prelude.{if◌then◌else◌}
 use Rattle.std.specs.List.{flat_map, find, list_any}
@@ -29,7 +29,7 @@ use Rattle.step_tables.specs.StoreMoves as store
 use Rattle.step_tables.specs.StoreMoves.{TableStore, StoreDisk, StoreTask, StoreMove, StoreStep, store_step}
 use Rattle.step_tables.specs.ClientMoves as client
 use Rattle.step_tables.specs.ClientMoves.{TableDisk, Client, ClientTask, ClientMove, ClientStep, Shape, no_shape}
-use Rattle.step_tables.specs.ClientMoves.{client_step}
+use Rattle.step_tables.specs.ClientMoves.{client_step, is_cut_off}
 
 -- a message that was sent
 pub record Packet : Type 0 where
@@ -45,7 +45,7 @@ pub record Hosted : Type 0 where
   pub made : Bool
 
 -- the declared tables with their schemas, the clients, every packet that was ever sent, in order: each may be delivered
--- at any time, again, or never; the nodes on hold, and the Stores that are down
+-- at any time, again, or never; the nodes on hold, the Stores that are down, and the clients whose link is down
 pub record World : Type 0 where
   pub schemas : List (ℕ × Schema)
   pub tables : List (ℕ × Hosted)
@@ -53,9 +53,10 @@ pub record World : Type 0 where
   pub packets : List Packet
   pub holds : List Node
   pub downs : List Node
+  pub cuts : List Node
 
 abbrev pub start : World
-start = record { schemas = []; tables = []; clients = []; packets = []; holds = []; downs = [] }
+start = record { schemas = []; tables = []; clients = []; packets = []; holds = []; downs = []; cuts = [] }
 
 abbrev pub schema_at : World → ℕ → Option Schema
 schema_at w table = lookup (is_at (nat_cmp table)) w.schemas
@@ -112,6 +113,15 @@ abbrev pub is_down : World → Node → Bool
 is_down w (nodes.Store number) = has_node w.downs (nodes.Store number)
 is_down w (nodes.Client c) = is_client_down (client_at w c)
 is_down w (nodes.Gate gate) = false
+
+-- whether a client's link is down
+abbrev pub is_cut : World → ℕ → Bool
+is_cut w c = has_node w.cuts (nodes.Client c)
+
+-- a link that goes up or down
+abbrev pub with_link : ℕ → Bool → World → World
+with_link c true w = record w { cuts = without_node w.cuts (nodes.Client c) }
+with_link c false w = record w { cuts = nodes.Client c ∷ w.cuts }
 
 -- ---- what moves tell and send, and the lines of it
 
@@ -277,9 +287,18 @@ abbrev pub client_writes : ℕ → Luck → List ClientTask → World → Moved
 client_writes c luck [] w = still w
 client_writes c luck (task ∷ tasks) w = move_client c (client.Work luck) no_shape w
 
--- a client that is down is started
-abbrev pub client_starts : ℕ → List Luck → World → Moved
-client_starts c lucks w = and_then (move_client c client.Start no_shape w) (client_follows c lucks)
+-- a client that is down is started, where what is read of its disks can be
+abbrev pub starts_by : ℕ → Shape → Luck → List Luck → World → Moved
+starts_by c shape messages.Done lucks w = and_then (move_client c client.Start shape w) (client_follows c lucks)
+starts_by c shape messages.FailedBefore lucks w = failing (still w)
+starts_by c shape messages.FailedAfter lucks w = failing (still w)
+
+abbrev pub client_starts : ℕ → Shape → List Luck → World → Moved
+client_starts c shape lucks w = starts_by c shape (first_luck lucks) (other_lucks lucks) w
+
+-- a client loses what it has begun
+abbrev pub client_falls : ℕ → World → Moved
+client_falls c w = move_client c (client.Crash messages.FailedBefore) no_shape w
 
 -- ---- a Store's tables
 
@@ -465,12 +484,20 @@ abbrev pub open_all : World → List (ℕ × TableDisk) → List ℕ → List (�
 open_all w some [] = some
 open_all w some (table ∷ tables) = open_all w (with_opened some table (schema_at w table)) tables
 
-abbrev pub new_client : List (ℕ × TableDisk) → Client
-new_client tables = record { disk = record { last = 0; tables = tables; plan = None }; agenda = Some [] }
+abbrev pub new_client : List (ℕ × TableDisk) → Option (List ClientTask) → Client
+new_client tables agenda = record { disk = record { last = 0; tables = tables; plan = None }; agenda = agenda }
 
-abbrev pub joined : World → ℕ → List ℕ → Option Client → World
-joined w c tables (Some node) = w
-joined w c tables None = record w { clients = insert_entry nat_cmp w.clients c (new_client (open_all w [] tables)) }
+-- a client in whose declaration a disk fails is down
+abbrev pub first_agenda : Luck → Option (List ClientTask)
+first_agenda messages.Done = Some []
+first_agenda messages.FailedBefore = None
+first_agenda messages.FailedAfter = None
+
+abbrev pub joined : World → ℕ → List ℕ → Luck → Option Client → World
+joined w c tables luck (Some node) = w
+joined w c tables luck None = record w {
+  clients = insert_entry nat_cmp w.clients c (new_client (open_all w [] tables) (first_agenda luck));
+}
 
 -- whether a client that had no writes to do has some behind a step
 abbrev pub gets_tasks : Option (List ClientTask) → World → ℕ → Bool
@@ -485,12 +512,28 @@ gets_tasks agenda w c = false
 abbrev pub client_follows_from : Option (List ClientTask) → ℕ → List Luck → World → Moved
 client_follows_from agenda c lucks w = if gets_tasks agenda w c then client_follows c lucks w else still w
 
+-- a call that reads the client's disks; one that fails takes the client down, with its devices as they were
+abbrev pub reads : World → ℕ → Luck → WorldStep → WorldStep
+reads w c messages.Done s = s
+reads w c messages.FailedBefore s = answering facts.Done (failing (client_falls c w))
+reads w c messages.FailedAfter s = answering facts.Done (failing (client_falls c w))
+
+-- a client that is up
+abbrev pub calls : World → ℕ → ClientMove → Shape → List Luck → Client → WorldStep
+calls w c move shape lucks node =
+    answering (client_step c shape node move).answer
+    (and_then (move_client c move shape w) (client_follows_from node.agenda c lucks))
+
+-- what it can't do with its link down, it refuses
+abbrev pub unless_cut : World → Bool → WorldStep → WorldStep
+unless_cut w cut s = if cut then refused w facts.Offline else s
+
 abbrev pub call_there : World → ℕ → ClientMove → Shape → List Luck → Option Client → WorldStep
 call_there w c move shape lucks None = refused w facts.NoTable
 call_there w c move shape lucks (Some node) =
     unless_down w (nodes.Client c)
-    (answering (client_step c shape node move).answer
-    (and_then (move_client c move shape w) (client_follows_from node.agenda c lucks)))
+    (reads w c (first_luck lucks)
+    (unless_cut w (is_cut w c && is_cut_off c shape node move) (calls w c move shape (other_lucks lucks) node)))
 
 -- a client's move, and the work that follows
 abbrev pub call : World → ℕ → ClientMove → Shape → List Luck → WorldStep
@@ -512,22 +555,22 @@ abbrev pub to_hosted : World → ℕ → StoreMove → List Luck → Option Host
 to_hosted w table move lucks None = answered w facts.Done
 to_hosted w table move lucks (Some hosted) = take_at w table hosted move lucks hosted.store.agenda
 
-abbrev pub to_there : World → ℕ → Message → List Luck → Option Client → WorldStep
-to_there w c message lucks None = answered w facts.Done
-to_there w c message lucks (Some node) = call_there w c (client.Take message) no_shape lucks (Some node)
+abbrev pub to_there : World → ℕ → Message → Shape → List Luck → Option Client → WorldStep
+to_there w c message shape lucks None = answered w facts.Done
+to_there w c message shape lucks (Some node) = call_there w c (client.Take message) shape lucks (Some node)
 
 -- a packet whose party or table isn't there is lost
-abbrev pub carried : World → Packet → List Luck → Node → WorldStep
-carried w packet lucks (nodes.Store number) =
+abbrev pub carried : World → Packet → Shape → List Luck → Node → WorldStep
+carried w packet shape lucks (nodes.Store number) =
     unless_down w (nodes.Store number)
     (to_hosted w (table_of packet.message) (store.Take packet.from packet.message) lucks
     (hosted_at w (table_of packet.message)))
-carried w packet lucks (nodes.Client c) = to_there w c packet.message lucks (client_at w c)
-carried w packet lucks (nodes.Gate gate) = answered w facts.Done
+carried w packet shape lucks (nodes.Client c) = to_there w c packet.message shape lucks (client_at w c)
+carried w packet shape lucks (nodes.Gate gate) = answered w facts.Done
 
-abbrev pub delivered : World → List Luck → Option Packet → WorldStep
-delivered w lucks None = refused w (facts.NoPacket (length w.packets))
-delivered w lucks (Some packet) = carried w packet lucks packet.to
+abbrev pub delivered : World → Shape → List Luck → Option Packet → WorldStep
+delivered w shape lucks None = refused w (facts.NoPacket (length w.packets))
+delivered w shape lucks (Some packet) = carried w packet shape lucks packet.to
 
 abbrev pub row_shown : Option Stored → Answer
 row_shown None = facts.Refuses facts.NoRow
@@ -614,35 +657,53 @@ crashed w calls lucks (nodes.Client c) = answering facts.Done (client_crashes c 
 crashed w calls lucks (nodes.Gate gate) = answered w facts.Done
 
 -- a node that is up goes on
-abbrev pub started : World → List Luck → Node → WorldStep
-started w lucks (nodes.Store number) = if is_down w (nodes.Store number)
+abbrev pub started : World → Shape → List Luck → Node → WorldStep
+started w shape lucks (nodes.Store number) = if is_down w (nodes.Store number)
     then answering facts.Done (store_starts number lucks w)
     else answered w facts.Done
-started w lucks (nodes.Client c) = if is_down w (nodes.Client c)
-    then answering facts.Done (client_starts c lucks w)
+started w shape lucks (nodes.Client c) = if is_down w (nodes.Client c)
+    then answering facts.Done (client_starts c shape lucks w)
     else answered w facts.Done
-started w lucks (nodes.Gate gate) = answered w facts.Done
+started w shape lucks (nodes.Gate gate) = answered w facts.Done
+
+-- a client whose link goes down, or up
+abbrev pub linked : World → ℕ → Bool → Option Client → WorldStep
+linked w c up None = answered w facts.Done
+linked w c up (Some node) = unless_down w (nodes.Client c) (answered (with_link c up w) facts.Done)
+
+-- What isn't in the script: how the device calls of an event go, one after the other, and which device writes a client
+-- has in it beside those that change what its devices stand for.
+pub record Lucks : Type 0 where
+  pub calls : List Luck
+  pub shape : Shape
+
+-- where all goes well, and no client has such writes
+abbrev pub no_lucks : Lucks
+no_lucks = record { calls = []; shape = no_shape }
 
 -- what an event makes of the world, where its device calls go so
-abbrev pub step : World → Event → List Luck → WorldStep
+abbrev pub step : World → Event → Lucks → WorldStep
 step w (events.Store number) lucks = silent w
 step w (events.Table table schema) lucks =
-    silent (declared w table schema (first_luck lucks) (hosted_at w table))
-step w (events.Client c gate tables) lucks = silent (joined w c tables (client_at w c))
-step w (events.Write c table row content) lucks = call w c (client.Write table row content) no_shape lucks
-step w (events.Show c table row) lucks = call w c (client.Show table row) no_shape lucks
-step w (events.Sum c table row) lucks = call w c (client.Sum table row) no_shape lucks
-step w (events.Sync c table) lucks = call w c (client.Sync table) no_shape lucks
-step w (events.Pull c table) lucks = call w c (client.Next table) no_shape lucks
-step w (events.Deliver packet) lucks = delivered w lucks (slice_get w.packets packet)
-step w (events.StoreShow table row) lucks = store_shows w row lucks (hosted_at w table)
+    silent (declared w table schema (first_luck lucks.calls) (hosted_at w table))
+step w (events.Client c gate tables) lucks =
+    silent (joined w c tables (first_luck lucks.calls) (client_at w c))
+step w (events.Write c table row content) lucks = call w c (client.Write table row content) lucks.shape lucks.calls
+step w (events.Edit c table row edit) lucks = call w c (client.Change table row edit) lucks.shape lucks.calls
+step w (events.Show c table row) lucks = call w c (client.Show table row) lucks.shape lucks.calls
+step w (events.Sum c table row) lucks = call w c (client.Sum table row) lucks.shape lucks.calls
+step w (events.Sync c table) lucks = call w c (client.Sync table) lucks.shape lucks.calls
+step w (events.Pull c table) lucks = call w c (client.Next table) lucks.shape lucks.calls
+step w (events.Link c up) lucks = linked w c up (client_at w c)
+step w (events.Deliver packet) lucks = delivered w lucks.shape lucks.calls (slice_get w.packets packet)
+step w (events.StoreShow table row) lucks = store_shows w row lucks.calls (hosted_at w table)
 step w (events.History table) lucks = history_lines w table (hosted_at w table)
 step w (events.Chunks table) lucks = chunk_names w table (hosted_at w table)
 step w (events.Hold node) lucks =
     unless_down w node (answered (record w { holds = node ∷ w.holds }) facts.Done)
 step w (events.Free node) lucks =
     unless_down w node (answered (record w { holds = without_node w.holds node }) facts.Done)
-step w (events.Work node) lucks = unless_down w node (worked w lucks node)
-step w (events.WorkAll node) lucks = unless_down w node (all_worked w lucks node)
-step w (events.Crash node calls pick) lucks = unless_down w node (crashed w calls lucks node)
-step w (events.Start node) lucks = started w lucks node
+step w (events.Work node) lucks = unless_down w node (worked w lucks.calls node)
+step w (events.WorkAll node) lucks = unless_down w node (all_worked w lucks.calls node)
+step w (events.Crash node calls pick) lucks = unless_down w node (crashed w calls lucks.calls node)
+step w (events.Start node) lucks = started w lucks.shape lucks.calls node

@@ -1,0 +1,9 @@
+pub mod Small
+pub mod Pigeons
+pub mod Contents
+pub mod Rows
+pub mod Numbers
+pub mod Lengths
+pub mod New
+pub mod Commits
+pub mod Followed

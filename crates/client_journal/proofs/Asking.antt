@@ -35,7 +35,7 @@ use Rattle.client_journal.specs.Fault.{caused, journal_cause, slot_cause, slots_
 use Rattle.client_journal.specs.Devs.{ClientDevs}
 use Rattle.client_journal.specs.Standing.{devs, writes_of, all_faults, AreUp, IsOneDown, AreLookedAt, AreSound, DevsLeave}
 use Rattle.client_journal.specs.TakesOn.{IsNotDisk}
-use Rattle.client_journal.specs.Asking.{AllStay, Reads, Asks}
+use Rattle.client_journal.specs.Asking.{AllStay, AllLeave, Reads, Asks}
 use Rattle.client_journal.proofs.Works.{still_chunk, still_slot, still_journal, all_same, up_or_down}
 
 abbrev OnlyThese : {T : Type 0} → Result T JournalFault → Type 0
@@ -94,6 +94,7 @@ module _ {D : Type 0} (state : D → DiskState) (images : D → ℕ → List ℕ
     unchanged = λ is. refl;
     only = inr (inl refl);
     any_moment = λ up. absurd (up_or_down old up down);
+    leave = λ up. absurd (up_or_down old up down);
     agenda = refl;
   }
 
@@ -116,6 +117,7 @@ module _ {D : Type 0} (state : D → DiskState) (images : D → ℕ → List ℕ
       unchanged = λ is. absurd (not_down r k.only is);
       only = wider r k.only;
       any_moment = λ up sound. all_same state images only_now old new (k.chunks sound) (k.slots sound) (k.journal sound);
+      leave = λ up sound. record { chunks = k.chunks sound; slots = k.slots sound; journal = k.journal sound };
       agenda = k.agenda;
     }
 
@@ -140,6 +142,9 @@ module _ {D : Type 0} (state : D → DiskState) (images : D → ℕ → List ℕ
       journal = leaves_journal;
       agenda = refl;
     }
+
+    pub asks_none : {T : Type 0} (r : Result T JournalFault) → IsNotDisk r → OnlyThese r → Asks state images old old r
+    asks_none r not_disk only = asks_reads old r (reads_none r not_disk only)
 
     -- the device of the chunks alone was asked
     module _ {T : Type 0} (dev : ChunkDev D) (leaves : AreSound state old → chunks.Leaves state images old.chunks dev (λ here. here ≡ chunks.chunks state old.chunks)) where
@@ -318,3 +323,50 @@ reads_err {D} {T} {S} state images old new e w = record {
   where
     not_it : IsNotDisk {T = T} (Err e) → IsNotDisk {T = S} (Err e)
     not_it n is = n (let same : e ≡ Disk = cc in ap (λ (x : JournalFault). Err x) same)
+
+-- ---- one public call, and then another
+
+module _ {D : Type 0} (state : D → DiskState) (images : D → ℕ → List ℕ → Type 0) (old mid new : Journal D) (s : AllStay state old mid) where
+  leaves_then : AreSound state old → AllLeave state images old mid → AllLeave state images mid new → AllLeave state images old new
+  leaves_then sound a b = record {
+    chunks = runs_then state images (chunks.vault_of old.chunks) (chunks.vault_of mid.chunks) (chunks.vault_of new.chunks) (λ l. chunks_of l ≡ chunks.chunks state old.chunks) (λ l. chunks_of l ≡ chunks.chunks state mid.chunks) (λ l. chunks_of l ≡ chunks.chunks state old.chunks)
+        a.chunks b.chunks (λ l is. is) (λ l is. is ∙ ap chunks_of s.chunks.same);
+    slots = runs_then state images (slots.vault_of old.slots) (slots.vault_of mid.slots) (slots.vault_of new.slots) (λ l. data_of l ≡ slots.held state old.slots) (λ l. data_of l ≡ slots.held state mid.slots) (λ l. data_of l ≡ slots.held state old.slots)
+        a.slots b.slots (λ l is. is) (λ l is. is ∙ ap data_of s.slots.same);
+    journal = runs_then state images (journals.vault_of old.journal) (journals.vault_of mid.journal) (journals.vault_of new.journal) (λ l. journal_of l ≡ journals.held state old.journal) (λ l. journal_of l ≡ journals.held state mid.journal) (λ l. journal_of l ≡ journals.held state old.journal)
+        a.journal b.journal (λ l is. is) (λ l is. is ∙ ap journal_of s.journal.same);
+  }
+
+  -- what was down stays so
+  was_down : IsOneDown mid → IsOneDown old
+  was_down = ⊎_elim (λ d. inl (sym s.chunks.down ∙ d)) (⊎_elim (λ d. inr (inl (sym s.slots.down ∙ d))) (λ d. inr (inr (sym s.journal.down ∙ d))))
+
+module _ {D T S : Type 0} (state : D → DiskState) (images : D → ℕ → List ℕ → Type 0) (only_now : (disk : D) (image : List ℕ) → images disk (state disk).moment image → IsImage (state disk).pending image) (old mid new : Journal D) (x : T) (a : Asks state images old mid (Ok x)) (r : Result S JournalFault) (b : Asks state images mid new r) where
+  stayed : AllStay state old mid
+  stayed = a.stay (λ is. cc)
+
+  not_down_first : IsOneDown mid → ⊥
+  not_down_first down = let is = a.down.1 (was_down state images old mid new stayed down) in cc
+
+  leave_both : AreUp old → AreSound state old → AllLeave state images old new
+  leave_both up sound = leaves_then state images old mid new stayed sound (a.leave up sound) (b.leave (stay_up state old mid stayed up) (stay_sound state old mid stayed sound))
+
+  pub asks_then : Asks state images old new r
+  asks_then = record {
+    stay = λ n.
+        let c = b.stay n in
+        record {
+          chunks = both_stay state _ _ old.chunks.inner mid.chunks.inner new.chunks.inner stayed.chunks c.chunks;
+          slots = both_stay state _ _ old.slots.inner mid.slots.inner new.slots.inner stayed.slots c.slots;
+          journal = both_stay state _ _ old.journal.inner mid.journal.inner new.journal.inner stayed.journal c.journal;
+        };
+    same = λ n. b.same n ∙ a.same (λ is. cc);
+    counted = λ n. b.counted n ∙ a.counted (λ is. cc);
+    disk = λ is. let d = b.disk is in (omega (arith, d.0, a.counted (λ is. cc)), d.1);
+    down = (λ is. absurd (not_down_first (b.down.0 is)), λ down. absurd (let is = a.down.1 down in cc));
+    unchanged = λ is. absurd (not_down_first (b.down.0 is));
+    only = b.only;
+    any_moment = λ up sound. let l = leave_both up sound in all_same state images only_now old new l.chunks l.slots l.journal;
+    leave = leave_both;
+    agenda = b.agenda ∙ a.agenda;
+  }

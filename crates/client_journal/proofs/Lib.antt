@@ -29,3 +29,5 @@ pub mod Wholes
 pub mod ShownRows
 pub mod Sparing
 pub mod Renewing
+pub mod Resting
+pub mod Refusals

@@ -87,6 +87,7 @@ asks_other state images old new x k r not_disk not_down only = record {
   unchanged = λ is. absurd (not_down is);
   only = only;
   any_moment = k.any_moment;
+  leave = k.leave;
   agenda = k.agenda;
 }
 
@@ -100,6 +101,7 @@ asks_err {D} {T} {S} state images old new e k = record {
   unchanged = λ is. let same : e ≡ Down = cc in k.unchanged (ap (λ (f : JournalFault). Err f) same);
   only = k.only;
   any_moment = k.any_moment;
+  leave = k.leave;
   agenda = k.agenda;
 }
   where

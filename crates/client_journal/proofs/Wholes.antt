@@ -36,10 +36,10 @@ use Rattle.client_journal.proofs.Lookups.{has_cases, has_head, has_tail, not_its
 
 -- ---- lists of names
 
-has_left : (xs ys : List LocalName) (q : LocalName) → Has xs q → Has (xs ++ ys) q
+pub has_left : (xs ys : List LocalName) (q : LocalName) → Has xs q → Has (xs ++ ys) q
 has_left xs ys q h = list_any-append (same_name q) xs ys ∙ ap (λ (b : Bool). b || is_among ys q) h
 
-has_right : (xs ys : List LocalName) (q : LocalName) → Has ys q → Has (xs ++ ys) q
+pub has_right : (xs ys : List LocalName) (q : LocalName) → Has ys q → Has (xs ++ ys) q
 has_right xs ys q h = list_any-append (same_name q) xs ys ∙ either (is_among xs q) (is_among ys q) h
   where
     either : (a b : Bool) → b ≡ true → a || b ≡ true
@@ -53,7 +53,7 @@ has_either xs ys q h = split (is_among xs q) (is_among ys q) (sym (list_any-appe
     split true b h = inl refl
     split false b h = inr h
 
-not_has : (xs : List LocalName) (q : LocalName) → (Has xs q → ⊥) → is_among xs q ≡ false
+pub not_has : (xs : List LocalName) (q : LocalName) → (Has xs q → ⊥) → is_among xs q ≡ false
 not_has xs q not_ = split (is_among xs q) not_
   where
     split : (b : Bool) → (b ≡ true → ⊥) → b ≡ false
@@ -90,7 +90,7 @@ module _ (stands others : LocalName → Option (List ℕ)) where
     lacks_alike (Some t) Gone same = refl
     lacks_alike (Some t) (Row some objects) same = ap not (objects_alike t.schema.chunk objects same)
 
-    wrong_alike : (c : HeldContent) → Alike (names_of c) → is_wrong stands table c ≡ is_wrong others table c
+    pub wrong_alike : (c : HeldContent) → Alike (names_of c) → is_wrong stands table c ≡ is_wrong others table c
     wrong_alike c same = ap (λ (b : Bool). b || (repeats [] (names_of c) || misfits table c)) (lacks_alike table c same)
 
     abbrev here : HeldContent → Bool
@@ -111,7 +111,7 @@ module _ (stands others : LocalName → Option (List ℕ)) where
     out_alike None same = refl
     out_alike (Some out) same = wrong_alike out.content same
 
-    slots_alike : (s : Slots) → Alike (names_in s) → any_content here s ≡ any_content there s
+    pub slots_alike : (s : Slots) → Alike (names_in s) → any_content here s ≡ any_content there s
     slots_alike s same =
         let m = names_of_main s.main in
         let h = names_of_shadow s.shadow in

@@ -48,6 +48,13 @@ pub record AllStay {D : Type 0} (state : D → DiskState) (old new : Journal D) 
   pub slots : slots.Stays state old.slots new.slots
   pub journal : journals.Stays state old.journal new.journal
 
+-- a crash at any moment leaves of each device what it held
+pub record AllLeave {D : Type 0} (state : D → DiskState) (images : D → ℕ → List ℕ → Type 0) (old new : Journal D)
+    : Type 0 where
+  pub chunks : chunks.Leaves state images old.chunks new.chunks (λ here. here ≡ chunks.chunks state old.chunks)
+  pub slots : slots.Leaves state images old.slots new.slots (λ here. here ≡ slots.held state old.slots)
+  pub journal : journals.Leaves state images old.journal new.journal (λ here. here ≡ journals.held state old.journal)
+
 -- A call of devices that are up: they stay, or a disk failed and its device is down.
 pub record Reads {D T : Type 0} (state : D → DiskState) (images : D → ℕ → List ℕ → Type 0) (old new : Journal D)
     (result : Result T JournalFault) : Type 0 where
@@ -76,6 +83,8 @@ pub record Asks {D T : Type 0} (state : D → DiskState) (images : D → ℕ →
   pub only : IfErr result (λ e. (e ≡ Disk) ⊎ ((e ≡ Down) ⊎ (e ≡ Memory)))
   -- a crash at any moment leaves what was held
   pub any_moment : AreUp old → AreSound state old → DevsLeave state images old new (λ d. d ≡ devs state old)
+  -- so calls can be put together, one after the other
+  pub leave : AreUp old → AreSound state old → AllLeave state images old new
   pub agenda : writes_of new ≡ writes_of old
 
 -- a count stayed, or rose by one where it isn't at its end

@@ -16,3 +16,4 @@ pub mod Scan
 pub mod Spare
 pub mod Small
 pub mod Unset
+pub mod Causes

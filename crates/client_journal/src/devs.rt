@@ -12,6 +12,7 @@ ghost use Rattle.plan_log.specs.Standing as journals;
 ghost use Rattle.client_journal.specs.Devs.{ClientDevs, Write, OpenJournal, OpenSlots, OpenChunks, PutIntend};
 ghost use Rattle.client_journal.specs.Devs.{PutChunk, PutCommit, PutSlots, PutRecord, DropChunk, PutDone};
 ghost use Rattle.client_journal.specs.Agenda.{Runs, IsMoment, IsRedoing};
+ghost use Rattle.client_journal.specs.Causes.{HasCause};
 ghost use Rattle.client_journal.specs.Standing.{write_of, writes_of, AreUp, IsOneDown, IsReady, Works, WorksOn, devs};
 ghost use Rattle.client_journal.specs.Standing.{DevsLeave, AreLookedAt, AreSound, AreSynced, AreBlank, HaveOpenings};
 ghost use Rattle.client_journal.specs.Standing.{nothing, GoesOn};
@@ -155,7 +156,7 @@ impl<D: Disk + Drop> Journal<D> {
         told(self.slots.put_slots(row))
     }
 
-    fn put_record(&mut self, table: &TableRecord) -> Result<(), JournalFault>
+    pub(crate) fn put_record(&mut self, table: &TableRecord) -> Result<(), JournalFault>
         requires up { AreUp self.old }
         requires ready { IsReady D.state self.old (PutRecord table.now ∷ writes_of self.old) }
         ensures works { Works D.state D.images (PutRecord table.now) (writes_of self.old) self.old self.new result }
@@ -267,6 +268,7 @@ impl<D: Disk + Drop> Journal<D> {
     /// vaults are then unopened.
     pub fn look(&mut self) -> Result<(), JournalFault>
         requires synced { AreSynced D.state self.old }
+        ensures cause { AreUp self.old → HasCause D.state self.old self.new result }
         ensures looked { OnOk result (AreLookedAt D.state self.new) }
         ensures same { OnOk result (devs D.state self.new ≡ devs D.state self.old) }
         ensures sound { OnOk result (AreSound D.state self.old → AreSound D.state self.new) }
@@ -284,6 +286,7 @@ impl<D: Disk + Drop> Journal<D> {
 
     /// Makes the three disks those of no table. The devices are then at rest.
     pub fn format(&mut self) -> Result<(), JournalFault>
+        ensures cause { AreUp self.old → HasCause D.state self.old self.new result }
         ensures rests { OnOk result (IsReady D.state self.new []) }
         ensures empty { OnOk result (devs D.state self.new ≡ nothing) }
         // Of blank disks a crash at any moment leaves nothing.

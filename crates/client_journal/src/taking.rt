@@ -1,5 +1,9 @@
 //! How a client's devices take a plan on. Nothing is written here: what the writes need is made ready.
-ghost use Rattle.std.specs.Prelude.{◌≡◌, ◌+◌, ◌*◌, ◌<◌, ◌≤◌, ℕ, List, [], length, map, sum_by, IfOk, OnOk};
+ghost use Rattle.std.specs.Prelude.{◌≡◌, ◌⊎◌, ◌+◌, ◌*◌, ◌<◌, ◌≤◌, ℕ, List, [], length, map, sum_by, IfOk, IfErr, OnOk};
+ghost use Rattle.std.specs.Prelude.{IsErrOf};
+ghost use Rattle.vault.specs.Limit.{payload_most};
+ghost use Rattle.slot_store.specs.Spelling.{HasRecordSpelling, record_payload};
+ghost use Rattle.client_journal.specs.Devs.{PutRecord, changed_by};
 ghost use Rattle.vault.specs.Standing.{IsUp};
 ghost use Rattle.stab_base.specs.declared.limits.TheConstants.{NUMBER_MAX};
 ghost use Rattle.held_value.specs.declared.local_name.LocalName.{LocalName};
@@ -11,10 +15,11 @@ ghost use Rattle.plan_log.specs.Standing as journals;
 ghost use Rattle.client_journal.specs.Redone.{row_behind, record_for};
 ghost use Rattle.client_journal.specs.NamedSlots.{NamedSlots, IsNotCommitted, IsAtRest};
 ghost use Rattle.client_journal.specs.Agenda.{plan_writes, Commits, meaning_with, IsMoment, Runs};
-ghost use Rattle.client_journal.specs.Standing.{write_of, writes_of, AreUp, IsReady, devs};
+ghost use Rattle.client_journal.specs.Standing.{write_of, writes_of, all_faults, AreUp, IsReady, devs};
 ghost use Rattle.client_journal.specs.Plan.{commit_for, intend_for, id_or, IsPlan, plan_at_work, begun_first};
 ghost use Rattle.client_journal.specs.Made.{bytes_of_row, bytes_of_record, IsMade, IsOld};
-ghost use Rattle.client_journal.specs.TakesOn.{Waits, IsFree, TakesOn};
+ghost use Rattle.client_journal.specs.TakesOn.{IsNotDisk, Waits, IsFree, TakesOn};
+ghost use Rattle.client_journal.specs.Asking.{AllLeave};
 
 use crate::Journal;
 use crate::fault::{JournalFault, of_chunks, of_journal, of_slots};
@@ -24,6 +29,7 @@ use crate::plan::Plan;
 use crate::task::Task;
 use disk_trait::Disk;
 use plan_log::{Commit, Intend, RowChange, commit_size};
+use slot_store::{TableRecord, record_size};
 use stab_base::{NUMBER_MAX, RowId};
 use std::alloc::AllocError;
 use std::collections::VecDeque;
@@ -48,8 +54,8 @@ impl<D: Disk + Drop> Journal<D> {
         }
     }
 
-    // The plan that the next write begins or that is at work, else 0.
-    fn plan_at_work(&self) -> u64
+    /// The plan that the next write begins or that is at work, else 0.
+    pub fn plan_at_work(&self) -> u64
         requires up { IsUp (journals.vault_of self.now.journal) }
         requires looked { journals.IsLookedAt D.state self.now.journal }
         ensures { result ≡ plan_at_work (devs D.state self.now) (writes_of self.now) }
@@ -205,6 +211,28 @@ impl<D: Disk + Drop> Journal<D> {
         Ok(tasks)
     }
 
+    /// Puts the record of a table on devices that are at rest. It is one write, which no plan stands for.
+    ///
+    /// After `Memory` nothing is done.
+    pub fn declare(&mut self, table: &TableRecord) -> Result<(), JournalFault>
+        requires up { AreUp self.old }
+        requires rests { IsReady D.state self.old [] }
+        requires idle { writes_of self.old ≡ [] }
+        requires spelled { HasRecordSpelling table.now }
+        requires short { length (record_payload table.now) ≤ payload_most }
+        ensures put { OnOk result (devs D.state self.new ≡ changed_by (devs D.state self.old) (PutRecord table.now)) }
+        ensures up { OnOk result (AreUp self.new) }
+        ensures rests { OnOk result (IsReady D.state self.new []) }
+        ensures idle { OnOk result (writes_of self.new ≡ []) }
+        ensures counted { IsNotDisk result → all_faults D.state self.new ≡ all_faults D.state self.old }
+        ensures disk { IsErrOf result JournalFault.Disk → all_faults D.state self.old < all_faults D.state self.new }
+        ensures only { IfErr result (λ e. (e ≡ JournalFault.Disk) ⊎ (e ≡ JournalFault.Memory)) }
+    {
+        let size = record_size(self.alloc, table)? as u64;
+        self.reserve_slots(1, size)?;
+        self.put_record(table)
+    }
+
     /// Takes a plan on, and gives it the number above the greatest. Its writes are then to be done, and take no memory:
     /// where chunks are brought the intend is put, and each of them; then the commit, the slots of the row, the record
     /// of the table where it changes; each chunk is dropped that the plan drops, and the plan is done.
@@ -216,6 +244,8 @@ impl<D: Disk + Drop> Journal<D> {
         ensures takes { TakesOn D.state D.images ((devs D.state self.old).journal.greatest ≡ NUMBER_MAX)
             (λ number. plan_writes (devs D.state self.old).held (intend_for number plan) plan.brought
             (commit_for number plan)) self.old self.new result }
+        // So a call that reads can stand before it.
+        ensures leave { AreUp self.old → AllLeave D.state D.images self.old self.new }
         ensures number { IfOk result (λ number. number ≡ (devs D.state self.old).journal.greatest + 1) }
         // Where the devices have named slots and nothing is at work, they have them at every moment of the plan.
         ensures commits { IfOk result (λ number. (meaning : LocalName → List ℕ)

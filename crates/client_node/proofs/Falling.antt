@@ -12,11 +12,15 @@ use Rattle.step_tables.specs.ClientMoves.{ClientDisk}
 use Rattle.client_node.specs.declared.node.ClientNode.{ClientNode}
 use Rattle.client_node.specs.Node.{StandsFor, IsClient, IsSame}
 use Rattle.client_node.specs.Calls.{Falls}
+use Rattle.client_node.specs.Steady.{IsSteady}
+use Rattle.client_node.specs.declared.waiting.Waiting.{Waiting}
 
 -- what the disks may hold, as disks of the step table
-pub record MayHold (c : ℕ) (a b : ClientDevs) (before after : ClientDisk) : Type 0 where
+pub record MayHold (c : ℕ) (waiting : Waiting) (a b : ClientDevs) (before after : ClientDisk) : Type 0 where
   pub first : StandsFor c a before
   pub second : StandsFor c b after
+  pub first_steady : IsSteady waiting before
+  pub second_steady : IsSteady waiting after
 
 module _ {D : Type 0} (state : D → DiskState) (images : D → ℕ → List ℕ → Type 0) where
   abbrev st : FuseDisk D → DiskState
@@ -25,9 +29,9 @@ module _ {D : Type 0} (state : D → DiskState) (images : D → ℕ → List ℕ
   abbrev im : FuseDisk D → ℕ → List ℕ → Type 0
   im f = images (inner_of f)
 
-  module _ (old mid new : ClientNode D) (same : IsSame old new) (declared : new.is_declared ≡ true) (down : new.is_up ≡ false) (f : Falls state images mid new) where
-    down_at : (disk : ClientDisk) → AreSound st new.devs → StandsFor old.number (devs st new.devs) disk → IsClient state new (record { disk = disk; agenda = None })
-    down_at disk sound stands = record {
+  module _ (old mid new : ClientNode D) (same : IsSame old new) (w : Waiting) (waits : new.waiting ≡ w) (declared : new.is_declared ≡ true) (down : new.is_up ≡ false) (f : Falls state images mid new) where
+    down_at : (disk : ClientDisk) → AreSound st new.devs → StandsFor old.number (devs st new.devs) disk → IsSteady w disk → IsClient state new (record { disk = disk; agenda = None })
+    down_at disk sound stands steady = record {
       at = (
         down,
         record {
@@ -37,11 +41,12 @@ module _ {D : Type 0} (state : D → DiskState) (images : D → ℕ → List ℕ
           sound = λ _. sound;
           stands = λ _. rw same.number stands;
           nothing = λ is. absurd cc;
+          steady = rw waits steady;
         },
       );
     }
 
-    module _ (start : Journal (FuseDisk D)) (a b : ClientDevs) (before after : ClientDisk) (may : MayHold old.number a b before after) (run : DevsLeave st im start mid.devs (IsEither a b)) where
+    module _ (start : Journal (FuseDisk D)) (a b : ClientDevs) (before after : ClientDisk) (may : MayHold old.number w a b before after) (run : DevsLeave st im start mid.devs (IsEither a b)) where
       stands_either : (d : ClientDevs) → IsEither a b d → StandsFor old.number d before ⊎ StandsFor old.number d after
       stands_either d either =
           ⊎_elim (λ is. inl (subst (λ (x : ClientDevs). StandsFor old.number x before) (sym is) may.first)) (λ is. inr (subst (λ (x : ClientDevs). StandsFor old.number x after) (sym is) may.second)) either
@@ -49,7 +54,7 @@ module _ {D : Type 0} (state : D → DiskState) (images : D → ℕ → List ℕ
       pub fallen : IsClient state new (record { disk = before; agenda = None }) ⊎ IsClient state new (record { disk = after; agenda = None })
       fallen =
           let left = f.left start a b run in
-          ⊎_elim (λ is. inl (down_at before left.1 is)) (λ is. inr (down_at after left.1 is)) (stands_either (devs st new.devs) left.0)
+          ⊎_elim (λ is. inl (down_at before left.1 is may.first_steady)) (λ is. inr (down_at after left.1 is may.second_steady)) (stands_either (devs st new.devs) left.0)
 
       pub fallen_leaves : DevsLeave st im start new.devs (λ d. StandsFor old.number d before ⊎ StandsFor old.number d after)
       fallen_leaves = devs_weaker st im start new.devs (IsEither a b) (λ d. StandsFor old.number d before ⊎ StandsFor old.number d after) (f.left start a b run).2 stands_either

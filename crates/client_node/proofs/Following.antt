@@ -20,10 +20,11 @@ use Rattle.step_tables.specs.ClientMoves.{ClientDisk, ClientChange, ClientTask, 
 use Rattle.step_tables.specs.ClientMoves as moves
 use Rattle.journal_laws.specs.Holds.{IsWriteOf}
 use Rattle.journal_laws.proofs.Crashes.{now}
+use Rattle.client_node.proofs.Steadies.{steady_changed}
 use Rattle.gathering.specs.declared.gathered.Gathered.{Gathered}
 use Rattle.gathering.specs.Room.{HasRoom}
 use Rattle.client_node.specs.Due.{is_last_of, left_at}
-use Rattle.client_node.specs.declared.told.ClientTold.{ClientTold}
+use Rattle.table_model.specs.declared.line.Fact.{Fact as Told}
 use Rattle.client_node.specs.declared.owed.Owed.{Owed}
 use Rattle.client_node.specs.declared.owed.When.{When}
 use Rattle.client_node.specs.declared.node.ClientNode.{ClientNode}
@@ -83,7 +84,7 @@ module _ {D : Type 0} (state : D → DiskState) (images : D → ℕ → List ℕ
     pub behind_w : FollowsFor old.number (changed_by here w) ws (changed disk task.change) tasks
     behind_w = let f = follows_w in (f.0, f.1.2)
 
-    pub done_working : (client : Journal (FuseDisk D)) (facts : Gathered ClientTold) (messages : Gathered (Option Node × Message)) (owed : Owed) (step : Step)
+    pub done_working : (client : Journal (FuseDisk D)) (facts : Gathered Told) (messages : Gathered (Option Node × Message)) (owed : Owed) (step : Step)
         → journals.Works (behind state) (λ f. images (inner_of f)) w ws old.devs client (Ok step) → writes_of client ≡ ws
         → owed.when ≡ old.owed.when → facts_owed owed ≡ left_at old.owed.when (facts_owed old.owed) (step_of w) (is_last_of ws) → (is_last_of ws ≡ false → sends_owed owed ≡ sends_owed old.owed)
         → HasRoom facts (length owed.facts.items) → HasRoom messages (length owed.messages.items)
@@ -97,6 +98,8 @@ module _ {D : Type 0} (state : D → DiskState) (images : D → ℕ → List ℕ
       rests =
           let r : IsAtRest (changed_by_all here (w ∷ ws)) = subst (λ (l : List Write). IsAtRest (changed_by_all here l)) is h.rests in
           subst (λ (l : List Write). IsAtRest (changed_by_all (devs (behind state) client) l)) (sym rest) (subst (λ (d : ClientDevs). IsAtRest (changed_by_all d ws)) (sym k.devs_are) r);
+      steady = steady_changed old.waiting disk task.change h.tasks_steady.0 h.steady;
+      tasks_steady = h.tasks_steady.1;
       owed =
           let o : AreOwed old.owed.when (left_at old.owed.when (facts_owed old.owed) (step_of w) (is_last_of ws)) (sends_owed owed) ws tasks = still_owed old.owed.when _ (sends_owed old.owed) (sends_owed owed) ws tasks sends owed_w.2 in
           subst (λ (l : List Write). AreOwed owed.when (facts_owed owed) (sends_owed owed) l tasks) (sym rest)

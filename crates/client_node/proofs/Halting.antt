@@ -36,16 +36,16 @@ module _ {D : Type 0} (state : D → DiskState) (images : D → ℕ → List ℕ
         let declared : new.is_declared ≡ true = kept.declared ∙ h.declared in
         let here = devs (λ f. behind state f) old.devs in
         let stands = follows_now old.number here (writes_of old.devs) disk tasks h.follows in
-        let may : MayHold old.number here here disk disk = record { first = stands; second = stands } in
+        let may : MayHold old.number old.waiting here here disk disk = record { first = stands; second = stands; first_steady = h.steady; second_steady = h.steady } in
         let run : DevsLeave (λ f. behind state f) (λ f. images (inner_of f)) old.devs old.devs (IsEither here here) =
         devs_weaker (λ f. behind state f) (λ f. images (inner_of f)) old.devs old.devs (λ d. d ≡ here) (IsEither here here)
         (rests_leave (λ f. behind state f) (λ f. images (inner_of f)) only_now old.devs (writes_of old.devs) h.ready) (λ d same. inl same) in
         record {
-          halted = behind_crash disk tasks (⊎_elim (λ t. t) (λ t. t) (fallen state images old old new kept.same declared is_down falls old.devs here here disk disk may run));
+          halted = behind_crash disk tasks (⊎_elim (λ t. t) (λ t. t) (fallen state images old old new kept.same old.waiting kept.waiting declared is_down falls old.devs here here disk disk may run));
           declared = kept.declared;
           counted = falls.counted;
           still = λ down. absurd cc;
-          any_moment = λ _. fallen_leaves state images old old new kept.same declared is_down falls old.devs here here disk disk may run;
+          any_moment = λ _. fallen_leaves state images old old new kept.same old.waiting kept.waiting declared is_down falls old.devs here here disk disk may run;
         }
 
   -- ---- a node that is down
@@ -53,7 +53,7 @@ module _ {D : Type 0} (state : D → DiskState) (images : D → ℕ → List ℕ
   pub halts_down : (node : ClientNode D) (disk : ClientDisk) (agenda : Option (List ClientTask)) → IsClient state node (at disk agenda) → node.is_up ≡ false → Halts state images (at disk agenda) node node
   halts_down node disk (Some tasks) t down = let no = t.at.0 in absurd cc
   halts_down node disk None t down = record {
-    halted = record { client = t; told = sym (append-nil (told_by node)); sent = sym (append-nil (sent_by node)); same = record { number = refl } };
+    halted = record { client = t; told = sym (append-nil (told_by node)); sent = sym (append-nil (sent_by node)); same = record { number = refl; linked = refl } };
     declared = refl;
     counted = refl;
     still = λ _. refl;

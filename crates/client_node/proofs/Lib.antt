@@ -1,3 +1,5 @@
+pub mod Rising
+pub mod Steadies
 pub mod Following
 pub mod Falling
 pub mod Working
@@ -5,4 +7,14 @@ pub mod Halting
 pub mod Nodes
 pub mod Rooms
 pub mod Owing
-pub mod Beginning
+pub mod Asked
+pub mod Answering
+pub mod RowPlans
+pub mod Planned
+pub mod Serving
+pub mod Links
+pub mod Pulls
+pub mod Sent
+pub mod Begun
+pub mod Shown
+pub mod Readers

@@ -11,7 +11,7 @@ use Rattle.client_journal.specs.Standing.{devs, writes_of, AreUp, IsReady}
 use Rattle.step_tables.specs.ClientMoves.{ClientDisk, ClientTask, Client}
 use Rattle.gathering.specs.declared.gathered.Gathered.{Gathered}
 use Rattle.gathering.specs.Room.{HasRoom}
-use Rattle.client_node.specs.declared.told.ClientTold.{ClientTold}
+use Rattle.table_model.specs.declared.line.Fact.{Fact as Told}
 use Rattle.client_node.specs.declared.node.ClientNode.{ClientNode}
 use Rattle.client_node.specs.Node.{FollowsFor, IsClient, has_task}
 use Rattle.client_node.proofs.Following.{no_write}
@@ -35,11 +35,11 @@ module _ {D : Type 0} (state : D → DiskState) where
   rooms node disk (Some tasks) t up = (t.at.1.fact_room, t.at.1.message_room)
 
   -- what was gathered is handed over
-  pub taken_out : (node : ClientNode D) (facts : Gathered ClientTold) (messages : Gathered (Option Node × Message)) → ((n : ℕ) → HasRoom node.facts n → HasRoom facts n) → ((n : ℕ) → HasRoom node.messages n → HasRoom messages n)
+  pub taken_out : (node : ClientNode D) (facts : Gathered Told) (messages : Gathered (Option Node × Message)) → ((n : ℕ) → HasRoom node.facts n → HasRoom facts n) → ((n : ℕ) → HasRoom node.messages n → HasRoom messages n)
       → (disk : ClientDisk) (agenda : Option (List ClientTask)) → IsClient state node (at disk agenda) → IsClient state (record node { facts = facts; messages = messages }) (at disk agenda)
   taken_out node facts messages fr mr disk None t =
       let r = t.at.1 in
-      record { at = (t.at.0, record { up = r.up; idle = r.idle; synced = r.synced; sound = r.sound; stands = r.stands; nothing = r.nothing }) }
+      record { at = (t.at.0, record { up = r.up; idle = r.idle; synced = r.synced; sound = r.sound; stands = r.stands; nothing = r.nothing; steady = r.steady }) }
   taken_out node facts messages fr mr disk (Some tasks) t =
       let h = t.at.1 in
       record {
@@ -51,6 +51,8 @@ module _ {D : Type 0} (state : D → DiskState) where
             ready = h.ready;
             follows = h.follows;
             rests = h.rests;
+            steady = h.steady;
+            tasks_steady = h.tasks_steady;
             owed = h.owed;
             fact_room = fr (length node.owed.facts.items) h.fact_room;
             message_room = mr (length node.owed.messages.items) h.message_room;

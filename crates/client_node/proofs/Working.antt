@@ -23,15 +23,17 @@ use Rattle.step_tables.specs.Facts.{Fact}
 use Rattle.step_tables.specs.Travels.{send_of}
 use Rattle.gathering.specs.declared.gathered.Gathered.{Gathered}
 use Rattle.gathering.specs.Room.{HasRoom}
-use Rattle.client_node.specs.Due.{fact_of, told_at, left_at, sent_at, is_last_of}
-use Rattle.client_node.specs.declared.told.ClientTold.{ClientTold}
+use Rattle.step_tables.specs.Lines.{fact_of}
+use Rattle.client_node.specs.Due.{told_at, left_at, sent_at, is_last_of}
+use Rattle.table_model.specs.declared.line.Fact.{Fact as Told}
 use Rattle.client_node.specs.declared.owed.Owed.{Owed}
-use Rattle.client_node.specs.declared.fault.NodeFault.TheVariants as node_faults
+use Rattle.client_node.specs.declared.fault.CallFault.TheVariants as node_faults
 use Rattle.client_node.specs.declared.node.ClientNode.{ClientNode}
 use Rattle.client_node.specs.Node.{StandsFor, FollowsFor, IsWorking, IsClient, IsSame, told_by, sent_by, facts_owed, sends_owed, LeavesEither}
 use Rattle.client_node.specs.Calls.{Falls, Works, Crashes}
 use Rattle.client_node.proofs.Following.{follows_now, follows_w, owed_w, step_w, behind_w, done_working}
 use Rattle.client_node.proofs.Falling.{MayHold, fallen, fallen_leaves}
+use Rattle.client_node.proofs.Steadies.{steady_changed}
 use Rattle.client_journal.proofs.Stopping.{since_stopped}
 
 -- a client that goes on from the same
@@ -40,9 +42,10 @@ pub record IsKept {D : Type 0} (old new : ClientNode D) : Type 0 where
   pub sent : sent_by new ≡ sent_by old
   pub same : IsSame old new
   pub declared : new.is_declared ≡ old.is_declared
+  pub waiting : new.waiting ≡ old.waiting
 
 -- what was gathered behind a write
-pub record Gathers {D : Type 0} (old : ClientNode D) (facts : Gathered ClientTold) (messages : Gathered (Option Node × Message)) (owed : Owed) (step : Step) (is_last : Bool) : Type 0 where
+pub record Gathers {D : Type 0} (old : ClientNode D) (facts : Gathered Told) (messages : Gathered (Option Node × Message)) (owed : Owed) (step : Step) (is_last : Bool) : Type 0 where
   pub told : map fact_of facts.items.items ≡ told_by old ++ told_at old.owed.when (facts_owed old.owed) step is_last
   pub sent : map send_of messages.items.items ≡ sent_by old ++ sent_at (sends_owed old.owed) is_last
   pub when : owed.when ≡ old.owed.when
@@ -70,7 +73,7 @@ module _ {D : Type 0} (state : D → DiskState) (images : D → ℕ → List ℕ
   pub idle_works : (node : ClientNode D) (disk : ClientDisk) (agenda : Option (List ClientTask)) → IsClient state node (at disk agenda) → node.is_up ≡ true → writes_of node.devs ≡ [] → Works state images (at disk agenda) node node (Ok steps.Idle)
   idle_works node disk None t up none = let is = t.at.0 in absurd cc
   idle_works node disk (Some []) t up none = record {
-    done = (record { client = t; told = sym (append-nil (told_by node)); sent = sym (append-nil (sent_by node)); same = record { number = refl } }, refl);
+    done = (record { client = t; told = sym (append-nil (told_by node)); sent = sym (append-nil (sent_by node)); same = record { number = refl; linked = refl } }, refl);
     failed = tt;
     counted = refl;
     cause = tt;
@@ -85,13 +88,15 @@ module _ {D : Type 0} (state : D → DiskState) (images : D → ℕ → List ℕ
     abbrev here : ClientDevs
     here = devs st old.devs
 
-    may : MayHold old.number here (changed_by here w) disk (changed disk task.change)
+    may : MayHold old.number old.waiting here (changed_by here w) disk (changed disk task.change)
     may = record {
       first = follows_now old.number here (w ∷ ws) disk (task ∷ tasks) (follows_w state images old disk task tasks w ws is t.at.1);
       second = follows_now old.number (changed_by here w) ws (changed disk task.change) tasks (behind_w state images old disk task tasks w ws is t.at.1);
+      first_steady = t.at.1.steady;
+      second_steady = steady_changed old.waiting disk task.change t.at.1.tasks_steady.0 t.at.1.steady;
     }
 
-    pub done_at : (client : Journal (FuseDisk D)) (facts : Gathered ClientTold) (messages : Gathered (Option Node × Message)) (owed : Owed) (step : Step) (is_last : Bool)
+    pub done_at : (client : Journal (FuseDisk D)) (facts : Gathered Told) (messages : Gathered (Option Node × Message)) (owed : Owed) (step : Step) (is_last : Bool)
         → journals.Works st im w ws old.devs client (Ok step) → writes_of client ≡ ws → step ≡ step_of w → is_last ≡ is_last_of ws → Gathers old facts messages owed step is_last
         → Works state images (at disk (Some (task ∷ tasks))) old (record old { devs = client; facts = facts; messages = messages; owed = owed }) (Ok step)
     done_at client facts messages owed step is_last k rest name last g =
@@ -109,7 +114,7 @@ module _ {D : Type 0} (state : D → DiskState) (images : D → ℕ → List ℕ
               client = record { at = (t.at.0, done_working state images old disk task tasks w ws is h client facts messages owed step k rest g.when left (λ no. g.sends (last ∙ no)) g.fact_room g.message_room) };
               told = g.told ∙ ap (λ (l : List Fact). told_by old ++ l) (sym facts_are);
               sent = g.sent ∙ ap (λ (l : List Send). sent_by old ++ l) (sym sends_are);
-              same = record { number = refl };
+              same = record { number = refl; linked = refl };
             },
             name ∙ step_w state images old disk task tasks w ws is h,
           );
@@ -133,11 +138,11 @@ module _ {D : Type 0} (state : D → DiskState) (images : D → ℕ → List ℕ
             failed = ⊎_elim
                 (λ before. inl (record { client = before; told = kept.told ∙ sym (append-nil (told_by old)); sent = kept.sent ∙ sym (append-nil (sent_by old)); same = kept.same }))
                 (λ after. inr (record { client = after; told = kept.told ∙ sym (append-nil (told_by old)); sent = kept.sent ∙ sym (append-nil (sent_by old)); same = kept.same }))
-                (fallen state images old mid new kept.same declared is_down falls old.devs here (changed_by here w) disk (changed disk task.change) may k.any_moment);
+                (fallen state images old mid new kept.same old.waiting kept.waiting declared is_down falls old.devs here (changed_by here w) disk (changed disk task.change) may k.any_moment);
             counted = tt;
             cause = let r = d.1 in let n = falls.counted in omega (arith, r, n);
             only = refl;
-            any_moment = fallen_leaves state images old mid new kept.same declared is_down falls old.devs here (changed_by here w) disk (changed disk task.change) may k.any_moment;
+            any_moment = fallen_leaves state images old mid new kept.same old.waiting kept.waiting declared is_down falls old.devs here (changed_by here w) disk (changed disk task.change) may k.any_moment;
           }
 
       pub crashed_at : (stopped : Journal (FuseDisk D)) (calls pick : ℕ) → StopsNext state images calls pick (w ∷ ws) old.devs stopped → devs st stopped ≡ here → DevsLeave st im stopped mid.devs (IsBeforeOrAfter (devs st stopped) w)
@@ -149,14 +154,14 @@ module _ {D : Type 0} (state : D → DiskState) (images : D → ℕ → List ℕ
             crashed = ⊎_elim
                 (λ before. inl (record { client = before; told = kept.told ∙ sym (append-nil (told_by old)); sent = kept.sent ∙ sym (append-nil (sent_by old)); same = kept.same }))
                 (λ after. inr (record { client = after; told = kept.told ∙ sym (append-nil (told_by old)); sent = kept.sent ∙ sym (append-nil (sent_by old)); same = kept.same }))
-                (fallen state images old mid new kept.same declared is_down falls old.devs here (changed_by here w) disk (changed disk task.change) may all);
-            any_moment = fallen_leaves state images old mid new kept.same declared is_down falls old.devs here (changed_by here w) disk (changed disk task.change) may all;
+                (fallen state images old mid new kept.same old.waiting kept.waiting declared is_down falls old.devs here (changed_by here w) disk (changed disk task.change) may all);
+            any_moment = fallen_leaves state images old mid new kept.same old.waiting kept.waiting declared is_down falls old.devs here (changed_by here w) disk (changed disk task.change) may all;
           }
 
   -- ---- by what stands in the agenda
 
   pub work_done : (old : ClientNode D) (l : List Write) → writes_of old.devs ≡ l → (writes_of old.devs ≡ [] → ⊥) → (disk : ClientDisk) (agenda : Option (List ClientTask)) → IsClient state old (at disk agenda) → old.is_up ≡ true
-      → (client : Journal (FuseDisk D)) (facts : Gathered ClientTold) (messages : Gathered (Option Node × Message)) (owed : Owed) (step : Step) (is_last : Bool)
+      → (client : Journal (FuseDisk D)) (facts : Gathered Told) (messages : Gathered (Option Node × Message)) (owed : Owed) (step : Step) (is_last : Bool)
       → WorksOn st im old.devs client (Ok step) l → is_last ≡ is_last_of (writes_of client) → Gathers old facts messages owed step is_last
       → Works state images (at disk agenda) old (record old { devs = client; facts = facts; messages = messages; owed = owed }) (Ok step)
   work_done old l is some disk None t up client facts messages owed step is_last k last g = let no = t.at.0 in absurd cc
@@ -179,15 +184,15 @@ module _ {D : Type 0} (state : D → DiskState) (images : D → ℕ → List ℕ
       let declared : new.is_declared ≡ true = kept.declared ∙ h.declared in
       let here = devs st old.devs in
       let stands = follows_now old.number here (writes_of old.devs) disk [] h.follows in
-      let may : MayHold old.number here here disk disk = record { first = stands; second = stands } in
+      let may : MayHold old.number old.waiting here here disk disk = record { first = stands; second = stands; first_steady = h.steady; second_steady = h.steady } in
       let run : DevsLeave st im old.devs mid.devs (IsEither here here) = subst (λ (x : Journal (FuseDisk D)). DevsLeave st im old.devs x (IsEither here here)) (sym same)
       (devs_weaker st im old.devs old.devs (λ d. d ≡ here) (IsEither here here) (rests_leave st im only_now old.devs (writes_of old.devs) h.ready) (λ d is. inl is)) in
       record {
         crashed = ⊎_elim
             (λ before. inl (record { client = before; told = kept.told ∙ sym (append-nil (told_by old)); sent = kept.sent ∙ sym (append-nil (sent_by old)); same = kept.same }))
             (λ after. inr (record { client = after; told = kept.told ∙ sym (append-nil (told_by old)); sent = kept.sent ∙ sym (append-nil (sent_by old)); same = kept.same }))
-            (fallen state images old mid new kept.same declared down falls old.devs here here disk disk may run);
-        any_moment = fallen_leaves state images old mid new kept.same declared down falls old.devs here here disk disk may run;
+            (fallen state images old mid new kept.same old.waiting kept.waiting declared down falls old.devs here here disk disk may run);
+        any_moment = fallen_leaves state images old mid new kept.same old.waiting kept.waiting declared down falls old.devs here here disk disk may run;
       }
 
   pub crash_done : (old : ClientNode D) (l : List Write) → writes_of old.devs ≡ l → (disk : ClientDisk) (agenda : Option (List ClientTask)) → IsClient state old (at disk agenda) → old.is_up ≡ true

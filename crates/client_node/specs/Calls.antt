@@ -1,30 +1,22 @@
 -- What the calls of a client's node promise, in the moves of the client's step table.
 use Rattle.std.specs.Prelude.{◌≡◌, ◌⊎◌, ℕ, ◌+◌, ◌<◌, ◌++◌, true, false, List, [], ◌∷◌, Option, Some, None, Result}
-use Rattle.std.specs.Prelude.{OnOk, OnErr, IfOk, IfErr, IsErrOf}
+use Rattle.std.specs.Prelude.{OnOk, OnErr, IfOk, IfErr}
 use Rattle.disk_trait.specs.Calls.{DiskState}
 use Rattle.disk_trait.specs.Fuse.{behind, inner_of}
 use Rattle.disk_trait.specs.declared.fuse.FuseDisk.{FuseDisk}
 use Rattle.vault.specs.Calls.{IsEither}
-use Rattle.stab_base.specs.declared.limits.TheConstants.{NUMBER_MAX}
 use Rattle.stab_base.specs.declared.step.Step.{Step}
 use Rattle.stab_base.specs.declared.step.Step.TheVariants as steps
 use Rattle.client_journal.specs.declared.devs.Journal.{Journal}
-use Rattle.client_journal.specs.declared.plan.Plan.{Plan as Begun}
-use Rattle.client_journal.specs.Agenda.{meaning_with}
 use Rattle.client_journal.specs.Devs.{ClientDevs}
-use Rattle.client_journal.specs.Plan.{commit_for}
 use Rattle.client_journal.specs.Standing.{devs, writes_of, all_faults, AreUp, AreSound, AreSynced, DevsLeave}
-use Rattle.held_value.specs.declared.local_name.LocalName.{LocalName}
-use Rattle.step_tables.specs.Facts.{Fact, Answer}
-use Rattle.step_tables.specs.Messages.{Send, Done, FailedBefore, FailedAfter}
-use Rattle.step_tables.specs.ClientMoves.{Plan, Shape, ClientDisk, ClientTask, Client, ClientStep, ClientMove, Work}
-use Rattle.step_tables.specs.ClientMoves.{Crash, no_shape, client_step, told, begun}
+use Rattle.step_tables.specs.Messages.{Done, FailedBefore, FailedAfter}
+use Rattle.step_tables.specs.ClientMoves.{ClientTask, Client, ClientStep, ClientMove, Work, Crash, no_shape}
+use Rattle.step_tables.specs.ClientMoves.{client_step}
 use Rattle.step_tables.specs.ClientMoves as moves
-use Rattle.client_node.specs.declared.fault.NodeFault.{NodeFault}
-use Rattle.client_node.specs.declared.fault.NodeFault.TheVariants.{Spent, Disk, Memory}
+use Rattle.client_node.specs.declared.fault.CallFault.{CallFault}
+use Rattle.client_node.specs.declared.fault.CallFault.TheVariants.{Disk}
 use Rattle.client_node.specs.declared.node.ClientNode.{ClientNode}
-use Rattle.journal_laws.specs.Holds.{IsPlanOf, IsPlanAt, Stands}
-use Rattle.journal_laws.specs.Moves.{IsPlanShape}
 use Rattle.client_node.specs.Node.{IsClient, IsSame, told_by, sent_by, behind_next, LeavesEither}
 
 -- what a move that begins no plan makes of the node's client
@@ -50,7 +42,7 @@ named (Some (task ∷ tasks)) = moves.step_of task.change
 
 -- One write was done, if one was to be done; or a disk failed, and the write is undone or done.
 pub record Works {D : Type 0} (state : D → DiskState) (images : D → ℕ → List ℕ → Type 0) (s : Client)
-    (old new : ClientNode D) (result : Result Step NodeFault) : Type 0 where
+    (old new : ClientNode D) (result : Result Step CallFault) : Type 0 where
   pub done : IfOk result (λ step. IsBehind state old new (step_at old s (Work Done)) × (step ≡ named s.agenda))
   pub failed : OnErr result (IsBehind state old new (step_at old s (Work FailedBefore))
       ⊎ IsBehind state old new (step_at old s (Work FailedAfter)))
@@ -85,6 +77,7 @@ pub record Falls {D : Type 0} (state : D → DiskState) (images : D → ℕ → 
   pub up : AreUp new.devs
   pub synced : AreSynced (behind state) new.devs
   pub idle : writes_of new.devs ≡ []
+  pub waiting : new.waiting ≡ old.waiting
   pub counted : faults_of state new ≡ faults_of state old
 
 -- A disk has failed: the node is down, its disks were restarted, and what it has gathered stays.
@@ -103,36 +96,3 @@ pub record Stays {D : Type 0} (state : D → DiskState) (old new : ClientNode D)
   pub told : told_by new ≡ told_by old
   pub sent : sent_by new ≡ sent_by old
   pub same : IsSame old new
-
--- ---- plans
-
--- the number that the next plan gets
-abbrev pub next_number : {D : Type 0} → (D → DiskState) → ClientNode D → ℕ
-next_number state node = (devs (behind state) node.devs).journal.greatest + 1
-
--- A plan of the devices is this one of the step table, which tells these facts.
-pub record IsTablePlan {D : Type 0} (state : D → DiskState) (node : ClientNode D) (disk : ClientDisk) (plan : Begun)
-    (some : List Fact) (meaning : LocalName → List ℕ) (p : Plan) : Type 0 where
-  pub stands : Stands node.number meaning (devs (behind state) node.devs) disk
-  pub of : IsPlanOf (meaning_with meaning (next_number state node) plan.brought) node.number
-      (commit_for (next_number state node) plan) p
-  pub at : IsPlanAt disk p
-  pub tells : some ≡ told p
-
--- The plan is begun, as the table's; or nothing has changed; or a disk has failed, and the node is down with the disk
--- as it was.
-pub record Begins {D : Type 0} (state : D → DiskState) (images : D → ℕ → List ℕ → Type 0) (disk : ClientDisk)
-    (plan : Begun) (some : List Fact) (sends : List Send) (old new : ClientNode D)
-    (result : Result (Unit {0}) NodeFault) : Type 0 where
-  pub begun_as : OnOk result ((meaning : LocalName → List ℕ) (p : Plan) (shape : Shape) (answer : Answer)
-      → IsTablePlan state old disk plan some meaning p → IsPlanShape shape plan.brought plan.drops
-      → IsBehind state old new (begun shape disk answer p sends))
-  pub refused : (IsErrOf result Disk → ⊥)
-      → OnErr result (Stays state old new (record { disk = disk; agenda = Some [] }))
-  pub fallen : IsErrOf result Disk → Stays state old new (record { disk = disk; agenda = None })
-  pub spent : (last : ℕ) → IsErrOf result (Spent last)
-      → ((devs (behind state) old.devs).journal.greatest ≡ NUMBER_MAX) × (last ≡ NUMBER_MAX)
-  pub counted : (IsErrOf result Disk → ⊥) → faults_of state new ≡ faults_of state old
-  pub cause : IsErrOf result Disk → faults_of state old < faults_of state new
-  pub only : IfErr result (λ e. (e ≡ Disk) ⊎ ((e ≡ Memory) ⊎ (e ≡ Spent NUMBER_MAX)))
-  pub any_moment : LeavesEither state images old new disk disk

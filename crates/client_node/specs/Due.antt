@@ -3,30 +3,10 @@ use Rattle.std.specs.Prelude.{Bool, true, false, List, [], ◌∷◌, if◌then�
 use Rattle.stab_base.specs.declared.step.Step.{Step}
 use Rattle.stab_base.specs.declared.step.Step.TheVariants as steps
 use Rattle.step_tables.specs.Facts.{Fact}
-use Rattle.step_tables.specs.Facts as facts
 use Rattle.step_tables.specs.Messages.{Send}
 use Rattle.client_journal.specs.Devs.{Write}
-use Rattle.client_node.specs.declared.told.ClientFact.{ClientFact}
-use Rattle.client_node.specs.declared.told.ClientFact.TheVariants as told
-use Rattle.client_node.specs.declared.told.ClientTold.{ClientTold}
-use Rattle.client_node.specs.declared.told.ClientTold.TheVariants as tells
 use Rattle.client_node.specs.declared.owed.When.{When}
 use Rattle.client_node.specs.declared.owed.When.TheVariants.{AtCommit, AtEnd}
-
-abbrev pub client_fact : ClientFact → facts.ClientFact
-client_fact (told.Wrote write) = facts.Wrote write
-client_fact (told.Acked client number table row version) = facts.Acked client number table row version
-client_fact (told.Refused client number table row latest) = facts.Refused client number table row latest
-client_fact (told.Conflict client number table row version) = facts.Conflict client number table row version
-client_fact (told.Resolved client number table row version) = facts.Resolved client number table row version
-client_fact (told.New client table row version) = facts.New client table row version
-client_fact (told.Position client table position) = facts.Position client table position
-
-abbrev pub fact_of : ClientTold → Fact
-fact_of (tells.Told fact) = facts.Client (client_fact fact)
-fact_of (tells.Redone fact) = facts.Redone (client_fact fact)
-fact_of (tells.Torn client table row) = facts.Torn client table row
-fact_of (tells.Recovered client) = facts.ClientRecovered client
 
 -- whether no write stands behind
 abbrev pub is_last_of : List Write → Bool

@@ -1,4 +1,12 @@
 pub mod Fault
 pub mod Due
+pub mod Waiting
+pub mod Steady
 pub mod Node
+pub mod Linked
 pub mod Calls
+pub mod Does
+pub mod Looks
+pub mod Answers
+pub mod Sending
+pub mod Begins

@@ -13,7 +13,9 @@ use Rattle.step_tables.specs.Travels.{send_of}
 use Rattle.journal_laws.specs.Holds.{Stands, Follows}
 use Rattle.journal_laws.specs.Moves.{nothing_there}
 use Rattle.gathering.specs.Room.{HasRoom}
-use Rattle.client_node.specs.Due.{fact_of, is_last_of, told_at, left_at, sent_at}
+use Rattle.step_tables.specs.Lines.{fact_of}
+use Rattle.client_node.specs.Due.{is_last_of, told_at, left_at, sent_at}
+use Rattle.client_node.specs.Steady.{IsSteady, AreSteady}
 use Rattle.client_node.specs.declared.node.ClientNode.{ClientNode}
 use Rattle.client_node.specs.declared.owed.Owed.{Owed}
 use Rattle.client_node.specs.declared.owed.When.{When}
@@ -61,6 +63,8 @@ pub record IsWorking {D : Type 0} (state : D → DiskState) (node : ClientNode D
   pub ready : IsReady (behind state) node.devs (writes_of node.devs)
   pub follows : FollowsFor node.number (devs (behind state) node.devs) (writes_of node.devs) disk tasks
   pub rests : IsAtRest (changed_by_all (devs (behind state) node.devs) (writes_of node.devs))
+  pub steady : IsSteady node.waiting disk
+  pub tasks_steady : AreSteady node.waiting tasks
   pub owed : AreOwed node.owed.when (facts_owed node.owed) (sends_owed node.owed) (writes_of node.devs) tasks
   pub fact_room : HasRoom node.facts (length node.owed.facts.items)
   pub message_room : HasRoom node.messages (length node.owed.messages.items)
@@ -73,6 +77,7 @@ pub record IsResting {D : Type 0} (state : D → DiskState) (node : ClientNode D
   pub sound : node.is_declared ≡ true → AreSound (behind state) node.devs
   pub stands : node.is_declared ≡ true → StandsFor node.number (devs (behind state) node.devs) disk
   pub nothing : node.is_declared ≡ false → disk ≡ nothing_there
+  pub steady : IsSteady node.waiting disk
 
 abbrev pub IsAt : {D : Type 0} → (D → DiskState) → ClientNode D → ClientDisk → Option (List ClientTask) → Type 0
 IsAt state node disk None = (node.is_up ≡ false) × IsResting state node disk
@@ -99,9 +104,10 @@ LeavesEither state images old new a b =
     DevsLeave (behind state) (λ f. images (inner_of f)) old.devs new.devs
     (λ d. StandsFor old.number d a ⊎ StandsFor old.number d b)
 
--- the same client
+-- the same client, whose link is as it was
 pub record IsSame {D : Type 0} (old new : ClientNode D) : Type 0 where
   pub number : new.number ≡ old.number
+  pub linked : new.is_linked ≡ old.is_linked
 
 -- whether a write is to be done
 abbrev pub has_task : Option (List ClientTask) → Bool

@@ -2,14 +2,15 @@
 ghost use Rattle.std.specs.Prelude.{◌≡◌, ◌++◌, map, length, false};
 ghost use Rattle.step_tables.specs.Travels.{send_of};
 ghost use Rattle.gathering.specs.Room.{HasRoom};
-ghost use Rattle.client_node.specs.Due.{fact_of, is_due, told_at, left_at, sent_at};
+ghost use Rattle.step_tables.specs.Lines.{fact_of};
+ghost use Rattle.client_node.specs.Due.{is_due, told_at, left_at, sent_at};
 ghost use Rattle.client_node.specs.Node.{facts_owed, sends_owed};
 
 use crate::owed::{Owed, When};
-use crate::told::ClientTold;
 use gathering::Gathered;
 use stab_base::Step;
 use step_tables::Addressed;
+use table_model::Fact;
 
 /// Whether a write of this name tells what is owed.
 pub(crate) fn is_due(when: When, step: Step, is_last: bool) -> bool
@@ -25,7 +26,7 @@ pub(crate) fn is_due(when: When, step: Step, is_last: bool) -> bool
 }
 
 /// Gathers what a write tells. It takes no memory.
-pub(crate) fn tell(facts: &mut Gathered<ClientTold>, owed: &mut Owed, step: Step, is_last: bool)
+pub(crate) fn tell(facts: &mut Gathered<Fact>, owed: &mut Owed, step: Step, is_last: bool)
     requires { HasRoom facts.old (length owed.old.facts.items) }
     ensures told { map fact_of facts.new.items.items
         ≡ map fact_of facts.old.items.items ++ told_at owed.old.when (facts_owed owed.old) step is_last }

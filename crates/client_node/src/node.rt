@@ -1,39 +1,32 @@
 //! A client on its three devices.
-ghost use Rattle.std.specs.Prelude.{◌≡◌, ℕ, List, [], map, true, false, None, Some, OnOk};
-ghost use Rattle.disk_trait.specs.Fuse.{behind, inner_of};
+ghost use Rattle.std.specs.Prelude.{◌≡◌, ◌++◌, ℕ, [], map, true, false, None, OnOk, OnErr, IsErrOf};
+ghost use Rattle.disk_trait.specs.Fuse.{inner_of};
 ghost use Rattle.vault.specs.Standing.{disk_of};
 ghost use Rattle.chunk_store.specs.Standing as chunks;
 ghost use Rattle.slot_store.specs.Standing as slots;
 ghost use Rattle.plan_log.specs.Standing as journals;
-ghost use Rattle.held_value.specs.declared.local_name.LocalName.{LocalName};
-ghost use Rattle.client_journal.specs.Plan.{IsPlan};
-ghost use Rattle.client_journal.specs.Standing.{devs, writes_of};
-ghost use Rattle.step_tables.specs.ClientMoves.{Plan as TablePlan, ClientDisk, Client};
+ghost use Rattle.client_journal.specs.Standing.{writes_of};
+ghost use Rattle.step_tables.specs.ClientMoves.{Client};
+ghost use Rattle.step_tables.specs.Lines.{fact_of};
 ghost use Rattle.step_tables.specs.Travels.{send_of};
 ghost use Rattle.journal_laws.specs.Moves.{nothing_there};
-ghost use Rattle.client_node.specs.Due.{fact_of};
+ghost use Rattle.gathering.specs.Room.{HasRoom};
 ghost use Rattle.client_node.specs.Node.{IsClient, IsNode, IsSame, told_by, sent_by, has_task};
-ghost use Rattle.client_node.specs.Fault.{fault_of};
-ghost use Rattle.client_node.specs.Calls.{Works, Crashes, Falls, Fell, Halts, IsTablePlan, Begins};
+ghost use Rattle.client_node.specs.Calls.{Works, Crashes, Falls, Fell, Halts};
+ghost use Rattle.client_node.specs.declared.fault.CallFault.TheVariants.{Disk};
 
-use crate::fault::NodeFault;
+use crate::fault::CallFault;
 use crate::handing::{send, tell};
-use crate::owed::{Owed, When};
-use crate::told::ClientTold;
-use client_journal::{Journal, JournalFault, Plan};
+use crate::owed::Owed;
+use crate::waiting::Waiting;
+use client_journal::Journal;
 use disk_trait::{Disk, FuseDisk};
 use gathering::Gathered;
 use row_value::Sequence;
 use stab_base::{ClientNo, Step};
-use std::alloc::Global;
-use step_tables::Addressed;
-
-/// What a client has to send and to tell, in order.
-#[derive(Debug, Drop)]
-pub struct ClientOut {
-    pub messages: Sequence<Addressed>,
-    pub facts: Sequence<ClientTold>,
-}
+use std::alloc::{AllocError, Global};
+use step_tables::{Addressed, Out};
+use table_model::Fact;
 
 /// A client, whose journal of plans, slots and chunks are each on a disk of their own.
 ///
@@ -44,15 +37,17 @@ pub struct ClientNode<D: Disk> {
     pub(crate) number: ClientNo,
     pub(crate) is_declared: bool,
     pub(crate) is_up: bool,
+    pub(crate) is_linked: bool,
+    pub(crate) waiting: Waiting,
     pub(crate) devs: Journal<FuseDisk<D>>,
     pub(crate) owed: Owed,
     pub(crate) messages: Gathered<Addressed>,
-    pub(crate) facts: Gathered<ClientTold>,
+    pub(crate) facts: Gathered<Fact>,
     pub(crate) alloc: Global,
 }
 
 impl<D: Disk + Drop> ClientNode<D> {
-    /// A client that is down and not declared. What its disks hold doesn't matter.
+    /// A client that is down and not declared, and whose link is up. What its disks hold doesn't matter.
     pub fn new(
         alloc: Global,
         number: ClientNo,
@@ -66,6 +61,7 @@ impl<D: Disk + Drop> ClientNode<D> {
         ensures told { told_by result ≡ [] }
         ensures sent { sent_by result ≡ [] }
         ensures number { result.number ≡ number }
+        ensures linked { result.is_linked ≡ true }
         ensures journal { inner_of (disk_of (journals.vault_of result.devs.journal)) ≡ journal_disk }
         ensures slots { inner_of (disk_of (slots.vault_of result.devs.slots)) ≡ slot_disk }
         ensures chunks { inner_of (disk_of (chunks.vault_of result.devs.chunks)) ≡ chunk_disk }
@@ -74,17 +70,15 @@ impl<D: Disk + Drop> ClientNode<D> {
             number,
             is_declared: false,
             is_up: false,
+            is_linked: true,
+            waiting: Waiting::new(alloc),
             devs: Journal::new(
                 alloc,
                 FuseDisk::new(journal_disk),
                 FuseDisk::new(slot_disk),
                 FuseDisk::new(chunk_disk),
             ),
-            owed: Owed {
-                when: When::AtEnd,
-                facts: Vec::new(alloc),
-                messages: Vec::new(alloc),
-            },
+            owed: Owed::nothing(alloc),
             messages: Gathered::new(alloc),
             facts: Gathered::new(alloc),
             alloc,
@@ -113,6 +107,23 @@ impl<D: Disk + Drop> ClientNode<D> {
         self.is_up
     }
 
+    /// Whether the client's link is up.
+    pub fn is_linked(&self) -> bool
+        ensures { result ≡ self.now.is_linked }
+    {
+        self.is_linked
+    }
+
+    /// Takes the client's link up or down. While it is down the client takes no message and sends none when it is
+    /// called; what the writes at work send goes out all the same.
+    pub fn link(&mut self, up: bool)
+        ensures linked { self.new.is_linked ≡ up }
+        ensures kept { (s : Client) → IsClient D.state self.old s → IsClient D.state self.new s }
+        ensures same { self.new ≡ record self.old { is_linked = up } }
+    {
+        self.is_linked = up;
+    }
+
     /// Whether writes are still to be done.
     pub fn is_busy(&self) -> bool
         ensures { (s : Client) → IsClient D.state self.now s → result ≡ has_task s.agenda }
@@ -122,7 +133,7 @@ impl<D: Disk + Drop> ClientNode<D> {
     }
 
     /// Hands over what was gathered. It takes no memory.
-    pub fn take_out(&mut self) -> ClientOut
+    pub fn take_out(&mut self) -> Out
         ensures messages { map send_of result.messages ≡ sent_by self.old }
         ensures facts { map fact_of result.facts ≡ told_by self.old }
         ensures told { told_by self.new ≡ [] }
@@ -133,7 +144,7 @@ impl<D: Disk + Drop> ClientNode<D> {
         ensures up { self.new.is_up ≡ self.old.is_up }
         ensures declared { self.new.is_declared ≡ self.old.is_declared }
     {
-        ClientOut {
+        Out {
             messages: Sequence::from_vec(self.messages.take()),
             facts: Sequence::from_vec(self.facts.take()),
         }
@@ -152,59 +163,46 @@ impl<D: Disk + Drop> ClientNode<D> {
         self.is_up = false;
     }
 
-    // Hands a fault of the devices on. Where a disk has failed the node is down.
-    fn fail(&mut self, fault: JournalFault) -> NodeFault
-        ensures fault { result ≡ fault_of fault }
-        ensures disk { fault ≡ JournalFault.Disk → Fell D.state D.images self.old self.new }
-        ensures other { (fault ≡ JournalFault.Disk → ⊥) → self.new ≡ self.old }
-        ensures declared { self.new.is_declared ≡ self.old.is_declared }
+    // Hands over what a call of the devices came to. Where a disk has failed the node is down.
+    pub(crate) fn settle<T: Drop>(&mut self, found: Result<T, CallFault>) -> Result<T, CallFault>
+        ensures same { result ≡ found }
+        ensures disk { IsErrOf result Disk → Fell D.state D.images self.old self.new }
+        ensures other { (IsErrOf result Disk → ⊥) → self.new ≡ self.old }
     {
-        if fault == JournalFault::Disk {
+        if let Err(CallFault::Disk) = found {
             self.fall(0);
         }
-        NodeFault::from(fault)
+        found
     }
 
-    /// Takes a plan on, with what it tells at its commit and sends at its end.
-    ///
-    /// `Spent` where no number of a plan is left. `Disk` where a disk failed: the node is then down. `Memory` leaves
-    /// all as it was.
-    pub(crate) fn begin_plan(
-        &mut self,
-        plan: Plan,
-        facts: Vec<ClientTold>,
-        messages: Vec<Addressed>,
-    ) -> Result<(), NodeFault>
-        requires up { self.old.is_up ≡ true }
-        requires idle { writes_of self.old.devs ≡ [] }
-        requires plan { IsPlan (devs (behind D.state) self.old.devs) plan }
-        requires table { (disk : ClientDisk) × IsClient D.state self.old (record { disk = disk; agenda = Some [] })
-            × (meaning : LocalName → List ℕ) × (p : TablePlan)
-            × IsTablePlan D.state self.old disk plan (map fact_of facts.items) meaning p }
-        ensures begins { (disk : ClientDisk) → IsClient D.state self.old (record { disk = disk; agenda = Some [] })
-            → Begins D.state D.images disk plan (map fact_of facts.items) (map send_of messages.items) self.old
-            self.new result }
+    // Gathers messages that are sent at once. Nothing is owed by a node that has no write to do.
+    pub(crate) fn send(&mut self, mut sends: Vec<Addressed>) -> Result<(), AllocError>
+        ensures sent { OnOk result (sent_by self.new ≡ sent_by self.old ++ map send_of sends.items) }
+        ensures no_facts { OnOk result (self.new.owed.facts.items ≡ []) }
+        ensures no_messages { OnOk result (self.new.owed.messages.items ≡ []) }
+        ensures fact_room { OnOk result (HasRoom self.new.facts 0) }
+        ensures message_room { OnOk result (HasRoom self.new.messages 0) }
+        ensures unsent { OnErr result (self.new.messages.items.items ≡ self.old.messages.items.items) }
+        ensures owed { OnErr result (self.new.owed ≡ self.old.owed) }
+        ensures kept { OnErr result ((n : ℕ) → HasRoom self.old.messages n → HasRoom self.new.messages n) }
+        ensures facts { self.new.facts ≡ self.old.facts }
+        ensures devs { self.new.devs ≡ self.old.devs }
+        ensures number { self.new.number ≡ self.old.number }
+        ensures linked { self.new.is_linked ≡ self.old.is_linked }
+        ensures up { self.new.is_up ≡ self.old.is_up }
         ensures declared { self.new.is_declared ≡ self.old.is_declared }
+        ensures waiting { self.new.waiting ≡ self.old.waiting }
     {
-        self.facts.reserve(facts.len())?;
-        self.messages.reserve(messages.len())?;
-        match self.devs.begin(plan) {
-            Ok(_) => {
-                self.owed = Owed {
-                    when: When::AtCommit,
-                    facts,
-                    messages,
-                };
-                Ok(())
-            }
-            Err(fault) => Err(self.fail(fault)),
-        }
+        self.messages.reserve(sends.len())?;
+        self.owed = Owed::nothing(self.alloc);
+        self.messages.put_all(&mut sends);
+        Ok(())
     }
 
     /// Does the next write, if there is one, and gathers what it tells and sends. It takes no memory.
     ///
     /// `Disk` where a disk failed. The node is then down, and the write is undone or done.
-    pub fn work(&mut self) -> Result<Step, NodeFault>
+    pub fn work(&mut self) -> Result<Step, CallFault>
         requires node { IsNode D.state self.old }
         requires up { self.old.is_up ≡ true }
         ensures works { (s : Client) → IsClient D.state self.old s
@@ -225,7 +223,7 @@ impl<D: Disk + Drop> ClientNode<D> {
             }
             Err(_) => {
                 self.fall(0);
-                Err(NodeFault::Disk)
+                Err(CallFault::Disk)
             }
         }
     }

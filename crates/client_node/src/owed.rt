@@ -1,5 +1,8 @@
-use crate::told::ClientTold;
+ghost use Rattle.std.specs.Prelude.{◌≡◌, []};
+
+use std::alloc::Global;
 use step_tables::Addressed;
+use table_model::Fact;
 
 /// Which write tells what is owed.
 #[derive(Debug, Clone, Copy, PartialEq, Eq)]
@@ -14,6 +17,20 @@ pub(crate) enum When {
 #[derive(Debug, Drop)]
 pub(crate) struct Owed {
     pub(crate) when: When,
-    pub(crate) facts: Vec<ClientTold>,
+    pub(crate) facts: Vec<Fact>,
     pub(crate) messages: Vec<Addressed>,
+}
+
+impl Owed {
+    /// Nothing.
+    pub(crate) fn nothing(alloc: Global) -> Owed
+        ensures facts { result.facts.items ≡ [] }
+        ensures messages { result.messages.items ≡ [] }
+    {
+        Owed {
+            when: When::AtEnd,
+            facts: Vec::new(alloc),
+            messages: Vec::new(alloc),
+        }
+    }
 }

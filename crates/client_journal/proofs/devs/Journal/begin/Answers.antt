@@ -9,6 +9,7 @@ use Rattle.client_journal.proofs.Works.{same_ready}
 use Rattle.client_journal.proofs.Planning.{plan_runs}
 use Rattle.client_journal.proofs.Numbers.{plan_commits}
 use Rattle.client_journal.proofs.Begins.{isnt_free, none_left, wasnt_taken, was_taken}
+use Rattle.client_journal.proofs.Resting.{rests_all, waits_all}
 use Rattle.client_journal.proofs.devs.Journal.begin.Goals as goal
 
 pub returns-in_err-free-clause-takes : goal.returns-in_err-free-clause-takes
@@ -79,3 +80,16 @@ returns-clause-moments g c meaning n rest =
     plan_runs meaning (devs s old) (intend_for number plan) plan.brought (commit_for number plan) n rest k in
     let new = record c.prepare.new.self { agenda = c.in_ok-tasks.tasks } in
     subst (λ (d : ClientDevs). Runs R d (writes_of new)) (sym (c.in_ok-tasks.ensures.waits.same (λ is. cc))) (subst (λ (l : List Write). Runs R (devs s old) l) (sym c.in_ok-tasks.ensures.tasks) runs)
+
+pub returns-in_err-free-clause-leave : goal.returns-in_err-free-clause-leave
+returns-in_err-free-clause-leave g c = λ up. rests_all g.D.Disk.state g.D.Disk.images g.met.D.Disk.only_now c.args.self.now (writes_of c.args.self.now) (c.requires.ready up)
+
+pub returns-then-last-eq-NUMBER_MAX-clause-leave : goal.returns-then-last-eq-NUMBER_MAX-clause-leave
+returns-then-last-eq-NUMBER_MAX-clause-leave g c = λ up. rests_all g.D.Disk.state g.D.Disk.images g.met.D.Disk.only_now c.args.self.now (writes_of c.args.self.now) (c.requires.ready up)
+
+pub returns-in_err-tasks-clause-leave : goal.returns-in_err-tasks-clause-leave
+returns-in_err-tasks-clause-leave g c = λ up. waits_all g.D.Disk.state g.D.Disk.images c.args.self.now c.prepare.new.self c.prepare.new.self _ refl refl refl c.in_err-tasks.ensures.waits
+
+pub returns-clause-leave : goal.returns-clause-leave
+returns-clause-leave g c = λ up. let mid = c.prepare.new.self in
+    waits_all g.D.Disk.state g.D.Disk.images c.args.self.now mid (record mid { agenda = c.in_ok-tasks.tasks }) _ refl refl refl c.in_ok-tasks.ensures.waits

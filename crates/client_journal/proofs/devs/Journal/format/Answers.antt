@@ -1,8 +1,10 @@
-use Rattle.std.proofs.Common.{refl}
+use Rattle.std.proofs.Common.{Ok, Err, refl}
 use Rattle.chunk_store.specs.Standing as chunks
 use Rattle.slot_store.specs.Standing as slots
 use Rattle.plan_log.specs.Standing as journals
 use Rattle.client_journal.proofs.Works.{one_blank, two_blank, all_blank, all_empty, at_rest}
+use Rattle.std.proofs.lemmas.Result.{err_from_is_err_and}
+use Rattle.client_journal.proofs.Refusals.{cause_then, chunk_caused, slot_caused, journal_caused}
 use Rattle.client_journal.proofs.devs.Journal.format.Goals as goal
 
 pub returns-in_err-format-clause-blank : goal.returns-in_err-format-clause-blank
@@ -28,3 +30,43 @@ returns-clause-empty g c =
 pub returns-clause-rests : goal.returns-clause-rests
 returns-clause-rests g c =
     at_rest g.D.Disk.state g.D.Disk.images g.met.D.Disk.only_now _ c.in_ok-format.ensures.opened c.in_ok-format-2.ensures.formats.opened c.in_ok-format-3.ensures.opened c.in_ok-format.ensures.room c.in_ok-format-2.ensures.formats.room c.in_ok-format-3.ensures.room
+
+pub returns-in_err-format-clause-cause : goal.returns-in_err-format-clause-cause
+returns-in_err-format-clause-cause g c up =
+    let s = g.D.Disk.state in
+    let old = record c.args.self.now { agenda = c.clear.new.self } in
+    let one = record old { chunks = c.format.new.self } in
+    let p = err_from_is_err_and c.from_residual.result c.from_residual.ensures.1 in
+    let k = chunk_caused s old c.format.new.self old.chunks c.format.new.self (Err c.in_err-format.field-0.0) c.in_err-format.ensures.refuses c.in_err-format.ensures.only up.chunks in
+    rw (p.1, p.2) (record { cause = k.cause; only = k.only })
+
+pub returns-in_err-format-2-clause-cause : goal.returns-in_err-format-2-clause-cause
+returns-in_err-format-2-clause-cause g c up =
+    let s = g.D.Disk.state in
+    let old = record c.args.self.now { agenda = c.clear.new.self } in
+    let one = record old { chunks = c.format.new.self } in
+    let two = record one { slots = c.format-2.new.self } in
+    let p = err_from_is_err_and c.from_residual-in_err-format-2.result c.from_residual-in_err-format-2.ensures.1 in
+    let k = cause_then s old one two tt _ (chunk_caused s old c.format.new.self old.chunks c.format.new.self (Ok tt) c.in_ok-format.ensures.refuses c.in_ok-format.ensures.only up.chunks) (slot_caused s one c.format-2.new.self old.slots c.format-2.new.self (Err c.in_err-format-2.field-0.0) c.in_err-format-2.ensures.formats.refuses c.in_err-format-2.ensures.formats.only up.slots) in
+    rw (p.1, p.2) (record { cause = k.cause; only = k.only })
+
+pub returns-in_err-format-3-clause-cause : goal.returns-in_err-format-3-clause-cause
+returns-in_err-format-3-clause-cause g c up =
+    let s = g.D.Disk.state in
+    let old = record c.args.self.now { agenda = c.clear.new.self } in
+    let one = record old { chunks = c.format.new.self } in
+    let two = record one { slots = c.format-2.new.self } in
+    let three = record two { journal = c.format-3.new.self } in
+    let p = err_from_is_err_and c.from_residual-in_err-format-3.result c.from_residual-in_err-format-3.ensures.1 in
+    let k = cause_then s old two three tt _ (cause_then s old one two tt (Ok tt) (chunk_caused s old c.format.new.self old.chunks c.format.new.self (Ok tt) c.in_ok-format.ensures.refuses c.in_ok-format.ensures.only up.chunks) (slot_caused s one c.format-2.new.self old.slots c.format-2.new.self (Ok tt) c.in_ok-format-2.ensures.formats.refuses c.in_ok-format-2.ensures.formats.only up.slots)) (journal_caused s two c.format-3.new.self old.journal c.format-3.new.self (Err c.in_err-format-3.field-0.0) c.in_err-format-3.ensures.refuses c.in_err-format-3.ensures.only up.journal) in
+    rw (p.1, p.2) (record { cause = k.cause; only = k.only })
+
+pub returns-clause-cause : goal.returns-clause-cause
+returns-clause-cause g c up =
+    let s = g.D.Disk.state in
+    let old = record c.args.self.now { agenda = c.clear.new.self } in
+    let one = record old { chunks = c.format.new.self } in
+    let two = record one { slots = c.format-2.new.self } in
+    let three = record two { journal = c.format-3.new.self } in
+    let k = cause_then s old two three tt _ (cause_then s old one two tt (Ok tt) (chunk_caused s old c.format.new.self old.chunks c.format.new.self (Ok tt) c.in_ok-format.ensures.refuses c.in_ok-format.ensures.only up.chunks) (slot_caused s one c.format-2.new.self old.slots c.format-2.new.self (Ok tt) c.in_ok-format-2.ensures.formats.refuses c.in_ok-format-2.ensures.formats.only up.slots)) (journal_caused s two c.format-3.new.self old.journal c.format-3.new.self (Ok tt) c.in_ok-format-3.ensures.refuses c.in_ok-format-3.ensures.only up.journal) in
+    record { cause = k.cause; only = k.only }

@@ -1,4 +1,7 @@
+use Rattle.std.proofs.Common.{Ok, Err}
 use Rattle.client_journal.proofs.Works.{one_looked, two_looked, all_same}
+use Rattle.std.proofs.lemmas.Result.{err_from_is_err_and}
+use Rattle.client_journal.proofs.Refusals.{cause_then, chunk_caused, slot_caused, journal_caused}
 use Rattle.client_journal.proofs.devs.Journal.look.Goals as goal
 
 pub returns-in_err-look-clause-any_moment : goal.returns-in_err-look-clause-any_moment
@@ -16,3 +19,40 @@ returns-in_err-look-3-clause-any_moment g c up sound =
 pub returns-clause-any_moment : goal.returns-clause-any_moment
 returns-clause-any_moment g c up sound =
     all_same g.D.Disk.state g.D.Disk.images g.met.D.Disk.only_now c.args.self.now _ (c.look.ensures.any_moment up.chunks sound.chunks) (c.look-2.ensures.looks.any_moment up.slots sound.slots) (c.look-3.ensures.any_moment up.journal sound.journal)
+
+pub returns-in_err-look-clause-cause : goal.returns-in_err-look-clause-cause
+returns-in_err-look-clause-cause g c up =
+    let s = g.D.Disk.state in
+    let old = c.args.self.now in
+    let one = record old { chunks = c.look.new.self } in
+    let p = err_from_is_err_and c.from_residual.result c.from_residual.ensures.1 in
+    rw (p.1, p.2) (chunk_caused s old c.look.new.self old.chunks c.look.new.self (Err c.in_err-look.field-0.0) c.in_err-look.ensures.refuses c.in_err-look.ensures.only up.chunks)
+
+pub returns-in_err-look-2-clause-cause : goal.returns-in_err-look-2-clause-cause
+returns-in_err-look-2-clause-cause g c up =
+    let s = g.D.Disk.state in
+    let old = c.args.self.now in
+    let one = record old { chunks = c.look.new.self } in
+    let two = record one { slots = c.look-2.new.self } in
+    let p = err_from_is_err_and c.from_residual-in_err-look-2.result c.from_residual-in_err-look-2.ensures.1 in
+    rw (p.1, p.2) (cause_then s old one two tt _ (chunk_caused s old c.look.new.self old.chunks c.look.new.self (Ok tt) c.in_ok-look.ensures.refuses c.in_ok-look.ensures.only up.chunks) (slot_caused s one c.look-2.new.self old.slots c.look-2.new.self (Err c.in_err-look-2.field-0.0) c.in_err-look-2.ensures.looks.refuses c.in_err-look-2.ensures.looks.only up.slots))
+
+pub returns-in_err-look-3-clause-cause : goal.returns-in_err-look-3-clause-cause
+returns-in_err-look-3-clause-cause g c up =
+    let s = g.D.Disk.state in
+    let old = c.args.self.now in
+    let one = record old { chunks = c.look.new.self } in
+    let two = record one { slots = c.look-2.new.self } in
+    let three = record two { journal = c.look-3.new.self } in
+    let p = err_from_is_err_and c.from_residual-in_err-look-3.result c.from_residual-in_err-look-3.ensures.1 in
+    rw (p.1, p.2) (cause_then s old two three tt _ (cause_then s old one two tt (Ok tt) (chunk_caused s old c.look.new.self old.chunks c.look.new.self (Ok tt) c.in_ok-look.ensures.refuses c.in_ok-look.ensures.only up.chunks) (slot_caused s one c.look-2.new.self old.slots c.look-2.new.self (Ok tt) c.in_ok-look-2.ensures.looks.refuses c.in_ok-look-2.ensures.looks.only up.slots)) (journal_caused s two c.look-3.new.self old.journal c.look-3.new.self (Err c.in_err-look-3.field-0.0) c.in_err-look-3.ensures.refuses c.in_err-look-3.ensures.only up.journal))
+
+pub returns-clause-cause : goal.returns-clause-cause
+returns-clause-cause g c up =
+    let s = g.D.Disk.state in
+    let old = c.args.self.now in
+    let one = record old { chunks = c.look.new.self } in
+    let two = record one { slots = c.look-2.new.self } in
+    let three = record two { journal = c.look-3.new.self } in
+    let k = cause_then s old two three tt (Ok tt) (cause_then s old one two tt (Ok tt) (chunk_caused s old c.look.new.self old.chunks c.look.new.self (Ok tt) c.in_ok-look.ensures.refuses c.in_ok-look.ensures.only up.chunks) (slot_caused s one c.look-2.new.self old.slots c.look-2.new.self (Ok tt) c.in_ok-look-2.ensures.looks.refuses c.in_ok-look-2.ensures.looks.only up.slots)) (journal_caused s two c.look-3.new.self old.journal c.look-3.new.self (Ok tt) c.in_ok-look-3.ensures.refuses c.in_ok-look-3.ensures.only up.journal) in
+    record { cause = k.cause; only = k.only }

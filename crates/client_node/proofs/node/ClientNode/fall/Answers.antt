@@ -1,4 +1,4 @@
-use Rattle.std.proofs.Common.{arith}
+use Rattle.std.proofs.Common.{arith, refl}
 use Rattle.client_node.proofs.node.ClientNode.fall.Goals as goal
 
 pub returns-clause-falls : goal.returns-clause-falls
@@ -9,5 +9,6 @@ returns-clause-falls g c =
       up = r.up;
       synced = r.synced;
       idle = r.idle;
+      waiting = refl;
       counted = omega (arith, r.chunks.faults_stay, r.slots.faults_stay, r.journal.faults_stay);
     }

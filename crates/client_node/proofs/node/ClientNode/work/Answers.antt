@@ -3,7 +3,8 @@ use Rattle.disk_trait.specs.Fuse.{inner_of}
 use Rattle.client_journal.specs.Standing.{writes_of}
 use Rattle.step_tables.specs.Travels.{send_of}
 use Rattle.gathering.specs.Room.{HasRoom}
-use Rattle.client_node.specs.Due.{fact_of, sent_at, is_last_of}
+use Rattle.step_tables.specs.Lines.{fact_of}
+use Rattle.client_node.specs.Due.{sent_at, is_last_of}
 use Rattle.client_node.proofs.Following.{last_is}
 use Rattle.client_node.proofs.Rooms.{devices_up, node_ready, rooms}
 use Rattle.client_node.proofs.Working.{Gathers, idle_works, work_done, work_failed}
@@ -47,7 +48,7 @@ returns-in-Err-clause-works g c s t =
     let f = c.fall.ensures in
     work_failed g.D.Disk.state g.D.Disk.images (λ f image left. g.met.D.Disk.only_now (inner_of f) image left) old (writes_of old.devs) refl c.if-idle.ensures s.disk s.agenda t c.requires.up
     (record old { devs = c.work.new.self }) c.fall.new.self _ (c.in-Err.ensures.works up) f.falls
-    (record { told = ap (λ x. map fact_of x.items.items) f.facts; sent = ap (λ x. map send_of x.items.items) f.messages; same = record { number = f.same.number }; declared = f.declared }) f.down
+    (record { told = ap (λ x. map fact_of x.items.items) f.facts; sent = ap (λ x. map send_of x.items.items) f.messages; same = record { number = f.same.number; linked = f.same.linked }; declared = f.declared; waiting = f.falls.waiting }) f.down
 
 pub returns-in-Ok-clause-node : goal.returns-in-Ok-clause-node
 returns-in-Ok-clause-node g c = let n = c.requires.node in works_node g.D.Disk.state g.D.Disk.images n.0 c.args.self.now _ _ (returns-in-Ok-clause-works g c n.0 n.1)

@@ -1,0 +1,15 @@
+use Rattle.std.proofs.Common.{Ok, Err}
+use Rattle.std.proofs.lemmas.Result.{err_from_is_err_and}
+use Rattle.client_node.proofs.Serving.{looks_ok, looks_fault}
+use Rattle.client_node.proofs.looking.row_slots.Goals as goal
+
+pub returns-in_err-stored-clause-looks : goal.returns-in_err-stored-clause-looks
+returns-in_err-stored-clause-looks g c =
+    let p = err_from_is_err_and c.from_residual.result c.from_residual.ensures.1 in
+    rw (p.1, p.2) (looks_fault g.D.Disk.state g.D.Disk.images c.args.devs.now c.slots.new.self c.requires.up c.requires.ready c.in_err-stored.field-0.0 c.in_err-stored.ensures.asks)
+
+pub returns-in-Some-clause-looks : goal.returns-in-Some-clause-looks
+returns-in-Some-clause-looks g c = looks_ok g.D.Disk.state g.D.Disk.images c.args.devs.now c.slots.new.self c.requires.up c.requires.ready _ c.in_ok-stored.ensures.asks _ (λ no. cc)
+
+pub returns-in-None-clause-looks : goal.returns-in-None-clause-looks
+returns-in-None-clause-looks g c = looks_ok g.D.Disk.state g.D.Disk.images c.args.devs.now c.slots.new.self c.requires.up c.requires.ready _ c.in_ok-stored.ensures.asks _ (λ no. cc)

@@ -1,0 +1,3 @@
+//! The calls of a client.
+mod pulling;
+mod showing;

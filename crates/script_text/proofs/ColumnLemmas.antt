@@ -1,13 +1,12 @@
 -- Columns read one behind the other.
-use Rattle.std.proofs.Common.{◌≡◌, ◌≢◌, ℕ, ◌+◌, Bool, true, false, not, ◌&&◌, ◌||◌, cond, Option, Some, None, List, [], ◌∷◌, ◌++◌, map, length, Result, Ok, Err, refl, sym, ap, ◌∙◌, subst, inl, inr}
-use Rattle.std.proofs.Common.{arith, append-nil, append_assoc}
+use Rattle.std.proofs.Common.{◌≡◌, ◌≢◌, ℕ, ◌+◌, Bool, true, false, not, ◌&&◌, ◌||◌, cond, Option, Some, None, List, [], ◌∷◌, ◌++◌, map, length, Result, Ok, Err, refl, sym, ap, ◌∙◌, subst}
+use Rattle.std.proofs.Common.{append-nil, append_assoc}
 use Rattle.std.specs.Ordering.{nat_cmp}
 use Rattle.std.specs.Cmp.Lexicographic.{slice_cmp}
 use Rattle.std.specs.BTreeMap.{is_at}
 use Rattle.std.specs.BTreeSet.{insert_key}
 use Rattle.std.specs.List.{AllByRecursion, list_any}
 use Rattle.std.proofs.Math.Bool.{or-true}
-use Rattle.std.proofs.lemmas.Bool.{cases_Bool}
 use Rattle.std.proofs.lemmas.List.{length-map}
 use Rattle.row_value.specs.Fit.{is_object}
 use Rattle.row_value.specs.declared.schema.Column.{Column}
@@ -21,7 +20,7 @@ use Rattle.script_words.proofs.ColumnLemmas.{column_of-ok, column_of-right}
 use Rattle.script_text.specs.declared.fault.BadLine.{BadLine}
 use Rattle.script_text.specs.Faults.{bad}
 use Rattle.script_text.specs.Names.{IsSetOf}
-use Rattle.script_text.specs.Places.{◌>>=◌, names_of, has_object, new_column, new_column_at, with_column}
+use Rattle.script_text.specs.Places.{names_of, has_object, new_column, new_column_at}
 use Rattle.script_text.specs.Reading.{placed, next_in, each_in, columns_in, some_columns_in}
 use Rattle.script_text.proofs.Distinct.{NewTo, met, unmet, set-put}
 use Rattle.script_text.proofs.Numbers.{unless-ok, ok_same}

@@ -1,9 +1,8 @@
 -- Values read one behind the other.
-use Rattle.std.proofs.Common.{◌≡◌, ◌≢◌, ℕ, ◌+◌, List, [], ◌∷◌, ◌++◌, Result, Ok, Err, refl, sym, ap, ◌∙◌, subst, append-nil, append_assoc}
+use Rattle.std.proofs.Common.{◌≡◌, ◌≢◌, ℕ, ◌+◌, List, [], ◌∷◌, ◌++◌, Result, Ok, refl, sym, ap, ◌∙◌, subst, append-nil, append_assoc}
 use Rattle.row_value.specs.declared.content.Cell.{Cell}
 use Rattle.row_value.specs.declared.content.Content.{Content}
 use Rattle.row_value.specs.declared.content.Content.TheVariants.{Gone, Row}
-use Rattle.script_words.specs.declared.code.Code.{Code}
 use Rattle.script_words.specs.declared.code.Code.TheVariants.{NoValue}
 use Rattle.script_words.specs.declared.values.Value.{Value}
 use Rattle.script_words.specs.declared.values.Value.TheVariants.{OfCell, OfObject}

@@ -21,7 +21,7 @@ use Rattle.script_text.specs.Grammar.{table_word}
 
 -- names that were met, kept as a set
 
-by_bytes : (w v : List ℕ) → is_at (slice_cmp nat_cmp w) v ≡ bytes_eq w v
+pub by_bytes : (w v : List ℕ) → is_at (slice_cmp nat_cmp w) v ≡ bytes_eq w v
 by_bytes w v = is_eq-slice_cmp w v
 
 pub unmet : (added b : Bool) → added ≡ not b → added ≡ true → b ≡ false
@@ -37,7 +37,7 @@ absorbed true b = refl
 absorbed false true = refl
 absorbed false false = refl
 
-equal_keys : (k x : List ℕ) → slice_cmp nat_cmp k x ≡ Equal → k ≡ x
+pub equal_keys : (k x : List ℕ) → slice_cmp nat_cmp k x ≡ Equal → k ≡ x
 equal_keys k x is = (bytes_eq-Decides k x).0 (sym (by_bytes k x) ∙ (Equal-is (slice_cmp nat_cmp k x)).1 is)
 
 module _ (w k : List ℕ) where

@@ -6,7 +6,6 @@ use Rattle.script_text.specs.declared.fault.BadLine.{BadLine}
 use Rattle.script_text.specs.declared.fault.ScriptFault.{ScriptFault}
 use Rattle.script_text.specs.declared.fault.ScriptFault.TheVariants as faults
 use Rattle.script_words.specs.Words.{texts}
-use Rattle.script_text.specs.Places.{◌>>=◌}
 use Rattle.script_text.specs.Reading.{placed, each_in, Reads}
 
 behind : (words : List (Bor (List ℕ))) (i : ℕ) (d : Bor (List ℕ)) → i < length words → drop i (texts words) ≡ (get_or words i d).now ∷ drop (suc i) (texts words)

@@ -1,5 +1,5 @@
 -- What the words of a line spell that reads well.
-use Rattle.std.proofs.Common.{◌≡◌, ◌≢◌, ℕ, ◌+◌, Bool, true, false, ltb, List, [], ◌∷◌, map, codes, cond, length, Option, Some, None, Result, Ok, Err, ℤ, refl, sym, ap, ◌∙◌, subst, arith}
+use Rattle.std.proofs.Common.{◌≡◌, ℕ, Bool, true, false, ltb, List, [], ◌∷◌, map, codes, cond, length, Option, Some, None, Result, Ok, Err, refl, sym, ap, ◌∙◌, subst, arith}
 use Rattle.std.specs.Result.{MatchResult}
 use Rattle.std.specs.Fmt.{decimal}
 use Rattle.std.proofs.lemmas.Bool.{ltb-false}
@@ -7,28 +7,29 @@ use Rattle.row_value.specs.declared.schema.Scheme.{Scheme}
 use Rattle.row_value.specs.declared.schema.Column.{Column}
 use Rattle.table_model.specs.declared.event.Event.{Event}
 use Rattle.table_model.specs.declared.event.Event.TheVariants as events
-use Rattle.script_words.specs.declared.code.Code.{Code}
 use Rattle.script_text.specs.declared.fault.BadLine.{BadLine}
+use Rattle.script_text.specs.declared.verb.EditVerb.{EditVerb}
 use Rattle.script_text.specs.declared.verb.Verb.{Verb}
 use Rattle.script_text.specs.declared.verb.Verb.TheVariants as verbs
-use Rattle.script_text.specs.Faults.{bad}
-use Rattle.script_text.specs.Verbs.{name_of}
-use Rattle.script_text.specs.Names.{Names, has_no_store}
+use Rattle.script_text.specs.Verbs.{edit_name, name_of}
+use Rattle.script_text.specs.Names.{Names, has_no_store, columns_of}
 use Rattle.script_text.specs.Places.{◌>>=◌, names_of, new_store_at, new_table_at, new_client_at, tables_at, new_name_at, scheme_at, chunk_at}
-use Rattle.script_text.specs.Reading.{placed, made_store, made_table, made_client, store_in, table_in, client_in, content_in, some_columns_in, write_in, client_row_in, show_in}
+use Rattle.script_text.specs.Reading.{made_store, made_table, made_client, store_in, table_in, client_in, content_in, some_columns_in, write_in, client_row_in, show_in}
 use Rattle.script_text.specs.Reading.{sum_in, client_table_in, sync_in, pull_in}
-use Rattle.script_text.specs.Reading.{deliver_in, store_show_in, history_in, chunks_in, node_in, hold_in, free_in, work_in, work_all_in, start_in, crash_in, next_in}
+use Rattle.script_text.specs.Reading.{deliver_in, store_show_in, history_in, chunks_in, node_in, hold_in, free_in, work_in, work_all_in, start_in, crash_in, link_in, change_in, edit_in}
 use Rattle.stab_base.specs.Row.{row_of}
 use Rattle.stab_base.specs.declared.node.Node.{Node}
-use Rattle.script_text.specs.Grammar.{SpelledBy, AreColumns, client_word, table_word, tables_word, node_word, IsClient, IsTable, IsNode, limit_of}
+use Rattle.script_text.specs.Grammar.{SpelledBy, AreColumns, client_word, table_word, tables_word, node_word, IsClient, IsTable, IsNode, limit_of, verb_for}
 use Rattle.script_text.proofs.Steps.{ok_err, bind-ok, word_in-ok, end-ok}
-use Rattle.script_text.proofs.Numbers.{number_at-ok, calls_at-ok}
+use Rattle.script_text.proofs.Numbers.{number_at-ok, number_to-ok}
 use Rattle.script_text.proofs.Distinct.{new-distinct}
 use Rattle.script_text.proofs.ColumnLemmas.{some_columns-ok, same_count}
-use Rattle.script_text.proofs.PlaceLemmas.{client_at-ok, party_at-ok, table_at-ok, new_store_at-ok, new_store_at-within, new_store_at-limit, new_table_at-ok, new_table_at-within, new_table_at-limit}
+use Rattle.script_text.proofs.PlaceLemmas.{client_at-ok, ready_client_at-ok, party_at-ok, table_at-ok, new_store_at-ok, new_store_at-within}
+use Rattle.script_text.proofs.PlaceLemmas.{new_store_at-limit, new_table_at-ok, new_table_at-within, new_table_at-limit}
 use Rattle.script_text.proofs.PlaceLemmas.{new_client_at-ok, new_client_at-within, new_client_at-limit, gate_at-ok, new_name_at-ok, scheme_at-ok, chunk_at-ok, row_at-ok}
 use Rattle.script_words.specs.Columns.{column_word}
 use Rattle.script_text.proofs.ContentLemmas.{content-ok}
+use Rattle.script_text.proofs.EditLemmas.{direction_at-ok, change_in-ok}
 use Rattle.script_text.proofs.TableLemmas.{tables_at-ok, tables_at-within, tables_at-limit}
 
 ok_told : {x y : Result Event ℕ} → ◌≡◌ {A = Result (Result Event ℕ) BadLine} (Ok x) (Ok y) → x ≡ y
@@ -264,6 +265,31 @@ module _ (names : Names) (ws : List (List ℕ)) where
         let q = node-ok p.0 p.1 in
         subst (λ (x : Event). SpelledBy names (codes "start" ∷ ws) x) (event_told p.2) (ap (λ (t : List (List ℕ)). codes "start" ∷ t) q.0, q.1)
 
+    pub link-ok : link_in names ws ≡ Ok e → SpelledBy names (codes "link" ∷ ws) e
+    unfolding link_in
+    link-ok h =
+        let a = word_in-ok _ _ _ ws e h in
+        let b = word_in-ok _ _ _ a.1 e a.5 in
+        let r = end-ok 3 (events.Link a.2 b.2) b.1 e b.5 in
+        let u = ready_client_at-ok names a.0 a.2 a.4 in
+        let v = direction_at-ok b.0 b.2 b.4 in
+        let is : ws ≡ client_word a.2 ∷ cond b.2 (codes "up") (codes "down") ∷ [] = cc (a.3, b.3, r.0, u.0, v) in
+        subst (λ (x : Event). SpelledBy names (codes "link" ∷ ws) x) r.1 (ap (λ (t : List (List ℕ)). codes "link" ∷ t) is, u.1)
+
+    pub edit-ok : (verb : EditVerb) → edit_in names verb ws ≡ Ok e → SpelledBy names (edit_name verb ∷ ws) e
+    unfolding edit_in
+    edit-ok verb h =
+        let a = word_in-ok _ _ _ ws e h in
+        let b = word_in-ok _ _ _ a.1 e a.5 in
+        let c = word_in-ok _ _ _ b.1 e b.5 in
+        let p = ready_client_at-ok names a.0 a.2 a.4 in
+        let q = table_at-ok names b.0 b.2 b.4 in
+        let r = bind-ok (change_in verb (columns_of names b.2) c.1) (λ edit. Ok (events.Edit a.2 b.2 c.2 edit)) e c.5 in
+        let v = change_in-ok (columns_of names b.2) verb c.1 r.0 r.1 in
+        let is : ws ≡ client_word a.2 ∷ table_word b.2 ∷ c.0 ∷ c.1 = cc (a.3, b.3, c.3, p.0, q.0) in
+        let words : edit_name verb ∷ ws ≡ edit_name (verb_for r.0) ∷ client_word a.2 ∷ table_word b.2 ∷ c.0 ∷ c.1 = cc (is, ap edit_name v.0) in
+        subst (λ (x : Event). SpelledBy names (edit_name verb ∷ ws) x) (event_told r.2) (c.0, c.1, words, p.1, q.1, row_at-ok c.0 c.2 c.4, v.1)
+
     pub chunks-ok : chunks_in names ws ≡ Ok e → SpelledBy names (codes "chunks" ∷ ws) e
     unfolding chunks_in
     chunks-ok h =
@@ -281,7 +307,7 @@ module _ (names : Names) (ws : List (List ℕ)) where
         let c = word_in-ok _ _ _ b.1 e b.5 in
         let r = end-ok 4 (events.Crash a.2 b.2 c.2) c.1 e c.5 in
         let u = party_at-ok names a.0 a.2 a.4 in
-        let v = calls_at-ok b.0 b.2 b.4 in
+        let v = number_to-ok 4 b.0 b.2 b.4 in
         let w = number_at-ok c.0 c.2 c.4 in
         let is : ws ≡ node_word a.2 ∷ decimal b.2 ∷ decimal c.2 ∷ [] = cc (a.3, b.3, c.3, r.0, u.0, v.0, w.0) in
         subst (λ (x : Event). SpelledBy names (codes "crash" ∷ ws) x) r.1 (ap (λ (t : List (List ℕ)). codes "crash" ∷ t) is, u.1, v.1, w.1)

@@ -2,6 +2,8 @@ pub mod Each
 pub mod ContentLemmas
 pub mod ColumnLemmas
 pub mod Distinct
+pub mod EditLemmas
+pub mod NumberLemmas
 pub mod FaultLaws
 pub mod Goods
 pub mod LineLemmas

@@ -1,19 +1,15 @@
 -- Decimal numbers without leading zeros, and the words of nodes and tables.
-use Rattle.std.proofs.Common.{◌≡◌, ℕ, zero, suc, ◌<◌, ◌≤◌, ◌^◌, Bool, true, false, ◌&&◌, eqb, ltb, leb, cond, List, [], ◌∷◌, length, get_or, Option, Some, None, Result, Ok, Err, refl, sym, ap, ◌∙◌}
+use Rattle.std.proofs.Common.{◌≡◌, ℕ, ◌<◌, ◌≤◌, ◌^◌, Bool, true, false, ◌&&◌, eqb, ltb, leb, cond, List, [], ◌∷◌, length, Option, Some, None, Result, Ok, Err, refl, sym, ap, ◌∙◌}
 use Rattle.std.proofs.Common.{subst, inl, inr, arith}
 use Rattle.std.specs.Fmt.{decimal}
-use Rattle.std.specs.Str.{bytes_eq}
 use Rattle.std.specs.Str.Parse.{digits_value, ParsesUnsigned}
-use Rattle.std.proofs.Math.Bool.{or-true}
 use Rattle.std.proofs.lemmas.Bool.{ltb-true, lt-ltb, leb-true, le-leb, cases_Bool, eqb-true, eq-eqb}
-use Rattle.std.proofs.lemmas.Fmt.{decimal_digit, decimal-digits_value, digits_decimal, digits_value-decimal, first_decimal}
 use Rattle.std.proofs.lemmas.Result.{OkIff-at_ok, OkIff-at_err}
-use Rattle.std.proofs.lemmas.Slice.Eq.{bytes_eq-Decides}
 use Rattle.std.proofs.lemmas.Str.Parse.{parse_digits}
 use Rattle.script_words.specs.declared.code.Code.{Code}
 use Rattle.script_words.specs.declared.code.Code.TheVariants.{NoName, NoNumber}
 use Rattle.script_words.specs.Words.{is_number, is_length}
-use Rattle.script_text.specs.Places.{small, node_at, at_most, limited_at, number_at, calls_at}
+use Rattle.script_text.specs.Places.{small, node_at, at_most, limited_at, number_at, number_to}
 use Rattle.script_words.proofs.WordLemmas.{own, both, either}
 use Rattle.script_words.proofs.Numerals.{number-text, number-some, number-right, value-right, length-text, length-right}
 use Rattle.script_text.proofs.Steps.{ok_err, bind-ok}
@@ -120,21 +116,21 @@ pub limited-right : (letter most n : ℕ) → 1 ≤ n → n ≤ most → most < 
 unfolding limited_at
 limited-right letter most n some within few = rw (node-right letter n some (omega arith), le-leb n most within) refl
 
--- how many calls pass
+-- numbers up to one
 
-calls-few : (n m : ℕ) → cond (leb n 4) (Ok n) (Err NoNumber) ≡ Ok m → (n ≡ m) × (m ≤ 4)
-calls-few n m e =
-    let p = if-ok (leb n 4) (Ok n) NoNumber m e in
+within : (most n m : ℕ) → cond (leb n most) (Ok n) (Err NoNumber) ≡ Ok m → (n ≡ m) × (m ≤ most)
+within most n m e =
+    let p = if-ok (leb n most) (Ok n) NoNumber m e in
     let same : n ≡ m = ok_same _ _ p.1 in
-    (same, subst (λ (k : ℕ). k ≤ 4) same (leb-true _ _ p.0))
+    (same, subst (λ (k : ℕ). k ≤ most) same (leb-true _ _ p.0))
 
-pub calls_at-ok : (word : List ℕ) (n : ℕ) → calls_at word ≡ Ok n → (word ≡ decimal n) × (n ≤ 4)
-unfolding calls_at
-calls_at-ok word n e =
-    let p = bind-ok (number_at word) (λ calls. cond (leb calls 4) (Ok calls) (Err NoNumber)) n e in
-    let q = calls-few p.0 n p.2 in
+pub number_to-ok : (most : ℕ) (word : List ℕ) (n : ℕ) → number_to most word ≡ Ok n → (word ≡ decimal n) × (n ≤ most)
+unfolding number_to
+number_to-ok most word n e =
+    let p = bind-ok (number_at word) (λ number. cond (leb number most) (Ok number) (Err NoNumber)) n e in
+    let q = within most p.0 n p.2 in
     ((number_at-ok word p.0 p.1).0 ∙ ap decimal q.0, q.1)
 
-pub calls_at-right : (n : ℕ) → n ≤ 4 → calls_at (decimal n) ≡ Ok n
-unfolding calls_at
-calls_at-right n few = rw (number_at-right n (omega (arith, few)), le-leb n 4 few) refl
+pub number_to-right : (most n : ℕ) → n ≤ most → most < 2 ^ 64 → number_to most (decimal n) ≡ Ok n
+unfolding number_to
+number_to-right most n few less = rw (number_at-right n (omega (arith, few, less)), le-leb n most few) refl

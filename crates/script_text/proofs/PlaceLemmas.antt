@@ -1,12 +1,9 @@
 -- What a word is that is right at its place.
-use Rattle.std.proofs.Common.{◌≡◌, ℕ, ◌<◌, ◌^◌, Bool, true, false, not, ◌||◌, eqb, ltb, cond, List, ◌∷◌, ◌++◌, length, get_or, codes, Option, Some, None, Result, Ok, Err, ℤ, refl, sym, ap, ◌∙◌, subst}
+use Rattle.std.proofs.Common.{◌≡◌, ℕ, Bool, true, false, not, ◌||◌, eqb, cond, List, ◌∷◌, codes, Option, Some, None, Result, Ok, Err, refl, sym, ap, ◌∙◌, subst}
 use Rattle.std.proofs.Common.{inl, inr, arith, true≢false}
-use Rattle.std.specs.Int.Signed.{mag}
-use Rattle.std.specs.Fmt.{decimal, signed_decimal, digits}
-use Rattle.std.proofs.lemmas.List.Sums.{split_at_first, passes_at_first}
-use Rattle.std.specs.List.{before_first, after_first, position_or_len}
+use Rattle.std.specs.Fmt.{decimal, digits}
 use Rattle.std.specs.Str.{bytes_eq}
-use Rattle.std.proofs.lemmas.Bool.{ltb-true, cases_Bool, eqb-true}
+use Rattle.std.proofs.lemmas.Bool.{cases_Bool, eqb-true}
 use Rattle.std.proofs.lemmas.Fmt.{decimal_digit}
 use Rattle.std.proofs.lemmas.Slice.Eq.{bytes_eq-Decides}
 use Rattle.stab_base.specs.Row.{row_of}
@@ -15,16 +12,17 @@ use Rattle.stab_base.specs.declared.node.Node.TheVariants as nodes
 use Rattle.row_value.specs.declared.schema.Scheme.{Scheme}
 use Rattle.row_value.specs.declared.schema.Scheme.TheVariants as schemes
 use Rattle.script_words.specs.declared.code.Code.{Code}
-use Rattle.script_words.specs.declared.code.Code.TheVariants.{NoNumber, NoName, NoRow, NoValue, NotDeclared, Twice, Unbuilt}
+use Rattle.script_words.specs.declared.code.Code.TheVariants.{NoNumber, NoName, NoRow, NotDeclared, Twice, Unbuilt}
 use Rattle.script_text.specs.Names.{Names, has_store, has_table, has_name, has_client}
 use Rattle.script_words.specs.Words.{is_name}
-use Rattle.script_text.specs.Places.{◌>>=◌, node_at, built, known, limited_at, passed, fresh, opened, opened_at, client_at, store_at, begins_with, party_at, table_at, store_number, table_number}
+use Rattle.script_text.specs.Places.{◌>>=◌, node_at, built, known, limited_at, passed, fresh, opened, opened_at, client_at, store_at}
+use Rattle.script_text.specs.Places.{begins_with, ready_client_at, party_at, table_at, store_number, table_number}
 use Rattle.script_text.specs.Places.{client_number, new_store_at, new_table_at, new_client_at, gate_at, new_name_at, scheme_at, chunk_at, row_at, found_row}
-use Rattle.script_text.specs.Grammar.{IsChunk, IsUpTo, client_word, table_word, node_word, IsClient, IsTable, IsNode}
+use Rattle.script_text.specs.Grammar.{IsChunk, IsUpTo, client_word, table_word, node_word, IsClient, IsReady, IsTable, IsNode}
 use Rattle.script_text.proofs.Steps.{ok_err, bind-ok}
 use Rattle.script_text.proofs.Numbers.{if-ok, unless-ok, some_same, ok_same, none_some, node-some, limited-some}
 
-positive : (b : Bool) → not b ≡ false → b ≡ true
+pub positive : (b : Bool) → not b ≡ false → b ≡ true
 positive true e = refl
 positive false e = absurd (true≢false e)
 
@@ -118,10 +116,16 @@ module _ (names : Names) (word : List ℕ) where
       let p = bind-ok (store_at names word) (λ number. Ok (nodes.Store number)) node e in
       subst (λ (x : Node). (word ≡ node_word x) × IsNode names x) (ok_same _ _ p.2) (store_at-ok p.0 p.1)
 
-  client-ok : (node : Node) → (client_at names word >>= λ number. Err Unbuilt) ≡ Ok node → ⊥
+  pub ready_client_at-ok : (n : ℕ) → ready_client_at names word ≡ Ok n → (word ≡ client_word n) × IsReady names n
+  unfolding ready_client_at
+  ready_client_at-ok n e =
+      let p = bind-ok (client_at names word) (λ number. Err Unbuilt) n e in
+      absurd (ok_err n Unbuilt (sym p.2))
+
+  client-ok : (node : Node) → (ready_client_at names word >>= λ number. Ok (nodes.Client number)) ≡ Ok node → (word ≡ node_word node) × IsNode names node
   client-ok node e =
-      let p = bind-ok (client_at names word) (λ number. Err Unbuilt) node e in
-      ok_err node Unbuilt (sym p.2)
+      let p = bind-ok (ready_client_at names word) (λ number. Ok (nodes.Client number)) node e in
+      subst (λ (x : Node). (word ≡ node_word x) × IsNode names x) (ok_same _ _ p.2) (ready_client_at-ok p.0 p.1)
 
   gate-ok : (node : Node) → (node_at 71 word >>= λ number. Err NotDeclared) ≡ Ok node → ⊥
   gate-ok node e =
@@ -134,7 +138,7 @@ module _ (names : Names) (word : List ℕ) where
     | inl store ↦ store-ok node (rw store at e)
     | inr other ↦ elim (cases_Bool (begins_with 71 word)) [
       | inl gate ↦ absurd (gate-ok node (rw (other, gate) at e))
-      | inr neither ↦ absurd (client-ok node (rw (other, neither) at e))
+      | inr neither ↦ client-ok node (rw (other, neither) at e)
     ]
   ]
 

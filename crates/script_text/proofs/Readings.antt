@@ -10,15 +10,15 @@ use Rattle.script_text.specs.Faults.{bad}
 use Rattle.script_text.specs.Verbs.{verb_of, name_of, is_unbuilt}
 use Rattle.script_text.specs.Names.{Names, has_no_store}
 use Rattle.script_text.specs.Reading.{write_in, show_in, sum_in, sync_in, pull_in, deliver_in, store_show_in, history_in, chunks_in, hold_in, free_in, work_in, work_all_in, crash_in, start_in}
-use Rattle.script_text.specs.Reading.{unlimited, in_time, built_in, with_verb, event_in, found, words_in}
+use Rattle.script_text.specs.Reading.{link_in, edit_in, unlimited, in_time, built_in, with_verb, event_in, found, words_in}
 use Rattle.script_text.specs.Grammar.{SpelledBy, VerbFault, WordsFault, limit_of, WordsLimit}
 use Rattle.script_text.proofs.Steps.{ok_err, bind-ok, bind-err}
 use Rattle.script_text.proofs.Numbers.{some_same, none_some}
 use Rattle.script_text.proofs.VerbWords.{verb-some, verb-none, verb-again}
 use Rattle.script_text.proofs.Goods.{Told, store-ok, table-ok, client-ok, write-ok, show-ok, sum-ok, sync-ok, pull-ok, deliver-ok, store_show-ok, history-ok, chunks-ok}
-use Rattle.script_text.proofs.Goods.{hold-ok, free-ok, work-ok, work_all-ok, crash-ok, start-ok}
+use Rattle.script_text.proofs.Goods.{link-ok, edit-ok, hold-ok, free-ok, work-ok, work_all-ok, crash-ok, start-ok}
 use Rattle.script_text.proofs.Stops.{store-err, table-err, client-err, write-err, show-err, sum-err, sync-err, pull-err}
-use Rattle.script_text.proofs.Stops.{deliver-err, store_show-err, history-err, chunks-err, hold-err, free-err, work-err, work_all-err, crash-err, start-err}
+use Rattle.script_text.proofs.Stops.{link-err, edit-err, link-fault, edit-fault, deliver-err, store_show-err, history-err, chunks-err, hold-err, free-err, work-err, work_all-err, crash-err, start-err}
 use Rattle.script_text.proofs.Stops.{store-fault, table-fault, client-fault, chunks-fault, hold-fault, free-fault, work-fault, work_all-fault, crash-fault, start-fault}
 use Rattle.script_text.proofs.Stops.{write-fault, show-fault, sum-fault, sync-fault, pull-fault, deliver-fault, store_show-fault, history-fault}
 
@@ -87,6 +87,8 @@ module _ (names : Names) (first : List ℕ) (ws : List (List ℕ)) where
       let p = in_time-ok _ told q.1 in table-ok names ws told p.0 q.0 p.1
   event-built verbs.Client told h = let p = in_time-ok _ told h in client-ok names ws told p.0 p.1
   event-built verbs.Write told h = plain-built verbs.Write (write_in names ws) told refl (write-ok names ws) h
+  event-built (verbs.Edit verb) told h = plain-built (verbs.Edit verb) (edit_in names verb ws) told refl (λ e. edit-ok names ws e verb) h
+  event-built verbs.Link told h = plain-built verbs.Link (link_in names ws) told refl (link-ok names ws) h
   event-built verbs.Show told h = plain-built verbs.Show (show_in names ws) told refl (show-ok names ws) h
   event-built verbs.Sum told h = plain-built verbs.Sum (sum_in names ws) told refl (sum-ok names ws) h
   event-built verbs.Sync told h = plain-built verbs.Sync (sync_in names ws) told refl (sync-ok names ws) h
@@ -115,6 +117,8 @@ module _ (names : Names) (first : List ℕ) (ws : List (List ℕ)) where
   fault-built verbs.Table f h = stored (has_no_store names) names.started f h (table-err names ws f)
   fault-built verbs.Client f h = early names.started f h (client-err names ws f)
   fault-built verbs.Write f h = write-err names ws f (unlimited-err _ f h)
+  fault-built (verbs.Edit verb) f h = edit-err names ws f verb (unlimited-err _ f h)
+  fault-built verbs.Link f h = link-err names ws f (unlimited-err _ f h)
   fault-built verbs.Show f h = show-err names ws f (unlimited-err _ f h)
   fault-built verbs.Sum f h = sum-err names ws f (unlimited-err _ f h)
   fault-built verbs.Sync f h = sync-err names ws f (unlimited-err _ f h)
@@ -143,6 +147,8 @@ module _ (names : Names) (first : List ℕ) (ws : List (List ℕ)) where
   built-fault verbs.Table f h = stored-fault (has_no_store names) names.started f h (table-fault names ws f)
   built-fault verbs.Client f h = early-fault names.started f h (client-fault names ws f)
   built-fault verbs.Write f h = rw (write-fault names ws f h) refl
+  built-fault (verbs.Edit verb) f h = rw (edit-fault names ws f verb h) refl
+  built-fault verbs.Link f h = rw (link-fault names ws f h) refl
   built-fault verbs.Show f h = rw (show-fault names ws f h) refl
   built-fault verbs.Sum f h = rw (sum-fault names ws f h) refl
   built-fault verbs.Sync f h = rw (sync-fault names ws f h) refl

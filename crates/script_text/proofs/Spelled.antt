@@ -1,51 +1,42 @@
 -- Words that spell an event are read as it, and none of them is at fault.
-use Rattle.std.proofs.Common.{◌≡◌, ◌≢◌, ℕ, ◌+◌, Bool, true, false, ltb, List, [], ◌∷◌, ◌++◌, map, length, codes, cond, Option, Some, None, Result, Ok, Err, refl, sym, ap, ◌∙◌}
-use Rattle.std.specs.List.{AllByRecursion}
+use Rattle.std.proofs.Common.{◌≡◌, ℕ, Bool, false, ltb, List, [], ◌∷◌, map, length, codes, cond, Option, Some, None, Result, Ok, Err, refl, sym, ap, ◌∙◌, arith}
 use Rattle.std.specs.Fmt.{decimal}
 use Rattle.std.proofs.lemmas.Bool.{le-ltb}
-use Rattle.std.proofs.lemmas.List.{length-map}
 use Rattle.row_value.specs.declared.schema.Scheme.TheVariants as schemes
+use Rattle.row_edits.specs.declared.change.Edit.{Edit}
 use Rattle.table_model.specs.declared.event.Event.{Event}
 use Rattle.table_model.specs.declared.event.Event.TheVariants as events
 use Rattle.row_value.specs.declared.schema.Schema.{Schema}
 use Rattle.row_value.specs.declared.content.Content.{Content}
-use Rattle.script_words.specs.declared.code.Code.{Code}
 use Rattle.script_words.specs.declared.code.Code.TheVariants.{NotDeclared, Late}
 use Rattle.script_text.specs.declared.fault.BadLine.{BadLine}
 use Rattle.script_text.specs.declared.verb.Verb.{Verb}
 use Rattle.script_text.specs.declared.verb.Verb.TheVariants as verbs
 use Rattle.script_text.specs.Faults.{bad}
 use Rattle.script_text.specs.Verbs.{name_of}
-use Rattle.script_text.specs.Names.{Names, has_no_store}
-use Rattle.script_words.specs.Words.{is_name}
+use Rattle.script_text.specs.Names.{Names, has_no_store, columns_of}
 use Rattle.script_text.specs.Places.{names_of}
 use Rattle.script_words.specs.Columns.{column_word}
-use Rattle.script_text.specs.Reading.{next_in, word_in, end_in, store_in, made_table, table_in, client_in, write_in, client_row_in, show_in}
+use Rattle.script_text.specs.Reading.{store_in, made_table, table_in, client_in, write_in, client_row_in, show_in}
 use Rattle.script_text.specs.Reading.{sum_in, client_table_in, sync_in, pull_in, deliver_in, store_show_in, history_in, chunks_in}
-use Rattle.script_text.specs.Reading.{node_in, hold_in, free_in, work_in, work_all_in, start_in, crash_in}
+use Rattle.script_text.specs.Reading.{node_in, hold_in, free_in, work_in, work_all_in, start_in, crash_in, link_in, edit_in}
 use Rattle.script_text.specs.Reading.{unlimited, in_time, built_in, event_in, words_in}
 use Rattle.stab_base.specs.Row.{row_of}
 use Rattle.stab_base.specs.declared.node.Node.{Node}
 use Rattle.script_text.specs.Grammar.{SpelledBy, SpellsStore, SpellsTable, SpellsClient, SpellsWrite, SpellsShow, SpellsSum, SpellsSync}
 use Rattle.script_text.specs.Grammar.{SpellsPull, SpellsDeliver, SpellsStoreShow, SpellsHistory, SpellsChunks, SpellsHold, SpellsFree, SpellsWork, SpellsWorkAll, SpellsStart, SpellsCrash, client_word}
-use Rattle.script_text.specs.Grammar.{table_word, tables_word, node_word, IsClient, IsTable, IsNode}
-use Rattle.script_text.proofs.Numbers.{number_at-right, calls_at-right}
+use Rattle.script_text.specs.Grammar.{table_word, tables_word, node_word, IsClient, IsTable, IsNode, verb_for, SpellsEdited, SpellsLink}
+use Rattle.script_text.proofs.Numbers.{number_at-right, number_to-right}
 use Rattle.script_text.proofs.Distinct.{distinct-new}
+use Rattle.script_text.proofs.Steps.{word_in-right, end_in-right}
+use Rattle.script_text.proofs.EditLemmas.{direction_at-right, change_in-right}
 use Rattle.script_text.proofs.ColumnLemmas.{some_columns_in-right}
 use Rattle.script_text.proofs.ContentLemmas.{content-right}
 use Rattle.script_text.proofs.VerbWords.{verb-again}
-use Rattle.script_text.proofs.Rights.{client_at-right, party_at-right, table_at-right, new_store_at-right, new_table_at-right, new_client_at-right, tables_at-right, new_name_at-right}
+use Rattle.script_text.proofs.Rights.{client_at-right, ready_client_at-right, party_at-right, table_at-right, new_store_at-right, new_table_at-right}
+use Rattle.script_text.proofs.Rights.{new_client_at-right, tables_at-right, new_name_at-right}
 use Rattle.script_text.proofs.Rights.{gate_at-right, scheme_at-right}
 use Rattle.script_text.proofs.Rights.{chunk_at-right, row_at-right}
-
-word_in-right : {X Y : Type 0} (at : ℕ) (place : List ℕ → Result X Code) (w : List ℕ) (ws : List (List ℕ)) (next : X → List (List ℕ) → Result Y BadLine) (x : X) → place w ≡ Ok x
-    → word_in at place (w ∷ ws) next ≡ next x ws
-unfolding word_in next_in
-word_in-right at place w ws next x e = rw e refl
-
-end_in-right : (at : ℕ) → end_in at [] ≡ Ok tt
-unfolding end_in
-end_in-right at = refl
 
 event_in-right : (names : Names) (verb : Verb) (ws : List (List ℕ)) (e : Event) → built_in names verb ws ≡ Ok (Ok e) → words_in names (name_of verb ∷ ws) ≡ Ok (Ok (Some e))
 unfolding event_in
@@ -150,7 +141,7 @@ module _ (names : Names) where
   crash-right ws node calls pick h =
       let read : crash_in names (node_word node ∷ decimal calls ∷ decimal pick ∷ []) ≡ Ok (events.Crash node calls pick) =
       (word_in-right 1 _ (node_word node) _ _ node (party_at-right names node h.1)
-      ∙ word_in-right 2 _ (decimal calls) _ _ calls (calls_at-right calls h.2)
+      ∙ word_in-right 2 _ (decimal calls) _ _ calls (number_to-right 4 calls h.2 (omega arith))
       ∙ word_in-right 3 _ (decimal pick) _ _ pick (number_at-right pick h.3)
       ∙ rw (end_in-right 4) refl)
       in
@@ -164,6 +155,28 @@ module _ (names : Names) where
       ∙ word_in-right 2 _ (table_word table) _ _ table (table_at-right names table q)
       ∙ word_in-right 3 _ place _ _ row (row_at-right place row r)
       ∙ rw (end_in-right 4) refl
+
+  link-right : (ws : List (List ℕ)) (client : ℕ) (up : Bool) → SpellsLink names ws client up → words_in names ws ≡ Ok (Ok (Some (events.Link client up)))
+  unfolding link_in
+  link-right ws client up h =
+      let read : link_in names (client_word client ∷ cond up (codes "up") (codes "down") ∷ []) ≡ Ok (events.Link client up) =
+      (word_in-right 1 _ (client_word client) _ _ client (ready_client_at-right names client h.1)
+      ∙ word_in-right 2 _ (cond up (codes "up") (codes "down")) _ _ up (direction_at-right up)
+      ∙ rw (end_in-right 3) refl)
+      in
+      rw h.0 (event_in-right names verbs.Link (client_word client ∷ cond up (codes "up") (codes "down") ∷ []) (events.Link client up) (ap unlimited read))
+
+  edit-right : (ws : List (List ℕ)) (client table : ℕ) (row : List ℕ) (edit : Edit) → SpellsEdited names ws client table row edit
+      → words_in names ws ≡ Ok (Ok (Some (events.Edit client table row edit)))
+  unfolding edit_in
+  edit-right ws client table row edit h =
+      let read : edit_in names (verb_for edit) (client_word client ∷ table_word table ∷ h.0 ∷ h.1) ≡ Ok (events.Edit client table row edit) =
+      (word_in-right 1 _ (client_word client) _ _ client (ready_client_at-right names client h.3)
+      ∙ word_in-right 2 _ (table_word table) _ _ table (table_at-right names table h.4)
+      ∙ word_in-right 3 _ h.0 _ _ row (row_at-right h.0 row h.5)
+      ∙ rw (change_in-right (columns_of names table) h.1 edit h.6) refl)
+      in
+      rw h.2 (event_in-right names (verbs.Edit (verb_for edit)) (client_word client ∷ table_word table ∷ h.0 ∷ h.1) (events.Edit client table row edit) (ap unlimited read))
 
   show-right : (ws : List (List ℕ)) (client table : ℕ) (row : List ℕ) → SpellsShow names ws client table row → words_in names ws ≡ Ok (Ok (Some (events.Show client table row)))
   show-right ws client table row h =
@@ -222,6 +235,8 @@ module _ (names : Names) where
   spelled ws (events.Table table schema) h = table-right ws table schema h
   spelled ws (events.Client client gate tables) h = client-right ws client gate tables h
   spelled ws (events.Write client table row content) h = write-right ws client table row content h
+  spelled ws (events.Edit client table row edit) h = edit-right ws client table row edit h
+  spelled ws (events.Link client up) h = link-right ws client up h
   spelled ws (events.Show client table row) h = show-right ws client table row h
   spelled ws (events.Sum client table row) h = sum-right ws client table row h
   spelled ws (events.Sync client table) h = sync-right ws client table h

@@ -1,5 +1,5 @@
 -- A line read word by word: what a reading that succeeds has met, and where one that fails stops.
-use Rattle.std.proofs.Common.{◌≡◌, ℕ, ◌+◌, List, [], ◌∷◌, ◌++◌, Option, Result, Ok, Err, refl, sym}
+use Rattle.std.proofs.Common.{◌≡◌, ℕ, ◌+◌, List, [], ◌∷◌, Option, Result, Ok, Err, refl, sym}
 use Rattle.std.specs.Option.{MatchOption}
 use Rattle.std.specs.Result.{MatchResult}
 use Rattle.row_value.specs.declared.content.Content.TheVariants.{Row}
@@ -55,6 +55,15 @@ module _ {X Y : Type 0} (at : ℕ) (place : List ℕ → Result X Code) (next : 
     unfolding word_in next_in
     word_in-fault [] h go = cc
     word_in-fault (w ∷ rest) h go = refused w rest (place w) refl h (λ x is more. go w rest x refl is more)
+
+pub word_in-right : {X Y : Type 0} (at : ℕ) (place : List ℕ → Result X Code) (w : List ℕ) (ws : List (List ℕ)) (next : X → List (List ℕ) → Result Y BadLine) (x : X) → place w ≡ Ok x
+    → word_in at place (w ∷ ws) next ≡ next x ws
+unfolding word_in next_in
+word_in-right at place w ws next x e = rw e refl
+
+pub end_in-right : (at : ℕ) → end_in at [] ≡ Ok tt
+unfolding end_in
+end_in-right at = refl
 
 module _ {Y : Type 0} (at : ℕ) (y : Y) where
   pub end-ok : (ws : List (List ℕ)) (z : Y) → (end_in at ws >>= λ done. Ok y) ≡ Ok z → (ws ≡ []) × (y ≡ z)

@@ -1,5 +1,5 @@
 -- Forms of words.
-use Rattle.std.proofs.Common.{◌≡◌, ◌≢◌, ℕ, ◌<◌, ◌^◌, Bool, true, false, ◌&&◌, eqb, ltb, List, [], ◌∷◌, length, get_or, Some, Result, Ok, Err, refl, sym, ap, arith, inl, inr}
+use Rattle.std.proofs.Common.{◌≡◌, ◌≢◌, ℕ, ◌<◌, ◌^◌, true, false, eqb, ltb, List, [], ◌∷◌, length, Some, Result, Ok, Err, refl, ap, inl, inr}
 use Rattle.std.specs.Result.{OkIff, MatchResult, result_ok}
 use Rattle.std.proofs.lemmas.Str.{is_utf8-from_IsUtf8, IsUtf8-from_is_utf8}
 use Rattle.std.specs.Option.{MatchOption}

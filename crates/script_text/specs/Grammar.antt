@@ -1,7 +1,7 @@
 -- The lines of a script: which are passed over, which spell an event, and what is the first word at fault.
 use Rattle.std.specs.Prelude.{◌≡◌, ◌≢◌, ◌⊎◌, ℕ, ◌==◌, ◌+◌, ◌<◌, ◌≤◌, ◌^◌, nat_lt, true, false, List, [], ◌∷◌, ◌++◌}
 use Rattle.std.specs.Prelude.{length, drop, map, codes, Option, Some, None, MatchOption, Result, Ok, Err, MatchResult}
-use Rattle.std.specs.Prelude.{if◌then◌else◌}
+use Rattle.std.specs.Prelude.{if◌then◌else◌, Bool}
 use Rattle.std.specs.List.{AllByRecursion, IsDistinct, join_with_byte}
 use Rattle.std.specs.Fmt.{decimal}
 use Rattle.std.specs.Str.{IsUtf8, bytes_eq}
@@ -13,9 +13,15 @@ use Rattle.row_value.specs.declared.schema.Schema.{Schema}
 use Rattle.row_value.specs.declared.schema.Column.{Column}
 use Rattle.row_value.specs.declared.content.Content.{Content}
 use Rattle.row_value.specs.declared.content.Content.TheVariants.{Gone, Row}
+use Rattle.row_edits.specs.declared.change.ColumnValue.{ColumnValue}
+use Rattle.row_edits.specs.declared.change.Edit.{Edit}
+use Rattle.row_edits.specs.declared.change.Edit.TheVariants as edits
+use Rattle.row_edits.specs.declared.change.Value.{Value as Changed}
+use Rattle.row_edits.specs.declared.change.Value.TheVariants as changed
+use Rattle.hex.specs.Hex.{decode_of}
 use Rattle.value_codec.specs.SchemaSpelling.{CellsFirst}
 use Rattle.script_words.specs.Columns.{column_word}
-use Rattle.script_words.specs.Values.{SpellsCell, SpellsObject}
+use Rattle.script_words.specs.Values.{SpellsCell, SpellsObject, bytes_at}
 use Rattle.table_model.specs.declared.event.Event.{Event}
 use Rattle.table_model.specs.declared.event.Event.TheVariants as events
 use Rattle.script_words.specs.declared.code.Code.{Code}
@@ -24,18 +30,21 @@ use Rattle.script_words.specs.declared.code.Code.TheVariants.{Unbuilt}
 use Rattle.script_text.specs.declared.fault.BadLine.{BadLine}
 use Rattle.script_text.specs.declared.fault.ScriptFault.{ScriptFault}
 use Rattle.script_text.specs.declared.fault.ScriptFault.TheVariants as faults
+use Rattle.script_text.specs.declared.verb.EditVerb.{EditVerb}
+use Rattle.script_text.specs.declared.verb.EditVerb.TheVariants as changes
 use Rattle.script_text.specs.declared.verb.Verb.{Verb}
 use Rattle.script_text.specs.declared.verb.Verb.TheVariants as verbs
 use Rattle.script_text.specs.Faults.{bad}
 use Rattle.script_words.specs.Words.{words_of, is_name, is_comment}
-use Rattle.script_text.specs.Verbs.{name_of, is_unbuilt}
+use Rattle.script_text.specs.Verbs.{edit_name, name_of, is_unbuilt}
 use Rattle.script_text.specs.Places.{client_at, table_at, new_store_at, new_table_at, new_client_at, gate_at, tables_at}
 use Rattle.script_text.specs.Places.{new_name_at, scheme_at, chunk_at, names_of, new_column_at, with_column, row_at}
 use Rattle.script_text.specs.Places.{value_behind, with_value, number_at, party_at, calls_at, passed, or_else}
-use Rattle.script_text.specs.Places.{store_number, table_number}
+use Rattle.script_text.specs.Places.{store_number, table_number, ready_client_at, direction_at, column_at, place_at}
+use Rattle.script_text.specs.Places.{next_change, with_change}
 use Rattle.script_text.specs.Places.{client_number, tables_passed, parts_at}
 pub use Rattle.script_text.specs.Names.{Names, no_names, with_event, has_store, has_table, has_name, has_client}
-pub use Rattle.script_text.specs.Names.{has_no_store}
+pub use Rattle.script_text.specs.Names.{has_no_store, columns_of, column_number}
 
 -- a line that begins with `#`, and a line without a word
 abbrev pub IsPassed : List ℕ → Type 0
@@ -124,6 +133,52 @@ SpellsWrite names words client table row content =
     × (words ≡ codes "write" ∷ client_word client ∷ table_word table ∷ place ∷ values)
     × IsClient names client × IsTable names table × (row_of place ≡ Some row) × SpellsContent values content
 
+-- a client that is declared, on a line of its devices, its link or its edits; these lines aren't built yet
+abbrev pub IsReady : Names → ℕ → Type 0
+IsReady names client = ⊥
+
+-- the name of the column of this number among these
+abbrev pub IsColumn : List Column → List ℕ → ℕ → Type 0
+IsColumn columns name column = (is_name name ≡ true) × (column_number columns name ≡ Some column)
+
+abbrev pub SpellsChanged : List ℕ → Changed → Type 0
+SpellsChanged word (changed.Cell cell) = SpellsCell word cell
+SpellsChanged word (changed.Object object) = SpellsObject word object
+
+-- COL=VALUE
+abbrev pub SpellsChange : List Column → List ℕ → ColumnValue → Type 0
+SpellsChange columns word change =
+    (name value : List ℕ) × (word ≡ name ++ (codes "=" ++ value)) × IsColumn columns name change.column
+    × SpellsChanged value change.value
+
+-- `COL=VALUE ..`, one or more; `COL AT HEX`, two digits a byte; or nothing
+abbrev pub SpellsEdit : List Column → List (List ℕ) → Edit → Type 0
+SpellsEdit columns words (edits.Update made) = (words ≢ []) × AreSpelled (SpellsChange columns) words made
+SpellsEdit columns words (edits.Patch patch) =
+    (name digits : List ℕ) × (words ≡ name ∷ decimal patch.at ∷ digits ∷ [])
+    × IsColumn columns name patch.column × (patch.at < 2 ^ 32) × (decode_of digits ≡ Ok patch.bytes)
+SpellsEdit columns words edits.Delete = words ≡ []
+
+-- the verb of an edit
+abbrev pub verb_for : Edit → EditVerb
+verb_for (edits.Update made) = changes.Update
+verb_for (edits.Patch patch) = changes.Patch
+verb_for edits.Delete = changes.Delete
+
+-- `update C T ROW COL=VALUE ..`, `patch C T ROW COL AT HEX`, `delete C T ROW`
+abbrev pub SpellsEdited : Names → List (List ℕ) → ℕ → ℕ → List ℕ → Edit → Type 0
+SpellsEdited names words client table row edit =
+    (place : List ℕ) × (more : List (List ℕ))
+    × (words ≡ edit_name (verb_for edit) ∷ client_word client ∷ table_word table ∷ place ∷ more)
+    × IsReady names client × IsTable names table × (row_of place ≡ Some row)
+    × SpellsEdit (columns_of names table) more edit
+
+-- `link C up` and `link C down`
+abbrev pub SpellsLink : Names → List (List ℕ) → ℕ → Bool → Type 0
+SpellsLink names words client up =
+    (words ≡ codes "link" ∷ client_word client ∷ (if up then codes "up" else codes "down") ∷ [])
+    × IsReady names client
+
 -- `VERB C T ROW`
 abbrev pub SpellsClientRow : List ℕ → Names → List (List ℕ) → ℕ → ℕ → List ℕ → Type 0
 SpellsClientRow verb names words client table row =
@@ -172,11 +227,11 @@ node_word (nodes.Store store) = codes "S" ++ decimal store
 node_word (nodes.Gate gate) = codes "G" ++ decimal gate
 node_word (nodes.Client client) = client_word client
 
--- a Store that is declared; no gateway can be yet, and a client has no devices yet
+-- a Store or a client that is declared; no gateway can be yet
 abbrev pub IsNode : Names → Node → Type 0
 IsNode names (nodes.Store store) = (1 ≤ store) × (store < 2 ^ 32) × (has_store names store ≡ true)
 IsNode names (nodes.Gate gate) = ⊥
-IsNode names (nodes.Client client) = ⊥
+IsNode names (nodes.Client client) = IsReady names client
 
 -- `VERB N`
 abbrev pub SpellsNode : List ℕ → Names → List (List ℕ) → Node → Type 0
@@ -213,6 +268,8 @@ SpelledBy names words (events.Store store) = SpellsStore names words store
 SpelledBy names words (events.Table table schema) = SpellsTable names words table schema
 SpelledBy names words (events.Client client gate tables) = SpellsClient names words client gate tables
 SpelledBy names words (events.Write client table row content) = SpellsWrite names words client table row content
+SpelledBy names words (events.Edit client table row edit) = SpellsEdited names words client table row edit
+SpelledBy names words (events.Link client up) = SpellsLink names words client up
 SpelledBy names words (events.Show client table row) = SpellsShow names words client table row
 SpelledBy names words (events.Sum client table row) = SpellsSum names words client table row
 SpelledBy names words (events.Sync client table) = SpellsSync names words client table
@@ -256,6 +313,9 @@ EachFault judge add row at (word ∷ words) fault =
 abbrev pub ColumnsFault : Rest
 ColumnsFault = EachFault new_column_at with_column []
 
+abbrev pub ChangesFault : List Column → Rest
+ChangesFault columns = EachFault (next_change columns) with_change []
+
 abbrev pub ValuesFault : Rest
 ValuesFault = EachFault value_behind with_value ([], [])
 
@@ -271,6 +331,10 @@ FirstFault at (place ∷ places) more [] fault = fault ≡ bad Missing at
 FirstFault at (place ∷ places) more (word ∷ words) fault =
     MatchOption (place word) (FirstFault (at + 1) places more words fault) (λ code. fault ≡ bad code at)
 
+-- words at these places, and no more
+abbrev pub FirstFaultOf : List (List ℕ → Option Code) → Rest
+FirstFaultOf places at words fault = FirstFault at places NoMore words fault
+
 -- the places of a line that is built, behind its verb
 abbrev pub places_of : Names → Verb → List (List ℕ → Option Code)
 places_of names verbs.Store = (λ word. fault_of (new_store_at names word)) ∷ []
@@ -284,6 +348,11 @@ places_of names verbs.Client =
 places_of names verbs.Write =
     (λ word. fault_of (client_at names word)) ∷ (λ word. fault_of (table_at names word))
     ∷ (λ word. fault_of (row_at word)) ∷ []
+places_of names (verbs.Edit verb) =
+    (λ word. fault_of (ready_client_at names word)) ∷ (λ word. fault_of (table_at names word))
+    ∷ (λ word. fault_of (row_at word)) ∷ []
+places_of names verbs.Link =
+    (λ word. fault_of (ready_client_at names word)) ∷ (λ word. fault_of (direction_at word)) ∷ []
 places_of names verbs.Show =
     (λ word. fault_of (client_at names word)) ∷ (λ word. fault_of (table_at names word))
     ∷ (λ word. fault_of (row_at word)) ∷ []
@@ -305,26 +374,40 @@ places_of names verbs.Crash =
     ∷ (λ word. fault_of (number_at word)) ∷ []
 places_of names verbs.Start = (λ word. fault_of (party_at names word)) ∷ []
 
--- what stands behind them
-abbrev pub more_of : Verb → Rest
-more_of verbs.Store = NoMore
-more_of verbs.Table = OneOrMore ColumnsFault
-more_of verbs.Client = NoMore
-more_of verbs.Write = OneOrMore ValuesFault
-more_of verbs.Show = NoMore
-more_of verbs.Sum = NoMore
-more_of verbs.Sync = NoMore
-more_of verbs.Pull = NoMore
-more_of verbs.Deliver = NoMore
-more_of verbs.StoreShow = NoMore
-more_of verbs.History = NoMore
-more_of verbs.Chunks = NoMore
-more_of verbs.Hold = NoMore
-more_of verbs.Free = NoMore
-more_of verbs.Work = NoMore
-more_of verbs.WorkAll = NoMore
-more_of verbs.Crash = NoMore
-more_of verbs.Start = NoMore
+-- the places of a patch behind its row
+abbrev pub patch_places : List Column → List (List ℕ → Option Code)
+patch_places columns =
+    (λ word. fault_of (column_at columns word)) ∷ (λ word. fault_of (place_at word))
+    ∷ (λ word. fault_of (bytes_at word)) ∷ []
+
+-- what stands behind the row
+abbrev pub change_fault : EditVerb → List Column → Rest
+change_fault changes.Update columns = OneOrMore (ChangesFault columns)
+change_fault changes.Patch columns = FirstFaultOf (patch_places columns)
+change_fault changes.Delete columns = NoMore
+
+-- what stands behind them, where these are the columns of the table that the line names
+abbrev pub more_of : Verb → List Column → Rest
+more_of verbs.Store columns = NoMore
+more_of verbs.Table columns = OneOrMore ColumnsFault
+more_of verbs.Client columns = NoMore
+more_of verbs.Write columns = OneOrMore ValuesFault
+more_of (verbs.Edit verb) columns = change_fault verb columns
+more_of verbs.Link columns = NoMore
+more_of verbs.Show columns = NoMore
+more_of verbs.Sum columns = NoMore
+more_of verbs.Sync columns = NoMore
+more_of verbs.Pull columns = NoMore
+more_of verbs.Deliver columns = NoMore
+more_of verbs.StoreShow columns = NoMore
+more_of verbs.History columns = NoMore
+more_of verbs.Chunks columns = NoMore
+more_of verbs.Hold columns = NoMore
+more_of verbs.Free columns = NoMore
+more_of verbs.Work columns = NoMore
+more_of verbs.WorkAll columns = NoMore
+more_of verbs.Crash columns = NoMore
+more_of verbs.Start columns = NoMore
 
 -- a fault of the verb at its place: a `table` without a Store, and a declaration behind an event
 abbrev pub verb_fault : Names → Verb → Option Code
@@ -333,6 +416,8 @@ verb_fault names verbs.Table = if has_no_store names then Some NotDeclared
     else (if names.started then Some Late else None)
 verb_fault names verbs.Client = if names.started then Some Late else None
 verb_fault names verbs.Write = None
+verb_fault names (verbs.Edit verb) = None
+verb_fault names verbs.Link = None
 verb_fault names verbs.Show = None
 verb_fault names verbs.Sum = None
 verb_fault names verbs.Sync = None
@@ -348,9 +433,19 @@ verb_fault names verbs.WorkAll = None
 verb_fault names verbs.Crash = None
 verb_fault names verbs.Start = None
 
+abbrev pub columns_at : Names → Result ℕ Code → List Column
+columns_at names (Ok table) = columns_of names table
+columns_at names (Err code) = []
+
+-- the columns of the table that the second word behind a verb names
+abbrev pub columns_named : Names → List (List ℕ) → List Column
+columns_named names (client ∷ table ∷ words) = columns_at names (table_at names table)
+columns_named names words = []
+
 abbrev pub VerbFault : Names → Verb → List (List ℕ) → BadLine → Type 0
 VerbFault names verb words fault =
-    MatchOption (verb_fault names verb) (FirstFault 1 (places_of names verb) (more_of verb) words fault)
+    MatchOption (verb_fault names verb)
+    (FirstFault 1 (places_of names verb) (more_of verb (columns_named names words)) words fault)
     (λ code. fault ≡ bad code 0)
 
 -- a verb that is built, one that isn't, and no verb

@@ -1,12 +1,15 @@
 -- What a script has declared so far, and whether an event was read.
-use Rattle.std.specs.Prelude.{◌≡◌, ℕ, ◌==◌, length, Bool, true, false, List, [], is_some, map, Vec}
+use Rattle.std.specs.Prelude.{◌≡◌, ℕ, ◌==◌, length, Bool, true, false, List, [], Option}
+use Rattle.std.specs.Prelude.{Some, None, is_some, map, Vec, if◌then◌else◌}
 use Rattle.std.specs.Ordering.{nat_cmp}
 use Rattle.std.specs.Cmp.Lexicographic.{slice_cmp}
-use Rattle.std.specs.List.{list_any}
+use Rattle.std.specs.List.{list_any, position_from}
+use Rattle.std.specs.Str.{bytes_eq}
 use Rattle.std.specs.Map.{lookup}
 use Rattle.std.specs.BTreeMap.{is_at, insert_entry}
 use Rattle.std.specs.BTreeSet.{BTreeSet, insert_key}
 use Rattle.script_words.specs.Words.{is_among}
+use Rattle.row_value.specs.declared.schema.Column.{Column}
 use Rattle.row_value.specs.declared.schema.Schema.{Schema}
 use Rattle.table_model.specs.declared.event.Event.{Event}
 use Rattle.table_model.specs.declared.event.Event.TheVariants as events
@@ -40,6 +43,8 @@ with_event n (events.Table table schema) =
     }
 with_event n (events.Client client gate tables) = record n { clients = insert_key nat_cmp n.clients client }
 with_event n (events.Write client table row content) = record n { started = true }
+with_event n (events.Edit client table row edit) = record n { started = true }
+with_event n (events.Link client up) = record n { started = true }
 with_event n (events.Show client table row) = record n { started = true }
 with_event n (events.Sum client table row) = record n { started = true }
 with_event n (events.Sync client table) = record n { started = true }
@@ -60,6 +65,31 @@ has_store n store = list_any (is_at (nat_cmp store)) n.stores
 
 abbrev pub has_table : Names → ℕ → Bool
 has_table n table = is_some (lookup (is_at (nat_cmp table)) n.tables)
+
+abbrev pub columns_in : Option Schema → List Column
+columns_in None = []
+columns_in (Some schema) = schema.columns
+
+-- the columns of a table that is declared
+abbrev pub columns_of : Names → ℕ → List Column
+columns_of n table = columns_in (lookup (is_at (nat_cmp table)) n.tables)
+
+-- the number of the first column of this name, counted from 0
+abbrev pub column_number : List Column → List ℕ → Option ℕ
+column_number columns name = position_from (λ column. bytes_eq name column.name) 0 columns
+
+-- the number at a name, among entries by names
+abbrev pub number_in : {A : Type 0} → List (Vec ℕ A × ℕ) → List ℕ → Option ℕ
+number_in entries name = lookup (λ v. is_at (slice_cmp nat_cmp name) v.items) entries
+
+-- the entries give each name the number of its column
+abbrev pub FindsColumns : {A : Type 0} → List (Vec ℕ A × ℕ) → List Column → Type 0
+FindsColumns entries columns = (name : List ℕ) → number_in entries name ≡ column_number columns name
+
+-- what is found of a word, where a name gets a number that had none
+abbrev pub with_number : Option ℕ → List ℕ → ℕ → List ℕ → Option ℕ
+with_number None name number word = if bytes_eq word name then Some number else None
+with_number (Some n) name number word = Some n
 
 abbrev pub has_name : Names → List ℕ → Bool
 has_name n name = list_any (is_at (slice_cmp nat_cmp name)) n.names

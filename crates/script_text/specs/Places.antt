@@ -1,5 +1,6 @@
 -- What a word says at its place in a line, or the code of its fault there.
-use Rattle.std.specs.Prelude.{◌≡◌, ℕ, Bool, false, ◌==◌, ◌&&◌, ◌||◌, ◌^◌, nat_le, nat_lt, not, map, List, [], ◌∷◌, ◌++◌}
+use Rattle.std.specs.Prelude.{ℕ, Bool, true, false, ◌==◌, ◌&&◌, ◌||◌, ◌^◌, nat_le, nat_lt}
+use Rattle.std.specs.Prelude.{not, map, List, [], ◌∷◌, ◌++◌}
 use Rattle.std.specs.Prelude.{codes, Option, Some, None, Result, Ok, Err, if◌then◌else◌}
 use Rattle.std.specs.List.{slice_split, list_any}
 use Rattle.std.specs.Borrow.{Bor}
@@ -12,6 +13,9 @@ use Rattle.row_value.specs.Fit.{is_object}
 use Rattle.row_value.specs.declared.content.Cell.{Cell}
 use Rattle.row_value.specs.declared.schema.ColumnKind.{ColumnKind}
 use Rattle.row_value.specs.declared.schema.Column.{Column}
+use Rattle.row_edits.specs.declared.change.ColumnValue.{ColumnValue}
+use Rattle.row_edits.specs.declared.change.Value.{Value as Changed}
+use Rattle.row_edits.specs.declared.change.Value.TheVariants as changes
 use Rattle.row_value.specs.declared.schema.Scheme.{Scheme}
 use Rattle.row_value.specs.declared.schema.Scheme.TheVariants as schemes
 use Rattle.script_words.specs.declared.code.Code.{Code}
@@ -19,10 +23,10 @@ use Rattle.script_words.specs.declared.code.Code.TheVariants.{NoNumber, NoName, 
 use Rattle.script_words.specs.declared.code.Code.TheVariants.{Unbuilt}
 use Rattle.script_words.specs.declared.values.Value.{Value}
 use Rattle.script_words.specs.declared.values.Value.TheVariants.{OfCell, OfObject}
-use Rattle.script_words.specs.Words.{is_number, is_length, is_name, is_among}
+use Rattle.script_words.specs.Words.{is_number, is_length, is_name, is_among, sides_of}
 use Rattle.script_words.specs.Columns.{column_of}
 use Rattle.script_words.specs.Values.{value_at}
-use Rattle.script_text.specs.Names.{Names, has_store, has_table, has_name, has_client}
+use Rattle.script_text.specs.Names.{Names, has_store, has_table, has_name, has_client, column_number}
 
 infixl 10 ◌>>=◌
 abbrev pub ◌>>=◌ : {A B E : Type 0} → Result A E → (A → Result B E) → Result B E
@@ -94,12 +98,16 @@ abbrev pub begins_with : ℕ → List ℕ → Bool
 begins_with letter [] = false
 begins_with letter (b ∷ bytes) = b == letter
 
--- a Store that is declared; no gateway can be yet, and a client has no devices yet
+-- a client that is declared, on a line of its devices, its link or its edits; these lines aren't built yet
+unfoldable pub ready_client_at : Names → List ℕ → Result ℕ Code
+ready_client_at names word = client_at names word >>= λ number. Err Unbuilt
+
+-- a Store or a client that is declared; no gateway can be yet
 unfoldable pub party_at : Names → List ℕ → Result Node Code
 party_at names word =
     if begins_with 83 word then (store_at names word >>= λ number. Ok (nodes.Store number))
     else if begins_with 71 word then (node_at 71 word >>= λ number. Err NotDeclared)
-    else (client_at names word >>= λ number. Err Unbuilt)
+    else (ready_client_at names word >>= λ number. Ok (nodes.Client number))
 
 unfoldable pub table_at : Names → List ℕ → Result ℕ Code
 table_at names word = node_at 84 word >>= known (has_table names)
@@ -241,6 +249,52 @@ unfoldable pub number_at : List ℕ → Result ℕ Code
 number_at word =
     if is_length word && nat_lt (digits_value 10 word) (2 ^ 64) then Ok (digits_value 10 word) else Err NoNumber
 
+-- a number up to this one
+unfoldable pub number_to : ℕ → List ℕ → Result ℕ Code
+number_to most word = number_at word >>= λ number. if nat_le number most then Ok number else Err NoNumber
+
 -- how many calls of a disk pass, up to 4
-unfoldable pub calls_at : List ℕ → Result ℕ Code
-calls_at word = number_at word >>= λ calls. if nat_le calls 4 then Ok calls else Err NoNumber
+abbrev pub calls_at : List ℕ → Result ℕ Code
+calls_at word = number_to 4 word
+
+-- ---- edits
+
+-- `up` or `down`
+unfoldable pub direction_at : List ℕ → Result Bool Code
+direction_at word =
+    if bytes_eq word (codes "up") then Ok true
+    else if bytes_eq word (codes "down") then Ok false
+    else Err NoName
+
+abbrev pub found_column : Option ℕ → Result ℕ Code
+found_column None = Err NotDeclared
+found_column (Some n) = Ok n
+
+-- the number of the column of this name among these
+unfoldable pub column_at : List Column → List ℕ → Result ℕ Code
+column_at columns word = if not (is_name word) then Err NoName else found_column (column_number columns word)
+
+-- a place in an object, below 2 ^ 32
+abbrev pub place_at : List ℕ → Result ℕ Code
+place_at word = number_to 4294967295 word
+
+abbrev pub changed_to : Value → Changed
+changed_to (OfCell cell) = changes.Cell cell
+changed_to (OfObject object) = changes.Object object
+
+abbrev pub change_with : List Column → Option (List ℕ × List ℕ) → Result ColumnValue Code
+change_with columns None = Err NoName
+change_with columns (Some p) =
+    column_at columns p.0 >>= λ column.
+    (value_at p.1 >>= λ value. Ok (record { column = column; value = changed_to value }))
+
+-- a column's name, `=` and a value
+unfoldable pub change_at : List Column → List ℕ → Result ColumnValue Code
+change_at columns word = change_with columns (sides_of word)
+
+-- a change behind others
+abbrev pub next_change : List Column → List ColumnValue → List ℕ → Result ColumnValue Code
+next_change columns before word = change_at columns word
+
+abbrev pub with_change : List ColumnValue → ColumnValue → List ColumnValue
+with_change before change = before ++ change ∷ []

@@ -1,11 +1,14 @@
 -- Words read from left to right: the event that they spell, or the first word at fault.
-use Rattle.std.specs.Prelude.{◌≡◌, ℕ, ◌+◌, nat_lt, List, [], ◌∷◌, ◌++◌, length, Option, Some, None, Result, Ok, Err}
+use Rattle.std.specs.Prelude.{◌≡◌, ℕ, ◌+◌, nat_lt, List, [], ◌∷◌, length, Option, Some, None, Result, Ok, Err}
 use Rattle.std.specs.Prelude.{if◌then◌else◌}
 use Rattle.std.specs.Str.{is_utf8}
 use Rattle.stab_base.specs.declared.node.Node.{Node}
 use Rattle.row_value.specs.declared.schema.Column.{Column}
 use Rattle.row_value.specs.declared.content.Content.{Content}
 use Rattle.row_value.specs.declared.content.Content.TheVariants.{Row}
+use Rattle.row_edits.specs.declared.change.ColumnValue.{ColumnValue}
+use Rattle.row_edits.specs.declared.change.Edit.{Edit}
+use Rattle.row_edits.specs.declared.change.Edit.TheVariants as edits
 use Rattle.table_model.specs.declared.event.Event.{Event}
 use Rattle.table_model.specs.declared.event.Event.TheVariants as events
 use Rattle.script_words.specs.declared.code.Code.{Code}
@@ -15,16 +18,20 @@ use Rattle.script_text.specs.declared.fault.BadLine.{BadLine}
 use Rattle.script_text.specs.declared.fault.ScriptFault.{ScriptFault}
 use Rattle.script_text.specs.declared.fault.ScriptFault.TheVariants as faults
 use Rattle.row_value.specs.declared.schema.Schema.{Schema}
+use Rattle.script_text.specs.declared.verb.EditVerb.{EditVerb}
+use Rattle.script_text.specs.declared.verb.EditVerb.TheVariants as changes
 use Rattle.script_text.specs.declared.verb.Verb.{Verb}
 use Rattle.script_text.specs.declared.verb.Verb.TheVariants as verbs
 use Rattle.script_text.specs.Faults.{bad}
 use Rattle.script_text.specs.Verbs.{verb_of, is_unbuilt}
-use Rattle.script_text.specs.Names.{Names, has_no_store}
+use Rattle.script_text.specs.Names.{Names, has_no_store, columns_of}
 use Rattle.std.specs.Borrow.{Bor}
 use Rattle.script_words.specs.Words.{texts, words_of, is_comment}
 use Rattle.script_text.specs.Places.{◌>>=◌, client_at, table_at, new_store_at, new_table_at, new_client_at, gate_at}
 use Rattle.script_text.specs.Places.{tables_at, new_name_at, scheme_at, chunk_at, new_column_at, with_column, row_at}
-use Rattle.script_text.specs.Places.{Values, value_behind, with_value, number_at, party_at, calls_at}
+use Rattle.script_text.specs.Places.{Values, value_behind, with_value, number_at, party_at, calls_at, ready_client_at}
+use Rattle.script_text.specs.Places.{direction_at, column_at, place_at, next_change, with_change}
+use Rattle.script_words.specs.Values.{bytes_at}
 
 -- the next word and the words behind it
 unfoldable pub next_in : ℕ → List (List ℕ) → Result (List ℕ × List (List ℕ)) BadLine
@@ -180,6 +187,43 @@ crash_in names words =
     word_in 3 number_at b (λ pick c.
     end_in 4 c >>= λ done. Ok (events.Crash node calls pick))))
 
+unfoldable pub link_in : Names → List (List ℕ) → Result Event BadLine
+link_in names words =
+    word_in 1 (ready_client_at names) words (λ client a.
+    word_in 2 direction_at a (λ up b.
+    end_in 3 b >>= λ done. Ok (events.Link client up)))
+
+abbrev pub changes_in : List Column → ℕ → List ColumnValue → List (List ℕ) → Result (List ColumnValue) BadLine
+changes_in columns at before words = each_in (next_change columns) with_change at before words
+
+-- new values of one column or more
+unfoldable pub update_in : List Column → List (List ℕ) → Result Edit BadLine
+update_in columns words =
+    next_in 4 words >>= λ a. (changes_in columns 4 [] words >>= λ changes. Ok (edits.Update changes))
+
+unfoldable pub patch_in : List Column → List (List ℕ) → Result Edit BadLine
+patch_in columns words =
+    word_in 4 (column_at columns) words (λ column a.
+    word_in 5 place_at a (λ at b.
+    word_in 6 bytes_at b (λ bytes c.
+    end_in 7 c >>= λ done. Ok (edits.Patch (record { column = column; at = at; bytes = bytes })))))
+
+abbrev pub delete_in : List (List ℕ) → Result Edit BadLine
+delete_in words = end_in 4 words >>= λ done. Ok edits.Delete
+
+-- the words behind the row
+abbrev pub change_in : EditVerb → List Column → List (List ℕ) → Result Edit BadLine
+change_in changes.Update columns words = update_in columns words
+change_in changes.Patch columns words = patch_in columns words
+change_in changes.Delete columns words = delete_in words
+
+unfoldable pub edit_in : Names → EditVerb → List (List ℕ) → Result Event BadLine
+edit_in names verb words =
+    word_in 1 (ready_client_at names) words (λ client a.
+    word_in 2 (table_at names) a (λ table b.
+    word_in 3 row_at b (λ row c.
+    change_in verb (columns_of names table) c >>= λ edit. Ok (events.Edit client table row edit))))
+
 -- a client, a table and a row, and no more
 unfoldable pub client_row_in : Names → List (List ℕ) → Result (ℕ × ℕ × List ℕ) BadLine
 client_row_in names words =
@@ -230,6 +274,8 @@ built_in names verbs.Table words = if has_no_store names then Err (bad NotDeclar
     else in_time names (table_in names words)
 built_in names verbs.Client words = in_time names (client_in names words)
 built_in names verbs.Write words = unlimited (write_in names words)
+built_in names (verbs.Edit verb) words = unlimited (edit_in names verb words)
+built_in names verbs.Link words = unlimited (link_in names words)
 built_in names verbs.Show words = unlimited (show_in names words)
 built_in names verbs.Sum words = unlimited (sum_in names words)
 built_in names verbs.Sync words = unlimited (sync_in names words)

@@ -1,9 +1,17 @@
 -- The verbs: the first words of a script's lines.
 use Rattle.std.specs.Prelude.{ℕ, Bool, ◌||◌, List, [], ◌∷◌, codes, Option, Some, None, if◌then◌else◌}
 use Rattle.std.specs.Str.{bytes_eq}
+use Rattle.script_text.specs.declared.verb.EditVerb.{EditVerb}
+use Rattle.script_text.specs.declared.verb.EditVerb.TheVariants as changes
 use Rattle.script_text.specs.declared.verb.Verb.{Verb}
 use Rattle.script_text.specs.declared.verb.Verb.TheVariants as verbs
 use Rattle.script_words.specs.Words.{is_among}
+
+-- of the lines that change a row that is shown
+abbrev pub edit_name : EditVerb → List ℕ
+edit_name changes.Update = codes "update"
+edit_name changes.Patch = codes "patch"
+edit_name changes.Delete = codes "delete"
 
 -- of the lines that are built
 abbrev pub name_of : Verb → List ℕ
@@ -11,6 +19,8 @@ name_of verbs.Store = codes "store"
 name_of verbs.Table = codes "table"
 name_of verbs.Client = codes "client"
 name_of verbs.Write = codes "write"
+name_of (verbs.Edit verb) = edit_name verb
+name_of verbs.Link = codes "link"
 name_of verbs.Show = codes "show"
 name_of verbs.Sum = codes "sum"
 name_of verbs.Sync = codes "sync"
@@ -32,6 +42,10 @@ verb_of word =
     else if bytes_eq word (codes "table") then Some verbs.Table
     else if bytes_eq word (codes "client") then Some verbs.Client
     else if bytes_eq word (codes "write") then Some verbs.Write
+    else if bytes_eq word (codes "update") then Some (verbs.Edit changes.Update)
+    else if bytes_eq word (codes "patch") then Some (verbs.Edit changes.Patch)
+    else if bytes_eq word (codes "delete") then Some (verbs.Edit changes.Delete)
+    else if bytes_eq word (codes "link") then Some verbs.Link
     else if bytes_eq word (codes "show") then Some verbs.Show
     else if bytes_eq word (codes "sum") then Some verbs.Sum
     else if bytes_eq word (codes "sync") then Some verbs.Sync
@@ -51,12 +65,12 @@ verb_of word =
 -- lines that set things up that aren't built
 unfoldable pub is_setting_verb : List ℕ → Bool
 is_setting_verb word =
-    is_among word (codes "gate" ∷ codes "draft" ∷ codes "link" ∷ codes "create" ∷ codes "drop" ∷ codes "subscribe"
+    is_among word (codes "gate" ∷ codes "draft" ∷ codes "create" ∷ codes "drop" ∷ codes "subscribe"
     ∷ codes "unsubscribe" ∷ codes "writesync" ∷ [])
 
 -- lines of rows that aren't built
 unfoldable pub is_row_verb : List ℕ → Bool
-is_row_verb word = is_among word (codes "update" ∷ codes "patch" ∷ codes "delete" ∷ codes "select" ∷ [])
+is_row_verb word = is_among word (codes "select" ∷ [])
 
 -- lines of conflicts that aren't built
 unfoldable pub is_conflict_verb : List ℕ → Bool

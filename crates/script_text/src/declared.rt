@@ -8,8 +8,9 @@ ghost use Rattle.std.specs.BTreeMap.{is_at};
 ghost use Rattle.std.specs.BTreeSet.{insert_key};
 ghost use Rattle.table_model.specs.declared.event.Event.TheVariants as events;
 ghost use Rattle.script_text.specs.Names.{texts_of, no_names, with_event, has_store, has_table, has_name, has_client};
-ghost use Rattle.script_text.specs.Names.{has_no_store};
+ghost use Rattle.script_text.specs.Names.{has_no_store, columns_of, column_number};
 
+use crate::declared_table::DeclaredTable;
 use row_value::Schema;
 use std::alloc::{AllocError, Global};
 use std::collections::{BTreeMap, BTreeSet};
@@ -20,7 +21,7 @@ use table_model::Event;
 #[derive(Drop)]
 pub struct Declared {
     stores: BTreeSet<u32>,
-    tables: BTreeMap<u32, Schema>,
+    tables: BTreeMap<u32, DeclaredTable>,
     names: BTreeSet<Vec<u8>>,
     clients: BTreeSet<u32>,
     started: bool,
@@ -96,6 +97,16 @@ impl Declared {
         self.tables.contains_key(&table)
     }
 
+    /// The number of the column of this name in a table that is declared.
+    pub(crate) fn column_number(&self, table: u32, name: &[u8]) -> Option<usize>
+        ensures { result ≡ column_number (columns_of self.now table) name.now }
+    {
+        match self.tables.get(&table) {
+            Some(table) => table.column_number(name),
+            None => None,
+        }
+    }
+
     pub(crate) fn has_name(&self, name: &[u8]) -> bool
         ensures { result ≡ has_name self.now name.now }
     {
@@ -126,9 +137,9 @@ impl Declared {
         ensures ok { OnOk result (self.new ≡ with_event self.old (events.Table table schema.now)) }
         ensures err { OnErr result (self.new ≡ self.old) }
     {
-        let copy = schema.copy()?;
+        let declared = DeclaredTable::new(self.alloc, schema)?;
         let added = put_name(self.alloc, &mut self.names, schema.name.as_slice())?;
-        match self.tables.insert(table, copy) {
+        match self.tables.insert(table, declared) {
             Ok(_) => Ok(()),
             Err(_) => {
                 take_name(&mut self.names, schema.name.as_slice(), added);
@@ -153,6 +164,8 @@ impl Declared {
                 Ok(())
             }
             Event::Write { .. }
+            | Event::Edit { .. }
+            | Event::Link { .. }
             | Event::Show { .. }
             | Event::Sum { .. }
             | Event::Sync { .. }

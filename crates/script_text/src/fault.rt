@@ -26,8 +26,11 @@ pub(crate) const COLUMNS: u32 = 8;
 
 pub(crate) const MOST_COLUMNS: usize = 32;
 
+/// The last place of an object that a line may name.
+pub(crate) const MOST_PLACE: u32 = 4_294_967_295;
+
 /// Of how many calls a line may say that they pass in a crash.
-pub(crate) const MOST_CALLS: u64 = 4;
+pub(crate) const MOST_CALLS: u32 = 4;
 
 /// The first word at fault, counted from 0, and the code of its fault, from 1 to 12.
 #[derive(Debug, Clone, Copy, PartialEq, Eq)]

@@ -5,6 +5,8 @@
 mod columns;
 mod contents;
 mod declared;
+mod declared_table;
+mod edits;
 mod fault;
 mod laws;
 mod lines;
@@ -20,5 +22,7 @@ pub use laws::{fault_apart, limit_apart, one_event, one_fault, one_limit, passed
 pub use parse::parse_line;
 pub use transcript_text::{ESCAPED, line_text, one_form, one_transcript, stop_apart, stop_text};
 
+#[cfg(test)]
+mod edit_tests;
 #[cfg(test)]
 mod tests;

@@ -9,9 +9,12 @@ ghost use Rattle.script_text.specs.Reading.{deliver_in, store_show_in, history_i
 use crate::columns::some_columns;
 use crate::contents::some_content;
 use crate::declared::Declared;
+use crate::edits::edit_line;
 use crate::fault::{BadLine, CLIENTS, COLUMNS, MOST_COLUMNS, STORES, ScriptFault, TABLES, bad};
 use crate::next::{end, next_word, placed};
-use crate::nodes::{crash_line, free_line, hold_line, start_line, work_all_line, work_line};
+use crate::nodes::{
+    crash_line, free_line, hold_line, link_line, start_line, work_all_line, work_line,
+};
 use crate::places::{
     chunk_at, client_at, gate_at, new_client_at, new_name_at, new_store_at, new_table_at,
     number_at, row_at, scheme_at, table_at, tables_at,
@@ -242,6 +245,8 @@ fn built_line(
 {
     match verb {
         Verb::Write => write_line(alloc, names, words),
+        Verb::Edit(verb) => edit_line(alloc, names, verb, words),
+        Verb::Link => Ok(link_line(names, words)?),
         Verb::Show => Ok(show_line(names, words)?),
         Verb::Sum => Ok(sum_line(names, words)?),
         Verb::Sync => Ok(sync_line(names, words)?),

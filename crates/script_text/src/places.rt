@@ -5,10 +5,12 @@ ghost use Rattle.script_words.specs.Codes.{Judges};
 ghost use Rattle.script_text.specs.Places.{small, node_at, limited_at, built, opened_at, joined, alone, client_at};
 ghost use Rattle.script_text.specs.Places.{table_at, new_store_at, new_table_at, new_client_at, gate_at, tables_in};
 ghost use Rattle.script_text.specs.Places.{tables_at, is_comma, seen, new_name_at, scheme_at, chunk_at, row_at};
-ghost use Rattle.script_text.specs.Places.{number_at, calls_at, store_at, begins_with, party_at};
+ghost use Rattle.script_text.specs.Places.{number_at, number_to, store_at, begins_with, party_at, ready_client_at};
+ghost use Rattle.script_text.specs.Places.{direction_at, column_at};
+ghost use Rattle.script_text.specs.Names.{columns_of};
 
 use crate::declared::{Declared, put_name};
-use crate::fault::{MOST_CALLS, MOST_CLIENTS, MOST_STORES, MOST_TABLES};
+use crate::fault::{MOST_CLIENTS, MOST_STORES, MOST_TABLES};
 use row_value::{RowId, Scheme, Sequence};
 use script_words::{Code, ValueFault, is_length, is_name, is_number};
 use stab_base::Node;
@@ -78,7 +80,16 @@ fn names_a_gateway(word: &str) -> bool
     matches!(word.as_bytes(), [b'G', ..])
 }
 
-// A Store that is declared; no gateway can be yet, and a client has no devices yet.
+// A client that is declared, on a line of its devices, its link or its edits. These lines aren't built yet.
+#[tactic(auto, unfolding(crate::specs::Places::ready_client_at))]
+pub(crate) fn ready_client_at(names: &Declared, word: &str) -> Result<u32, Code>
+    ensures { result ≡ ready_client_at names.now word.now }
+{
+    let _client = client_at(names, word)?;
+    Err(Code::Unbuilt)
+}
+
+// A Store or a client that is declared; no gateway can be yet.
 #[tactic(auto, unfolding(crate::specs::Places::party_at))]
 pub(crate) fn party_at(names: &Declared, word: &str) -> Result<Node, Code>
     ensures { result ≡ party_at names.now word.now }
@@ -91,8 +102,8 @@ pub(crate) fn party_at(names: &Declared, word: &str) -> Result<Node, Code>
         let _number = node_at('G', word)?;
         return Err(Code::NotDeclared);
     }
-    let _client = client_at(names, word)?;
-    Err(Code::Unbuilt)
+    let client = ready_client_at(names, word)?;
+    Ok(Node::Client(client))
 }
 
 #[tactic(auto, unfolding(crate::specs::Places::table_at))]
@@ -274,15 +285,41 @@ pub(crate) fn number_at(word: &str) -> Result<u64, Code>
     }
 }
 
-// How many calls of a disk pass.
-#[tactic(auto, unfolding(crate::specs::Places::calls_at))]
-pub(crate) fn calls_at(word: &str) -> Result<u32, Code>
-    ensures { result ≡ calls_at word.now }
+// A number up to this one.
+#[tactic(auto, unfolding(crate::specs::Places::number_to))]
+pub(crate) fn number_to(most: u32, word: &str) -> Result<u32, Code>
+    ensures { result ≡ number_to most word.now }
 {
-    let calls = number_at(word)?;
-    if calls <= MOST_CALLS {
-        Ok(calls as u32)
+    let number = number_at(word)?;
+    if number <= most as u64 {
+        Ok(number as u32)
     } else {
         Err(Code::NoNumber)
+    }
+}
+
+// Whether a link goes up.
+#[tactic(auto, unfolding(crate::specs::Places::direction_at))]
+pub(crate) fn direction_at(word: &str) -> Result<bool, Code>
+    ensures { result ≡ direction_at word.now }
+{
+    match word {
+        "up" => Ok(true),
+        "down" => Ok(false),
+        _ => Err(Code::NoName),
+    }
+}
+
+// The number of the column of this name in a table.
+#[tactic(auto, unfolding(crate::specs::Places::column_at))]
+pub(crate) fn column_at(names: &Declared, table: u32, word: &str) -> Result<usize, Code>
+    ensures { result ≡ column_at (columns_of names.now table) word.now }
+{
+    if !is_name(word) {
+        return Err(Code::NoName);
+    }
+    match names.column_number(table, word.as_bytes()) {
+        Some(column) => Ok(column),
+        None => Err(Code::NotDeclared),
     }
 }

@@ -6,13 +6,13 @@ use std::process::Abort;
 use std::test::Fail;
 use table_model::Event;
 
-const STORE: &str = "store S1";
+pub(crate) const STORE: &str = "store S1";
 
 const TABLE: &str = "table T1 notes eventual 64 n:int";
 
-const SECOND: &str = "table T2 words eventual 64 n:int";
+pub(crate) const SECOND: &str = "table T2 words eventual 64 n:int";
 
-const CLIENT: &str = "client C1 - T1";
+pub(crate) const CLIENT: &str = "client C1 - T1";
 
 const WRITE: &str = "write C1 T1 00000000-0000-4000-8000-00000000000a 5 -7";
 
@@ -20,7 +20,7 @@ const SSHOW: &str = "sshow T1 00000000-0000-4000-8000-00000000000a";
 
 const SHOW: &str = "show C1 T1 00000000-0000-4000-8000-00000000000A";
 
-fn behind(alloc: Global, lines: &[&str]) -> Result<Declared, Fail> {
+pub(crate) fn behind(alloc: Global, lines: &[&str]) -> Result<Declared, Fail> {
     let mut names = Declared::new(alloc);
     for line in lines {
         if let Some(event) = parse_line(alloc, line.as_bytes(), &names)? {
@@ -31,7 +31,7 @@ fn behind(alloc: Global, lines: &[&str]) -> Result<Declared, Fail> {
 }
 
 // The code and the word of a refusal; 0 and 0 for none.
-fn judged(alloc: Global, line: &[u8], names: &Declared) -> Result<(u32, usize), Fail> {
+pub(crate) fn judged(alloc: Global, line: &[u8], names: &Declared) -> Result<(u32, usize), Fail> {
     match parse_line(alloc, line, names) {
         Ok(_) => Ok((0, 0)),
         Err(ScriptFault::BadLine(fault)) => Ok((fault.code, fault.word)),
@@ -48,7 +48,7 @@ fn passed(alloc: Global, line: &[u8], names: &Declared) -> Result<u32, Fail> {
     }
 }
 
-fn check(
+pub(crate) fn check(
     rt: &impl Abort,
     alloc: Global,
     names: &Declared,
@@ -550,7 +550,7 @@ fn a_write_has_its_row_and_its_numbers(rt: HostRuntime) -> Result<(), Fail> {
     Ok(())
 }
 
-const ROW: [u8; 16] = [0, 0, 0, 0, 0, 0, 0x40, 0, 0x80, 0, 0, 0, 0, 0, 0, 10];
+pub(crate) const ROW: [u8; 16] = [0, 0, 0, 0, 0, 0, 0x40, 0, 0x80, 0, 0, 0, 0, 0, 0, 10];
 
 // Whether the event is the one that the line spells.
 fn is_due(index: usize, event: &Event) -> bool {

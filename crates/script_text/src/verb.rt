@@ -2,6 +2,14 @@ ghost use Rattle.std.specs.Prelude.{◌≡◌};
 ghost use Rattle.script_text.specs.Verbs.{verb_of, is_setting_verb, is_row_verb, is_conflict_verb, is_node_verb};
 ghost use Rattle.script_text.specs.Verbs.{is_unbuilt};
 
+/// The first word of a line that changes a row that is shown.
+#[derive(Debug, Clone, Copy, PartialEq, Eq)]
+pub(crate) enum EditVerb {
+    Update,
+    Patch,
+    Delete,
+}
+
 /// The first word of a line that is built.
 #[derive(Debug, Clone, Copy, PartialEq, Eq)]
 pub(crate) enum Verb {
@@ -9,6 +17,8 @@ pub(crate) enum Verb {
     Table,
     Client,
     Write,
+    Edit(EditVerb),
+    Link,
     Show,
     Sum,
     Sync,
@@ -34,6 +44,10 @@ pub(crate) fn verb_of(word: &str) -> Option<Verb>
         "table" => Some(Verb::Table),
         "client" => Some(Verb::Client),
         "write" => Some(Verb::Write),
+        "update" => Some(Verb::Edit(EditVerb::Update)),
+        "patch" => Some(Verb::Edit(EditVerb::Patch)),
+        "delete" => Some(Verb::Edit(EditVerb::Delete)),
+        "link" => Some(Verb::Link),
         "show" => Some(Verb::Show),
         "sum" => Some(Verb::Sum),
         "sync" => Some(Verb::Sync),
@@ -58,7 +72,7 @@ fn is_setting_verb(word: &str) -> bool
 {
     matches!(
         word,
-        "gate" | "draft" | "link" | "create" | "drop" | "subscribe" | "unsubscribe" | "writesync"
+        "gate" | "draft" | "create" | "drop" | "subscribe" | "unsubscribe" | "writesync"
     )
 }
 
@@ -66,7 +80,7 @@ fn is_setting_verb(word: &str) -> bool
 fn is_row_verb(word: &str) -> bool
     ensures { result ≡ is_row_verb word.now }
 {
-    matches!(word, "update" | "patch" | "delete" | "select")
+    matches!(word, "select")
 }
 
 #[tactic(auto, unfolding(crate::specs::Verbs::is_conflict_verb))]

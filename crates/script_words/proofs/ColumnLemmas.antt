@@ -1,15 +1,15 @@
 -- The words of columns.
-use Rattle.std.proofs.Common.{◌≡◌, ◌≢◌, ℕ, Bool, true, false, ◌&&◌, leb, cond, List, [], ◌∷◌, ◌++◌, length, get_or, codes, Option, Some, None, refl, sym, ap, ◌∙◌, subst, inl, inr, true≢false}
+use Rattle.std.proofs.Common.{◌≡◌, ◌≢◌, ℕ, Bool, true, false, ◌&&◌, eqb, leb, cond, List, [], ◌∷◌, ◌++◌, length, get_or, codes, Option, Some, None, refl, sym, ap, ◌∙◌, subst, inl, inr, true≢false}
 use Rattle.std.specs.List.{list_all}
 use Rattle.std.specs.Str.{bytes_eq}
 use Rattle.std.proofs.lemmas.Bool.{cases_Bool, eqb-true}
 use Rattle.std.proofs.lemmas.Slice.Eq.{bytes_eq-Decides}
 use Rattle.row_value.specs.declared.schema.ColumnKind.{ColumnKind}
 use Rattle.row_value.specs.declared.schema.ColumnKind.TheVariants as kinds
-use Rattle.script_words.specs.Words.{is_name, is_name_byte, is_lower, is_colon, parts_of}
+use Rattle.script_words.specs.Words.{is_name, is_name_byte, is_lower, parts_of}
 use Rattle.script_words.specs.Columns.{kind_word, kind_of, named, column_of}
 use Rattle.script_words.proofs.WordLemmas.{both}
-use Rattle.script_words.proofs.Parts.{some_same, none_some, parts_of-some, parts_of-right, IsPlain}
+use Rattle.script_words.proofs.Parts.{some_same, none_some, parts_of-some, parts_of-right, IsFree}
 
 pub kind_of-right : (kind : ColumnKind) → kind_of (kind_word kind) ≡ Some kind
 unfolding kind_of
@@ -59,23 +59,29 @@ column_of-ok word q e =
     let p = column_of-some word q e in
     (p.1 ∙ ap (λ (kind : List ℕ). q.0 ++ 58 ∷ kind) (kind_of-some p.0 q.1 p.2), p.3)
 
-name_byte : (b : ℕ) → is_name_byte b ≡ true → is_colon b ≡ false
-name_byte b e = elim (cases_Bool (is_colon b)) [
-  | inl is ↦ absurd (true≢false (sym (subst (λ (c : ℕ). is_name_byte c ≡ true) (eqb-true b 58 is) e)))
-  | inr other ↦ other
+-- no byte of a name is this one
+free_byte : (separator b : ℕ) → is_name_byte separator ≡ false → is_name_byte b ≡ true → eqb b separator ≡ false
+free_byte separator b other e = elim (cases_Bool (eqb b separator)) [
+  | inl is ↦ absurd (true≢false (sym (subst (λ (c : ℕ). is_name_byte c ≡ true) (eqb-true b separator is) e) ∙ other))
+  | inr not_is ↦ not_is
 ]
 
 name_bytes : (name : List ℕ) → is_name name ≡ true → list_all is_name_byte name ≡ true
 unfolding is_name
 name_bytes name e = (both (is_lower (get_or name 0 0) && leb (length name) 64) (list_all is_name_byte name) e).1
 
-plain_name : (name : List ℕ) → list_all is_name_byte name ≡ true → IsPlain name
-plain_name [] e = tt
-plain_name (b ∷ name) e = let p = both (is_name_byte b) (list_all is_name_byte name) e in (name_byte b p.0, plain_name name p.1)
+free_bytes : (separator : ℕ) (name : List ℕ) → is_name_byte separator ≡ false → list_all is_name_byte name ≡ true → IsFree separator name
+free_bytes separator [] other e = tt
+free_bytes separator (b ∷ name) other e =
+    let p = both (is_name_byte b) (list_all is_name_byte name) e in
+    (free_byte separator b other p.0, free_bytes separator name other p.1)
+
+pub free_name : (separator : ℕ) (name : List ℕ) → is_name_byte separator ≡ false → is_name name ≡ true → IsFree separator name
+free_name separator name other is = free_bytes separator name other (name_bytes name is)
 
 pub column_of-right : (name : List ℕ) (kind : ColumnKind) → is_name name ≡ true → column_of (name ++ (codes ":" ++ kind_word kind)) ≡ Some (name, kind)
 unfolding column_of
 column_of-right name kind is =
     ap (λ (o : Option (List ℕ × List ℕ)). elim o as (λ p. Option (List ℕ × ColumnKind)) [ None ↦ None | Some p ↦ named p.0 (kind_of p.1) ])
-    (parts_of-right name (kind_word kind) (plain_name name (name_bytes name is)))
+    (parts_of-right name (kind_word kind) (free_name 58 name refl is))
     ∙ rw (kind_of-right kind, is) refl

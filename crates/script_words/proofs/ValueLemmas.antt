@@ -18,12 +18,13 @@ use Rattle.hex.specs.Hex.{decode_of}
 use Rattle.hex.specs.declared.error.FromHexError.{FromHexError}
 use Rattle.row_value.specs.declared.content.Cell.{Cell}
 use Rattle.row_value.specs.declared.content.Cell.TheVariants as cells
+use Rattle.script_words.specs.declared.code.Code.{Code}
 use Rattle.script_words.specs.declared.code.Code.TheVariants.{NoValue}
 use Rattle.script_words.specs.declared.values.Value.{Value}
 use Rattle.script_words.specs.declared.values.Value.TheVariants.{OfCell, OfObject}
 use Rattle.script_words.specs.Words.{is_length, parts_of, is_colon}
 use Rattle.script_words.specs.Values.{repeated, SpellsCell, SpellsObject, SpellsValue, int_of, length_in, text_in, hex_in}
-use Rattle.script_words.specs.Values.{object_in, repeat_in, repeat_with, repeat_of, long_of, word_of, value_or, judged, value_at}
+use Rattle.script_words.specs.Values.{object_in, repeat_in, repeat_with, repeat_of, long_of, word_of, value_or, judged, value_at, judged_bytes, bytes_at}
 use Rattle.script_words.proofs.WordLemmas.{both}
 use Rattle.script_words.proofs.IntLemmas.{int_of-parts}
 use Rattle.script_words.proofs.Numerals.{length-text, length-right, value-right}
@@ -223,3 +224,17 @@ value_at-right word (OfObject object) (inr h) =
     subst (λ (w : List ℕ). value_at w ≡ Ok (OfObject object)) (sym h.3)
     (subst (λ (o : List ℕ). value_at (codes "r:" ++ (decimal h.0 ++ (codes ":" ++ h.1))) ≡ Ok (OfObject o)) (sym h.7)
     (read_word 114 (58 ∷ (decimal h.0 ++ 58 ∷ h.1)) _ (omega arith) (repeat-read h.0 h.1 h.2 h.4 h.5 h.6)))
+
+-- ---- bytes of digits
+
+judged_same : (o : Option (List ℕ)) (bytes : List ℕ) → judged_bytes o ≡ Ok bytes → o ≡ Some bytes
+judged_same None bytes e = absurd cc
+judged_same (Some found) bytes e = let same : ◌≡◌ {A = Result (List ℕ) Code} (Ok found) (Ok bytes) = e in cc
+
+pub bytes_at-ok : (word bytes : List ℕ) → bytes_at word ≡ Ok bytes → decode_of word ≡ Ok bytes
+unfolding bytes_at
+bytes_at-ok word bytes e = hex_some (decode_of word) bytes (judged_same (hex_in (decode_of word)) bytes e)
+
+pub bytes_at-right : (word bytes : List ℕ) → decode_of word ≡ Ok bytes → bytes_at word ≡ Ok bytes
+unfolding bytes_at
+bytes_at-right word bytes e = rw e refl

@@ -105,3 +105,11 @@ judged (Some value) = Ok value
 
 unfoldable pub value_at : List ℕ → Result Value Code
 value_at word = judged (value_or (word_of word) (int_of word))
+
+abbrev pub judged_bytes : Option (List ℕ) → Result (List ℕ) Code
+judged_bytes None = Err NoValue
+judged_bytes (Some bytes) = Ok bytes
+
+-- the bytes of digits, two of them a byte
+unfoldable pub bytes_at : List ℕ → Result (List ℕ) Code
+bytes_at word = judged_bytes (hex_in (decode_of word))

@@ -42,11 +42,19 @@ is_name word = is_lower (slice_index word 0) && nat_le (length word) 64 && list_
 abbrev pub is_colon : ℕ → Bool
 is_colon b = b == 58
 
--- what stands before and behind the first colon
-unfoldable pub parts_of : List ℕ → Option (List ℕ × List ℕ)
-parts_of word =
-    if nat_lt (position_or_len is_colon word) (length word)
-    then Some (before_first is_colon word, after_first is_colon word) else None
+-- what stands before and behind the first of this byte
+unfoldable pub parts_by : ℕ → List ℕ → Option (List ℕ × List ℕ)
+parts_by separator word =
+    if nat_lt (position_or_len (λ b. b == separator) word) (length word)
+    then Some (before_first (λ b. b == separator) word, after_first (λ b. b == separator) word) else None
+
+-- the same of the first colon
+abbrev pub parts_of : List ℕ → Option (List ℕ × List ℕ)
+parts_of word = parts_by 58 word
+
+-- the same of the first `=`
+abbrev pub sides_of : List ℕ → Option (List ℕ × List ℕ)
+sides_of word = parts_by 61 word
 
 -- the same of borrowed words
 abbrev pub seen_parts : Option (Bor (List ℕ) × Bor (List ℕ)) → Option (List ℕ × List ℕ)

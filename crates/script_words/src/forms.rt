@@ -2,7 +2,7 @@ ghost use Rattle.std.specs.Prelude.{◌≡◌, ◌==◌, ◌&&◌, nat_le, IfOk,
 ghost use Rattle.std.specs.List.{list_all};
 ghost use Rattle.std.specs.Char.{is_ascii_digit};
 ghost use Rattle.script_words.specs.Words.{texts, words_of, is_number, is_length, is_name, is_name_byte, seen_parts};
-ghost use Rattle.script_words.specs.Words.{parts_of};
+ghost use Rattle.script_words.specs.Words.{parts_of, sides_of};
 
 use std::alloc::{AllocError, Global};
 
@@ -62,9 +62,17 @@ pub fn is_name(word: &str) -> bool
 }
 
 /// What stands before and behind the first colon.
-#[tactic(auto, unfolding(crate::specs::Words::parts_of))]
+#[tactic(auto, unfolding(crate::specs::Words::parts_by))]
 pub(crate) fn parts_of(word: &str) -> Option<(&str, &str)>
     ensures { seen_parts result ≡ parts_of word.now }
 {
     word.split_once(':')
+}
+
+/// What stands before and behind the first `=`.
+#[tactic(auto, unfolding(crate::specs::Words::parts_by))]
+pub fn sides_of(word: &str) -> Option<(&str, &str)>
+    ensures { seen_parts result ≡ sides_of word.now }
+{
+    word.split_once('=')
 }

@@ -7,9 +7,9 @@ mod kinds;
 mod values;
 
 pub use code::{Code, ValueFault};
-pub use forms::{is_length, is_name, is_number, words};
+pub use forms::{is_length, is_name, is_number, sides_of, words};
 pub use kinds::column_of;
-pub use values::{Value, value_at};
+pub use values::{Value, bytes_at, value_at};
 
 #[cfg(test)]
 mod tests;

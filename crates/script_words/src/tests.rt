@@ -76,3 +76,43 @@ fn a_repeat_has_up_to_33554432_bytes(rt: HostRuntime) -> Result<(), Fail> {
     assert_eq!(rt; bytes.last().copied(), Some(2));
     Ok(())
 }
+
+const SIDES: [(&str, Option<(&str, &str)>); 5] = [
+    ("n=5", Some(("n", "5"))),
+    ("n=t:a=b", Some(("n", "t:a=b"))),
+    ("=", Some(("", ""))),
+    ("n==", Some(("n", "="))),
+    ("n:5", None),
+];
+
+#[test]
+fn a_word_is_cut_at_its_first_sign(rt: HostRuntime) -> Result<(), Fail> {
+    for (word, sides) in SIDES {
+        assert!(rt; sides_of(word) == sides, "{word}");
+    }
+    Ok(())
+}
+
+fn digits(alloc: Global, word: &str) -> Result<Option<Vec<u8>>, Fail> {
+    match bytes_at(alloc, word) {
+        Ok(bytes) => Ok(Some(bytes.into_vec())),
+        Err(ValueFault::Code(Code::NoValue)) => Ok(None),
+        Err(_) => Err("no memory".into()),
+    }
+}
+
+const DIGITS: [(&str, Option<&[u8]>); 5] = [
+    ("00aF", Some(b"\x00\xaf")),
+    ("a", None),
+    ("0g", None),
+    ("h:00", None),
+    ("010203", Some(b"\x01\x02\x03")),
+];
+
+#[test]
+fn digits_are_bytes(rt: HostRuntime) -> Result<(), Fail> {
+    for (word, bytes) in DIGITS {
+        assert!(rt; digits(rt.alloc(), word)?.as_deref() == bytes, "{word}");
+    }
+    Ok(())
+}

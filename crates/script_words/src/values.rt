@@ -5,7 +5,7 @@ ghost use Rattle.hex.specs.Hex.{decode_of};
 ghost use Rattle.script_words.specs.Words.{seen_parts, parts_of};
 ghost use Rattle.script_words.specs.Codes.{Judges};
 ghost use Rattle.script_words.specs.Values.{int_of, length_in, text_in, hex_in, object_in, repeated, repeat_in};
-ghost use Rattle.script_words.specs.Values.{repeat_of, long_of, word_of, value_at};
+ghost use Rattle.script_words.specs.Values.{repeat_of, long_of, word_of, value_at, bytes_at};
 
 use crate::code::{Code, ValueFault};
 use crate::forms::{is_length, parts_of};
@@ -169,6 +169,17 @@ pub fn value_at(alloc: Global, word: &str) -> Result<Value, ValueFault>
     }
     match word_of(alloc, word)? {
         Some(value) => Ok(value),
+        None => Err(ValueFault::Code(Code::NoValue)),
+    }
+}
+
+/// The bytes that a word of hex digits spells, two of them a byte, in either case.
+#[tactic(auto, unfolding(crate::specs::Values::bytes_at))]
+pub fn bytes_at(alloc: Global, word: &str) -> Result<Bytes, ValueFault>
+    ensures { Judges result (bytes_at word.now) }
+{
+    match hex_in(alloc, word)? {
+        Some(bytes) => Ok(bytes),
         None => Err(ValueFault::Code(Code::NoValue)),
     }
 }

@@ -1,4 +1,6 @@
 mod Above
 mod Values
+mod PartWords
+mod FactWords
 mod LineWords
 mod Hex

@@ -1,33 +1,28 @@
 -- The words of a line: its text tells them, and they tell the line.
 use Rattle.std.proofs.Common.{◌≡◌, ℕ, ◌≤◌, ◌<◌, ◌^◌, Bool, ◌||◌, cond, List, [], ◌∷◌, ◌++◌, map, codes}
-use Rattle.std.proofs.Common.{true, false, refl, sym, subst, ap, ◌∙◌, arith, rules, length, get_or, All, Some, append-nil, inl}
-use Rattle.std.specs.List.{AllByRecursion, flat_map}
+use Rattle.std.proofs.Common.{true, false, refl, sym, subst, ap, ◌∙◌, arith, rules, length, append-nil}
+use Rattle.std.specs.List.{AllByRecursion}
 use Rattle.std.specs.Fmt.{decimal}
 use Rattle.std.specs.Str.{bytes_eq}
 use Rattle.std.proofs.lemmas.Fmt.{decimal_injective}
 use Rattle.std.proofs.lemmas.Grind.{flat_map-append}
 use Rattle.std.proofs.lemmas.List.Folds.{flat_map-map}
-use Rattle.uuid.specs.Text.{hyphenated_text, lower, parsed}
-use Rattle.uuid.proofs.RoundTrips.{parses_hyphenated}
 use Rattle.row_value.specs.declared.content.Cell.{Cell}
 use Rattle.row_value.specs.declared.content.Cell.TheVariants as cells
 use Rattle.row_value.specs.declared.content.Content.{Content}
 use Rattle.row_value.specs.declared.content.Content.TheVariants.{Gone, Row}
 use Rattle.table_model.specs.declared.entry.Entry.{Entry}
-use Rattle.table_model.specs.declared.message_name.MessageName.{MessageName}
-use Rattle.table_model.specs.declared.message_name.MessageName.TheVariants as kinds
 use Rattle.stab_base.specs.declared.chunk_name.ChunkName.{ChunkName}
 use Rattle.stab_base.specs.declared.step.Step.{Step}
 use Rattle.stab_base.specs.declared.step.Step.TheVariants as steps
-use Rattle.stab_base.specs.declared.node.Node.{Node}
-use Rattle.stab_base.specs.declared.node.Node.TheVariants as nodes
-use Rattle.table_model.specs.declared.line.Write.{Write}
 use Rattle.table_model.specs.declared.line.Shown.{Shown}
 use Rattle.table_model.specs.declared.line.Shown.TheVariants.{Clean, Mine}
 use Rattle.table_model.specs.declared.line.Refusal.{Refusal}
 use Rattle.table_model.specs.declared.line.Refusal.TheVariants as refusals
 use Rattle.table_model.specs.declared.line.Answer.{Answer}
 use Rattle.table_model.specs.declared.line.Answer.TheVariants as answers
+use Rattle.table_model.specs.declared.line.ClientFact.{ClientFact}
+use Rattle.table_model.specs.declared.line.ClientFact.TheVariants as changes
 use Rattle.table_model.specs.declared.line.Fact.{Fact}
 use Rattle.table_model.specs.declared.line.Fact.TheVariants as facts
 use Rattle.table_model.specs.declared.line.TextLine.{TextLine}
@@ -36,23 +31,17 @@ use Rattle.table_model.specs.declared.sum.ObjectSum.{ObjectSum}
 use Rattle.table_model.specs.declared.sum.RowSum.{RowSum}
 use Rattle.table_model.specs.declared.sum.ShownSum.{ShownSum}
 use Rattle.table_model.specs.declared.sum.ShownSum.TheVariants as sums
-use Rattle.transcript_text.specs.Text.{cell_text, content_text, row_sum_text, refusal_text, shown_text, shown_sum_text, answer_text, node_text, message_text, entry_text, fact_text, text_of}
+use Rattle.transcript_text.specs.Text.{row_sum_text, refusal_text, shown_text, shown_sum_text, answer_text, text_of}
 use Rattle.transcript_text.specs.Text.{step_word, names_text}
-use Rattle.transcript_text.specs.OneForm.{AreBytes, HasContentText, HasSumText, HasRowSumText, HasRefusalText, HasValue, HasShownText, HasShownSumText}
-use Rattle.transcript_text.specs.OneForm.{HasCellText, HasNameText, HasNamesText, HasAnswerText, HasRowText, HasWriteText, HasEntryText, HasNodeText, HasFactText, HasText}
-use Rattle.transcript_text.proofs.Above.{IsAbove, Avoids, all_append, parted, led, led_same, led_above, decimal_above, row_above, decimal_first}
+use Rattle.transcript_text.specs.OneForm.{HasContentText, HasSumText, HasRowSumText, HasRefusalText, HasValue, HasShownText, HasShownSumText}
+use Rattle.transcript_text.specs.OneForm.{HasCellText, HasNameText, HasNamesText, HasAnswerText, HasText}
+use Rattle.transcript_text.proofs.Above.{IsAbove, Avoids, all_append, parted, led, led_same, led_above, decimal_above, decimal_first}
 use Rattle.transcript_text.proofs.Above.{decimal_avoids_a_point, signed_avoids_a_point, has_what_it_avoids}
-use Rattle.transcript_text.proofs.Values.{cell_word, object_word, sum_word, cells_above, objects_above, sums_above, all_words, object_same, sum_same, no_object, no_sum, values_same, not_gone}
-use Rattle.transcript_text.proofs.Values.{object_not_gone, sum_not_gone, kinds_apart}
-
-abbrev pub content_words : Content → List (List ℕ)
-content_words Gone = codes "gone" ∷ []
-content_words (Row some objects) = map cell_word some ++ map object_word objects
-
-abbrev pub node_word : Node → List ℕ
-node_word (nodes.Client client) = codes "C" ++ decimal client
-node_word (nodes.Gate gate) = codes "G" ++ decimal gate
-node_word (nodes.Store store) = codes "S" ++ decimal store
+use Rattle.transcript_text.proofs.Values.{cell_word, object_word, sum_word, cells_above, sums_above, all_words, sum_same, no_sum, values_same, not_gone}
+use Rattle.transcript_text.proofs.Values.{sum_not_gone, kinds_apart}
+use Rattle.transcript_text.proofs.PartWords.{content_words, node_word, entry_words, cells_led, content_led, node_led, entry_led, content_above, node_above}
+use Rattle.transcript_text.proofs.PartWords.{entry_above, content_same, entry_same, node_same, first_word}
+use Rattle.transcript_text.proofs.FactWords.{client_fact_words, fact_words, fact_led, fact_above, fact_same}
 
 abbrev pub refusal_words : Refusal → List (List ℕ)
 refusal_words refusals.NoDevice = codes "no" ∷ codes "6" ∷ []
@@ -62,6 +51,7 @@ refusal_words (refusals.BadObject column len) = codes "no" ∷ codes "11" ∷ de
 refusal_words (refusals.RowTooLarge len) = codes "no" ∷ codes "12" ∷ decimal len ∷ []
 refusal_words (refusals.Busy with) = codes "no" ∷ codes "17" ∷ decimal with ∷ []
 refusal_words refusals.NoTable = codes "no" ∷ codes "18" ∷ []
+refusal_words refusals.Offline = codes "no" ∷ codes "24" ∷ []
 refusal_words refusals.NoRow = codes "no" ∷ codes "27" ∷ []
 refusal_words (refusals.NoPacket sent) = codes "no" ∷ codes "29" ∷ decimal sent ∷ []
 refusal_words (refusals.Down node) = codes "no" ∷ codes "30" ∷ node_word node ∷ []
@@ -93,80 +83,10 @@ answer_words (answers.Did step) = codes "ok" ∷ step_word step ∷ []
 answer_words (answers.Names names) = names_words names
 answer_words (answers.Refused refusal) = refusal_words refusal
 
-abbrev pub write_words : Write → List (List ℕ)
-write_words write =
-    codes "wrote"
-    ∷ (codes "C" ++ decimal write.client)
-    ∷ decimal write.number
-    ∷ (codes "T" ++ decimal write.table)
-    ∷ hyphenated_text lower write.row
-    ∷ decimal write.read
-    ∷ content_words write.content
-
-abbrev pub message_word : MessageName → List ℕ
-message_word kinds.RegisterDevice = codes "registerDevice"
-message_word kinds.CreateTable = codes "createTable"
-message_word kinds.DropTable = codes "dropTable"
-message_word kinds.SubscribeTable = codes "subscribeTable"
-message_word kinds.UnsubscribeTable = codes "unsubscribeTable"
-message_word kinds.Notify = codes "notify"
-message_word kinds.ObjectFragment = codes "objectFragment"
-message_word kinds.PullRequest = codes "pullRequest"
-message_word kinds.PullResponse = codes "pullResponse"
-message_word kinds.SyncRequest = codes "syncRequest"
-message_word kinds.SyncResponse = codes "syncResponse"
-message_word kinds.TornRowRequest = codes "tornRowRequest"
-message_word kinds.TornRowResponse = codes "tornRowResponse"
-message_word kinds.OperationResponse = codes "operationResponse"
-message_word kinds.SaveClientSubscription = codes "saveClientSubscription"
-message_word kinds.RestoreClientSubscriptions = codes "restoreClientSubscriptions"
-message_word kinds.TableVersionUpdateNotification = codes "tableVersionUpdateNotification"
-
-abbrev pub entry_words : ℕ → Entry → List (List ℕ)
-entry_words table entry =
-    (codes "T" ++ decimal table)
-    ∷ decimal entry.version
-    ∷ hyphenated_text lower entry.row
-    ∷ (codes "C" ++ decimal entry.client)
-    ∷ decimal entry.number
-    ∷ decimal entry.base
-    ∷ []
-
-abbrev pub fact_words : Fact → List (List ℕ)
-fact_words (facts.Sent packet from to name) = codes "sent" ∷ decimal packet ∷ node_word from ∷ node_word to ∷ message_word name ∷ []
-fact_words (facts.Wrote write) = write_words write
-fact_words (facts.Acked client number table row version) =
-    codes "acked" ∷ (codes "C" ++ decimal client) ∷ decimal number ∷ (codes "T" ++ decimal table) ∷ hyphenated_text lower row ∷ decimal version ∷ []
-fact_words (facts.New client table row version) =
-    codes "new" ∷ (codes "C" ++ decimal client) ∷ (codes "T" ++ decimal table) ∷ hyphenated_text lower row ∷ decimal version ∷ []
-fact_words (facts.Position client table position) =
-    codes "position" ∷ (codes "C" ++ decimal client) ∷ (codes "T" ++ decimal table) ∷ decimal position ∷ []
-fact_words (facts.Accepted table entry) = codes "accepted" ∷ entry_words table entry
-fact_words (facts.Forward table entry) = codes "forward" ∷ entry_words table entry
-fact_words (facts.Back table version) = codes "back" ∷ (codes "T" ++ decimal table) ∷ decimal version ∷ []
-fact_words (facts.Recovered store table) = codes "recovered" ∷ (codes "S" ++ decimal store) ∷ (codes "T" ++ decimal table) ∷ []
-
 abbrev pub words_of : TextLine → List (List ℕ)
 words_of (lines.Answer answer) = answer_words answer
 words_of (lines.Entry table entry) = codes "entry" ∷ entry_words table entry
 words_of (lines.Fact fact) = fact_words fact
-
-cells_led : (some : List Cell) → flat_map cell_text some ≡ led 32 (map cell_word some)
-cells_led [] = refl
-cells_led (cells.Int n ∷ some) = ap (λ text. cell_text (cells.Int n) ++ text) (cells_led some)
-cells_led (cells.Bool true ∷ some) = ap (λ text. cell_text (cells.Bool true) ++ text) (cells_led some)
-cells_led (cells.Bool false ∷ some) = ap (λ text. cell_text (cells.Bool false) ++ text) (cells_led some)
-cells_led (cells.Text t ∷ some) = ap (λ text. cell_text (cells.Text t) ++ text) (cells_led some)
-
-content_led : (content : Content) → content_text content ≡ led 32 (content_words content)
-content_led Gone = refl
-content_led (Row some objects) =
-    rw (flat_map-append, cells_led some, flat_map-map (λ (word : List ℕ). 32 ∷ word) object_word objects) refl
-
-node_led : (node : Node) → node_text node ≡ 32 ∷ node_word node
-node_led (nodes.Client client) = refl
-node_led (nodes.Gate gate) = refl
-node_led (nodes.Store store) = refl
 
 refusal_led : (refusal : Refusal) → 32 ∷ refusal_text refusal ≡ led 32 (refusal_words refusal)
 refusal_led refusals.NoDevice = refl
@@ -176,6 +96,7 @@ refusal_led (refusals.BadObject column len) = simp append-nil
 refusal_led (refusals.RowTooLarge len) = simp append-nil
 refusal_led (refusals.Busy with) = simp append-nil
 refusal_led refusals.NoTable = refl
+refusal_led refusals.Offline = refl
 refusal_led refusals.NoRow = refl
 refusal_led (refusals.NoPacket sent) = simp append-nil
 refusal_led (refusals.Down node) = simp (node_led, append-nil)
@@ -205,53 +126,11 @@ answer_led (answers.Did step) = simp append-nil
 answer_led (answers.Names names) = names_led names
 answer_led (answers.Refused refusal) = refusal_led refusal
 
-message_led : (name : MessageName) → message_text name ≡ 32 ∷ message_word name
-message_led kinds.RegisterDevice = refl
-message_led kinds.CreateTable = refl
-message_led kinds.DropTable = refl
-message_led kinds.SubscribeTable = refl
-message_led kinds.UnsubscribeTable = refl
-message_led kinds.Notify = refl
-message_led kinds.ObjectFragment = refl
-message_led kinds.PullRequest = refl
-message_led kinds.PullResponse = refl
-message_led kinds.SyncRequest = refl
-message_led kinds.SyncResponse = refl
-message_led kinds.TornRowRequest = refl
-message_led kinds.TornRowResponse = refl
-message_led kinds.OperationResponse = refl
-message_led kinds.SaveClientSubscription = refl
-message_led kinds.RestoreClientSubscriptions = refl
-message_led kinds.TableVersionUpdateNotification = refl
-
-entry_led : (table : ℕ) (entry : Entry) → entry_text table entry ≡ led 32 (entry_words table entry)
-entry_led table entry = simp append-nil
-
-fact_led : (fact : Fact) → 32 ∷ fact_text fact ≡ led 32 (fact_words fact)
-fact_led (facts.Sent packet from to name) = simp (node_led, message_led, append-nil)
-fact_led (facts.Wrote write) = rw content_led refl
-fact_led (facts.Acked client number table row version) = simp append-nil
-fact_led (facts.New client table row version) = simp append-nil
-fact_led (facts.Position client table position) = simp append-nil
-fact_led (facts.Accepted table entry) = rw entry_led refl
-fact_led (facts.Forward table entry) = rw entry_led refl
-fact_led (facts.Back table version) = simp append-nil
-fact_led (facts.Recovered store table) = simp append-nil
-
 -- a line's text, with a space before it
 text_led : (line : TextLine) → 32 ∷ text_of line ≡ led 32 (words_of line)
 text_led (lines.Answer answer) = answer_led answer
 text_led (lines.Entry table entry) = rw entry_led refl
 text_led (lines.Fact fact) = fact_led fact
-
-content_above : (content : Content) → HasContentText content → AllByRecursion (IsAbove 32) (content_words content)
-content_above Gone h = search rules
-content_above (Row some objects) h = all_words (IsAbove 32) (map cell_word some) (map object_word objects) (cells_above some h.0) (objects_above objects h.1)
-
-node_above : (node : Node) → HasNodeText node → IsAbove 32 (node_word node)
-node_above (nodes.Client client) h = search (rules, decimal_above)
-node_above (nodes.Gate gate) h = search (rules, decimal_above)
-node_above (nodes.Store store) h = search (rules, decimal_above)
 
 refusal_above : (refusal : Refusal) → HasRefusalText refusal → AllByRecursion (IsAbove 32) (refusal_words refusal)
 refusal_above refusals.NoDevice h = search rules
@@ -261,6 +140,7 @@ refusal_above (refusals.BadObject column len) h = search (rules, decimal_above)
 refusal_above (refusals.RowTooLarge len) h = search (rules, decimal_above)
 refusal_above (refusals.Busy with) h = search (rules, decimal_above)
 refusal_above refusals.NoTable h = search rules
+refusal_above refusals.Offline h = search rules
 refusal_above refusals.NoRow h = search rules
 refusal_above (refusals.NoPacket sent) h = search (rules, decimal_above)
 refusal_above (refusals.Down node) h = search (rules, node_above)
@@ -318,50 +198,10 @@ answer_above (answers.Did step) h = search (rules, step_above)
 answer_above (answers.Names names) h = names_above names h
 answer_above (answers.Refused refusal) h = refusal_above refusal h
 
-message_above : (name : MessageName) → IsAbove 32 (message_word name)
-message_above kinds.RegisterDevice = search rules
-message_above kinds.CreateTable = search rules
-message_above kinds.DropTable = search rules
-message_above kinds.SubscribeTable = search rules
-message_above kinds.UnsubscribeTable = search rules
-message_above kinds.Notify = search rules
-message_above kinds.ObjectFragment = search rules
-message_above kinds.PullRequest = search rules
-message_above kinds.PullResponse = search rules
-message_above kinds.SyncRequest = search rules
-message_above kinds.SyncResponse = search rules
-message_above kinds.TornRowRequest = search rules
-message_above kinds.TornRowResponse = search rules
-message_above kinds.OperationResponse = search rules
-message_above kinds.SaveClientSubscription = search rules
-message_above kinds.RestoreClientSubscriptions = search rules
-message_above kinds.TableVersionUpdateNotification = search rules
-
-entry_above : (table : ℕ) (entry : Entry) → HasEntryText table entry → AllByRecursion (IsAbove 32) (entry_words table entry)
-entry_above table entry h = search (rules, decimal_above, row_above)
-
-fact_above : (fact : Fact) → HasFactText fact → AllByRecursion (IsAbove 32) (fact_words fact)
-fact_above (facts.Sent packet from to name) h = search (rules, decimal_above, node_above, message_above)
-fact_above (facts.Wrote write) h = search (rules, decimal_above, row_above, content_above)
-fact_above (facts.Acked client number table row version) h = search (rules, decimal_above, row_above)
-fact_above (facts.New client table row version) h = search (rules, decimal_above, row_above)
-fact_above (facts.Position client table position) h = search (rules, decimal_above)
-fact_above (facts.Accepted table entry) h = search (rules, entry_above)
-fact_above (facts.Forward table entry) h = search (rules, entry_above)
-fact_above (facts.Back table version) h = search (rules, decimal_above)
-fact_above (facts.Recovered store table) h = search (rules, decimal_above)
-
 words_above : (line : TextLine) → HasText line → AllByRecursion (IsAbove 32) (words_of line)
 words_above (lines.Answer answer) h = answer_above answer h
 words_above (lines.Entry table entry) h = search (rules, entry_above)
 words_above (lines.Fact fact) h = fact_above fact h
-
-content_same : (a b : Content) → HasContentText a → HasContentText b → content_words a ≡ content_words b → a ≡ b
-content_same Gone Gone p q e = refl
-content_same Gone (Row some objects) p q e = absurd (not_gone object_word AreBytes object_same no_object object_not_gone some objects q.0 (sym e))
-content_same (Row some objects) Gone p q e = absurd (not_gone object_word AreBytes object_same no_object object_not_gone some objects p.0 e)
-content_same (Row some objects) (Row more others) p q e =
-    let same = values_same object_word AreBytes object_same no_object some more objects others p.0 q.0 p.1 q.1 e in cc (same.0, same.1)
 
 abbrev row_made : List Cell → List ObjectSum → RowSum
 row_made some objects = record { cells = some; objects = objects }
@@ -375,151 +215,6 @@ row_sum_same a b p q e =
 row_apart : (a : Content) (b : RowSum) → HasContentText a → HasRowSumText b → content_words a ≡ row_sum_words b → ⊥
 row_apart Gone b p q e = not_gone sum_word HasSumText sum_same no_sum sum_not_gone b.cells b.objects q.cells (sym e)
 row_apart (Row some objects) b p q e = kinds_apart some b.cells objects b.objects p.0 q.cells q.some e
-
-bytes_same : (xs ys : List ℕ) → length xs ≡ 16 → length ys ≡ 16 → All (λ b. b < 256) xs → All (λ b. b < 256) ys
-    → hyphenated_text lower xs ≡ hyphenated_text lower ys → xs ≡ ys
-bytes_same xs ys k l p q e =
-    let same : Some xs ≡ Some ys = parses_hyphenated lower xs (inl refl) k p ∙ ap parsed e ∙ sym (parses_hyphenated lower ys (inl refl) l q) in
-    cc
-
-row_same : (xs ys : List ℕ) → HasRowText xs → HasRowText ys → hyphenated_text lower xs ≡ hyphenated_text lower ys → xs ≡ ys
-row_same xs ys p q e = bytes_same xs ys p.size q.size p.bytes q.bytes e
-
-write_same : (a b : Write) → HasWriteText a → HasWriteText b → write_words a ≡ write_words b → a ≡ b
-write_same a b p q e =
-    let rows = row_same a.row b.row p.row q.row (cc) in
-    grind (arith, rows, decimal_injective, content_same)
-
-entry_same : (s t : ℕ) (a b : Entry) → HasEntryText s a → HasEntryText t b → entry_words s a ≡ entry_words t b → (s ≡ t) × (a ≡ b)
-entry_same s t a b p q e =
-    let rows = row_same a.row b.row p.row q.row (cc) in
-    grind (arith, rows, decimal_injective)
-
-letter_of : Node → ℕ
-letter_of (nodes.Client client) = 67
-letter_of (nodes.Gate gate) = 71
-letter_of (nodes.Store store) = 83
-
-letter_is : (node : Node) → get_or (node_word node) 0 0 ≡ letter_of node
-unfolding letter_of
-letter_is (nodes.Client client) = refl
-letter_is (nodes.Gate gate) = refl
-letter_is (nodes.Store store) = refl
-
-node_same : (a b : Node) → HasNodeText a → HasNodeText b → node_word a ≡ node_word b → a ≡ b
-unfolding letter_of
-node_same (nodes.Client m) (nodes.Client n) p q e = ap nodes.Client (decimal_injective m n (omega (arith, p)) (omega (arith, q)) (cc))
-node_same (nodes.Gate m) (nodes.Gate n) p q e = ap nodes.Gate (decimal_injective m n (omega (arith, p)) (omega (arith, q)) (cc))
-node_same (nodes.Store m) (nodes.Store n) p q e = ap nodes.Store (decimal_injective m n (omega (arith, p)) (omega (arith, q)) (cc))
-node_same a b p q e =
-    let same : letter_of a ≡ letter_of b = sym (letter_is a) ∙ ap (λ word. get_or word 0 0) e ∙ letter_is b in
-    absurd (omega (arith, same))
-
-message_in : List ℕ → MessageName
-message_in word =
-    cond (bytes_eq word (codes "registerDevice")) kinds.RegisterDevice
-    (cond (bytes_eq word (codes "createTable")) kinds.CreateTable
-    (cond (bytes_eq word (codes "dropTable")) kinds.DropTable
-    (cond (bytes_eq word (codes "subscribeTable")) kinds.SubscribeTable
-    (cond (bytes_eq word (codes "unsubscribeTable")) kinds.UnsubscribeTable
-    (cond (bytes_eq word (codes "notify")) kinds.Notify
-    (cond (bytes_eq word (codes "objectFragment")) kinds.ObjectFragment
-    (cond (bytes_eq word (codes "pullRequest")) kinds.PullRequest
-    (cond (bytes_eq word (codes "pullResponse")) kinds.PullResponse
-    (cond (bytes_eq word (codes "syncRequest")) kinds.SyncRequest
-    (cond (bytes_eq word (codes "syncResponse")) kinds.SyncResponse
-    (cond (bytes_eq word (codes "tornRowRequest")) kinds.TornRowRequest
-    (cond (bytes_eq word (codes "tornRowResponse")) kinds.TornRowResponse
-    (cond (bytes_eq word (codes "operationResponse")) kinds.OperationResponse
-    (cond (bytes_eq word (codes "saveClientSubscription")) kinds.SaveClientSubscription
-    (cond (bytes_eq word (codes "restoreClientSubscriptions")) kinds.RestoreClientSubscriptions kinds.TableVersionUpdateNotification)))))))))))))))
-
-message_read : (name : MessageName) → message_in (message_word name) ≡ name
-unfolding message_in
-message_read kinds.RegisterDevice = refl
-message_read kinds.CreateTable = refl
-message_read kinds.DropTable = refl
-message_read kinds.SubscribeTable = refl
-message_read kinds.UnsubscribeTable = refl
-message_read kinds.Notify = refl
-message_read kinds.ObjectFragment = refl
-message_read kinds.PullRequest = refl
-message_read kinds.PullResponse = refl
-message_read kinds.SyncRequest = refl
-message_read kinds.SyncResponse = refl
-message_read kinds.TornRowRequest = refl
-message_read kinds.TornRowResponse = refl
-message_read kinds.OperationResponse = refl
-message_read kinds.SaveClientSubscription = refl
-message_read kinds.RestoreClientSubscriptions = refl
-message_read kinds.TableVersionUpdateNotification = refl
-
-message_same : (a b : MessageName) → message_word a ≡ message_word b → a ≡ b
-message_same a b e = sym (message_read a) ∙ ap message_in e ∙ message_read b
-
-abbrev first_word : List (List ℕ) → List ℕ
-first_word [] = []
-first_word (word ∷ words) = word
-
-fact_number : Fact → ℕ
-fact_number (facts.Sent packet from to name) = 0
-fact_number (facts.Wrote write) = 1
-fact_number (facts.Acked client number table row version) = 2
-fact_number (facts.New client table row version) = 3
-fact_number (facts.Position client table position) = 4
-fact_number (facts.Accepted table entry) = 5
-fact_number (facts.Forward table entry) = 6
-fact_number (facts.Back table version) = 7
-fact_number (facts.Recovered store table) = 8
-
-fact_in : List ℕ → ℕ
-fact_in word =
-    cond (bytes_eq word (codes "sent")) 0 (cond (bytes_eq word (codes "wrote")) 1 (cond (bytes_eq word (codes "acked")) 2
-    (cond (bytes_eq word (codes "new")) 3 (cond (bytes_eq word (codes "position")) 4 (cond (bytes_eq word (codes "accepted")) 5
-    (cond (bytes_eq word (codes "forward")) 6 (cond (bytes_eq word (codes "back")) 7 8)))))))
-
-fact_read : (fact : Fact) → fact_in (first_word (fact_words fact)) ≡ fact_number fact
-unfolding fact_in fact_number
-fact_read (facts.Sent packet from to name) = refl
-fact_read (facts.Wrote write) = refl
-fact_read (facts.Acked client number table row version) = refl
-fact_read (facts.New client table row version) = refl
-fact_read (facts.Position client table position) = refl
-fact_read (facts.Accepted table entry) = refl
-fact_read (facts.Forward table entry) = refl
-fact_read (facts.Back table version) = refl
-fact_read (facts.Recovered store table) = refl
-
-fact_same : (a b : Fact) → HasFactText a → HasFactText b → fact_words a ≡ fact_words b → a ≡ b
-unfolding fact_number
-fact_same (facts.Sent i from to name) (facts.Sent j from_2 to_2 name_2) p q e =
-    cc (decimal_injective i j p.0 q.0 (cc), node_same from from_2 p.1 q.1 (cc), node_same to to_2 p.2 q.2 (cc), message_same name name_2 (cc))
-fact_same (facts.Wrote a) (facts.Wrote b) p q e = ap facts.Wrote (write_same a b p q e)
-fact_same (facts.Acked c n t r v) (facts.Acked c_2 n_2 t_2 r_2 v_2) p q e =
-    cc (
-      decimal_injective c c_2 (omega (arith, p)) (omega (arith, q)) (cc),
-      decimal_injective n n_2 p.1 q.1 (cc),
-      decimal_injective t t_2 (omega (arith, p)) (omega (arith, q)) (cc),
-      row_same r r_2 p.3 q.3 (cc),
-      decimal_injective v v_2 p.4 q.4 (cc),
-    )
-fact_same (facts.New c t r v) (facts.New c_2 t_2 r_2 v_2) p q e =
-    cc (
-      decimal_injective c c_2 (omega (arith, p)) (omega (arith, q)) (cc),
-      decimal_injective t t_2 (omega (arith, p)) (omega (arith, q)) (cc),
-      row_same r r_2 p.2 q.2 (cc),
-      decimal_injective v v_2 p.3 q.3 (cc),
-    )
-fact_same (facts.Position c t v) (facts.Position c_2 t_2 v_2) p q e =
-    cc (decimal_injective c c_2 (omega (arith, p)) (omega (arith, q)) (cc), decimal_injective t t_2 (omega (arith, p)) (omega (arith, q)) (cc), decimal_injective v v_2 p.2 q.2 (cc))
-fact_same (facts.Accepted s a) (facts.Accepted t b) p q e = let same = entry_same s t a b p q (cc) in cc (same.0, same.1)
-fact_same (facts.Forward s a) (facts.Forward t b) p q e = let same = entry_same s t a b p q (cc) in cc (same.0, same.1)
-fact_same (facts.Back t v) (facts.Back t_2 v_2) p q e = cc (decimal_injective t t_2 (omega (arith, p)) (omega (arith, q)) (cc), decimal_injective v v_2 p.1 q.1 (cc))
-fact_same (facts.Recovered s t) (facts.Recovered s_2 t_2) p q e =
-    cc (decimal_injective s s_2 (omega (arith, p)) (omega (arith, q)) (cc), decimal_injective t t_2 (omega (arith, p)) (omega (arith, q)) (cc))
-fact_same a b p q e =
-    let same : fact_number a ≡ fact_number b = sym (fact_read a) ∙ ap (λ words. fact_in (first_word words)) e ∙ fact_read b in
-    absurd (omega (arith, same))
 
 refusal_same : (a b : Refusal) → HasRefusalText a → HasRefusalText b → refusal_words a ≡ refusal_words b → a ≡ b
 refusal_same a b p q e = grind (arith, decimal_injective, node_same)
@@ -611,6 +306,7 @@ refused_word (answers.Refused (refusals.BadCell column)) = refl
 refused_word (answers.Refused (refusals.BadObject column len)) = refl
 refused_word (answers.Refused (refusals.RowTooLarge len)) = refl
 refused_word (answers.Refused refusals.NoTable) = refl
+refused_word (answers.Refused refusals.Offline) = refl
 refused_word (answers.Refused refusals.NoRow) = refl
 refused_word (answers.Refused (refusals.NoPacket sent)) = refl
 
@@ -830,20 +526,31 @@ answer_kind (answers.Refused (refusals.BadCell column)) = refl
 answer_kind (answers.Refused (refusals.BadObject column len)) = refl
 answer_kind (answers.Refused (refusals.RowTooLarge len)) = refl
 answer_kind (answers.Refused refusals.NoTable) = refl
+answer_kind (answers.Refused refusals.Offline) = refl
 answer_kind (answers.Refused refusals.NoRow) = refl
 answer_kind (answers.Refused (refusals.NoPacket sent)) = refl
+
+client_fact_kind : (fact : ClientFact) → kind_in (first_word (client_fact_words fact)) ≡ 2
+unfolding kind_in
+client_fact_kind (changes.Wrote write) = refl
+client_fact_kind (changes.Acked client number table row version) = refl
+client_fact_kind (changes.Refused client number table row latest) = refl
+client_fact_kind (changes.Conflict client number table row version) = refl
+client_fact_kind (changes.Resolved client number table row version) = refl
+client_fact_kind (changes.New client table row version) = refl
+client_fact_kind (changes.Position client table position) = refl
 
 fact_kind : (fact : Fact) → kind_in (first_word (fact_words fact)) ≡ 2
 unfolding kind_in
 fact_kind (facts.Sent packet from to name) = refl
-fact_kind (facts.Wrote write) = refl
-fact_kind (facts.Acked client number table row version) = refl
-fact_kind (facts.New client table row version) = refl
-fact_kind (facts.Position client table position) = refl
+fact_kind (facts.Client fact) = client_fact_kind fact
+fact_kind (facts.Redone fact) = refl
+fact_kind (facts.Torn client table row) = refl
+fact_kind (facts.ClientRecovered client) = refl
 fact_kind (facts.Accepted table entry) = refl
 fact_kind (facts.Forward table entry) = refl
 fact_kind (facts.Back table version) = refl
-fact_kind (facts.Recovered store table) = refl
+fact_kind (facts.StoreRecovered store table) = refl
 
 line_kind : (line : TextLine) → kind_in (first_word (words_of line)) ≡ kind_of line
 unfolding kind_in kind_of

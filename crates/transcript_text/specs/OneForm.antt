@@ -17,6 +17,8 @@ use Rattle.table_model.specs.declared.line.Refusal.{Refusal}
 use Rattle.table_model.specs.declared.line.Refusal.TheVariants as refusals
 use Rattle.table_model.specs.declared.line.Answer.{Answer}
 use Rattle.table_model.specs.declared.line.Answer.TheVariants as answers
+use Rattle.table_model.specs.declared.line.ClientFact.{ClientFact}
+use Rattle.table_model.specs.declared.line.ClientFact.TheVariants as changes
 use Rattle.table_model.specs.declared.line.Fact.{Fact}
 use Rattle.table_model.specs.declared.line.Fact.TheVariants as facts
 use Rattle.table_model.specs.declared.line.TextLine.{TextLine}
@@ -52,6 +54,7 @@ HasRefusalText (refusals.BadObject column len) = (column < 2 ^ 64) × (len < 2 ^
 HasRefusalText (refusals.RowTooLarge len) = len < 2 ^ 64
 HasRefusalText (refusals.Busy with) = with < 2 ^ 64
 HasRefusalText refusals.NoTable = Unit {0}
+HasRefusalText refusals.Offline = Unit {0}
 HasRefusalText refusals.NoRow = Unit {0}
 HasRefusalText (refusals.NoPacket sent) = sent < 2 ^ 64
 HasRefusalText (refusals.Down node) = HasNodeText node
@@ -125,18 +128,31 @@ pub record HasEntryText (place : ℕ) (entry : Entry) : Type 0 where
   pub number : entry.number < 2 ^ 64
   pub base : entry.base < 2 ^ 64
 
+abbrev pub HasOutcomeText : ℕ → ℕ → ℕ → List ℕ → ℕ → Type 0
+HasOutcomeText client number table row version =
+    (client < 2 ^ 32) × (number < 2 ^ 64) × (table < 2 ^ 32) × HasRowText row × (version < 2 ^ 64)
+
+abbrev pub HasClientFactText : ClientFact → Type 0
+HasClientFactText (changes.Wrote write) = HasWriteText write
+HasClientFactText (changes.Acked client number table row version) = HasOutcomeText client number table row version
+HasClientFactText (changes.Refused client number table row latest) = HasOutcomeText client number table row latest
+HasClientFactText (changes.Conflict client number table row version) = HasOutcomeText client number table row version
+HasClientFactText (changes.Resolved client number table row version) = HasOutcomeText client number table row version
+HasClientFactText (changes.New client table row version) =
+    (client < 2 ^ 32) × (table < 2 ^ 32) × HasRowText row × (version < 2 ^ 64)
+HasClientFactText (changes.Position client table position) =
+    (client < 2 ^ 32) × (table < 2 ^ 32) × (position < 2 ^ 64)
+
 abbrev pub HasFactText : Fact → Type 0
 HasFactText (facts.Sent packet from to name) = (packet < 2 ^ 64) × HasNodeText from × HasNodeText to
-HasFactText (facts.Wrote write) = HasWriteText write
-HasFactText (facts.Acked client number table row version) =
-    (client < 2 ^ 32) × (number < 2 ^ 64) × (table < 2 ^ 32) × HasRowText row × (version < 2 ^ 64)
-HasFactText (facts.New client table row version) =
-    (client < 2 ^ 32) × (table < 2 ^ 32) × HasRowText row × (version < 2 ^ 64)
-HasFactText (facts.Position client table position) = (client < 2 ^ 32) × (table < 2 ^ 32) × (position < 2 ^ 64)
+HasFactText (facts.Client fact) = HasClientFactText fact
+HasFactText (facts.Redone fact) = HasClientFactText fact
+HasFactText (facts.Torn client table row) = (client < 2 ^ 32) × (table < 2 ^ 32) × HasRowText row
+HasFactText (facts.ClientRecovered client) = client < 2 ^ 32
 HasFactText (facts.Accepted table entry) = HasEntryText table entry
 HasFactText (facts.Forward table entry) = HasEntryText table entry
 HasFactText (facts.Back table version) = (table < 2 ^ 32) × (version < 2 ^ 64)
-HasFactText (facts.Recovered store table) = (store < 2 ^ 32) × (table < 2 ^ 32)
+HasFactText (facts.StoreRecovered store table) = (store < 2 ^ 32) × (table < 2 ^ 32)
 
 abbrev pub HasText : TextLine → Type 0
 HasText (lines.Answer answer) = HasAnswerText answer

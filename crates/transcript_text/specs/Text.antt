@@ -25,6 +25,8 @@ use Rattle.table_model.specs.declared.line.Refusal.{Refusal}
 use Rattle.table_model.specs.declared.line.Refusal.TheVariants as refusals
 use Rattle.table_model.specs.declared.line.Answer.{Answer}
 use Rattle.table_model.specs.declared.line.Answer.TheVariants as answers
+use Rattle.table_model.specs.declared.line.ClientFact.{ClientFact}
+use Rattle.table_model.specs.declared.line.ClientFact.TheVariants as changes
 use Rattle.table_model.specs.declared.line.Fact.{Fact}
 use Rattle.table_model.specs.declared.line.Fact.TheVariants as facts
 use Rattle.table_model.specs.declared.line.TextLine.{TextLine}
@@ -69,6 +71,7 @@ refusal_text (refusals.BadObject column len) = codes "no 11 " ++ (decimal column
 refusal_text (refusals.RowTooLarge len) = codes "no 12 " ++ decimal len
 refusal_text (refusals.Busy with) = codes "no 17 " ++ decimal with
 refusal_text refusals.NoTable = codes "no 18"
+refusal_text refusals.Offline = codes "no 24"
 refusal_text refusals.NoRow = codes "no 27"
 refusal_text (refusals.NoPacket sent) = codes "no 29 " ++ decimal sent
 refusal_text (refusals.Down node) = codes "no 30" ++ node_text node
@@ -152,24 +155,43 @@ entry_text table entry =
     ++ (codes " C"
     ++ (decimal entry.client ++ (codes " " ++ (decimal entry.number ++ (codes " " ++ decimal entry.base))))))))))
 
-abbrev pub fact_text : Fact → List ℕ
-fact_text (facts.Sent packet from to name) =
-    codes "sent " ++ (decimal packet ++ (node_text from ++ (node_text to ++ message_text name)))
-fact_text (facts.Wrote write) = write_text write
-fact_text (facts.Acked client number table row version) =
-    codes "acked C" ++ (decimal client ++ (codes " " ++ (decimal number ++ (codes " T" ++ (decimal table
+-- what became of a write, behind the word that a line begins with
+abbrev pub outcome_text : ℕ → ℕ → ℕ → List ℕ → ℕ → List ℕ
+outcome_text client number table row version =
+    codes " C" ++ (decimal client ++ (codes " " ++ (decimal number ++ (codes " T" ++ (decimal table
     ++ (codes " " ++ (hyphenated_text lower row ++ (codes " " ++ decimal version))))))))
-fact_text (facts.New client table row version) =
+
+abbrev pub client_fact_text : ClientFact → List ℕ
+client_fact_text (changes.Wrote write) = write_text write
+client_fact_text (changes.Acked client number table row version) =
+    codes "acked" ++ outcome_text client number table row version
+client_fact_text (changes.Refused client number table row latest) =
+    codes "refused" ++ outcome_text client number table row latest
+client_fact_text (changes.Conflict client number table row version) =
+    codes "conflict" ++ outcome_text client number table row version
+client_fact_text (changes.Resolved client number table row version) =
+    codes "resolved" ++ outcome_text client number table row version
+client_fact_text (changes.New client table row version) =
     codes "new C"
     ++ (decimal client
     ++ (codes " T"
     ++ (decimal table ++ (codes " " ++ (hyphenated_text lower row ++ (codes " " ++ decimal version))))))
-fact_text (facts.Position client table position) =
+client_fact_text (changes.Position client table position) =
     codes "position C" ++ (decimal client ++ (codes " T" ++ (decimal table ++ (codes " " ++ decimal position))))
+
+abbrev pub fact_text : Fact → List ℕ
+fact_text (facts.Sent packet from to name) =
+    codes "sent " ++ (decimal packet ++ (node_text from ++ (node_text to ++ message_text name)))
+fact_text (facts.Client fact) = client_fact_text fact
+fact_text (facts.Redone fact) = codes "redone " ++ client_fact_text fact
+fact_text (facts.Torn client table row) =
+    codes "torn C" ++ (decimal client ++ (codes " T" ++ (decimal table ++ (codes " " ++ hyphenated_text lower row))))
+fact_text (facts.ClientRecovered client) = codes "recovered C" ++ decimal client
 fact_text (facts.Accepted table entry) = codes "accepted" ++ entry_text table entry
 fact_text (facts.Forward table entry) = codes "forward" ++ entry_text table entry
 fact_text (facts.Back table version) = codes "back T" ++ (decimal table ++ (codes " " ++ decimal version))
-fact_text (facts.Recovered store table) = codes "recovered S" ++ (decimal store ++ (codes " T" ++ decimal table))
+fact_text (facts.StoreRecovered store table) =
+    codes "recovered S" ++ (decimal store ++ (codes " T" ++ decimal table))
 
 abbrev pub text_of : TextLine → List ℕ
 text_of (lines.Answer answer) = answer_text answer

@@ -4,8 +4,8 @@ ghost use Rattle.table_model.specs.declared.line.TextLine.{TextLine};
 ghost use Rattle.transcript_text.specs.Text.{text_of, transcript_text, stop_text};
 ghost use Rattle.transcript_text.specs.OneForm.{HasText};
 
-/// A text is the text of one line alone. The values are those of the program's types, as far as contents have cells of
-/// numbers only and no objects.
+/// A text is the text of one line alone. The values are those of the program's types; a stored row has a value, a row
+/// that is shown by digests has an object, and there is a chunk where chunks are named.
 pub fn one_form()
     ensures { (a b : TextLine) → HasText a → HasText b → text_of a ≡ text_of b → a ≡ b }
 {}

@@ -6,15 +6,19 @@ ghost use Rattle.table_model.specs.declared.line.Fact.TheVariants as facts;
 ghost use Rattle.transcript_text.specs.Text.{cell_text, object_text, content_text, refusal_text, shown_text};
 ghost use Rattle.transcript_text.specs.Text.{sum_text, row_sum_text, shown_sum_text};
 ghost use Rattle.transcript_text.specs.Text.{answer_text, write_text, node_text, message_text, entry_text, fact_text};
+ghost use Rattle.transcript_text.specs.Text.{outcome_text, client_fact_text};
 ghost use Rattle.transcript_text.specs.Text.{text_of, stop_text, step_word, name_text, names_text};
 
 use percent_encoding::{AsciiSet, NON_ALPHANUMERIC, ascii_set, percent_encode};
-use row_value::{Bytes, Cell, Cells, ChunkName, Content, Objects, SharedBytes, TableNo};
+use row_value::{
+    Bytes, Cell, Cells, ChunkName, ClientNo, Content, Objects, RowId, SharedBytes, TableNo,
+    Version, WriteNo,
+};
 use stab_base::{Names, Step, StoreNo};
 use std::alloc::{AllocError, Global};
 use table_model::{
-    Answer, Entry, Fact, MessageName, Node, ObjectSum, ObjectSums, Refusal, RowSum, Shown,
-    ShownSum, TextLine, Write,
+    Answer, ClientFact, Entry, Fact, MessageName, Node, ObjectSum, ObjectSums, Refusal, RowSum,
+    Shown, ShownSum, TextLine, Write,
 };
 
 /// The bytes of a text cell that are written as `%` and two hex digits: all but the unreserved characters of RFC 3986,
@@ -126,6 +130,7 @@ fn put_refusal(out: &mut String, refusal: Refusal) -> Result<(), AllocError>
         Refusal::RowTooLarge { len } => write!(out, "no 12 {len}"),
         Refusal::Busy { with } => write!(out, "no 17 {with}"),
         Refusal::NoTable => out.push_str("no 18"),
+        Refusal::Offline => out.push_str("no 24"),
         Refusal::NoRow => out.push_str("no 27"),
         Refusal::NoPacket { sent } => write!(out, "no 29 {sent}"),
         Refusal::Down { node } => {
@@ -319,8 +324,81 @@ fn put_entry(out: &mut String, table: TableNo, entry: &Entry) -> Result<(), Allo
     write!(out, " T{table} {version} {row} C{client} {number} {base}")
 }
 
+fn put_outcome(
+    out: &mut String,
+    client: ClientNo,
+    number: WriteNo,
+    table: TableNo,
+    row: RowId,
+    version: Version,
+) -> Result<(), AllocError>
+    ensures { OnOk result (string_bytes out.new ≡ string_bytes out.old
+        ++ outcome_text client number table row version) }
+{
+    write!(out, " C{client} {number} T{table} {row} {version}")
+}
+
+fn put_client_fact(alloc: Global, out: &mut String, fact: &ClientFact) -> Result<(), AllocError>
+    ensures { OnOk result (string_bytes out.new ≡ string_bytes out.old ++ client_fact_text fact.now) }
+{
+    match fact {
+        ClientFact::Wrote(write) => put_write(alloc, out, write),
+        ClientFact::Acked {
+            client,
+            number,
+            table,
+            row,
+            version,
+        } => {
+            out.push_str("acked")?;
+            put_outcome(out, *client, *number, *table, *row, *version)
+        }
+        ClientFact::Refused {
+            client,
+            number,
+            table,
+            row,
+            latest,
+        } => {
+            out.push_str("refused")?;
+            put_outcome(out, *client, *number, *table, *row, *latest)
+        }
+        ClientFact::Conflict {
+            client,
+            number,
+            table,
+            row,
+            version,
+        } => {
+            out.push_str("conflict")?;
+            put_outcome(out, *client, *number, *table, *row, *version)
+        }
+        ClientFact::Resolved {
+            client,
+            number,
+            table,
+            row,
+            version,
+        } => {
+            out.push_str("resolved")?;
+            put_outcome(out, *client, *number, *table, *row, *version)
+        }
+        ClientFact::New {
+            client,
+            table,
+            row,
+            version,
+        } => write!(out, "new C{client} T{table} {row} {version}"),
+        ClientFact::Position {
+            client,
+            table,
+            position,
+        } => write!(out, "position C{client} T{table} {position}"),
+    }
+}
+
 fn put_recovered(out: &mut String, store: StoreNo, table: TableNo) -> Result<(), AllocError>
-    ensures { OnOk result (string_bytes out.new ≡ string_bytes out.old ++ fact_text (facts.Recovered store table)) }
+    ensures { OnOk result (string_bytes out.new ≡ string_bytes out.old ++ fact_text (facts.StoreRecovered store table)) }
 {
     write!(out, "recovered S{store} T{table}")
 }
@@ -335,25 +413,13 @@ fn put_fact(alloc: Global, out: &mut String, fact: &Fact) -> Result<(), AllocErr
             to,
             name,
         } => put_sent(out, *packet, *from, *to, *name),
-        Fact::Wrote(write) => put_write(alloc, out, write),
-        Fact::Acked {
-            client,
-            number,
-            table,
-            row,
-            version,
-        } => write!(out, "acked C{client} {number} T{table} {row} {version}"),
-        Fact::New {
-            client,
-            table,
-            row,
-            version,
-        } => write!(out, "new C{client} T{table} {row} {version}"),
-        Fact::Position {
-            client,
-            table,
-            position,
-        } => write!(out, "position C{client} T{table} {position}"),
+        Fact::Client(fact) => put_client_fact(alloc, out, fact),
+        Fact::Redone(fact) => {
+            out.push_str("redone ")?;
+            put_client_fact(alloc, out, fact)
+        }
+        Fact::Torn { client, table, row } => write!(out, "torn C{client} T{table} {row}"),
+        Fact::ClientRecovered { client } => write!(out, "recovered C{client}"),
         Fact::Accepted { table, entry } => {
             out.push_str("accepted")?;
             put_entry(out, *table, entry)
@@ -363,7 +429,7 @@ fn put_fact(alloc: Global, out: &mut String, fact: &Fact) -> Result<(), AllocErr
             put_entry(out, *table, entry)
         }
         Fact::Back { table, version } => write!(out, "back T{table} {version}"),
-        Fact::Recovered { store, table } => put_recovered(out, *store, *table),
+        Fact::StoreRecovered { store, table } => put_recovered(out, *store, *table),
     }
 }
 

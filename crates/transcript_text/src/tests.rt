@@ -5,8 +5,8 @@ use std::alloc::Global;
 use std::process::Abort;
 use std::test::Fail;
 use table_model::{
-    Answer, Entry, Fact, MessageName, Node, ObjectSum, Refusal, RowSum, Shown, ShownSum, TextLine,
-    Write,
+    Answer, ClientFact, Entry, Fact, MessageName, Node, ObjectSum, Refusal, RowSum, Shown,
+    ShownSum, TextLine, Write,
 };
 
 fn row(last: u8) -> RowId {
@@ -91,86 +91,165 @@ fn entry() -> Entry {
 fn facts_have_their_fields_in_order(rt: HostRuntime) -> Result<(), Fail> {
     let cases = [
         (
-            TextLine::Fact(Fact::Acked {
-                client: 1,
-                number: 2,
+            Fact::Torn {
+                client: 2,
                 table: 3,
                 row: row(1),
-                version: 4,
-            }),
-            "acked C1 2 T3 00000000-0000-4000-8000-000000000001 4",
+            },
+            "torn C2 T3 00000000-0000-4000-8000-000000000001",
         ),
+        (Fact::ClientRecovered { client: 1 }, "recovered C1"),
         (
-            TextLine::Fact(Fact::New {
-                client: 2,
-                table: 1,
-                row: row(171),
-                version: 7,
-            }),
-            "new C2 T1 00000000-0000-4000-8000-0000000000ab 7",
-        ),
-        (
-            TextLine::Fact(Fact::Position {
-                client: 2,
-                table: 1,
-                position: 9,
-            }),
-            "position C2 T1 9",
-        ),
-        (
-            TextLine::Fact(Fact::Accepted {
+            Fact::Accepted {
                 table: 1,
                 entry: entry(),
-            }),
+            },
             "accepted T1 3 00000000-0000-4000-8000-000000000002 C4 5 6",
         ),
         (
-            TextLine::Fact(Fact::Forward {
+            Fact::Forward {
                 table: 3,
                 entry: entry(),
-            }),
+            },
             "forward T3 3 00000000-0000-4000-8000-000000000002 C4 5 6",
         ),
         (
-            TextLine::Fact(Fact::Back {
+            Fact::Back {
                 table: 3,
                 version: 8,
-            }),
+            },
             "back T3 8",
         ),
         (
-            TextLine::Fact(Fact::Recovered { store: 1, table: 3 }),
+            Fact::StoreRecovered { store: 1, table: 3 },
             "recovered S1 T3",
         ),
-        (
-            TextLine::Entry {
-                table: 2,
-                entry: entry(),
-            },
-            "entry T2 3 00000000-0000-4000-8000-000000000002 C4 5 6",
-        ),
     ];
-    for (line, text) in cases.iter() {
-        check(&rt, rt.alloc(), line, text)?;
+    for (fact, text) in cases {
+        check(&rt, rt.alloc(), &TextLine::Fact(fact), text)?;
     }
     Ok(())
 }
 
 #[test]
-fn a_write_has_its_content(rt: HostRuntime) -> Result<(), Fail> {
-    let write = Write {
+fn an_entry_has_its_fields_in_order(rt: HostRuntime) -> Result<(), Fail> {
+    check(
+        &rt,
+        rt.alloc(),
+        &TextLine::Entry {
+            table: 2,
+            entry: entry(),
+        },
+        "entry T2 3 00000000-0000-4000-8000-000000000002 C4 5 6",
+    )
+}
+
+fn changes_of_clients() -> [(ClientFact, &'static str); 6] {
+    [
+        (
+            ClientFact::Acked {
+                client: 1,
+                number: 2,
+                table: 3,
+                row: row(1),
+                version: 4,
+            },
+            "acked C1 2 T3 00000000-0000-4000-8000-000000000001 4",
+        ),
+        (
+            ClientFact::Refused {
+                client: 1,
+                number: 2,
+                table: 3,
+                row: row(1),
+                latest: 5,
+            },
+            "refused C1 2 T3 00000000-0000-4000-8000-000000000001 5",
+        ),
+        (
+            ClientFact::Conflict {
+                client: 4,
+                number: 3,
+                table: 2,
+                row: row(16),
+                version: 1,
+            },
+            "conflict C4 3 T2 00000000-0000-4000-8000-000000000010 1",
+        ),
+        (
+            ClientFact::Resolved {
+                client: 4,
+                number: 3,
+                table: 2,
+                row: row(16),
+                version: 1,
+            },
+            "resolved C4 3 T2 00000000-0000-4000-8000-000000000010 1",
+        ),
+        (
+            ClientFact::New {
+                client: 2,
+                table: 1,
+                row: row(171),
+                version: 7,
+            },
+            "new C2 T1 00000000-0000-4000-8000-0000000000ab 7",
+        ),
+        (
+            ClientFact::Position {
+                client: 2,
+                table: 1,
+                position: 9,
+            },
+            "position C2 T1 9",
+        ),
+    ]
+}
+
+#[test]
+fn clients_tell_their_changes(rt: HostRuntime) -> Result<(), Fail> {
+    for (fact, text) in changes_of_clients() {
+        check(&rt, rt.alloc(), &TextLine::Fact(Fact::Client(fact)), text)?;
+    }
+    Ok(())
+}
+
+#[test]
+fn what_is_told_again_is_marked(rt: HostRuntime) -> Result<(), Fail> {
+    for (fact, text) in changes_of_clients() {
+        let text = format!(in rt.alloc(); "redone {text}")?;
+        check(&rt, rt.alloc(), &TextLine::Fact(Fact::Redone(fact)), &text)?;
+    }
+    Ok(())
+}
+
+fn write(alloc: Global, values: &[i64]) -> Result<Write, Fail> {
+    Ok(Write {
         client: 1,
         number: 2,
         table: 3,
         row: row(1),
         read: 4,
-        content: numbers(rt.alloc(), &[5, -7])?,
-    };
+        content: numbers(alloc, values)?,
+    })
+}
+
+#[test]
+fn a_write_has_its_content(rt: HostRuntime) -> Result<(), Fail> {
+    let alloc = rt.alloc();
+    let told = TextLine::Fact(Fact::Client(ClientFact::Wrote(write(alloc, &[5, -7])?)));
     check(
         &rt,
-        rt.alloc(),
-        &TextLine::Fact(Fact::Wrote(write)),
+        alloc,
+        &told,
         "wrote C1 2 T3 00000000-0000-4000-8000-000000000001 4 5 -7",
+    )?;
+    let again = TextLine::Fact(Fact::Redone(ClientFact::Wrote(write(alloc, &[5])?)));
+    check(
+        &rt,
+        alloc,
+        &again,
+        "redone wrote C1 2 T3 00000000-0000-4000-8000-000000000001 4 5",
     )
 }
 
@@ -262,7 +341,7 @@ fn objects_have_their_digests(rt: HostRuntime) -> Result<(), Fail> {
     Ok(())
 }
 
-const REFUSED: [(Refusal, &str); 12] = [
+const REFUSED: [(Refusal, &str); 13] = [
     (Refusal::NoDevice, "no 6"),
     (Refusal::TooManyChunks { count: 32769 }, "no 9 32769"),
     (Refusal::BadCell { column: 1 }, "no 10 1"),
@@ -276,6 +355,7 @@ const REFUSED: [(Refusal, &str); 12] = [
     (Refusal::RowTooLarge { len: 16777217 }, "no 12 16777217"),
     (Refusal::Busy { with: 5 }, "no 17 5"),
     (Refusal::NoTable, "no 18"),
+    (Refusal::Offline, "no 24"),
     (Refusal::NoRow, "no 27"),
     (Refusal::NoPacket { sent: 3 }, "no 29 3"),
     (

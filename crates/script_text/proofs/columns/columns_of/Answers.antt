@@ -1,10 +1,10 @@
-use Rattle.std.proofs.Common.{◌≡◌, ◌∙◌, sym, ap, refl, Bool}
+use Rattle.std.proofs.Common.{◌∙◌, sym, ap, Bool}
 use Rattle.std.specs.Prelude.{◌||◌}
 use Rattle.row_value.specs.Fit.{is_object}
 use Rattle.std.proofs.lemmas.Result.{err_from_is_err_and}
 use Rattle.script_text.specs.Names.{texts_of}
 use Rattle.script_text.specs.Places.{new_column_at, with_column, has_object}
-use Rattle.script_text.proofs.Each.{left, each-turn, each-fault, each-end}
+use Rattle.script_text.proofs.Each.{each-turn, each-fault, each-end}
 use Rattle.script_text.proofs.ColumnLemmas.{set-next, has_object-push}
 use Rattle.script_text.proofs.columns.columns_of.Goals as goal
 

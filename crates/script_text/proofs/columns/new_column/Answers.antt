@@ -2,7 +2,6 @@ use Rattle.std.proofs.Common.{◌≡◌, ◌∙◌, sym, ap, true, false, Bool}
 use Rattle.std.specs.Prelude.{not, ◌&&◌}
 use Rattle.row_value.specs.Fit.{is_object}
 use Rattle.script_text.specs.Names.{texts_of}
-use Rattle.script_text.specs.Places.{new_column_at, new_column, has_object}
 use Rattle.script_text.proofs.ColumnLemmas.{column-twice, column-new, set-named, no_column}
 use Rattle.script_text.proofs.columns.new_column.Goals as goal
 

@@ -2,7 +2,8 @@
 use Rattle.std.proofs.Common.{◌≡◌, ℕ, false, true, cond, [], ◌∷◌, Option, Some, None, refl, eqb-true}
 use Rattle.std.specs.Prelude.{◌==◌}
 use Rattle.table_model.specs.declared.line.Fact.{Fact}
-use Rattle.table_model.specs.declared.line.Fact.TheVariants.{Acked}
+use Rattle.table_model.specs.declared.line.Fact.TheVariants as told
+use Rattle.table_model.specs.declared.line.ClientFact.TheVariants.{Acked}
 use Rattle.step_tables.specs.declared.message.Outcome.{Outcome}
 use Rattle.step_tables.specs.declared.message.Outcome.TheVariants.{Accepted, Again, Late}
 use Rattle.step_tables.specs.declared.message.SyncResponse.{SyncResponse}
@@ -19,7 +20,7 @@ acceptance response version = record { row = response.row; change = Accept versi
 
 module _ (node : NodeState) (response : SyncResponse) (opened : ClientTable) (version : ℕ) where
   abbrev acked_by : ℕ → Fact
-  acked_by number = Acked node.client.number number response.table response.row version
+  acked_by number = told.Client (Acked node.client.number number response.table response.row version)
 
   outcome_taken : (out : InFlight) → (slots_at opened response.row).out ≡ Some out → (outcome : Outcome) → Some version ≡ version_of outcome
       → carried_out node response.table opened (acceptance response version) [] (acked_by out.number ∷ [])

@@ -20,7 +20,7 @@ use std::collections::BTreeMap;
 use std::marker::Model;
 use std::mem;
 use step_tables::{Addressed, Main, Message, Out, PullResponse, SyncResponse};
-use table_model::{Answer, Fact, Shown, Write};
+use table_model::{Answer, ClientFact, Fact, Shown, Write};
 
 /// A client, which holds the tables that it has opened, and gathers what it has to send and to tell.
 ///
@@ -265,7 +265,7 @@ impl ClientNode {
             change: Change::Write(main),
             position: None,
         };
-        let told = vec![in self.alloc; Fact::Wrote(write)]?;
+        let told = vec![in self.alloc; Fact::Client(ClientFact::Wrote(write))]?;
         self.carry_out(table, plan, Vec::new(self.alloc), told)?;
         self.last = number;
         Ok(())
@@ -340,13 +340,13 @@ impl ClientNode {
             position: None,
         };
         let told = vec![in self.alloc;
-            Fact::Acked {
+            Fact::Client(ClientFact::Acked {
                 client: self.number,
                 number: response.number,
                 table: response.table,
                 row: response.row,
                 version,
-            },
+            }),
         ]?;
         self.carry_out(response.table, plan, Vec::new(self.alloc), told)
     }
@@ -367,11 +367,11 @@ impl ClientNode {
         }
         let slots = opened.slots(&header.row);
         let (change, mut told) = taken(self.alloc, self.number, response.table, header, slots)?;
-        told.push(Fact::Position {
+        told.push(Fact::Client(ClientFact::Position {
             client: self.number,
             table: response.table,
             position: response.to,
-        })?;
+        }))?;
         let plan = Plan {
             row: header.row,
             change,

@@ -8,7 +8,7 @@ use crate::change::Change;
 use row_value::{ClientNo, TableNo, Version, WriteNo};
 use std::alloc::{AllocError, Global};
 use step_tables::{Outcome, RowHeader, Shadow, Slots, SyncResponse};
-use table_model::Fact;
+use table_model::{ClientFact, Fact};
 
 fn version_of(outcome: Outcome) -> Option<Version>
     ensures { result ≡ version_of outcome }
@@ -78,20 +78,20 @@ pub(crate) fn taken(
     };
     let accepted = number_out(slots).filter(|number| *number <= header.yours.number);
     if let Some(number) = accepted {
-        told.push(Fact::Acked {
+        told.push(Fact::Client(ClientFact::Acked {
             client,
             number,
             table,
             row: header.row,
             version: header.yours.version,
-        })?;
+        }))?;
     }
-    told.push(Fact::New {
+    told.push(Fact::Client(ClientFact::New {
         client,
         table,
         row: header.row,
         version: header.version,
-    })?;
+    }))?;
     let change = match accepted {
         Some(_) => Change::AcceptAndRead(shadow),
         None => Change::Read(shadow),

@@ -7,7 +7,7 @@ use std::test::Fail;
 use step_tables::{
     Message, Out, Outcome, PullRequest, PullResponse, RowHeader, SyncResponse, Yours,
 };
-use table_model::{Answer, Fact, Shown};
+use table_model::{Answer, ClientFact, Fact, Shown};
 
 const CLIENT: u32 = 1;
 
@@ -76,11 +76,18 @@ fn sent_by(message: &Message) -> Sent {
 
 fn told_by(fact: &Fact) -> Told {
     match fact {
-        Fact::Wrote(write) => Told::Wrote {
+        Fact::Client(fact) => told_by_client(fact),
+        _ => Told::Other,
+    }
+}
+
+fn told_by_client(fact: &ClientFact) -> Told {
+    match fact {
+        ClientFact::Wrote(write) => Told::Wrote {
             number: write.number,
             read: write.read,
         },
-        Fact::Acked {
+        ClientFact::Acked {
             number,
             version,
             ..
@@ -88,15 +95,11 @@ fn told_by(fact: &Fact) -> Told {
             number: *number,
             version: *version,
         },
-        Fact::New { version, .. } => Told::New { version: *version },
-        Fact::Position { position, .. } => Told::Position {
+        ClientFact::New { version, .. } => Told::New { version: *version },
+        ClientFact::Position { position, .. } => Told::Position {
             position: *position,
         },
-        Fact::Sent { .. }
-        | Fact::Accepted { .. }
-        | Fact::Forward { .. }
-        | Fact::Back { .. }
-        | Fact::Recovered { .. } => Told::Other,
+        _ => Told::Other,
     }
 }
 

@@ -17,6 +17,7 @@ use Rattle.row_value.specs.Fit.{fit_of}
 use Rattle.table_model.specs.declared.line.Answer.{Answer}
 use Rattle.table_model.specs.declared.line.Answer.TheVariants as answers
 use Rattle.table_model.specs.declared.line.Fact.TheVariants as told
+use Rattle.table_model.specs.declared.line.ClientFact.TheVariants as own
 use Rattle.table_model.specs.declared.line.Refusal.TheVariants as refusals
 use Rattle.step_tables.specs.declared.message.Message.{Message}
 use Rattle.step_tables.specs.declared.message.Message.TheVariants as kinds
@@ -66,14 +67,14 @@ module _ (node : old.Client) where
       subst (λ (sl : client.Slots). AtOnce node.number (old.write_fitting node table opened row x (Ok fits))
       (client.write_free Eventual node.number client.no_shape (disk_of node) table row (opened_of opened) sl x sl.conflict)) (sym (slots_there node.number node table opened at row))
       (row_once node.number node table opened at (answers.Number (node.last + 1)) refl (node.last + 1) row (record s { main = Some main })
-      (client.wrote node.number table row main ∷ []) (told.Wrote (record {
+      (client.wrote node.number table row main ∷ []) (told.Client (own.Wrote (record {
         client = node.number;
         number = node.last + 1;
         table = table;
         row = row;
         read = version_in s.shadow;
         content = x;
-      }) ∷ []) [] [] refl refl)
+      })) ∷ []) [] [] refl refl)
 
   pub write_once : (table : ℕ) (row : List ℕ) (x : Content) → ((opened : ClientTable) → old.table_at node table ≡ Some opened → opened.schema.scheme ≡ Eventual)
       → AtOnce node.number (old.write_step node table row x) (client.client_step node.number client.no_shape (client_of node) (client.Write table row x))
@@ -123,9 +124,9 @@ module _ (node : old.Client) where
 
   pub next_once : (table : ℕ) → AtOnce node.number (old.pull_step node table) (client.client_step node.number client.no_shape (client_of node) (client.Next table))
   next_once table =
-      subst (λ (o : Option TableDisk). AtOnce node.number (old.pull_step node table) (client.next_in node.number (disk_of node) [] table o)) (sym (found table)) (go (old.table_at node table))
+      subst (λ (o : Option TableDisk). AtOnce node.number (old.pull_step node table) (client.next_in node.number client.no_shape (disk_of node) [] table o)) (sym (found table)) (go (old.table_at node table))
     where
-      go : (o : Option ClientTable) → AtOnce node.number (old.pull_in node table o) (client.next_in node.number (disk_of node) [] table (option_map opened_of o))
+      go : (o : Option ClientTable) → AtOnce node.number (old.pull_in node table o) (client.next_in node.number client.no_shape (disk_of node) [] table (option_map opened_of o))
       go None = quiet_once node.number node (answers.Refused refusals.NoTable) refl
       go (Some opened) = send_once node.number node answers.Done refl (old.pull_from node.number table opened.position ∷ []) (client.pull_from node.number table opened.position ∷ []) refl
 
@@ -214,7 +215,7 @@ module _ (node : old.Client) where
   -- the slots behind a newer row, and what is told, are the same
   record SameRow (table : ℕ) (hd : RowHeader) (q : PullResponse) (x : old.Taken) (y : client.Placed) : Type 0 where
     slots : y.slots ≡ slots_of x.slots
-    facts_are : map facts.Client (y.facts ++ facts.Position node.number table q.to ∷ []) ≡ map fact_of (x.facts ++ told.Position node.number table q.to ∷ [])
+    facts_are : map facts.Client (y.facts ++ facts.Position node.number table q.to ∷ []) ≡ map fact_of (x.facts ++ told.Client (own.Position node.number table q.to) ∷ [])
 
   newer_same : (table : ℕ) (hd : RowHeader) (q : PullResponse) (s : Slots) (out : Option InFlight)
       → SameRow table hd q (old.newer node.number table hd s out) (client.row_placed Eventual node.number table (header_of hd) (slots_of s) out)
@@ -227,7 +228,7 @@ module _ (node : old.Client) where
     where
       freed : (m : Option Main) → SameRow table hd q (record {
         slots = record { main = old.without out.number s.main; shadow = Some (old.shadow_of hd); out = None };
-        facts = old.acked node.number table hd.row out.number hd.yours.version ∷ told.New node.number table hd.row hd.version ∷ [];
+        facts = old.acked node.number table hd.row out.number hd.yours.version ∷ told.Client (own.New node.number table hd.row hd.version) ∷ [];
       }) (client.placed Eventual node.number table (header_of hd) (record { main = old.without out.number s.main; shadow = s.shadow; out = None; conflict = None })
           (facts.Acked node.number out.number table hd.row hd.yours.version ∷ []) m None)
       freed None = record { slots = refl; facts_are = refl }
@@ -237,7 +238,7 @@ module _ (node : old.Client) where
       without_is None = refl
       without_is (Some m) = refl
 
-      kept : (m : Option Main) → SameRow table hd q (record { slots = record s { shadow = Some (old.shadow_of hd) }; facts = told.New node.number table hd.row hd.version ∷ [] })
+      kept : (m : Option Main) → SameRow table hd q (record { slots = record s { shadow = Some (old.shadow_of hd) }; facts = told.Client (own.New node.number table hd.row hd.version) ∷ [] })
           (client.placed Eventual node.number table (header_of hd) (slots_of s) [] m None)
       kept None = record { slots = refl; facts_are = refl }
       kept (Some m) = record { slots = refl; facts_are = refl }
@@ -245,14 +246,14 @@ module _ (node : old.Client) where
       go : (b : Bool) → SameRow table hd q
           (if b then record {
             slots = record { main = old.without out.number s.main; shadow = Some (old.shadow_of hd); out = None };
-            facts = old.acked node.number table hd.row out.number hd.yours.version ∷ told.New node.number table hd.row hd.version ∷ [];
-          } else record { slots = record s { shadow = Some (old.shadow_of hd) }; facts = told.New node.number table hd.row hd.version ∷ [] })
+            facts = old.acked node.number table hd.row out.number hd.yours.version ∷ told.Client (own.New node.number table hd.row hd.version) ∷ [];
+          } else record { slots = record s { shadow = Some (old.shadow_of hd) }; facts = told.Client (own.New node.number table hd.row hd.version) ∷ [] })
           (if b then client.placed Eventual node.number table (header_of hd) (client.freed (slots_of s) out.number) (facts.Acked node.number out.number table hd.row hd.yours.version ∷ [])
           (client.without out.number s.main) None
           else client.placed Eventual node.number table (header_of hd) (slots_of s) [] s.main None)
       go true = subst (λ (m : Option Main). SameRow table hd q (record {
         slots = record { main = old.without out.number s.main; shadow = Some (old.shadow_of hd); out = None };
-        facts = old.acked node.number table hd.row out.number hd.yours.version ∷ told.New node.number table hd.row hd.version ∷ [];
+        facts = old.acked node.number table hd.row out.number hd.yours.version ∷ told.Client (own.New node.number table hd.row hd.version) ∷ [];
       }) (client.placed Eventual node.number table (header_of hd) (record { main = m; shadow = s.shadow; out = None; conflict = None })
           (facts.Acked node.number out.number table hd.row hd.yours.version ∷ []) m None)) (sym (without_is s.main)) (freed (old.without out.number s.main))
       go false = kept s.main
@@ -288,7 +289,7 @@ module _ (node : old.Client) where
           else client.begun client.no_shape (disk_of node) facts.Done (client.row_plan node.number (disk_of node) q.table hd.row q.to
           (client.row_placed Eventual node.number q.table (header_of hd) (slots_of (slots_at opened hd.row)) (slots_at opened hd.row).out))
           (client.next_pull node.number q.table (travels.pulled_of q)))
-      go true le = position_once node.number node q.table opened at answers.Done refl hd.row q.to (facts.Position node.number q.table q.to ∷ []) (told.Position node.number q.table q.to ∷ [])
+      go true le = position_once node.number node q.table opened at answers.Done refl hd.row q.to (facts.Position node.number q.table q.to ∷ []) (told.Client (own.Position node.number q.table q.to) ∷ [])
           (old.next_pull node.number q.table q) (client.next_pull node.number q.table (travels.pulled_of q)) (stays_there opened hd.row hd.version rising le positive) refl (pull_same q.table q)
       go false le =
           let x : old.Taken = old.newer node.number q.table hd (slots_at opened hd.row) (slots_at opened hd.row).out in
@@ -302,7 +303,7 @@ module _ (node : old.Client) where
             facts = y.facts ++ facts.Position node.number q.table q.to ∷ [];
           }) (client.next_pull node.number q.table (travels.pulled_of q)))) (sym same.slots)
           (both_once node.number node q.table opened at answers.Done refl node.last hd.row x.slots q.to (y.facts ++ facts.Position node.number q.table q.to ∷ [])
-          (x.facts ++ told.Position node.number q.table q.to ∷ [])
+          (x.facts ++ told.Client (own.Position node.number q.table q.to) ∷ [])
           (old.next_pull node.number q.table q) (client.next_pull node.number q.table (travels.pulled_of q)) same.facts_are (pull_same q.table q))
 
   -- what is known of the node where a row comes

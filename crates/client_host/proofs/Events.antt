@@ -1,6 +1,6 @@
 -- What a client's event makes of a world where the client's device writes are all done.
 use Rattle.std.proofs.Common.{◌≡◌, ℕ, Bool, false, List, [], ◌∷◌, ◌++◌, Option, Some, refl, ap, ◌∙◌}
-use Rattle.std.specs.Prelude.{if◌then◌else◌}
+use Rattle.std.specs.Prelude.{◌&&◌, if◌then◌else◌}
 use Rattle.std.specs.Ordering.{nat_cmp}
 use Rattle.std.specs.Cmp.{nat_cmp_total}
 use Rattle.std.specs.BTreeMap.{insert_entry}
@@ -10,9 +10,9 @@ use Rattle.step_tables.specs.Facts as facts
 use Rattle.step_tables.specs.Lines.{answer_of}
 use Rattle.step_tables.specs.Messages as messages
 use Rattle.step_tables.specs.ClientMoves as client
-use Rattle.step_tables.specs.ClientMoves.{Client, ClientDisk, ClientTask, ClientMove, client_step}
+use Rattle.step_tables.specs.ClientMoves.{Client, ClientDisk, ClientTask, ClientMove, client_step, is_cut_off}
 use Rattle.world_tables.specs.World.{World, Packet, Outbox, Moved, client_at, packets_from, move_client, move_there, client_works, client_tasks, client_until_idle, client_follows, client_follows_from}
-use Rattle.world_tables.specs.World.{has_node, still, and_then, answering, refused, call_there, is_client_down, is_fault}
+use Rattle.world_tables.specs.World.{has_node, still, and_then, answering, refused, call_there, calls, unless_cut, is_cut, is_client_down, is_fault}
 use Rattle.client_host.specs.Lift.{client_of}
 use Rattle.client_host.proofs.Maps.{put_put, look_put}
 use Rattle.client_host.proofs.Once.{AtOnce, sent_by, run_client, client_packets, client_outs}
@@ -67,7 +67,7 @@ module _ (w : World) (c : ℕ) where
 
   -- ---- an event
 
-  module _ (node : old.Client) (there : client_at w c ≡ Some (client_of node)) (free : has_node w.holds (nodes.Client c) ≡ false) (move : ClientMove) (was : old.ClientStep)
+  module _ (node : old.Client) (there : client_at w c ≡ Some (client_of node)) (free : has_node w.holds (nodes.Client c) ≡ false) (linked : is_cut w c ≡ false) (move : ClientMove) (was : old.ClientStep)
       (k : AtOnce c was (client_step c client.no_shape (client_of node) move)) where
     abbrev Step : client.ClientStep
     Step = client_step c client.no_shape (client_of node) move
@@ -106,10 +106,12 @@ module _ (w : World) (c : ℕ) where
     all = ap (λ (m : Moved). and_then m (client_follows_from (Some []) c [])) first
         ∙ ap (λ (m : Moved). record { world = m.world; outs = Box ∷ m.outs; failed = m.failed }) then_works
 
-    -- the client is up
+    -- the client is up, and has its link
     is_up : call_there w c move client.no_shape [] (Some (client_of node)) ≡ answering Step.answer (and_then (move_client c move client.no_shape w) (client_follows_from (Some []) c []))
-    is_up = ap (λ (b : Bool). if b then refused w (facts.NodeDown (nodes.Client c)) else answering Step.answer (and_then (move_client c move client.no_shape w) (client_follows_from (Some []) c [])))
+    is_up = ap (λ (b : Bool). if b then refused w (facts.NodeDown (nodes.Client c))
+        else unless_cut w (is_cut w c && is_cut_off c client.no_shape (client_of node) move) (calls w c move client.no_shape [] (client_of node)))
         (ap is_client_down there)
+        ∙ ap (λ (b : Bool). unless_cut w (b && is_cut_off c client.no_shape (client_of node) move) (calls w c move client.no_shape [] (client_of node))) linked
 
     pub event_is : call_there w c move client.no_shape [] (Some (client_of node)) ≡ record {
       world = with_client (client_of was.client) (w.packets ++ sent_by c was.messages);

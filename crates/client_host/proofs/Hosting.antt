@@ -22,6 +22,7 @@ use Rattle.step_tables.specs.Client.{ClientTable}
 use Rattle.step_tables.specs.Facts as facts
 use Rattle.step_tables.specs.Lines.{answer_of}
 use Rattle.step_tables.specs.Travels.{message_of}
+use Rattle.step_tables.specs.Messages as messages
 use Rattle.step_tables.specs.ClientMoves as client
 use Rattle.step_tables.specs.ClientMoves.{Client, TableDisk, ClientMove, client_step}
 use Rattle.step_tables.specs.Members.{Among}
@@ -66,6 +67,7 @@ clients_stay w after host h k = record {
   there = λ c. subst (λ (cs : List (ℕ × Client)). ClientThere after c (lookup (is_at (nat_cmp c)) cs) (tree.get nat_cmp host.clients c)) (sym k.clients)
       (there_kept w after k.schemas c (client_at w c) (tree.get nat_cmp host.clients c) (h.there c));
   free = k.free h.free;
+  linked = k.linked h.linked;
 }
 
 -- ---- what is there, and what isn't
@@ -112,7 +114,7 @@ none_there (Some x) b there is = absurd cc
 
 module _ (w : World) (host new : ClientHost) (c : ℕ) (h : HoldsClients w host) (none : None ≡ tree.get nat_cmp host.clients c) (same : new.clients ≡ host.clients) where
   still_held : HoldsClients w new
-  still_held = record { there = subst (λ (m : tree.BTreeMap ℕ NodeState). HasClients w m) (sym same) h.there; free = h.free }
+  still_held = record { there = subst (λ (m : tree.BTreeMap ℕ NodeState). HasClients w m) (sym same) h.there; free = h.free; linked = h.linked }
 
   pub nowhere : (move : ClientMove) (said : Answer) (out : Out) → said ≡ answers.Refused refusals.NoTable → out ≡ nothing_gathered
       → IsCalled w c (call w c move client.no_shape []) new (answer_of said) out
@@ -129,10 +131,10 @@ module _ (w : World) (host new : ClientHost) (c : ℕ) (h : HoldsClients w host)
         fit = λ to m a. absurd (among_none (to, m) a);
       })))
 
-  pub lost : (m : Message) (out : Out) → out ≡ nothing_gathered → IsCalled w c (to_there w c (message_of m) [] (client_at w c)) new facts.Done out
+  pub lost : (m : Message) (out : Out) → out ≡ nothing_gathered → IsCalled w c (to_there w c (message_of m) client.no_shape [] (client_at w c)) new facts.Done out
   lost m out told =
-      subst (λ (x : Out). IsCalled w c (to_there w c (message_of m) [] (client_at w c)) new facts.Done x) (sym told)
-      (subst (λ (o : Option Client). IsCalled w c (to_there w c (message_of m) [] o) new facts.Done nothing_gathered) (sym (not_found w host c h none)) (record {
+      subst (λ (x : Out). IsCalled w c (to_there w c (message_of m) client.no_shape [] (client_at w c)) new facts.Done x) (sym told)
+      (subst (λ (o : Option Client). IsCalled w c (to_there w c (message_of m) client.no_shape [] o) new facts.Done nothing_gathered) (sym (not_found w host c h none)) (record {
         answer = refl;
         counted = refl;
         held = still_held;
@@ -167,13 +169,14 @@ module _ (w : World) (host new : ClientHost) (c : ℕ) (node : NodeState) (h : H
           (subst (λ (q : ℕ). IsRequestFit w x.0 × IsRequestOf q x.0) mine.number (k.fit x.0 x.1))
 
       after_call : IsCalled w c (call_there w c move client.no_shape [] (Some (client_of node.client))) new (answer_of was.answer) (gathered nothing_gathered was)
-      after_call = subst (λ (s : WorldStep). IsCalled w c s new (answer_of was.answer) (gathered nothing_gathered was)) (sym (event_is w c node.client there (h.free c) move was once)) (record {
+      after_call = subst (λ (s : WorldStep). IsCalled w c s new (answer_of was.answer) (gathered nothing_gathered was)) (sym (event_is w c node.client there (h.free c) (h.linked c) move was once)) (record {
         answer = refl;
         counted = refl;
         held = record {
           there = put_client w (with_client w c (client_of was.client) _) (λ t s e. e) host.clients new.clients c (record { client = was.client; out = nothing_gathered }) h.there
               (record { number = k.number ∙ mine.number; out = refl; opened = k.opened }) refl u;
           free = h.free;
+          linked = h.linked;
         };
         same = refl;
         packets = refl;
@@ -230,10 +233,10 @@ module _ (w : World) (host new : ClientHost) (c : ℕ) (node : NodeState) (h : H
 
     pub deliver_called : (m : Message) → IsVersioned m → (r : Result Out ClientFault)
         → IfOk r (λ out. IsDone node after (old.deliver_step node.client m) answers.Done out)
-        → IfOk r (λ out. IsCalled w c (to_there w c (message_of m) [] (client_at w c)) new facts.Done out)
+        → IfOk r (λ out. IsCalled w c (to_there w c (message_of m) client.no_shape [] (client_at w c)) new facts.Done out)
     deliver_called m v (Err e) d = search rules
     deliver_called m v (Ok out) d =
-        subst (λ (n : Option Client). IsCalled w c (to_there w c (message_of m) [] n) new facts.Done out) (sym there)
+        subst (λ (n : Option Client). IsCalled w c (to_there w c (message_of m) client.no_shape [] n) new facts.Done out) (sym there)
         (here (client.Take (message_of m)) (old.deliver_step node.client m) (taken_once m v) (deliver_kept w node.client mine.opened m) after u answers.Done out d)
 
   -- ---- the last number
@@ -347,15 +350,16 @@ begins w c = record { tables = refl; last = refl; is = record { number = refl; o
 
 pub was_added : (w : World) (host new : ClientHost) (c : ℕ) (tables : List ℕ) (it : NodeState) → HoldsClients w host → IsJoining w c (open_all w [] tables) it
     → ((q : ℕ) → tree.get nat_cmp new.clients q ≡ cond (is_at (nat_cmp c) q) (Some it) (tree.get nat_cmp host.clients q))
-    → HoldsClients (joined w c tables None) new
+    → HoldsClients (joined w c tables messages.Done None) new
 was_added w host new c tables it h j u = record {
-  there = put_client w (joined w c tables None) (λ t s e. e) host.clients new.clients c it h.there j.is (ap (λ (x : Client). insert_entry nat_cmp w.clients c x) same) u;
+  there = put_client w (joined w c tables messages.Done None) (λ t s e. e) host.clients new.clients c it h.there j.is (ap (λ (x : Client). insert_entry nat_cmp w.clients c x) same) u;
   free = h.free;
+  linked = h.linked;
 }
   where
-    same : new_client (open_all w [] tables) ≡ client_of it.client
-    same = ap new_client j.tables ∙ ap (λ (n : ℕ). record { disk = record { last = n; tables = map table_of it.client.tables; plan = None }; agenda = Some [] }) (sym j.last)
+    same : new_client (open_all w [] tables) (Some []) ≡ client_of it.client
+    same = ap (λ (ts : List (ℕ × TableDisk)). new_client ts (Some [])) j.tables ∙ ap (λ (n : ℕ). record { disk = record { last = n; tables = map table_of it.client.tables; plan = None }; agenda = Some [] }) (sym j.last)
 
 pub has_joined : (w : World) (host new : ClientHost) (c : ℕ) (tables : List ℕ) (r : Result (Unit {0}) ClientFault) → client_at w c ≡ None
-    → OnOk r (HoldsClients (joined w c tables None) new) → OnOk r (HoldsClients (joined w c tables (client_at w c)) new)
-has_joined w host new c tables r none held = subst (λ (o : Option Client). OnOk r (HoldsClients (joined w c tables o) new)) (sym none) held
+    → OnOk r (HoldsClients (joined w c tables messages.Done None) new) → OnOk r (HoldsClients (joined w c tables messages.Done (client_at w c)) new)
+has_joined w host new c tables r none held = subst (λ (o : Option Client). OnOk r (HoldsClients (joined w c tables messages.Done o) new)) (sym none) held

@@ -21,7 +21,7 @@ use Rattle.step_tables.specs.Client.{ClientTable, row_cmp, table_at}
 use Rattle.step_tables.specs.ClientMoves.{Client}
 use Rattle.step_tables.specs.Members.{Among}
 use Rattle.client_core.specs.State.{NodeState, nothing_gathered}
-use Rattle.world_tables.specs.World.{World, schema_at, client_at, has_node}
+use Rattle.world_tables.specs.World.{World, schema_at, client_at, has_node, is_cut}
 use Rattle.client_host.specs.declared.host.ClientHost.{ClientHost}
 use Rattle.client_host.specs.Lift.{client_of}
 
@@ -64,17 +64,24 @@ HasClients w clients = (c : ℕ) → ClientThere w c (client_at w c) (tree.get n
 abbrev pub AreFree : World → Type 0
 AreFree w = (c : ℕ) → has_node w.holds (nodes.Client c) ≡ false
 
--- The host's clients are the world's, and each does its writes by itself.
+-- no client's link is down
+abbrev pub AreLinked : World → Type 0
+AreLinked w = (c : ℕ) → is_cut w c ≡ false
+
+-- The host's clients are the world's, each does its writes by itself, and each has its link.
 pub record HoldsClients (w : World) (host : ClientHost) : Type 0 where
   pub there : HasClients w host.clients
   pub free : AreFree w
+  pub linked : AreLinked w
 
 -- ---- what stays of a world
 
--- The world has the clients of another, puts none on hold, and has each table that the other declares with its schema.
+-- The world has the clients of another, puts none on hold, takes no link down, and has each table that the other
+-- declares with its schema.
 pub record KeepsClients (before after : World) : Type 0 where
   pub clients : after.clients ≡ before.clients
   pub free : AreFree before → AreFree after
+  pub linked : AreLinked before → AreLinked after
   pub schemas : (table : ℕ) (schema : Schema) → schema_at before table ≡ Some schema
       → schema_at after table ≡ Some schema
 

@@ -4,11 +4,12 @@ ghost use Rattle.step_tables.specs.ClientMoves as moves;
 ghost use Rattle.step_tables.specs.ClientMoves.{TableDisk};
 ghost use Rattle.step_tables.specs.Facts as facts;
 ghost use Rattle.step_tables.specs.Lines.{answer_of};
+ghost use Rattle.step_tables.specs.Messages as lucks;
 ghost use Rattle.step_tables.specs.Travels.{message_of};
 ghost use Rattle.client_core.specs.State.{nothing_gathered};
 ghost use Rattle.world_tables.specs.World.{World as AWorld, schema_at, client_at, call, to_there, joined, open_all};
 ghost use Rattle.world_tables.specs.World.{with_opened};
-ghost use Rattle.client_host.specs.Holds.{HoldsClients, AreFree, HasSchemas, IsVersioned};
+ghost use Rattle.client_host.specs.Holds.{HoldsClients, AreFree, AreLinked, HasSchemas, IsVersioned};
 ghost use Rattle.client_host.specs.Calls.{IsCalled, IsJoining, SpendsNumber, IsNumberCause};
 
 use crate::calls;
@@ -32,7 +33,7 @@ pub struct ClientHost {
 impl ClientHost {
     /// No clients.
     pub fn new(alloc: Global) -> ClientHost
-        ensures { (w : AWorld) → w.clients ≡ [] → AreFree w → HoldsClients w result }
+        ensures { (w : AWorld) → w.clients ≡ [] → AreFree w → AreLinked w → HoldsClients w result }
     {
         ClientHost {
             clients: BTreeMap::new(alloc),
@@ -60,7 +61,7 @@ impl ClientHost {
         schemas: &BTreeMap<TableNo, Schema>,
     ) -> Result<(), ClientFault>
         ensures joined { (w : AWorld) → HoldsClients w self.old → HasSchemas w schemas.now
-            → OnOk result (HoldsClients (joined w client tables.now (client_at w client)) self.new) }
+            → OnOk result (HoldsClients (joined w client tables.now lucks.Done (client_at w client)) self.new) }
         ensures memory { IfErr result (λ fault. fault ≡ ClientFault.Memory) }
         ensures kept { (w : AWorld) → HoldsClients w self.old → OnErr result (HoldsClients w self.new) }
     {
@@ -78,7 +79,7 @@ impl ClientHost {
         schemas: &BTreeMap<TableNo, Schema>,
     ) -> Result<(), ClientFault>
         ensures added { (w : AWorld) → HoldsClients w self.old → HasSchemas w schemas.now
-            → OnOk result (HoldsClients (joined w client tables.now None) self.new) }
+            → OnOk result (HoldsClients (joined w client tables.now lucks.Done None) self.new) }
         ensures memory { IfErr result (λ fault. fault ≡ ClientFault.Memory) }
         ensures kept { (w : AWorld) → HoldsClients w self.old → OnErr result (HoldsClients w self.new) }
     {
@@ -190,7 +191,8 @@ impl ClientHost {
     /// `Memory` alone; the message isn't taken then.
     pub fn deliver(&mut self, client: ClientNo, message: &Message) -> Result<Out, ClientFault>
         ensures called { (w : AWorld) → HoldsClients w self.old → IsVersioned message.now → IfOk result (λ out.
-            IsCalled w client (to_there w client (message_of message.now) [] (client_at w client))
+            IsCalled w client (to_there w client (message_of message.now) moves.no_shape []
+            (client_at w client))
             self.new facts.Done out) }
         ensures memory { IfErr result (λ fault. fault ≡ ClientFault.Memory) }
         ensures kept { (w : AWorld) → HoldsClients w self.old → OnErr result (HoldsClients w self.new) }

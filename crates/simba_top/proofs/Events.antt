@@ -121,6 +121,8 @@ with_devices names (nodes.Client client) is = absurd is
 spelled_built : (names : Names) (words : List (List ℕ)) (event : Event) → SpelledBy names words event → IsBuilt event
 spelled_built names words (events.Table table schema) s = table_made names words table schema s
 spelled_built names words (events.Client client gate tables) s = s.1
+spelled_built names words (events.Edit client table row edit) s = absurd s.3
+spelled_built names words (events.Link client up) s = absurd s.1
 spelled_built names words (events.Hold node) s = with_devices names node s.1
 spelled_built names words (events.Crash node calls pick) s = with_devices names node s.1
 spelled_built names words (events.Start node) s = with_devices names node s.1

@@ -5,6 +5,7 @@ pub mod Grammars
 pub mod Complete
 pub mod OneEnd
 pub mod Puts
+pub mod Histories
 pub mod Sounds
 pub mod Counts
 pub mod Turns

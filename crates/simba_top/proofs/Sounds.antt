@@ -20,7 +20,10 @@ use Rattle.world_steps.specs.Holds.{Holds, IsBuilt, IsReached, IsWorld, AreOut}
 use Rattle.world_steps.specs.Steps.{IsStep}
 use Rattle.world_tables.specs.Faults.{one_if, is_device_fault, device_faults}
 use Rattle.world_steps.specs.Faults.{IsUndone, all_faults, all_faults_back}
-use Rattle.simba_top.specs.Faults.{Matches, Led, AreCaused}
+use Rattle.table_model.specs.declared.entry.Entry.{Entry}
+use Rattle.world_steps.specs.Rows.{IsRowsBack, AreRowsBack}
+use Rattle.simba_top.proofs.Histories.{history_told}
+use Rattle.simba_top.specs.Faults.{Matches, Led, IsOnDisks}
 use Rattle.std.specs.Prelude.{IfSome}
 use Rattle.simba_top.specs.Ends.{IsRun}
 use Rattle.simba_top.specs.Stands.{Leads}
@@ -74,7 +77,7 @@ module _ {D : Type 0} (state : D → DiskState) (script : List Event) (told : Li
     lines_are = leads.lines_are;
     sound = all_runs client_law client_grows lapsed_grows fresh_part leads.run;
     listed = all_listed leads.run;
-    kept = record { held = leads.held; counted = leads.counted };
+    kept = record { built = leads.built; held = leads.held; counted = leads.counted };
   }
 
   pub as_many : length leads.run ≡ length script
@@ -86,9 +89,9 @@ module _ {D : Type 0} (state : D → DiskState) (script : List Event) (told : Li
   pub is_world : IsWorld state is_out world
   is_world = record { w = world_from start leads.run; reached = reached; held = leads.held; out = leads.out }
 
-  pub leads_on : (event : Event) (lines : List TextLine) (new : World D) (out : ℕ → Bool) → IsBuilt event
-      → IsStep state (world_from start leads.run) event lines out world new → Leads state (script ++ event ∷ []) (told ++ lines) new out
-  leads_on event lines new out built s =
+  pub leads_on : (images : D → ℕ → List ℕ → Type 0) (event : Event) (lines : List TextLine) (new : World D) (out : ℕ → Bool) → IsBuilt event
+      → IsStep state images (world_from start leads.run) event lines out world new → Leads state (script ++ event ∷ []) (told ++ lines) new out
+  leads_on images event lines new out built s =
       let h : Happening = record { event = event; lucks = s.lucks } in
       let behind : world_from start (leads.run ++ h ∷ []) ≡ (step (world_from start leads.run) event s.lucks).world =
       world_from-push h start leads.run in
@@ -126,9 +129,9 @@ pub nothing_undone : {D : Type 0} (state : D → DiskState) (w : moves.World) (i
 nothing_undone state w is_out world h out = record { held = h; out = out; same = refl }
 
 -- the world stands where a script has led, also behind one event more
-pub world_on : {D : Type 0} (state : D → DiskState) (is_out out : ℕ → Bool) (world new : World D) (event : Event) (lines : List TextLine)
-    → (old : IsWorld state is_out world) → IsBuilt event → IsStep state old.w event lines out world new → IsWorld state out new
-world_on state is_out out world new event lines old built s =
+pub world_on : {D : Type 0} (state : D → DiskState) (images : D → ℕ → List ℕ → Type 0) (is_out out : ℕ → Bool) (world new : World D) (event : Event) (lines : List TextLine)
+    → (old : IsWorld state is_out world) → IsBuilt event → IsStep state images old.w event lines out world new → IsWorld state out new
+world_on state images is_out out world new event lines old built s =
     let h : Happening = record { event = event; lucks = s.lucks } in
     record {
       w = (step old.w event s.lucks).world;
@@ -142,8 +145,13 @@ world_on state is_out out world new event lines old built s =
     }
 
 -- the disks of a world that went back
-pub caused : {D : Type 0} (state : D → DiskState) (world : World D) (told : Option (ℕ → Option D))
-    → ((w : moves.World) → Holds state w world → IfSome told (λ disks. all_faults_back state disks w ≡ all_faults state world)) → (run : List Happening) → Led state world run
-    → AreCaused state told run
-caused state world None f run led = tt
-caused state world (Some disks) f run led = subst (λ (n : ℕ). Matches (device_faults start run) n) (sym (f (world_from start run) led.held)) led.counted
+pub on_disks : {D : Type 0} (state : D → DiskState) (world : World D) (told : Option (ℕ → Option D))
+    → ((w : moves.World) → Holds state w world → IfSome told (λ disks. all_faults_back state disks w ≡ all_faults state world))
+    → ((w : moves.World) → IsReached w → Holds state w world → IfSome told (λ disks. AreRowsBack state disks w)) → (run : List Happening) → Led state world run
+    → IsOnDisks state told run
+on_disks state world None f k run led = tt
+on_disks state world (Some disks) f k run led = record {
+  faults = subst (λ (n : ℕ). Matches (device_faults start run) n) (sym (f (world_from start run) led.held)) led.counted;
+  rows = λ table hosted at made. subst (λ (history : List Entry). IsRowsBack state disks (world_from start run) table history) (history_told run table hosted at)
+      (k (world_from start run) (record { run = run; built = led.built; is = refl }) led.held table hosted at made);
+}

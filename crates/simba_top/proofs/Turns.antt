@@ -262,13 +262,13 @@ module _ {D : Type 0} (state : D → DiskState) (input : List ℕ) (script : Lis
     sym (append-nil (transcript_text told)),
   )
 
-  pub carries_out : (event : Event) (names : Names) (rows : RowNames) (world : World D) (out : ℕ → Bool) (lines : List TextLine) (texts : List (List ℕ))
+  pub carries_out : (images : D → ℕ → List ℕ → Type 0) (event : Event) (names : Names) (rows : RowNames) (world : World D) (out : ℕ → Bool) (lines : List TextLine) (texts : List (List ℕ))
       → Spells run.names line event → names ≡ with_event run.names event
       → HasRows (script ++ event ∷ []) rows → FewRows (script ++ event ∷ [])
-      → IsBuilt event → IsStep state (world_from start has.world.run) event lines out run.world world
+      → IsBuilt event → IsStep state images (world_from start has.world.run) event lines out run.world world
       → texts ≡ map (λ (line : TextLine). text_of line ++ 10 ∷ []) lines
       → GoesOn state input told (record run { names = names; rows = rows; world = world; count = run.count + 1 }) out left texts
-  carries_out event names rows world out lines texts spells named has_rows few_rows built step text = (
+  carries_out images event names rows world out lines texts spells named has_rows few_rows built step text = (
     script ++ event ∷ [],
     told ++ lines,
     record {
@@ -276,7 +276,7 @@ module _ {D : Type 0} (state : D → DiskState) (input : List ℕ) (script : Lis
       front = rw named (front_event input script run.count run.names has.before line has.rest has.front has.next few event spells few_rows);
       here = has.here;
       used = has.used;
-      world = leads_on state script told run.world is_out has.world event lines world out built step;
+      world = leads_on state script told run.world is_out has.world images event lines world out built step;
       rows = has_rows;
     },
     step_texts told lines texts text,

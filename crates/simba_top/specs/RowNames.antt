@@ -15,12 +15,14 @@ use Rattle.simba_top.specs.declared.stop.Stop.TheVariants.{Read, Put, Depot, Mem
 -- the row that an event names, and its table
 abbrev pub row_in : Event → Option (ℕ × List ℕ)
 row_in (events.Write client table row content) = Some (table, row)
+row_in (events.Edit client table row edit) = Some (table, row)
 row_in (events.Show client table row) = Some (table, row)
 row_in (events.Sum client table row) = Some (table, row)
 row_in (events.StoreShow table row) = Some (table, row)
 row_in (events.Store store) = None
 row_in (events.Table table schema) = None
 row_in (events.Client client gate tables) = None
+row_in (events.Link client up) = None
 row_in (events.Sync client table) = None
 row_in (events.Pull client table) = None
 row_in (events.Deliver packet) = None

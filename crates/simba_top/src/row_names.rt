@@ -27,12 +27,14 @@ fn row_in(event: &Event) -> Option<(TableNo, &RowId)>
 {
     match event {
         Event::Write { table, row, .. }
+        | Event::Edit { table, row, .. }
         | Event::Show { table, row, .. }
         | Event::Sum { table, row, .. }
         | Event::StoreShow { table, row } => Some((*table, row)),
         Event::Store { .. }
         | Event::Table { .. }
         | Event::Client { .. }
+        | Event::Link { .. }
         | Event::Sync { .. }
         | Event::Pull { .. }
         | Event::Deliver { .. }

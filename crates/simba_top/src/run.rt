@@ -9,7 +9,7 @@ ghost use Rattle.stab_io.specs.Faults.{Rose, AppendsFront};
 ghost use Rattle.simba_top.specs.Script.{IsFront, IsWhole};
 ghost use Rattle.simba_top.specs.Ends.{AreRun, IsBadAt, IsLimitAt, IsCutOff, Tells, TellsStop, IsTextOf};
 ghost use Rattle.simba_top.specs.Stops.{status_of};
-ghost use Rattle.simba_top.specs.Faults.{AreCaused, AnyRun, Led};
+ghost use Rattle.simba_top.specs.Faults.{IsOnDisks, AnyRun, Led};
 ghost use Rattle.simba_top.specs.Stands.{IsDone, EndedBy, Stopped, CountsReads, CountsPuts, CountsDepots};
 ghost use Rattle.simba_top.specs.declared.stop.Stop.TheVariants as AStop;
 ghost use Rattle.world_steps.specs.Holds.{IsWorld};
@@ -24,8 +24,14 @@ use std::alloc::Global;
 pub const MOST_LINES: u64 = 1_048_576;
 
 /// The whole program: reads a script from the source, carries it out on disks of the depot, and writes its transcript
-/// to the sink, one `put` for each line, the lines of an event when it ends. A disk that fails doesn't end the run. The
-/// answer is the status that the program ends with:
+/// to the sink, one `put` for each line, the lines of an event when it ends. A disk that fails doesn't end the run.
+///
+/// Where the depot tells its disks, the run is on them (`IsOnDisks`), whatever the status but 2 and 6: of each table
+/// that was declared, and made, the disk of rows came back under its number, and whatever a crash may leave of it are
+/// the rows of the history that the transcript's lines tell of the table (`told_history`), or of that with the update
+/// at work. What a crash leaves while an event is carried out is a clause of `World::step`.
+///
+/// The answer is the status that the program ends with:
 ///
 /// | status | when |
 /// |---|---|
@@ -54,28 +60,28 @@ pub fn run_simba<S: Source, K: Sink, P: Depot>(
     // 0: the whole input was read, and its transcript was written.
     ensures done { result ≡ 0 → IsAtEnd (S.left source.new) × IfSome (S.left source.old) (λ input.
         (script : List AnEvent) × IsWhole input script
-        × Tells (AreCaused P.Disk.state (P.returned depot.new)) script (K.holds sink.old) (K.holds sink.new)) }
+        × Tells (IsOnDisks P.Disk.state (P.returned depot.new)) script (K.holds sink.old) (K.holds sink.new)) }
 
     // 3 and 7: the first line that is in no grammar, or passes a limit, ended the run.
     ensures bad_line { result ≡ 3 → IfSome (S.left source.old) (λ input.
         (script : List AnEvent) × (count : ℕ) × (fault : ABadLine) × IsBadAt input script count fault
-        × TellsStop (AreCaused P.Disk.state (P.returned depot.new)) script 3 (count + 1) fault.code
+        × TellsStop (IsOnDisks P.Disk.state (P.returned depot.new)) script 3 (count + 1) fault.code
         (K.holds sink.old) (K.holds sink.new)) }
     ensures limit { result ≡ 7 → IfSome (S.left source.old) (λ input.
         (script : List AnEvent) × (count limit : ℕ) × IsLimitAt input script count limit
-        × TellsStop (AreCaused P.Disk.state (P.returned depot.new)) script 7 (count + 1) limit
+        × TellsStop (IsOnDisks P.Disk.state (P.returned depot.new)) script 7 (count + 1) limit
         (K.holds sink.old) (K.holds sink.new)) }
 
     // 4: the source failed; all lines that it gave whole were carried out.
     ensures read { result ≡ 4 → Rose (S.faults source.old) (S.faults source.new)
         × IfSome (S.left source.old) (λ input. IfSome (S.left source.new) (λ left.
         (script : List AnEvent) × IsCutOff input script left
-        × Tells (AreCaused P.Disk.state (P.returned depot.new)) script (K.holds sink.old) (K.holds sink.new))) }
+        × Tells (IsOnDisks P.Disk.state (P.returned depot.new)) script (K.holds sink.old) (K.holds sink.new))) }
 
     // 5: the sink failed; what was written is a front of what a run writes.
     ensures write { result ≡ 5 → Rose (K.faults sink.old) (K.faults sink.new)
         × IfSome (S.left source.old) (λ input. (text : List ℕ)
-        × IsTextOf (AreCaused P.Disk.state (P.returned depot.new)) input text
+        × IsTextOf (IsOnDisks P.Disk.state (P.returned depot.new)) input text
         × AppendsFront (K.holds sink.old) (K.holds sink.new) text) }
 
     // 6: memory was refused; what was written is the transcript of the first lines.
@@ -89,7 +95,7 @@ pub fn run_simba<S: Source, K: Sink, P: Depot>(
         × IfSome (S.left source.old) (λ input.
         (script : List AnEvent) × (count : ℕ) × (names : Names) × (rest : List ℕ)
         × IsFront input script count names rest
-        × Tells (AreCaused P.Disk.state (P.returned depot.new)) script (K.holds sink.old) (K.holds sink.new)) }
+        × Tells (IsOnDisks P.Disk.state (P.returned depot.new)) script (K.holds sink.old) (K.holds sink.new)) }
 
     // Each disk goes back to the depot, unless memory was refused.
     ensures back { result ≢ 6 → (k : ℕ) → (P.state depot.new).is_out k ≡ false }
@@ -148,10 +154,10 @@ fn run_whole<S: Source, K: Sink, P: Depot>(
     requires { (k : ℕ) → (P.state depot.old).is_out k ≡ false }
     ensures end { OnOk result (IsAtEnd (S.left source.new)) }
     ensures done { OnOk result (IfSome (S.left source.old)
-        (λ input. IsDone (AreCaused P.Disk.state (P.returned depot.new)) input
+        (λ input. IsDone (IsOnDisks P.Disk.state (P.returned depot.new)) input
         (K.holds sink.old) (K.holds sink.new))) }
     ensures stopped { IfErr result (λ stop. IfSome (S.left source.old)
-        (λ input. Stopped (AreCaused P.Disk.state (P.returned depot.new)) stop input (S.left source.new)
+        (λ input. Stopped (IsOnDisks P.Disk.state (P.returned depot.new)) stop input (S.left source.new)
         (K.holds sink.old) (K.holds sink.new))) }
     ensures back { OnOk result ((k : ℕ) → (P.state depot.new).is_out k ≡ false) }
     ensures back_stopped { IfErr result (λ stop. stop ≢ AStop.Memory
@@ -184,7 +190,7 @@ fn ended<K: Sink, D: Disk + Drop, P: Depot<Disk = D>>(
     requires held { stop ≢ AStop.Memory → IsWorld D.state (P.state depot.old).is_out run.world }
     ensures ends { (input : List ℕ) (left before : Option (List ℕ))
         → EndedBy (Led D.state run.world) stop input run.count left before (K.holds sink.old)
-        → Stopped (AreCaused D.state (P.returned depot.new)) result input left before (K.holds sink.new) }
+        → Stopped (IsOnDisks D.state (P.returned depot.new)) result input left before (K.holds sink.new) }
     ensures back { result ≢ AStop.Memory → (k : ℕ) → (P.state depot.new).is_out k ≡ false }
     ensures reads { (old new : ℕ) → CountsReads stop old new → CountsReads result old new }
     ensures puts { (old : ℕ) → CountsPuts stop old (K.faults sink.old) → CountsPuts result old (K.faults sink.new) }

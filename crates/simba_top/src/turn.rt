@@ -9,6 +9,7 @@ ghost use Rattle.transcript_text.specs.Text.{text_of, stop_text, transcript_text
 ghost use Rattle.world_tables.specs.World.{World as AWorld};
 ghost use Rattle.world_steps.specs.Faults.{IsUndone, all_faults, all_faults_back};
 ghost use Rattle.world_steps.specs.Holds.{Holds, AreOut, IsBuilt, IsReached, IsWorld};
+ghost use Rattle.world_steps.specs.Rows.{AreRowsBack};
 ghost use Rattle.simba_top.specs.Faults.{Led};
 ghost use Rattle.stab_io.specs.Faults.{Rose, AppendsFront};
 ghost use Rattle.simba_top.specs.Script.{IsWhole};
@@ -196,6 +197,8 @@ impl<D: Disk + Drop> Run<D> {
         ensures back { (k : ℕ) → (P.state depot.new).is_out k ≡ false }
         ensures told { (w : AWorld) → Holds D.state w self.world → IfSome (P.returned depot.new)
             (λ disks. all_faults_back D.state disks w ≡ all_faults D.state self.world) }
+        ensures rows { (w : AWorld) → IsReached w → Holds D.state w self.world
+            → IfSome (P.returned depot.new) (λ disks. AreRowsBack D.state disks w) }
         ensures faults { (P.state depot.new).faults ≡ (P.state depot.old).faults }
     {
         self.world.close(depot);

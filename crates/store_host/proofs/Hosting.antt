@@ -15,7 +15,7 @@ use Rattle.step_tables.specs.Travels.{message_of}
 use Rattle.step_tables.specs.declared.message.Message.{Message}
 use Rattle.step_tables.specs.Messages as messages
 use Rattle.step_tables.specs.StoreMoves.{StoreDisk, StoreTask, TableStore, StoreStep, Take, Start, crashed, worked, store_step}
-use Rattle.step_tables.specs.StoreMoves.{takes, quiet, accepting, item_for, sending, responded, outdated, judged, decided, version_of, taken, yours_in}
+use Rattle.step_tables.specs.StoreMoves.{takes, quiet, accepting, item_for, sending, responded, outdated, judged, decided, version_of, version_at, taken, yours_in}
 use Rattle.store_node.specs.declared.node.TableNode.{TableNode}
 use Rattle.store_node.specs.declared.node.StoreOut.{StoreOut}
 use Rattle.step_tables.specs.Travels.{send_of}
@@ -31,7 +31,7 @@ use Rattle.store_node.specs.declared.fault.NodeFault.{NodeFault}
 use Rattle.store_node.specs.declared.fault.NodeFault.TheVariants.{Busy, Disk as DiskFailed, Memory}
 use Rattle.store_node.specs.declared.showing.ShownRow.{ShownRow}
 use Rattle.store_node.specs.Node.{nothing_stored, own_faults, has_task}
-use Rattle.store_node.specs.Calls.{IsBehind, Starts, Stays, Shows, Delivers, IsAtWork, version_at, named, late, step_at}
+use Rattle.store_node.specs.Calls.{IsBehind, Starts, Stays, Shows, Delivers, IsAtWork, named, late, step_at}
 use Rattle.world_tables.specs.World.{Outbox, Packet, history_on, owner, the_store, packets_from, next_step, tasks_in, declared_late, scheme_in, chunk_in}
 use Rattle.world_tables.specs.World as world
 use Rattle.store_host.specs.declared.hosted.Hosted.{Hosted}

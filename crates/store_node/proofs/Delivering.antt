@@ -11,7 +11,7 @@ use Rattle.row_value.specs.declared.schema.Schema.{Schema}
 use Rattle.status_log.specs.Entry.{Entry}
 use Rattle.step_tables.specs.declared.message.Message.{Message}
 use Rattle.step_tables.specs.Store.{Stored}
-use Rattle.step_tables.specs.StoreMoves.{StoreDisk, StoreChange, StoreTask, StoreStep, TableStore, Take}
+use Rattle.step_tables.specs.StoreMoves.{StoreDisk, StoreChange, StoreTask, StoreStep, TableStore, Take, version_at, version_of}
 use Rattle.step_tables.specs.StoreMoves as moves
 use Rattle.step_tables.specs.Facts as facts_of
 use Rattle.step_tables.specs.Travels.{message_of}
@@ -26,13 +26,13 @@ use Rattle.store_node.specs.declared.fault.NodeFault.{NodeFault}
 use Rattle.store_node.specs.declared.fault.NodeFault.TheVariants.{NoRow, Busy, Spent, Disk, Memory}
 use Rattle.store_node.specs.declared.node.TableNode.{TableNode}
 use Rattle.store_node.specs.Node.{IsWorking, IsTable, IsNode, told_by, sent_by, LeavesEither}
-use Rattle.store_node.specs.Calls.{IsBehind, Stays, Answers, Delivers, IsTaken, IsSpent, version_at, version_in, step_at}
+use Rattle.store_node.specs.Calls.{IsBehind, Stays, Answers, Delivers, IsTaken, IsSpent, step_at}
 use Rattle.store_node.proofs.Following.{follows_now, no_task, no_write}
 use Rattle.store_node.proofs.Working.{still_rows}
 
 -- ---- the version at work
 
-pending_same : (size : ℕ) (disk : StoreDisk) (o : Option Stored) (e : Option Entry) → StandsEntry size disk o e → version_if e ≡ version_in o
+pending_same : (size : ℕ) (disk : StoreDisk) (o : Option Stored) (e : Option Entry) → StandsEntry size disk o e → version_if e ≡ version_of o
 pending_same size disk None None h = refl
 pending_same size disk None (Some entry) h = absurd h
 pending_same size disk (Some item) None h = absurd h

@@ -15,7 +15,7 @@ use Rattle.store_commit.specs.declared.devs.TableDevs.{TableDevs}
 use Rattle.store_commit.specs.Devs.{Devs}
 use Rattle.store_commit.specs.Standing.{devs, writes_of, AreUp, AreSound, AreSynced, DevsLeave, RowsLeave}
 use Rattle.store_commit.specs.Unset.{AreFresh}
-use Rattle.step_tables.specs.StoreMoves.{StoreDisk, StoreChange, StoreTask, TableStore, StoreStep, StoreMove, Take}
+use Rattle.step_tables.specs.StoreMoves.{StoreDisk, StoreTask, TableStore, StoreStep, StoreMove, Take, version_at}
 use Rattle.step_tables.specs.StoreMoves.{Work, Crash, Start, store_step}
 use Rattle.step_tables.specs.StoreMoves as moves
 use Rattle.step_tables.specs.Facts as facts
@@ -178,16 +178,7 @@ pub record Shows {D : Type 0} (state : D → DiskState) (images : D → ℕ → 
 abbrev pub IsTaken : {D : Type 0} → TableNode D → Message → Type 0
 IsTaken node message = IsFor node.table message × Fits node.schema message
 
--- the version of an item, 0 where there is none
-abbrev pub version_in : Option Stored → ℕ
-version_in None = 0
-version_in (Some item) = item.entry.version
-
--- the version at work, where this write is the next: that of the entry which it opens, or of the pending one, or 0
-abbrev pub version_at : StoreDisk → StoreChange → ℕ
-version_at disk (moves.Open item) = item.entry.version
-version_at disk other = version_in disk.pending
-
+-- the version at work, where there are writes to do
 abbrev pub IsAtWork : StoreDisk → Option (List StoreTask) → ℕ → Type 0
 IsAtWork disk None version = ⊥
 IsAtWork disk (Some []) version = ⊥

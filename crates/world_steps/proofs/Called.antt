@@ -1,7 +1,7 @@
 -- What a client's call, or a packet for a client, comes to.
 use Rattle.std.proofs.Common.{◌≡◌, ⊎_elim, ℕ, Bool, true, false, cond, List, [], ◌∷◌, ◌++◌, length, map, Option, Some, None, Result, Ok, Err, refl, sym, ◌∙◌, ap, subst, arith, append-nil}
 use Rattle.std.proofs.Common.{append_assoc, length-append, true≢false}
-use Rattle.std.specs.Prelude.{IfOk, is_some, if◌then◌else◌, option_to_list, option_map, slice_get}
+use Rattle.std.specs.Prelude.{IfOk, ◌&&◌, is_some, if◌then◌else◌, option_to_list, option_map, slice_get}
 use Rattle.std.specs.Ordering.{nat_cmp}
 use Rattle.std.specs.Map.{lookup}
 use Rattle.std.specs.BTreeMap.{is_at, insert_entry}
@@ -19,7 +19,7 @@ use Rattle.step_tables.specs.declared.message.Message.TheVariants as kinds
 use Rattle.step_tables.specs.declared.message.RowHeader.{RowHeader}
 use Rattle.step_tables.specs.declared.out.Out.{Out}
 use Rattle.step_tables.specs.ClientMoves as client
-use Rattle.step_tables.specs.ClientMoves.{Client, ClientTask, ClientMove, client_step}
+use Rattle.step_tables.specs.ClientMoves.{Client, ClientTask, ClientMove, client_step, is_cut_off}
 use Rattle.step_tables.specs.Facts.{Line, AnswerLine, FactLine}
 use Rattle.step_tables.specs.Facts as facts
 use Rattle.step_tables.specs.Lines.{line_of, fact_of}
@@ -29,7 +29,7 @@ use Rattle.step_tables.specs.Messages as messages
 use Rattle.step_tables.specs.Travels.{message_of, send_of, header_of}
 use Rattle.step_tables.proofs.Lists.{among_none, among_either, among_mapped, among_get, lookup-insert_nat}
 use Rattle.client_core.specs.State.{nothing_gathered}
-use Rattle.world_tables.specs.World.{has_node, client_until_idle}
+use Rattle.world_tables.specs.World.{Lucks, no_lucks, is_cut, unless_cut, calls, has_node, client_until_idle}
 use Rattle.world_tables.specs.World.{Moved, Packet, WorldStep, lines_of, lines_from, sent_lines, packets_from, address, client_at, hosted_at, schema_at, is_down, unless_down, refused}
 use Rattle.world_tables.specs.World.{answering, answered, still, and_then}
 use Rattle.world_tables.specs.World.{move_client, move_there, after_client, client_works, client_follows_from, gets_tasks, client_follows, client_tasks, first_luck, other_lucks, call}
@@ -51,7 +51,7 @@ use Rattle.world_steps.specs.Fair.{IsFairMessage, IsPlace, ArePlaces}
 use Rattle.world_steps.specs.Holds.{Holds}
 use Rattle.world_steps.specs.Network.{packets_in, packet_of}
 use Rattle.world_steps.specs.Calls.{IsDone, Comes, HasSent}
-use Rattle.world_steps.proofs.Done.{comes_as}
+use Rattle.world_steps.proofs.Done.{comes_as, stays}
 
 -- ---- which clients there are
 
@@ -92,22 +92,31 @@ pub call_same : (w : moves.World) (c : ℕ) (move : ClientMove) (lucks : List Lu
 call_same w c move lucks None q = refl
 call_same w c move lucks (Some node) q = go (is_down w (nodes.Client c)) q
   where
-    s : WorldStep
-    s = answering (client_step c client.no_shape node move).answer (and_then (move_client c move client.no_shape w) (client_follows_from node.agenda c lucks))
+    by_link : (cut : Bool) → SameClients w (unless_cut w cut (calls w c move client.no_shape (other_lucks lucks) node)).world
+    by_link true q = refl
+    by_link false q = follows_same node.agenda c (other_lucks lucks) (move_client c move client.no_shape w).world q ∙ move_same w c move q
 
-    go : (b : Bool) → SameClients w (if b then refused w (facts.NodeDown (nodes.Client c)) else s).world
+    s : Luck → WorldStep
+    s luck = moves.reads w c luck (unless_cut w (is_cut w c && is_cut_off c client.no_shape node move) (calls w c move client.no_shape (other_lucks lucks) node))
+
+    reads : (luck : Luck) → SameClients w (s luck).world
+    reads messages.Done q = by_link (is_cut w c && is_cut_off c client.no_shape node move) q
+    reads messages.FailedBefore q = move_same w c (client.Crash messages.FailedBefore) q
+    reads messages.FailedAfter q = move_same w c (client.Crash messages.FailedBefore) q
+
+    go : (b : Bool) → SameClients w (if b then refused w (facts.NodeDown (nodes.Client c)) else s (first_luck lucks)).world
     go true q = refl
-    go false q = follows_same node.agenda c lucks (move_client c move client.no_shape w).world q ∙ move_same w c move q
+    go false q = reads (first_luck lucks) q
 
-pub there_same : (w : moves.World) (c : ℕ) (m : messages.Message) (lucks : List Luck) (o : Option Client) → SameClients w (to_there w c m lucks o).world
+pub there_same : (w : moves.World) (c : ℕ) (m : messages.Message) (lucks : List Luck) (o : Option Client) → SameClients w (to_there w c m client.no_shape lucks o).world
 there_same w c m lucks None q = refl
 there_same w c m lucks (Some node) q = call_same w c (client.Take m) lucks (Some node) q
 
 pub call_none : (w : moves.World) (c : ℕ) (move : ClientMove) (lucks : List Luck) → client_at w c ≡ None → (call w c move client.no_shape lucks).world ≡ w
 call_none w c move lucks at = ap (λ (o : Option Client). (call_there w c move client.no_shape lucks o).world) at
 
-pub there_none : (w : moves.World) (c : ℕ) (m : messages.Message) (lucks : List Luck) → client_at w c ≡ None → (to_there w c m lucks (client_at w c)).world ≡ w
-there_none w c m lucks at = ap (λ (o : Option Client). (to_there w c m lucks o).world) at
+pub there_none : (w : moves.World) (c : ℕ) (m : messages.Message) (lucks : List Luck) → client_at w c ≡ None → (to_there w c m client.no_shape lucks (client_at w c)).world ≡ w
+there_none w c m lucks at = ap (λ (o : Option Client). (to_there w c m client.no_shape lucks o).world) at
 
 -- ---- what it sends
 
@@ -193,10 +202,10 @@ module _ {D : Type 0} (state : D → DiskState) (w : moves.World) (old : World D
     tables = λ q. ap (λ (x : moves.World). is_some (hosted_at x q)) k.same;
   }
 
-  pub comes_called : (f : List Luck → WorldStep) → f [] ≡ s → (new : World D) (result : Result (List TextLine) WorldFault)
+  pub comes_called : (f : Lucks → WorldStep) → f no_lucks ≡ s → (new : World D) (result : Result (List TextLine) WorldFault)
       → IfOk result (λ lines. HasSent (record old { clients = host }) new (nodes.Client c) said out lines) → Comes state w f result new
   comes_called f is new (Err e) t = tt
-  comes_called f is new (Ok lines) t = ([], subst (λ (x : WorldStep). IsDone state w x lines new) (sym is) (called new lines t))
+  comes_called f is new (Ok lines) t = (no_lucks, subst (λ (x : WorldStep). IsDone state w x lines new) (sym is) (called new lines t))
 
 -- nothing was told and sent
 pub sent_nothing : {D : Type 0} (world : World D) (from : Node) (a : facts.Answer) (result : Result (List TextLine) WorldFault) → IfOk result (λ lines. map line_of lines ≡ AnswerLine a ∷ [])
@@ -221,8 +230,8 @@ module _ {D : Type 0} (state : D → DiskState) (w : moves.World) (world : World
   pub sent_fair : IsFairMessage w p.from (message_of p.message)
   sent_fair = subst (λ (x : Packet). IsFairMessage w x.from x.message) sent_is (h.fair.packets packet (among_get w.packets number packet at))
 
-  pub sent_there : (c : ℕ) → to_there w c packet.message [] (client_at w c) ≡ to_there w c (message_of p.message) [] (client_at w c)
-  sent_there c = ap (λ (x : Packet). to_there w c x.message [] (client_at w c)) sent_is
+  pub sent_there : (c : ℕ) → to_there w c packet.message client.no_shape [] (client_at w c) ≡ to_there w c (message_of p.message) client.no_shape [] (client_at w c)
+  sent_there c = ap (λ (x : Packet). to_there w c x.message client.no_shape [] (client_at w c)) sent_is
 
 pub any_packet : {D : Type 0} (state : D → DiskState) (w : moves.World) (world : World D) → Holds state w world → (number : ℕ) (p : Sent)
     → Some (packet_of p) ≡ slice_get (packets_in world.network) number → slice_get w.packets number ≡ Some (packet_of p)
@@ -244,10 +253,26 @@ found_address state w world h number to e =
     addressed w.packets number to (e ∙ ap (λ (ps : List Packet). option_map (λ (p : Packet). p.to) (slice_get ps number)) h.packets)
 
 pub carries : {D : Type 0} (state : D → DiskState) (w : moves.World) (number : ℕ) (packet : Packet) (to : Node) → slice_get w.packets number ≡ Some packet → packet.to ≡ to
-    → (result : Result (List TextLine) WorldFault) (new : World D) → Comes state w (λ lucks. carried w packet lucks to) result new → Comes state w (step w (events.Deliver number)) result new
+    → (result : Result (List TextLine) WorldFault) (new : World D) → Comes state w (λ lucks. carried w packet lucks.shape lucks.calls to) result new → Comes state w (step w (events.Deliver number)) result new
 carries state w number packet to at is result new k =
-    comes_as state w (step w (events.Deliver number)) (λ lucks. carried w packet lucks to) result new
-    (λ lucks. ap (λ (o : Option Packet). delivered w lucks o) at ∙ ap (λ (n : Node). carried w packet lucks n) is) k
+    comes_as state w (step w (events.Deliver number)) (λ lucks. carried w packet lucks.shape lucks.calls to) result new
+    (λ lucks. ap (λ (o : Option Packet). delivered w lucks.shape lucks.calls o) at ∙ ap (λ (n : Node). carried w packet lucks.shape lucks.calls n) is) k
+
+-- no packet of this number was sent
+pub none_sent : {D : Type 0} (state : D → DiskState) (w : moves.World) (world : World D) → Holds state w world → (number : ℕ)
+    → None ≡ option_map (λ (p : Packet). p.to) (slice_get (packets_in world.network) number) → (result : Result (List TextLine) WorldFault)
+    → IfOk result (λ lines. map line_of lines ≡ AnswerLine (facts.Refuses (facts.NoPacket (length (packets_in world.network)))) ∷ [])
+    → Comes state w (step w (events.Deliver number)) result world
+none_sent state w world h number none result k =
+    comes_as state w (step w (events.Deliver number)) (λ lucks. refused w (facts.NoPacket (length w.packets))) result world
+    (λ lucks. ap (λ (o : Option Packet). delivered w lucks.shape lucks.calls o) (nothing (slice_get w.packets number)
+    (none ∙ ap (λ (ps : List Packet). option_map (λ (p : Packet). p.to) (slice_get ps number)) h.packets)))
+    (stays state w world h (facts.Refuses (facts.NoPacket (length w.packets))) result
+    (subst (λ (ps : List Packet). IfOk result (λ lines. map line_of lines ≡ AnswerLine (facts.Refuses (facts.NoPacket (length ps))) ∷ [])) h.packets k))
+  where
+    nothing : (o : Option Packet) → None ≡ option_map (λ (p : Packet). p.to) o → o ≡ None
+    nothing None e = refl
+    nothing (Some p) e = absurd cc
 
 pub to_the_store : (w : moves.World) (number n : ℕ) (packet : Packet) → ArePlaces w → slice_get w.packets number ≡ Some packet → packet.to ≡ nodes.Store n → packet.to ≡ the_store
 to_the_store w number n packet places at is =

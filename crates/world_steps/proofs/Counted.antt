@@ -13,9 +13,10 @@ use Rattle.step_tables.specs.Facts as facts
 use Rattle.step_tables.specs.Lines.{line_of, answer_of}
 use Rattle.step_tables.specs.Messages.{Luck}
 use Rattle.step_tables.specs.Messages as messages
-use Rattle.world_tables.specs.World.{WorldStep, Hosted, lines_of, lines_from, hosted_at, is_fault, first_luck, busy_table, owner, step, start, schema_at}
+use Rattle.world_tables.specs.World.{WorldStep, Lucks, Hosted, lines_of, lines_from, hosted_at, is_fault, first_luck, busy_table, owner, step, start, schema_at}
 use Rattle.world_tables.specs.World as moves
 use Rattle.world_tables.specs.Faults.{is_failure, fails_cut, is_fault_answer, is_device_fault}
+use Rattle.world_tables.specs.Passed.{first_part}
 use Rattle.fault_laws.proofs.Same.{done_alone}
 use Rattle.fault_laws.proofs.Answered.{is_declaration, step_answered}
 use Rattle.store_host.specs.declared.hosted.Hosted.{Hosted as Kept}
@@ -27,8 +28,10 @@ use Rattle.world_steps.specs.declared.fault.WorldFault.TheVariants.{Memory}
 use Rattle.world_steps.specs.declared.world.World.{World}
 use Rattle.world_steps.specs.Calls.{IsDone, Comes, HasTold, HasSent}
 use Rattle.world_steps.specs.Faults.{IsCounted, AreCounted, ComesCounted, IsUndone, all_faults, tell_fault}
-use Rattle.world_steps.specs.Holds.{Holds, AreOut}
+use Rattle.world_steps.specs.Holds.{Holds, IsReached, AreOut}
+use Rattle.world_steps.specs.Rows.{ComesLeft}
 use Rattle.world_steps.specs.Steps.{IsStep}
+use Rattle.world_steps.proofs.Rows.{Stays, stay_over}
 use Rattle.world_steps.proofs.Sums.{sum_same, sum_rises, sum_none}
 use Rattle.step_tables.specs.declared.out.Out.{Out}
 use Rattle.stab_base.specs.declared.node.Node.{Node}
@@ -154,51 +157,79 @@ module _ {D : Type 0} (state : D → DiskState) where
       go None e = absurd cc
       go (Some a) e = refl
 
-  module _ (w : moves.World) (event : Event) (is_out : ℕ → Bool) (old new : World D) (result : Result (List TextLine) WorldFault) (out : AreOut is_out w) where
-    out_behind : (lucks : List Luck) → ((table : ℕ) → is_some (hosted_at (step w event lucks).world table) ≡ is_some (hosted_at w table)) → AreOut is_out (step w event lucks).world
+  module _ (images : D → ℕ → List ℕ → Type 0) (w : moves.World) (event : Event) (is_out : ℕ → Bool) (old new : World D) (result : Result (List TextLine) WorldFault) (out : AreOut is_out w) where
+    out_behind : (lucks : Lucks) → ((table : ℕ) → is_some (hosted_at (step w event lucks).world table) ≡ is_some (hosted_at w table)) → AreOut is_out (step w event lucks).world
     out_behind lucks tables table disk one small = out table disk one small ∙ sym (tables table)
 
     -- by the answer
-    pub stepped : is_declaration event ≡ false → ((lucks : List Luck) → is_device_fault w event lucks ≡ is_fault_answer (step w event lucks).answer)
-        → Comes state w (step w event) result new → AreCounted state result old new → IfOk result (λ lines. IsStep state w event lines is_out old new)
-    stepped asks plain k c = go result k c
+    pub stepped : is_declaration event ≡ false → ((lucks : Lucks) → is_device_fault w event lucks ≡ is_fault_answer (step w event lucks).answer)
+        → Comes state w (step w event) result new → AreCounted state result old new → IfOk result (λ lines. Stays state images w event old new)
+        → IfOk result (λ lines. IsStep state images w event lines is_out old new)
+    stepped asks plain k c stay = go result k c stay
       where
-        go : (r : Result (List TextLine) WorldFault) → Comes state w (step w event) r new → AreCounted state r old new → IfOk r (λ lines. IsStep state w event lines is_out old new)
+        go : (r : Result (List TextLine) WorldFault) → Comes state w (step w event) r new → AreCounted state r old new → IfOk r (λ lines. Stays state images w event old new)
+            → IfOk r (λ lines. IsStep state images w event lines is_out old new)
+        go (Err e) k c stay = tt
+        go (Ok lines) k c stay =
+            let same : is_device_fault w event k.0 ≡ tell_fault (map line_of lines) =
+            plain k.0 ∙ sym (fault_told w (step w event k.0) lines (step_answered w event k.0 asks) k.1.lines_are) in
+            let r = rises (step w event k.0).world old new (is_device_fault w event k.0) k.1.held (counted_as old.store.tables new.store.tables _ _ same c) in
+            record { lucks = k.0; lines_are = k.1.lines_are; held = k.1.held; out = out_behind k.0 k.1.tables; rose = r.0; same = r.1; rows = stay k.0 }
+
+    -- the same of an event whose first part goes with its lucks
+    pub stepped_first : IsReached w → is_declaration event ≡ false → ((lucks : Lucks) → is_device_fault w event lucks ≡ is_fault_answer (step w event lucks).answer)
+        → ComesLeft state images w (step w event) (first_part w event) result old new → AreCounted state result old new → IfOk result (λ lines. IsStep state images w event lines is_out old new)
+    stepped_first reached asks plain k c = go result k c
+      where
+        go : (r : Result (List TextLine) WorldFault) → ComesLeft state images w (step w event) (first_part w event) r old new → AreCounted state r old new
+            → IfOk r (λ lines. IsStep state images w event lines is_out old new)
         go (Err e) k c = tt
         go (Ok lines) k c =
             let same : is_device_fault w event k.0 ≡ tell_fault (map line_of lines) =
             plain k.0 ∙ sym (fault_told w (step w event k.0) lines (step_answered w event k.0 asks) k.1.lines_are) in
             let r = rises (step w event k.0).world old new (is_device_fault w event k.0) k.1.held (counted_as old.store.tables new.store.tables _ _ same c) in
-            record { lucks = k.0; lines_are = k.1.lines_are; held = k.1.held; out = out_behind k.0 k.1.tables; rose = r.0; same = r.1 }
+            record {
+              lucks = k.0;
+              lines_are = k.1.lines_are;
+              held = k.1.held;
+              out = out_behind k.0 k.1.tables;
+              rose = r.0;
+              same = r.1;
+              rows = stay_over state images w reached event k.0 old new k.2;
+            }
 
     -- the Store stays as it is
-    pub stepped_still : ((lucks : List Luck) → is_device_fault w event lucks ≡ false) → new.store ≡ old.store → Comes state w (step w event) result new
-        → IfOk result (λ lines. IsStep state w event lines is_out old new)
-    stepped_still fine same k = go result k
+    pub stepped_still : ((lucks : Lucks) → is_device_fault w event lucks ≡ false) → new.store ≡ old.store → Comes state w (step w event) result new
+        → IfOk result (λ lines. Stays state images w event old new) → IfOk result (λ lines. IsStep state images w event lines is_out old new)
+    stepped_still fine same k stay = go result k stay
       where
-        go : (r : Result (List TextLine) WorldFault) → Comes state w (step w event) r new → IfOk r (λ lines. IsStep state w event lines is_out old new)
-        go (Err e) k = tt
-        go (Ok lines) k = record {
+        go : (r : Result (List TextLine) WorldFault) → Comes state w (step w event) r new → IfOk r (λ lines. Stays state images w event old new)
+            → IfOk r (λ lines. IsStep state images w event lines is_out old new)
+        go (Err e) k stay = tt
+        go (Ok lines) k stay = record {
           lucks = k.0;
           lines_are = k.1.lines_are;
           held = k.1.held;
           out = out_behind k.0 k.1.tables;
           rose = λ t. let no : false ≡ true = sym (fine k.0) ∙ t in absurd cc;
           same = λ f. all_still old new same;
+          rows = stay k.0;
         }
 
-    pub stepped_counted : ComesCounted state w (step w event) (λ lucks. is_device_fault w event lucks) result old new → IfOk result (λ lines. IsStep state w event lines is_out old new)
-    stepped_counted k = go result k
+    pub stepped_counted : ComesCounted state w (step w event) (λ lucks. is_device_fault w event lucks) result old new → IfOk result (λ lines. Stays state images w event old new)
+        → IfOk result (λ lines. IsStep state images w event lines is_out old new)
+    stepped_counted k stay = go result k stay
       where
-        go : (r : Result (List TextLine) WorldFault) → ComesCounted state w (step w event) (λ lucks. is_device_fault w event lucks) r old new
-            → IfOk r (λ lines. IsStep state w event lines is_out old new)
-        go (Err e) k = tt
-        go (Ok lines) k =
+        go : (r : Result (List TextLine) WorldFault) → ComesCounted state w (step w event) (λ lucks. is_device_fault w event lucks) r old new → IfOk r (λ lines. Stays state images w event old new)
+            → IfOk r (λ lines. IsStep state images w event lines is_out old new)
+        go (Err e) k stay = tt
+        go (Ok lines) k stay =
             let r = rises (step w event k.0).world old new (is_device_fault w event k.0) k.1.held k.2 in
-            record { lucks = k.0; lines_are = k.1.lines_are; held = k.1.held; out = out_behind k.0 k.1.tables; rose = r.0; same = r.1 }
+            record { lucks = k.0; lines_are = k.1.lines_are; held = k.1.held; out = out_behind k.0 k.1.tables; rose = r.0; same = r.1; rows = stay k.0 }
 
-    -- ---- faults of a run
+  -- ---- faults of a run
 
+  module _ (w : moves.World) (event : Event) (is_out : ℕ → Bool) (old new : World D) (result : Result (List TextLine) WorldFault) (out : AreOut is_out w) where
     pub never_left : IfErr result (λ e. e ≡ Memory) → IfErr result (λ e. e ≢ Memory → IsUndone state w is_out old new)
     never_left k = go result k
       where
@@ -223,22 +254,22 @@ module _ {D : Type 0} (state : D → DiskState) where
 
   -- ---- crashes
 
-  module _ (w : moves.World) (f g : List Luck → WorldStep) (a b : List Luck → Bool) (result : Result (List TextLine) WorldFault) (old new : World D) where
-    pub counted_still : ((lucks : List Luck) → a lucks ≡ false) → new.store ≡ old.store → Comes state w f result new → ComesCounted state w f a result old new
+  module _ (w : moves.World) (f g : Lucks → WorldStep) (a b : Lucks → Bool) (result : Result (List TextLine) WorldFault) (old new : World D) where
+    pub counted_still : ((lucks : Lucks) → a lucks ≡ false) → new.store ≡ old.store → Comes state w f result new → ComesCounted state w f a result old new
     counted_still fine same k = go result k
       where
         go : (r : Result (List TextLine) WorldFault) → Comes state w f r new → ComesCounted state w f a r old new
         go (Err e) k = tt
         go (Ok lines) k = (k.0, k.1, none_failed old.store.tables new.store.tables (a k.0) (fine k.0) (λ table. ap (λ (s : StoreHost D). faults_at state s.tables table) same))
 
-    pub comes_counted_as : ((lucks : List Luck) → f lucks ≡ g lucks) → ((lucks : List Luck) → a lucks ≡ b lucks) → ComesCounted state w g b result old new → ComesCounted state w f a result old new
+    pub comes_counted_as : ((lucks : Lucks) → f lucks ≡ g lucks) → ((lucks : Lucks) → a lucks ≡ b lucks) → ComesCounted state w g b result old new → ComesCounted state w f a result old new
     comes_counted_as steps faults k = go result k
       where
         go : (r : Result (List TextLine) WorldFault) → ComesCounted state w g b r old new → ComesCounted state w f a r old new
         go (Err e) k = tt
         go (Ok lines) k = (k.0, subst (λ (s : WorldStep). IsDone state w s lines new) (sym (steps k.0)) k.1, counted_as old.store.tables new.store.tables (a k.0) (b k.0) (faults k.0) k.2)
 
-    pub counted_done : (lucks : List Luck) (s : StoreHost D) (given : facts.Answer) → IfOk result (λ lines. IsDone state w (f lucks) lines new)
+    pub counted_done : (lucks : Lucks) (s : StoreHost D) (given : facts.Answer) → IfOk result (λ lines. IsDone state w (f lucks) lines new)
         → IfOk result (λ lines. HasTold (record old { store = s }) new given lines) → IsCounted state (a lucks) old.store.tables s.tables → ComesCounted state w f a result old new
     counted_done lucks s given k t c = go result k t
       where

@@ -22,7 +22,7 @@ use Rattle.store_host.specs.Holds.{HoldsStore, HostedThere, outs_of, says_someth
 use Rattle.store_host.specs.Steps.{new_table}
 use Rattle.store_host.proofs.Maps.{not_found}
 use Rattle.store_host.proofs.Moving.{falls_silent}
-use Rattle.world_tables.specs.World.{Moved, Outbox, Packet, Hosted, schema_at, hosted_at, client_at, with_table, made_with, declared, joined, step, owner, the_store, is_down, store_falls}
+use Rattle.world_tables.specs.World.{no_lucks, Moved, Outbox, Packet, Hosted, schema_at, hosted_at, client_at, with_table, made_with, declared, joined, step, owner, the_store, is_down, store_falls}
 use Rattle.world_tables.specs.World.{tables_of, tables_fall}
 use Rattle.world_tables.specs.World as moves
 use Rattle.world_tables.specs.Faults.{is_failure, fails_new}
@@ -36,7 +36,9 @@ use Rattle.world_steps.specs.Holds.{Holds, AreOut, first_disk}
 use Rattle.world_steps.specs.Network.{packets_in}
 use Rattle.world_steps.specs.Outs.{packets_of}
 use Rattle.world_steps.specs.Faults.{IsCounted}
+use Rattle.world_steps.specs.Calls.{with_calls}
 use Rattle.world_steps.specs.Steps.{IsStep}
+use Rattle.world_steps.proofs.Rows.{Stays}
 use Rattle.world_steps.proofs.Counted.{rises}
 use Rattle.world_steps.proofs.Going.{fair_after, store_falls_goes}
 use Rattle.world_steps.proofs.Said.{said_packets}
@@ -91,7 +93,7 @@ module _ {D : Type 0} (w : moves.World) (table : ℕ) (schema : Schema) (old : W
   rest_with : (made up : Bool) → Rest (with_table w table schema made up) (record old { schemas = schemas })
   rest_with made up = record {
     schemas = λ q. put q ∙ (ap (λ (o : Option Schema). cond (is_at (nat_cmp table) q) (Some schema) o) (r.schemas q) ∙ sym (known made up q));
-    clients = clients_stay w (with_table w table schema made up) old.clients r.clients (record { clients = refl; free = λ free. free; schemas = more_known made up });
+    clients = clients_stay w (with_table w table schema made up) old.clients r.clients (record { clients = refl; free = λ free. free; linked = λ linked. linked; schemas = more_known made up });
     packets = r.packets;
     held = r.held;
     downs = r.downs;
@@ -155,14 +157,16 @@ more_out w after table is_out out one old u there t k here small = u (first_disk
 
 -- ---- the step
 
-module _ {D : Type 0} (state : D → DiskState) (w : moves.World) (table : ℕ) (schema : Schema) (is_out out : ℕ → Bool) where
+module _ {D : Type 0} (state : D → DiskState) (images : D → ℕ → List ℕ → Type 0) (w : moves.World) (table : ℕ) (schema : Schema) (is_out out : ℕ → Bool) where
   pub made_step : (old : World D) (schemas : tree.BTreeMap ℕ Schema) (store : StoreHost D) → Holds state w old → AreOut is_out w → hosted_at w table ≡ None → (1 ≤ table) × (table ≤ 64)
       → ((q : ℕ) → tree.get nat_cmp schemas q ≡ cond (is_at (nat_cmp table) q) (Some schema) (tree.get nat_cmp old.schemas q))
       → ((k : ℕ) → out k ≡ ((k == first_disk table + 2) || ((k == first_disk table + 1) || ((k == first_disk table) || is_out k))))
       → (luck : Luck) → HoldsStore state (made_with w table schema luck) store → IsCounted state (is_failure luck) old.store.tables store.tables → store.outs ≡ old.store.outs
-      → IsStep state w (events.Table table schema) [] out old (record old { schemas = schemas; store = store })
-  made_step old schemas store h outs none one put u luck held counted told = record {
-    lucks = luck ∷ [];
+      → Stays state images w (events.Table table schema) old (record old { schemas = schemas; store = store })
+      → IsStep state images w (events.Table table schema) [] out old (record old { schemas = schemas; store = store })
+  made_step old schemas store h outs none one put u luck held counted told stay = record {
+    lucks = with_calls (luck ∷ []);
+    rows = stay (with_calls (luck ∷ []));
     lines_are = refl;
     held = subst (λ (o : Option Hosted). Holds state (declared w table schema luck o) new) (sym none) behind;
     rose = λ t. (rises state (made_with w table schema luck) old new (is_failure luck) behind counted).0 (sym fails ∙ t);
@@ -184,9 +188,11 @@ module _ {D : Type 0} (state : D → DiskState) (w : moves.World) (table : ℕ) 
       behind = whole state (made_with w table schema luck) new (again (made_rest w table schema old (rest_of state w old h) none schemas put one luck)) held
           (ap (λ (os : _). outs_of (record old.store { outs = os })) told ∙ h.told)
 
-  stays_there : (old : World D) (hosted : Hosted) → Holds state w old → AreOut is_out w → hosted_at w table ≡ Some hosted → IsStep state w (events.Table table schema) [] is_out old old
-  stays_there old hosted h outs at = record {
-    lucks = [];
+  stays_there : (old : World D) (hosted : Hosted) → Holds state w old → AreOut is_out w → hosted_at w table ≡ Some hosted → Stays state images w (events.Table table schema) old old
+      → IsStep state images w (events.Table table schema) [] is_out old old
+  stays_there old hosted h outs at stay = record {
+    lucks = no_lucks;
+    rows = stay no_lucks;
     lines_are = refl;
     held = subst (λ (o : Option Hosted). Holds state (declared w table schema messages.Done o) old) (sym at) h;
     out = subst (λ (o : Option Hosted). AreOut is_out (declared w table schema messages.Done o)) (sym at) outs;
@@ -194,15 +200,17 @@ module _ {D : Type 0} (state : D → DiskState) (w : moves.World) (table : ℕ) 
     same = λ f. refl;
   }
 
-  pub stays_declared : (old : World D) → Holds state w old → AreOut is_out w → true ≡ is_some (hosted_at w table) → IsStep state w (events.Table table schema) [] is_out old old
-  stays_declared old h outs is = let x = some_of (hosted_at w table) is in stays_there old x.0 h outs x.1
+  pub stays_declared : (old : World D) → Holds state w old → AreOut is_out w → true ≡ is_some (hosted_at w table) → Stays state images w (events.Table table schema) old old
+      → IsStep state images w (events.Table table schema) [] is_out old old
+  stays_declared old h outs is stay = let x = some_of (hosted_at w table) is in stays_there old x.0 h outs x.1 stay
 
   pub made_ok : (old : World D) (schemas : tree.BTreeMap ℕ Schema) (store : StoreHost D) → Holds state w old → AreOut is_out w → hosted_at w table ≡ None → (1 ≤ table) × (table ≤ 64)
       → ((q : ℕ) → tree.get nat_cmp schemas q ≡ cond (is_at (nat_cmp table) q) (Some schema) (tree.get nat_cmp old.schemas q))
       → ((k : ℕ) → out k ≡ ((k == first_disk table + 2) || ((k == first_disk table + 1) || ((k == first_disk table) || is_out k))))
       → (luck : Luck) × HoldsStore state (made_with w table schema luck) store × IsCounted state (is_failure luck) old.store.tables store.tables → store.outs ≡ old.store.outs
-      → IsStep state w (events.Table table schema) [] out old (record old { schemas = schemas; store = store })
-  made_ok old schemas store h outs none one put u k told = made_step old schemas store h outs none one put u k.0 k.1 k.2 told
+      → Stays state images w (events.Table table schema) old (record old { schemas = schemas; store = store })
+      → IsStep state images w (events.Table table schema) [] out old (record old { schemas = schemas; store = store })
+  made_ok old schemas store h outs none one put u k told stay = made_step old schemas store h outs none one put u k.0 k.1 k.2 told stay
 
 pub not_there : {D : Type 0} (state : D → DiskState) (w : moves.World) (table : ℕ) (world : World D) → Holds state w world → tree.get nat_cmp world.store.tables table ≡ None → hosted_at w table ≡ None
 not_there state w table world h none = not_found state w world.store.numbers world.store.tables table h.store.tables (sym none)
@@ -232,10 +240,10 @@ pub has_schemas : {D : Type 0} (state : D → DiskState) (w : moves.World) (worl
 has_schemas state w world h = record { there = h.schemas; eventual = eventual_at state w world h }
 
 pub has_joined : {D : Type 0} (state : D → DiskState) (w : moves.World) (old : World D) (c : ℕ) (tables : List ℕ) (clients : ClientHost) → Holds state w old → IsClient c
-    → HoldsClients (joined w c tables (client_at w c)) clients → Holds state (joined w c tables (client_at w c)) (record old { clients = clients })
+    → HoldsClients (joined w c tables messages.Done (client_at w c)) clients → Holds state (joined w c tables messages.Done (client_at w c)) (record old { clients = clients })
 has_joined {D} state w old c tables clients h number held = go (client_at w c) refl held
   where
-    go : (o : Option Client) → client_at w c ≡ o → HoldsClients (joined w c tables o) clients → Holds state (joined w c tables o) (record old { clients = clients })
+    go : (o : Option Client) → client_at w c ≡ o → HoldsClients (joined w c tables messages.Done o) clients → Holds state (joined w c tables messages.Done o) (record old { clients = clients })
     go (Some node) e k = record {
       schemas = h.schemas;
       store = h.store;
@@ -263,12 +271,12 @@ has_joined {D} state w old c tables clients h number held = go (client_at w c) r
         both = h.fair.both;
         ranged = h.fair.ranged;
         numbers = λ q there. one q (is_at (nat_cmp c) q) refl
-            (ap (λ (o : Option Client). is_some o) (sym (lookup-insert nat_cmp nat_cmp_total w.clients c (moves.new_client (moves.open_all w [] tables)) q)) ∙ there);
+            (ap (λ (o : Option Client). is_some o) (sym (lookup-insert nat_cmp nat_cmp_total w.clients c (moves.new_client (moves.open_all w [] tables) (Some [])) q)) ∙ there);
         tables = h.fair.tables;
         packets = h.fair.packets;
       };
     }
       where
-        one : (q : ℕ) (b : Bool) → is_at (nat_cmp c) q ≡ b → is_some (cond b (Some (moves.new_client (moves.open_all w [] tables))) (client_at w q)) ≡ true → IsClient q
+        one : (q : ℕ) (b : Bool) → is_at (nat_cmp c) q ≡ b → is_some (cond b (Some (moves.new_client (moves.open_all w [] tables) (Some []))) (client_at w q)) ≡ true → IsClient q
         one q true is there = subst IsClient (at_same c q is) number
         one q false is there = h.fair.numbers q there

@@ -14,9 +14,9 @@ use Rattle.step_tables.specs.Facts as facts
 use Rattle.step_tables.specs.Lines.{line_of, answer_of}
 use Rattle.step_tables.specs.ClientMoves.{Client}
 use Rattle.step_tables.specs.Members.{Among}
-use Rattle.step_tables.specs.Messages.{Luck, Message, SyncRequest, SyncResponse, PullRequest, PullResponse}
+use Rattle.step_tables.specs.Messages.{Message, SyncRequest, SyncResponse, PullRequest, PullResponse}
 use Rattle.step_tables.proofs.Lists.{among_either}
-use Rattle.world_tables.specs.World.{Moved, Outbox, Packet, WorldStep, Hosted, answering, answered, refused, unless_down, is_down, same_node, has_node, the_store, lines_of, lines_from}
+use Rattle.world_tables.specs.World.{Lucks, no_lucks, Moved, Outbox, Packet, WorldStep, Hosted, answering, answered, refused, unless_down, is_down, same_node, has_node, the_store, lines_of, lines_from}
 use Rattle.world_tables.specs.World.{schema_at, hosted_at, client_at, still}
 use Rattle.world_tables.specs.World as moves
 use Rattle.store_host.specs.declared.host.StoreHost.{StoreHost}
@@ -46,18 +46,18 @@ module _ {D : Type 0} (state : D → DiskState) (w : moves.World) (world : World
   pub stays : (a : facts.Answer) (result : Result (List TextLine) WorldFault) → IfOk result (λ lines. map line_of lines ≡ AnswerLine a ∷ [])
       → Comes state w (λ lucks. answered w a) result world
   stays a (Err e) k = tt
-  stays a (Ok lines) k = ([], record { lines_are = k; held = h; tables = λ t. refl })
+  stays a (Ok lines) k = (no_lucks, record { lines_are = k; held = h; tables = λ t. refl })
 
 -- ---- another step that is the same
 
-pub comes_as : {D : Type 0} (state : D → DiskState) (w : moves.World) (f g : List Luck → WorldStep) (result : Result (List TextLine) WorldFault) (world : World D)
-    → ((lucks : List Luck) → f lucks ≡ g lucks) → Comes state w g result world → Comes state w f result world
+pub comes_as : {D : Type 0} (state : D → DiskState) (w : moves.World) (f g : Lucks → WorldStep) (result : Result (List TextLine) WorldFault) (world : World D)
+    → ((lucks : Lucks) → f lucks ≡ g lucks) → Comes state w g result world → Comes state w f result world
 comes_as state w f g (Err e) world same k = tt
 comes_as state w f g (Ok lines) world same k = (k.0, subst (λ (s : WorldStep). IsDone state w s lines world) (sym (same k.0)) k.1)
 
 -- ---- a node that is down, and one that is up
 
-module _ {D : Type 0} (state : D → DiskState) (w : moves.World) (node : Node) (f : List Luck → WorldStep) (result : Result (List TextLine) WorldFault) where
+module _ {D : Type 0} (state : D → DiskState) (w : moves.World) (node : Node) (f : Lucks → WorldStep) (result : Result (List TextLine) WorldFault) where
   unless_is : (b : Bool) → is_down w node ≡ b → (s : WorldStep) → unless_down w node s ≡ (if b then refused w (facts.NodeDown node) else s)
   unless_is b is s = ap (λ (x : Bool). if x then refused w (facts.NodeDown node) else s) is
 
@@ -71,7 +71,7 @@ module _ {D : Type 0} (state : D → DiskState) (w : moves.World) (node : Node) 
   up_goes_on new is k = comes_as state w (λ lucks. unless_down w node (f lucks)) f result new (λ lucks. unless_is false (sym is) (f lucks)) k
 
 pub owner_comes : {D : Type 0} (state : D → DiskState) (w : moves.World) (node : Node) → same_node node the_store ≡ true
-    → (f : Node → List Luck → WorldStep) (result : Result (List TextLine) WorldFault)
+    → (f : Node → Lucks → WorldStep) (result : Result (List TextLine) WorldFault)
     (new : World D) → Comes state w (f the_store) result new → Comes state w (f node) result new
 owner_comes state w node is f result new k = subst (λ (n : Node). Comes state w (f n) result new) (sym (same_is node the_store is)) k
 
@@ -149,6 +149,7 @@ module _ {D : Type 0} (w : moves.World) (old : World D) (r : Rest w old) (m : Mo
         (record {
           clients = g.clients;
           free = λ free c. ap (λ (ns : List Node). has_node ns (nodes.Client c)) g.holds ∙ free c;
+          linked = λ linked c. ap (λ (ns : List Node). has_node ns (nodes.Client c)) g.cuts ∙ linked c;
           schemas = λ table schema at. schema_same w m.world g.schemas table ∙ at;
         });
     packets = packets ∙ (ap (λ (ps : List Packet). ps ++ packets_of m.outs) r.packets ∙ sym g.packets);
@@ -158,7 +159,7 @@ module _ {D : Type 0} (w : moves.World) (old : World D) (r : Rest w old) (m : Mo
   }
 
 module _ {D : Type 0} (state : D → DiskState) (w : moves.World) (old : World D) (h : Holds state w old) (m : Moved) (g : Goes w m) where
-  pub told_done : (a : facts.Answer) (s : StoreHost D) (given : Answer) (result : Result (List TextLine) WorldFault) (new : World D) (f : List Luck → WorldStep) (lucks : List Luck)
+  pub told_done : (a : facts.Answer) (s : StoreHost D) (given : Answer) (result : Result (List TextLine) WorldFault) (new : World D) (f : Lucks → WorldStep) (lucks : Lucks)
       → f lucks ≡ answering a m → IsAnswered state old.store s a m given
       → IfOk result (λ lines. HasTold (record old { store = s }) new (answer_of given) lines) → IfOk result (λ lines. IsDone state w (f lucks) lines new)
   told_done a s given (Err e) new f lucks is k t = tt
@@ -183,7 +184,7 @@ module _ {D : Type 0} (state : D → DiskState) (w : moves.World) (old : World D
           (record { number = k.moved.held.number; up = k.moved.held.up; tables = k.moved.held.tables; ups = k.moved.held.ups })
 
   -- they are told
-  pub told_moves : (a : facts.Answer) (s : StoreHost D) (given : Answer) (result : Result (List TextLine) WorldFault) (new : World D) (f : List Luck → WorldStep) (lucks : List Luck)
+  pub told_moves : (a : facts.Answer) (s : StoreHost D) (given : Answer) (result : Result (List TextLine) WorldFault) (new : World D) (f : Lucks → WorldStep) (lucks : Lucks)
       → f lucks ≡ answering a m → IsAnswered state old.store s a m given
       → IfOk result (λ lines. HasTold (record old { store = s }) new (answer_of given) lines) → Comes state w f result new
   told_moves a s given result new f lucks is k t = go result (told_done a s given result new f lucks is k t)

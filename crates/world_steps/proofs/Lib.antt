@@ -14,3 +14,5 @@ pub mod Starting
 pub mod Sums
 pub mod Counted
 pub mod Closing
+pub mod Rows
+pub mod Returned

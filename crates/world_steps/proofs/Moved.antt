@@ -122,7 +122,7 @@ module _ {D : Type 0} (state : D → DiskState) (old : StoreHost D) (w : World) 
   -- all tables have started
   pub starts_well : (mid new : StoreHost D) → m.failed ≡ false → IsMoved state old mid (and_then m (λ x. still (without_down the_store x))) → (given : Answer)
       → (more : List Luck) → IsAnswered state mid new facts.Done (store_follows owner more (without_down the_store m.world)) given
-      → (all : List Luck) × IsAnswered state old new facts.Done (store_starts owner all w) given
+      → (all : List Luck) × IsAnswered state old new facts.Done (store_starts owner all w) given × (tables_start tables all w ≡ m)
   starts_well mid new well first given more then_ =
       let all : List Luck = padded (length tables) lucks ++ more in
       let f : World → Moved = λ x. store_follows owner more (without_down the_store x) in
@@ -143,24 +143,26 @@ module _ {D : Type 0} (state : D → DiskState) (old : StoreHost D) (w : World) 
           };
           answer_is = then_.answer_is ∙ sym (ap (λ (b : Bool). if b || (f m.world).failed then facts.Refuses facts.NoDevice else facts.Done) well);
         }),
+        pad_starts tables lucks more w,
       )
 
   -- one hasn't
   pub starts_badly : (new : StoreHost D) → m.failed ≡ true → IsMoved state old new (and_then m (tables_fall tables)) → (given : Answer) → answer_of given ≡ facts.Refuses facts.NoDevice
-      → (all : List Luck) × IsAnswered state old new facts.Done (store_starts owner all w) given
+      → (all : List Luck) × IsAnswered state old new facts.Done (store_starts owner all w) given × (tables_start tables all w ≡ m)
   starts_badly new bad moved given answer =
       let whole : store_starts owner lucks w ≡ and_then m (tables_fall tables) =
       ap (λ (b : Bool). if b then and_then m (tables_fall tables) else and_then m (λ y. store_follows owner (drop (length tables) lucks) (without_down the_store y))) bad in (
         lucks,
         subst (λ (x : Moved). IsAnswered state old new facts.Done x given) (sym whole)
             (record { moved = moved; answer_is = answer ∙ sym (ap (λ (b : Bool). if b || (tables_fall tables m.world).failed then facts.Refuses facts.NoDevice else facts.Done) bad) }),
+        refl,
       )
 
   pub starts_ok : (mid new : StoreHost D) → AreFairTables w → m.failed ≡ false → IsMoved state old mid (and_then m (λ x. still (without_down the_store x)))
       → (is_held : Bool) → is_held ≡ has_node w.holds the_store → (result : Result Answer WorldFault)
       → ((x : World) → HoldsStore state x mid → is_held ≡ has_node x.holds the_store → IfOk result
       (λ given. (more : List Luck) × IsAnswered state mid new facts.Done (store_follows owner more x) given))
-      → IfOk result (λ given. (all : List Luck) × IsAnswered state old new facts.Done (store_starts owner all w) given)
+      → IfOk result (λ given. (all : List Luck) × IsAnswered state old new facts.Done (store_starts owner all w) given × (tables_start tables all w ≡ m))
   starts_ok mid new fair well first is_held is (Err e) k = tt
   starts_ok mid new fair well first is_held is (Ok given) k =
       let same : m.world.holds ≡ w.holds = (tables_start_goes tables lucks w fair).holds in

@@ -10,13 +10,13 @@ use Rattle.stab_base.specs.declared.node.Node.{Node}
 use Rattle.stab_base.specs.declared.node.Node.TheVariants as nodes
 use Rattle.stab_base.specs.declared.step.Step.TheVariants as steps
 use Rattle.table_model.specs.declared.line.TextLine.{TextLine}
-use Rattle.step_tables.specs.ClientMoves.{Client, ClientTask}
+use Rattle.step_tables.specs.ClientMoves.{Client, ClientTask, Shape}
 use Rattle.step_tables.specs.Facts.{AnswerLine}
 use Rattle.step_tables.specs.Facts as facts
 use Rattle.step_tables.specs.Lines.{line_of}
 use Rattle.step_tables.specs.Messages.{Luck}
 use Rattle.client_core.specs.State.{NodeState}
-use Rattle.world_tables.specs.World.{client_tasks, client_works, client_writes, client_starts, next_write}
+use Rattle.world_tables.specs.World.{Lucks, no_lucks, client_tasks, client_works, client_writes, client_starts, next_write}
 use Rattle.world_tables.specs.World.{Moved, WorldStep, answering, answered, is_down, is_client_down, same_node, has_node, without_node, with_down, without_down, the_store, owner, hosted_at}
 use Rattle.world_tables.specs.World.{client_at, still, and_then}
 use Rattle.world_tables.specs.World.{worked, all_worked, crashed, started, busy_step, busy_table, is_at_work, write_next, first_luck, other_lucks, hosted_tasks, store_works}
@@ -77,7 +77,7 @@ module _ {D : Type 0} (state : D → DiskState) (w : moves.World) (world : World
       ups = λ e. h.store.ups (sym same ∙ e);
     };
     told = h.told;
-    clients = clients_stay w (record w { holds = holds; downs = downs }) world.clients h.clients (record { clients = refl; free = free; schemas = λ table schema at. at });
+    clients = clients_stay w (record w { holds = holds; downs = downs }) world.clients h.clients (record { clients = refl; free = free; linked = λ linked. linked; schemas = λ table schema at. at });
     packets = h.packets;
     held = a;
     downs = b;
@@ -123,7 +123,7 @@ pub answers : {D : Type 0} (state : D → DiskState) (w after : moves.World) (a 
     → ((table : ℕ) → is_some (hosted_at after table) ≡ is_some (hosted_at w table)) → IfOk result (λ lines. map line_of lines ≡ AnswerLine a ∷ [])
     → Comes state w (λ lucks. answered after a) result new
 answers state w after a (Err e) new h tables k = tt
-answers state w after a (Ok lines) new h tables k = ([], record { lines_are = k; held = h; tables = tables })
+answers state w after a (Ok lines) new h tables k = (no_lucks, record { lines_are = k; held = h; tables = tables })
 
 -- ---- Stores that have no tables, gateways and clients
 
@@ -179,25 +179,25 @@ none_start w number lucks apart =
     if m.failed then and_then m (tables_fall tables) else and_then m (λ x. store_follows number (drop (length tables) lucks) (without_down (nodes.Store number) x))) apart
     ∙ ap (λ (x : Moved). record { world = x.world; outs = x.outs; failed = x.failed }) (none_follow number lucks (without_down (nodes.Store number) w) apart)
 
-pub other_started : (w : moves.World) (number : ℕ) → same_node (nodes.Store number) the_store ≡ false → (lucks : List Luck) → true ≡ is_down w (nodes.Store number)
-    → started w lucks (nodes.Store number) ≡ answered (without_down (nodes.Store number) w) facts.Done
-other_started w number apart lucks is =
+pub other_started : (w : moves.World) (number : ℕ) → same_node (nodes.Store number) the_store ≡ false → (shape : Shape) (lucks : List Luck) → true ≡ is_down w (nodes.Store number)
+    → started w shape lucks (nodes.Store number) ≡ answered (without_down (nodes.Store number) w) facts.Done
+other_started w number apart shape lucks is =
     ap (λ (b : Bool). if b then answering facts.Done (store_starts number lucks w) else answered w facts.Done) (sym is)
     ∙ ap (answering facts.Done) (none_start w number lucks apart)
 
-pub up_stays : (w : moves.World) (node : Node) (lucks : List Luck) → false ≡ is_down w node → started w lucks node ≡ answered w facts.Done
-up_stays w (nodes.Gate gate) lucks is = refl
-up_stays w (nodes.Client c) lucks is = ap (λ (b : Bool). if b then answering facts.Done (client_starts c lucks w) else answered w facts.Done) (sym is)
-up_stays w (nodes.Store number) lucks is = ap (λ (b : Bool). if b then answering facts.Done (store_starts number lucks w) else answered w facts.Done) (sym is)
+pub up_stays : (w : moves.World) (node : Node) (shape : Shape) (lucks : List Luck) → false ≡ is_down w node → started w shape lucks node ≡ answered w facts.Done
+up_stays w (nodes.Gate gate) shape lucks is = refl
+up_stays w (nodes.Client c) shape lucks is = ap (λ (b : Bool). if b then answering facts.Done (client_starts c shape lucks w) else answered w facts.Done) (sym is)
+up_stays w (nodes.Store number) shape lucks is = ap (λ (b : Bool). if b then answering facts.Done (store_starts number lucks w) else answered w facts.Done) (sym is)
 
 -- ---- a node that isn't the Store comes up
 
 pub brought_up : {D : Type 0} (state : D → DiskState) (w : moves.World) (world : World D) (h : Holds state w world) (node : Node) → same_node node the_store ≡ false → true ≡ is_down w node
     → (result : Result (List TextLine) WorldFault) (down : NodeSet) → ((q : Node) → is_in down q ≡ (not (same_node node q) && is_in world.downs q))
-    → IfOk result (λ lines. map line_of lines ≡ AnswerLine facts.Done ∷ []) → Comes state w (λ lucks. started w lucks node) result (record world { downs = down })
+    → IfOk result (λ lines. map line_of lines ≡ AnswerLine facts.Done ∷ []) → Comes state w (λ lucks. started w lucks.shape lucks.calls node) result (record world { downs = down })
 brought_up state w world h (nodes.Gate gate) apart is result down u k = absurd cc
 brought_up state w world h (nodes.Client c) apart is result down u k = let no = client_is_up state w world h c ∙ sym is in absurd cc
 brought_up state w world h (nodes.Store number) apart is result down u k =
-    comes_as state w (λ lucks. started w lucks (nodes.Store number)) (λ lucks. answered (without_down (nodes.Store number) w) facts.Done) result (record world { downs = down })
-    (λ lucks. other_started w number apart lucks is)
+    comes_as state w (λ lucks. started w lucks.shape lucks.calls (nodes.Store number)) (λ lucks. answered (without_down (nodes.Store number) w) facts.Done) result (record world { downs = down })
+    (λ lucks. other_started w number apart lucks.shape lucks.calls is)
     (answers state w (without_down (nodes.Store number) w) facts.Done result (record world { downs = down }) (comes_up state w world h (nodes.Store number) down apart u) (λ table. refl) k)

@@ -13,7 +13,7 @@ use Rattle.step_tables.specs.Store.{current_of}
 use Rattle.store_host.specs.declared.host.StoreHost.{StoreHost}
 use Rattle.store_host.specs.Holds.{outs_of}
 use Rattle.store_node.specs.declared.node.StoreOut.{StoreOut}
-use Rattle.world_tables.specs.World.{WorldStep, Hosted, hosted_at, refused, answering, entry_lines, history_lines, row_read, row_shown, first_luck, still, failing, store_falls, owner}
+use Rattle.world_tables.specs.World.{Lucks, no_lucks, WorldStep, Hosted, hosted_at, refused, answering, entry_lines, history_lines, row_read, row_shown, first_luck, still, failing, store_falls, owner}
 use Rattle.world_tables.specs.World as moves
 use Rattle.world_steps.specs.declared.fault.WorldFault.{WorldFault}
 use Rattle.world_steps.specs.declared.world.World.{World}
@@ -46,14 +46,14 @@ no_outs store e = go store.outs e
 -- ---- a table that is there, and one that isn't
 
 module _ {D : Type 0} (state : D → DiskState) (w : moves.World) where
-  pub comes_there : (table : ℕ) (f : List Luck → Option Hosted → WorldStep) (result : Result (List TextLine) WorldFault) (new : World D) → true ≡ is_some (hosted_at w table)
+  pub comes_there : (table : ℕ) (f : Lucks → Option Hosted → WorldStep) (result : Result (List TextLine) WorldFault) (new : World D) → true ≡ is_some (hosted_at w table)
       → ((hosted : Hosted) → hosted_at w table ≡ Some hosted → Comes state w (λ lucks. f lucks (Some hosted)) result new) → Comes state w (λ lucks. f lucks (hosted_at w table)) result new
   comes_there table f result new is k =
       let x = some_of (hosted_at w table) is in
       comes_as state w (λ lucks. f lucks (hosted_at w table)) (λ lucks. f lucks (Some x.0)) result new (λ lucks. ap (f lucks) x.1) (k x.0 x.1)
 
   module _ (world : World D) (h : Holds state w world) (table : ℕ) where
-    pub comes_not_there : (f : List Luck → Option Hosted → WorldStep) → ((lucks : List Luck) → f lucks None ≡ refused w facts.NoTable) → (result : Result (List TextLine) WorldFault)
+    pub comes_not_there : (f : Lucks → Option Hosted → WorldStep) → ((lucks : Lucks) → f lucks None ≡ refused w facts.NoTable) → (result : Result (List TextLine) WorldFault)
         → false ≡ is_some (hosted_at w table) → IfOk result (λ lines. map line_of lines ≡ AnswerLine (facts.Refuses facts.NoTable) ∷ [])
         → Comes state w (λ lucks. f lucks (hosted_at w table)) result world
     comes_not_there f none result is k =
@@ -68,11 +68,11 @@ module _ {D : Type 0} (state : D → DiskState) (w : moves.World) where
     history_comes history is (Err e) k = tt
     history_comes history is (Ok lines) k = go (hosted_at w table) is
       where
-        go : (o : Option Hosted) → Some history ≡ option_map (λ (x : Hosted). x.history) o → (lucks : List Luck) × IsDone state w (history_lines w table o) lines world
+        go : (o : Option Hosted) → Some history ≡ option_map (λ (x : Hosted). x.history) o → (lucks : Lucks) × IsDone state w (history_lines w table o) lines world
         go None e = absurd cc
         go (Some hosted) e =
             let same : history ≡ hosted.history = cc in (
-              [],
+              no_lucks,
               record {
                 lines_are = k ∙ (ap (λ (es : List Entry). AnswerLine (facts.Number (length es)) ∷ entry_lines table es) same
                     ∙ ap (λ (ls : List Line). AnswerLine (facts.Number (length hosted.history)) ∷ ls) (sym (append-nil (entry_lines table hosted.history))));

@@ -23,7 +23,7 @@ use Rattle.step_tables.specs.Members.{Among}
 use Rattle.step_tables.specs.Messages.{Luck, Request, Pair, table_of}
 use Rattle.step_tables.specs.Messages as messages
 use Rattle.step_tables.specs.Store.{Stored, current_of}
-use Rattle.step_tables.specs.StoreMoves.{StoreDisk, StoreTask, Take, taken, decided, judged, takes, version_of, yours_in}
+use Rattle.step_tables.specs.StoreMoves.{StoreDisk, StoreTask, Take, taken, decided, judged, takes, version_of, version_at, yours_in}
 use Rattle.step_tables.specs.StoreMoves as store
 use Rattle.step_tables.specs.Travels.{message_of}
 use Rattle.step_tables.proofs.Lists.{among_get, lookup-insert}
@@ -193,17 +193,18 @@ module _ {D : Type 0} (state : D → DiskState) (w : World) (old : StoreHost D) 
 
   busy_at : (disk : StoreDisk) (task : StoreTask) (more : List StoreTask) (history : List Entry) (made : Bool)
       → hosted_at w (table_of m) ≡ Some (record { store = record { disk = disk; agenda = Some (task ∷ more) }; history = history; made = made }) → (new : StoreHost D)
-      → HoldsStore state w new → new.outs ≡ old.outs → (given : Answer) → answer_of given ≡ facts.Refuses facts.Busy → (all : List Luck) × IsTakenAs state w from m all old new given
+      → HoldsStore state w new → new.outs ≡ old.outs → (given : Answer) → answer_of given ≡ facts.Refuses (facts.Busy (version_at disk task.change))
+      → (all : List Luck) × IsTakenAs state w from m all old new given
   busy_at disk task more history made at new held outs given is =
       let hosted : Hosted = record { store = record { disk = disk; agenda = Some (task ∷ more) }; history = history; made = made } in
       let mv : Moved = move_hosted w (table_of m) (Take from m) (Some hosted) in
       let whole : move_table (table_of m) (Take from m) w ≡ mv = ap (move_hosted w (table_of m) (Take from m)) at in (
         [],
         record {
-          answer = facts.Refuses facts.Busy;
+          answer = facts.Refuses (facts.Busy (version_at disk task.change));
           moves = move_table (table_of m) (Take from m) w;
           step_is = ap (to_hosted w (table_of m) (Take from m) []) at;
-          answered = subst (λ (x : Moved). IsAnswered state old new (facts.Refuses facts.Busy) x given) (sym whole) (record {
+          answered = subst (λ (x : Moved). IsAnswered state old new (facts.Refuses (facts.Busy (version_at disk task.change))) x given) (sym whole) (record {
             moved = record { held = same_store state w new (table_of m) hosted at (w.packets ++ []) held; outs = ap outs_in outs ∙ sym (append-nil (outs_of old)) };
             answer_is = is;
           });
@@ -211,7 +212,7 @@ module _ {D : Type 0} (state : D → DiskState) (w : World) (old : StoreHost D) 
         },
       )
 
-  pub busy : (version : ℕ) → IsBusyWith w (table_of m) version → (new : StoreHost D) → HoldsStore state w new → new.outs ≡ old.outs → (given : Answer) → answer_of given ≡ facts.Refuses facts.Busy
+  pub busy : (version : ℕ) → IsBusyWith w (table_of m) version → (new : StoreHost D) → HoldsStore state w new → new.outs ≡ old.outs → (given : Answer) → answer_of given ≡ facts.Refuses (facts.Busy version)
       → (all : List Luck) × IsTakenAs state w from m all old new given
   busy version (hosted, at, work) new held outs given is = go hosted.store.agenda refl work
     where
@@ -219,7 +220,8 @@ module _ {D : Type 0} (state : D → DiskState) (w : World) (old : StoreHost D) 
       go None e work = absurd work
       go (Some []) e work = absurd work
       go (Some (task ∷ more)) e work = busy_at hosted.store.disk task more hosted.history hosted.made
-          (at ∙ ap (λ (a : Option (List StoreTask)). Some (record { store = record { disk = hosted.store.disk; agenda = a }; history = hosted.history; made = hosted.made })) e) new held outs given is
+          (at ∙ ap (λ (a : Option (List StoreTask)). Some (record { store = record { disk = hosted.store.disk; agenda = a }; history = hosted.history; made = hosted.made })) e) new held outs given
+          (is ∙ ap (λ (n : ℕ). facts.Refuses (facts.Busy n)) work)
 
 -- ---- the work that follows
 

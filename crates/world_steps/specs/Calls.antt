@@ -7,7 +7,7 @@ use Rattle.step_tables.specs.Facts as facts
 use Rattle.step_tables.specs.Facts.{AnswerLine, FactLine}
 use Rattle.step_tables.specs.Lines.{line_of}
 use Rattle.step_tables.specs.Messages.{Luck}
-use Rattle.world_tables.specs.World.{WorldStep, lines_of, lines_from, hosted_at}
+use Rattle.world_tables.specs.World.{WorldStep, Lucks, no_lucks, lines_of, lines_from, hosted_at}
 use Rattle.store_host.specs.Holds.{outs_of}
 use Rattle.world_tables.specs.World as moves
 use Rattle.world_steps.specs.declared.fault.WorldFault.{WorldFault}
@@ -27,10 +27,14 @@ pub record IsDone {D : Type 0} (state : D → DiskState) (w : moves.World) (s : 
   pub held : Holds state s.world new
   pub tables : (table : ℕ) → is_some (hosted_at s.world table) ≡ is_some (hosted_at w table)
 
--- the same with some lucks of the device calls, unless the call ends the run
-abbrev pub Comes : {D : Type 0} → (D → DiskState) → moves.World → (List Luck → WorldStep)
+-- these lucks of the device calls, and no client has writes beside those that change what its devices stand for
+abbrev pub with_calls : List Luck → Lucks
+with_calls calls = record no_lucks { calls = calls }
+
+-- the same with some lucks, unless the call ends the run
+abbrev pub Comes : {D : Type 0} → (D → DiskState) → moves.World → (Lucks → WorldStep)
     → Result (List TextLine) WorldFault → World D → Type 0
-Comes state w f result new = IfOk result (λ lines. (lucks : List Luck) × IsDone state w (f lucks) lines new)
+Comes state w f result new = IfOk result (λ lines. (lucks : Lucks) × IsDone state w (f lucks) lines new)
 
 -- The answer, and then what waits at the Store to be told and sent. Only the network and what waits have changed.
 pub record HasTold {D : Type 0} (old new : World D) (answer : facts.Answer) (lines : List TextLine) : Type 0 where

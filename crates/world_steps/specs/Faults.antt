@@ -7,8 +7,7 @@ use Rattle.disk_trait.specs.Calls.{DiskState}
 use Rattle.table_model.specs.declared.line.TextLine.{TextLine}
 use Rattle.step_tables.specs.Facts.{Line, AnswerLine, EntryLine, FactLine}
 use Rattle.step_tables.specs.Lines.{line_of}
-use Rattle.step_tables.specs.Messages.{Luck}
-use Rattle.world_tables.specs.World.{WorldStep, hosted_at, is_fault}
+use Rattle.world_tables.specs.World.{WorldStep, Lucks, hosted_at, is_fault}
 use Rattle.world_tables.specs.World as moves
 use Rattle.store_host.specs.declared.hosted.Hosted.{Hosted}
 use Rattle.store_host.specs.Holds.{SameFaults, RisenFaults, faults_at}
@@ -68,10 +67,10 @@ abbrev pub AreCounted : {D : Type 0} → (D → DiskState) → Result (List Text
 AreCounted state result old new =
     IfOk result (λ lines. IsCounted state (tell_fault (map line_of lines)) old.store.tables new.store.tables)
 
--- with some lucks of the device calls the lines are those of the step, and these say whether a disk failed by itself
-abbrev pub ComesCounted : {D : Type 0} → (D → DiskState) → moves.World → (List Luck → WorldStep) → (List Luck → Bool)
+-- with some lucks the lines are those of the step, and these say whether a disk failed by itself
+abbrev pub ComesCounted : {D : Type 0} → (D → DiskState) → moves.World → (Lucks → WorldStep) → (Lucks → Bool)
     → Result (List TextLine) WorldFault → (old new : World D) → Type 0
-ComesCounted state w f failed result old new = IfOk result (λ lines. (lucks : List Luck)
+ComesCounted state w f failed result old new = IfOk result (λ lines. (lucks : Lucks)
     × IsDone state w (f lucks) lines new × IsCounted state (failed lucks) old.store.tables new.store.tables)
 
 -- The event isn't carried out: the program's world still holds the world, and no disk has failed.

@@ -48,7 +48,7 @@ pub record IsMade (table : ℕ) (schema : Schema) : Type 0 where
   pub spelled : HasSchemaSpelling schema
   pub short : length (table_payload schema 2) ≤ payload_most
 
--- the clients are in memory: none is put on hold, crashes or is started
+-- the clients are in memory: none is put on hold, crashes or is started, edits a row or loses its link
 abbrev pub HasDevices : Node → Type 0
 HasDevices (nodes.Client client) = ⊥
 HasDevices other = Unit {0}
@@ -56,6 +56,8 @@ HasDevices other = Unit {0}
 abbrev pub IsBuilt : Event → Type 0
 IsBuilt (events.Table table schema) = IsMade table schema
 IsBuilt (events.Client client gate tables) = (1 ≤ client) × (client ≤ 64)
+IsBuilt (events.Edit client table row edit) = ⊥
+IsBuilt (events.Link client up) = ⊥
 IsBuilt (events.Hold node) = HasDevices node
 IsBuilt (events.Crash node calls pick) = HasDevices node
 IsBuilt (events.Start node) = HasDevices node

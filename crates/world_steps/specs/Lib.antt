@@ -7,3 +7,4 @@ pub mod Faults
 pub mod Closes
 pub mod Steps
 pub mod Calls
+pub mod Rows

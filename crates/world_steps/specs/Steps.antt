@@ -7,24 +7,26 @@ use Rattle.table_model.specs.declared.event.Event.TheVariants as events
 use Rattle.table_model.specs.declared.line.TextLine.{TextLine}
 use Rattle.step_tables.specs.ClientMoves.{Client}
 use Rattle.step_tables.specs.Lines.{line_of}
-use Rattle.step_tables.specs.Messages.{Luck}
-use Rattle.world_tables.specs.World.{step, lines_of, hosted_at, client_at}
+use Rattle.world_tables.specs.World.{Lucks, step, lines_of, hosted_at, client_at}
 use Rattle.world_tables.specs.World as moves
 use Rattle.world_tables.specs.Faults.{is_device_fault}
 use Rattle.world_steps.specs.declared.world.World.{World}
 use Rattle.world_steps.specs.Holds.{Holds, AreOut}
 use Rattle.world_steps.specs.Faults.{all_faults}
+use Rattle.world_steps.specs.Rows.{RowsStay}
 
--- The event is carried out: with some lucks of its device calls, these are the lines of its step, and the program's
--- world holds the world behind it. Where the step shows a device fault disks have failed, and else none has.
-pub record IsStep {D : Type 0} (state : D → DiskState) (w : moves.World) (event : Event) (lines : List TextLine)
-    (is_out : ℕ → Bool) (old new : World D) : Type 0 where
-  pub lucks : List Luck
+-- The event is carried out: with some lucks, these are the lines of its step, and the program's
+-- world holds the world behind it. Where the step shows a device fault disks have failed, and else none has. At every
+-- moment of it, whatever a crash leaves of a table's disk of rows stands in the table's history.
+pub record IsStep {D : Type 0} (state : D → DiskState) (images : D → ℕ → List ℕ → Type 0) (w : moves.World)
+    (event : Event) (lines : List TextLine) (is_out : ℕ → Bool) (old new : World D) : Type 0 where
+  pub lucks : Lucks
   pub lines_are : map line_of lines ≡ lines_of w (step w event lucks)
   pub held : Holds state (step w event lucks).world new
   pub out : AreOut is_out (step w event lucks).world
   pub rose : is_device_fault w event lucks ≡ true → all_faults state old < all_faults state new
   pub same : is_device_fault w event lucks ≡ false → all_faults state new ≡ all_faults state old
+  pub rows : RowsStay state images w (step w event lucks).world old new
 
 -- a number or a version above the last would be needed
 abbrev pub Spends : moves.World → Event → Type 0

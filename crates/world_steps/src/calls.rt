@@ -46,6 +46,7 @@ impl<D: Disk + Drop> World<D> {
         ensures done { (w : AWorld) → Holds D.state w self.old
             → Comes D.state w (step w (events.Write client table row content.now)) result self.new }
         ensures counted { (w : AWorld) → Holds D.state w self.old → AreCounted D.state result self.old self.new }
+        ensures same { IfOk result (λ lines. self.new.store ≡ self.old.store) }
         ensures left { (w : AWorld) → Holds D.state w self.old
             → IfErr result (λ e. e ≢ Memory → Holds D.state w self.new × (self.new.store ≡ self.old.store)) }
         ensures limit { (w : AWorld) → Holds D.state w self.old → IfErr result (λ e. (code count : ℕ)
@@ -103,6 +104,7 @@ impl<D: Disk + Drop> World<D> {
         ensures done { (w : AWorld) → Holds D.state w self.old
             → Comes D.state w (step w (events.Sync client table)) result self.new }
         ensures counted { (w : AWorld) → Holds D.state w self.old → AreCounted D.state result self.old self.new }
+        ensures same { IfOk result (λ lines. self.new.store ≡ self.old.store) }
         ensures memory { IfErr result (λ e. e ≡ Memory) }
     {
         match self.clients.sync(client, table) {
@@ -116,6 +118,7 @@ impl<D: Disk + Drop> World<D> {
         ensures done { (w : AWorld) → Holds D.state w self.old
             → Comes D.state w (step w (events.Pull client table)) result self.new }
         ensures counted { (w : AWorld) → Holds D.state w self.old → AreCounted D.state result self.old self.new }
+        ensures same { IfOk result (λ lines. self.new.store ≡ self.old.store) }
         ensures memory { IfErr result (λ e. e ≡ Memory) }
     {
         match self.clients.pull(client, table) {

@@ -3,7 +3,8 @@ ghost use Rattle.std.specs.Prelude.{◌≡◌, ◌+◌, ◌<◌, ◌≤◌, ℕ,
 ghost use Rattle.world_tables.specs.World.{World as AWorld};
 ghost use Rattle.world_steps.specs.Closes.{TellsThree, without_three};
 ghost use Rattle.world_steps.specs.Faults.{all_faults, all_faults_back};
-ghost use Rattle.world_steps.specs.Holds.{Holds, IsWorld, first_disk};
+ghost use Rattle.world_steps.specs.Holds.{Holds, IsReached, IsWorld, first_disk};
+ghost use Rattle.world_steps.specs.Rows.{AreRowsBack};
 
 use crate::world::World;
 use disk_trait::{Depot, Disk};
@@ -33,6 +34,8 @@ impl<D: Disk + Drop> World<D> {
         ensures back { (k : ℕ) → (P.state depot.new).is_out k ≡ false }
         ensures told { (w : AWorld) → Holds D.state w self → IfSome (P.returned depot.new)
             (λ disks. all_faults_back D.state disks w ≡ all_faults D.state self) }
+        ensures rows { (w : AWorld) → IsReached w → Holds D.state w self
+            → IfSome (P.returned depot.new) (λ disks. AreRowsBack D.state disks w) }
         ensures faults { (P.state depot.new).faults ≡ (P.state depot.old).faults }
     {
         let mut store = self.store;

@@ -5,9 +5,10 @@ ghost use Rattle.std.specs.Ordering.{nat_cmp};
 ghost use Rattle.std.specs.BTreeMap as tree;
 ghost use Rattle.disk_trait.specs.Calls.{IsCounted};
 ghost use Rattle.table_model.specs.declared.event.Event.TheVariants as events;
+ghost use Rattle.step_tables.specs.Messages as lucks;
 ghost use Rattle.world_tables.specs.World.{World as AWorld, joined, client_at};
 ghost use Rattle.world_steps.specs.declared.fault.WorldFault.TheVariants.{Depot as DepotFailed, Memory};
-ghost use Rattle.world_steps.specs.Holds.{Holds, IsMade, AreOut, first_disk};
+ghost use Rattle.world_steps.specs.Holds.{Holds, IsMade, IsReached, AreOut, first_disk};
 ghost use Rattle.store_host.specs.Steps.{faults_of};
 ghost use Rattle.world_steps.specs.Faults.{IsUndone};
 ghost use Rattle.world_steps.specs.Steps.{IsStep};
@@ -96,8 +97,8 @@ impl<D: Disk + Drop> World<D> {
     ) -> Result<Lines, WorldFault>
         requires made { IsMade table schema.now }
         requires held { (w : AWorld) × Holds D.state w self.old × AreOut (P.state depot.old).is_out w }
-        ensures done { (w : AWorld) → Holds D.state w self.old → AreOut (P.state depot.old).is_out w
-            → IfOk result (λ lines. IsStep D.state w (events.Table table schema.now) lines
+        ensures done { (w : AWorld) → IsReached w → Holds D.state w self.old → AreOut (P.state depot.old).is_out w
+            → IfOk result (λ lines. IsStep D.state D.images w (events.Table table schema.now) lines
             (P.state depot.new).is_out self.old self.new) }
         ensures left { (w : AWorld) → Holds D.state w self.old → AreOut (P.state depot.old).is_out w
             → IfErr result (λ e. e ≢ Memory → IsUndone D.state w (P.state depot.new).is_out self.old self.new) }
@@ -119,8 +120,8 @@ impl<D: Disk + Drop> World<D> {
         requires made { IsMade table schema.now }
         requires held { (w : AWorld) × Holds D.state w self.old × AreOut (P.state depot.old).is_out w }
         requires absent { tree.get nat_cmp self.old.store.tables table ≡ None }
-        ensures done { (w : AWorld) → Holds D.state w self.old → AreOut (P.state depot.old).is_out w
-            → IfOk result (λ lines. IsStep D.state w (events.Table table schema.now) lines
+        ensures done { (w : AWorld) → IsReached w → Holds D.state w self.old → AreOut (P.state depot.old).is_out w
+            → IfOk result (λ lines. IsStep D.state D.images w (events.Table table schema.now) lines
             (P.state depot.new).is_out self.old self.new) }
         ensures left { (w : AWorld) → Holds D.state w self.old → AreOut (P.state depot.old).is_out w
             → IfErr result (λ e. e ≢ Memory → IsUndone D.state w (P.state depot.new).is_out self.old self.new) }
@@ -140,7 +141,7 @@ impl<D: Disk + Drop> World<D> {
         requires least { 1 ≤ client }
         requires most { client ≤ 64 }
         ensures done { (w : AWorld) → Holds D.state w self.old → IfOk result (λ lines. (lines ≡ [])
-            × Holds D.state (joined w client tables.now (client_at w client)) self.new) }
+            × Holds D.state (joined w client tables.now lucks.Done (client_at w client)) self.new) }
         ensures same { self.new.store ≡ self.old.store }
         ensures memory { IfErr result (λ e. e ≡ Memory) }
     {

@@ -7,6 +7,7 @@ ghost use Rattle.step_tables.specs.Lines.{line_of};
 ghost use Rattle.table_model.specs.declared.event.Event.TheVariants as events;
 ghost use Rattle.world_tables.specs.World.{World as AWorld, Packet as APacket, step, carried, the_store, to_hosted};
 ghost use Rattle.world_tables.specs.World.{hosted_at};
+ghost use Rattle.world_tables.specs.Passed.{taken_part, taken_by};
 ghost use Rattle.step_tables.specs.Messages.{table_of};
 ghost use Rattle.store_host.specs.Holds.{SameFaults};
 ghost use Rattle.step_tables.specs.StoreMoves.{Take};
@@ -17,6 +18,7 @@ ghost use Rattle.world_steps.specs.Fair.{ArePlaces};
 ghost use Rattle.world_steps.specs.Faults.{AreCounted};
 ghost use Rattle.world_steps.specs.Holds.{Holds};
 ghost use Rattle.world_steps.specs.Network.{packets_in};
+ghost use Rattle.world_steps.specs.Rows.{AreLeftOver};
 ghost use Rattle.world_steps.specs.Steps.{Spends};
 
 use crate::fault::WorldFault;
@@ -35,6 +37,9 @@ impl<D: Disk + Drop> World<D> {
         ensures done { (w : AWorld) → Holds D.state w self.old → ArePlaces w
             → Comes D.state w (step w (events.Deliver number)) result self.new }
         ensures counted { AreCounted D.state result self.old self.new }
+        ensures rows { (w : AWorld) → Holds D.state w self.old → ArePlaces w → IfOk result (λ lines.
+            AreLeftOver D.state D.images w (taken_part w (events.Deliver number)) self.old.store.tables
+            self.new.store.tables) }
         ensures left { (w : AWorld) → Holds D.state w self.old → IfErr result (λ e. e ≢ Memory
             → Holds D.state w self.new × SameFaults D.state self.old.store.tables self.new.store.tables) }
         ensures limit { (w : AWorld) → Holds D.state w self.old → IfErr result (λ e. (code count : ℕ)
@@ -62,8 +67,10 @@ impl<D: Disk + Drop> World<D> {
     fn deliver_to_client(&mut self, client: ClientNo, number: u64) -> Result<Lines, WorldFault>
         ensures done { (w : AWorld) (packet : APacket) → Holds D.state w self.old
             → slice_get w.packets number ≡ Some packet
-            → Comes D.state w (λ lucks. carried w packet lucks (nodes.Client client)) result self.new }
+            → Comes D.state w (λ lucks. carried w packet lucks.shape lucks.calls (nodes.Client client)) result
+            self.new }
         ensures counted { AreCounted D.state result self.old self.new }
+        ensures same { IfOk result (λ lines. self.new.store ≡ self.old.store) }
         ensures memory { IfErr result (λ e. e ≡ Memory) }
     {
         let Some(packet) = self.network.get(number) else {
@@ -79,8 +86,11 @@ impl<D: Disk + Drop> World<D> {
         requires held { (w : AWorld) × Holds D.state w self.old }
         ensures done { (w : AWorld) (packet : APacket) → Holds D.state w self.old
             → slice_get w.packets number ≡ Some packet
-            → Comes D.state w (λ lucks. carried w packet lucks the_store) result self.new }
+            → Comes D.state w (λ lucks. carried w packet lucks.shape lucks.calls the_store) result self.new }
         ensures counted { AreCounted D.state result self.old self.new }
+        ensures rows { (w : AWorld) (packet : APacket) → Holds D.state w self.old
+            → slice_get w.packets number ≡ Some packet → IfOk result (λ lines. AreLeftOver D.state D.images w
+            (taken_by w packet the_store) self.old.store.tables self.new.store.tables) }
         ensures left { (w : AWorld) → Holds D.state w self.old → IfErr result (λ e. e ≢ Memory
             → Holds D.state w self.new × SameFaults D.state self.old.store.tables self.new.store.tables) }
         ensures limit { (w : AWorld) → Holds D.state w self.old → IfErr result (λ e. (code count : ℕ)
@@ -98,9 +108,12 @@ impl<D: Disk + Drop> World<D> {
         requires up { self.old.store.is_up ≡ true }
         ensures done { (w : AWorld) (packet : APacket) → Holds D.state w self.old
             → slice_get w.packets number ≡ Some packet
-            → Comes D.state w (λ lucks. to_hosted w (table_of packet.message) (Take packet.from packet.message) lucks
-            (hosted_at w (table_of packet.message))) result self.new }
+            → Comes D.state w (λ lucks. to_hosted w (table_of packet.message) (Take packet.from packet.message)
+            lucks.calls (hosted_at w (table_of packet.message))) result self.new }
         ensures counted { AreCounted D.state result self.old self.new }
+        ensures rows { (w : AWorld) (packet : APacket) → Holds D.state w self.old
+            → slice_get w.packets number ≡ Some packet → IfOk result (λ lines. AreLeftOver D.state D.images w
+            (taken_by w packet the_store) self.old.store.tables self.new.store.tables) }
         ensures left { (w : AWorld) → Holds D.state w self.old → IfErr result (λ e. e ≢ Memory
             → Holds D.state w self.new × SameFaults D.state self.old.store.tables self.new.store.tables) }
         ensures limit { (w : AWorld) → Holds D.state w self.old → IfErr result (λ e. (code count : ℕ)

@@ -6,16 +6,18 @@ ghost use Rattle.std.specs.BTreeMap as tree;
 ghost use Rattle.step_tables.specs.Facts as moves;
 ghost use Rattle.step_tables.specs.Messages.{Luck, table_of};
 ghost use Rattle.step_tables.specs.Store.{current_of};
+ghost use Rattle.step_tables.specs.StoreMoves.{Take};
 ghost use Rattle.step_tables.specs.Travels.{message_of};
 ghost use Rattle.world_tables.specs.World.{World as AWorld, owner, the_store, has_node, first_luck, busy_table};
 ghost use Rattle.world_tables.specs.World.{busy_step};
 ghost use Rattle.world_tables.specs.World.{write_next, tasks_of, store_until_idle, store_follows, store_crashes};
 ghost use Rattle.world_tables.specs.World.{store_starts, made_with, row_shown, hosted_at, table_follows};
+ghost use Rattle.world_tables.specs.World.{tables_of, tables_start, move_table};
 ghost use Rattle.world_tables.specs.World.{Hosted as AHosted};
 ghost use Rattle.step_tables.specs.Lines.{answer_of};
 ghost use Rattle.world_tables.specs.World.{is_fault};
 ghost use Rattle.world_tables.specs.Faults.{is_failure};
-ghost use Rattle.store_host.specs.Holds.{HoldsStore, IsStore, SameFaults};
+ghost use Rattle.store_host.specs.Holds.{HoldsStore, IsStore, SameFaults, AreLeft, AreStill};
 ghost use Rattle.store_host.specs.Calls.{FitsIn, HasLuck, IsSpentIn};
 ghost use Rattle.store_host.specs.Steps.{faults_of};
 ghost use Rattle.world_steps.specs.declared.fault.WorldFault.TheVariants.{Memory, Limit as LimitPassed};
@@ -23,6 +25,7 @@ ghost use Rattle.world_steps.specs.declared.fault.WorldFault.TheVariants.{Depot 
 ghost use Rattle.world_steps.specs.Fair.{AreFairTables};
 ghost use Rattle.world_steps.specs.Faults.{IsCounted};
 ghost use Rattle.world_steps.specs.Outs.{IsAnswered, IsTakenAs, read_moves};
+ghost use Rattle.world_steps.specs.Rows.{AreLeftOver};
 ghost use Rattle.world_steps.specs.Holds.{IsMade};
 
 use crate::fault::WorldFault;
@@ -44,6 +47,8 @@ pub(crate) fn work_once<D: Disk + Drop>(store: &mut StoreHost<D>) -> Result<Answ
         (write_next owner (first_luck lucks) (busy_table w owner) w) answer) }
     ensures counted { IfOk result (λ answer.
         IsCounted D.state (is_fault (answer_of answer)) store.old.tables store.new.tables) }
+    ensures rows { (w : AWorld) → HoldsStore D.state w store.old → IfOk result (λ answer.
+        AreLeft D.state D.images w store.old.tables store.new.tables) }
     ensures memory { IfErr result (λ e. e ≡ Memory) }
 {
     match store.work() {
@@ -62,6 +67,8 @@ pub(crate) fn work_all<D: Disk + Drop>(store: &mut StoreHost<D>) -> Result<Answe
         (store_until_idle owner lucks w) answer) }
     ensures counted { IfOk result (λ answer.
         IsCounted D.state (is_fault (answer_of answer)) store.old.tables store.new.tables) }
+    ensures rows { (w : AWorld) → HoldsStore D.state w store.old → IfOk result (λ answer.
+        AreLeft D.state D.images w store.old.tables store.new.tables) }
     ensures memory { IfErr result (λ e. e ≡ Memory) }
 {
     match store.work_all() {
@@ -83,6 +90,8 @@ pub(crate) fn follow<D: Disk + Drop>(
         × IsAnswered D.state store.old store.new moves.Done (store_follows owner lucks w) answer) }
     ensures counted { IfOk result (λ answer.
         IsCounted D.state (is_fault (answer_of answer)) store.old.tables store.new.tables) }
+    ensures rows { (w : AWorld) → HoldsStore D.state w store.old → IfOk result (λ answer.
+        AreLeft D.state D.images w store.old.tables store.new.tables) }
     ensures memory { IfErr result (λ e. e ≡ Memory) }
 {
     if is_held {
@@ -99,9 +108,11 @@ pub(crate) fn follow<D: Disk + Drop>(
 pub(crate) fn crash<D: Disk + Drop>(store: &mut StoreHost<D>, calls: u32, pick: u64) -> Answer
     requires held { IsStore D.state store.old }
     requires up { store.old.is_up ≡ true }
-    ensures { (w : AWorld) → HoldsStore D.state w store.old → (lucks : List Luck)
+    ensures crashed { (w : AWorld) → HoldsStore D.state w store.old → (lucks : List Luck)
         × IsAnswered D.state store.old store.new moves.Done (store_crashes owner calls lucks w) result
         × HasLuck D.state w store.old.tables store.new.tables lucks }
+    ensures rows { (w : AWorld) → HoldsStore D.state w store.old
+        → AreLeft D.state D.images w store.old.tables store.new.tables }
 {
     store.crash(calls, pick);
     Answer::Done
@@ -116,7 +127,9 @@ pub(crate) fn start<D: Disk + Drop>(
     requires down { store.old.is_up ≡ false }
     ensures done { (w : AWorld) → HoldsStore D.state w store.old → AreFairTables w
         → is_held ≡ has_node w.holds the_store → IfOk result (λ answer. (lucks : List Luck)
-        × IsAnswered D.state store.old store.new moves.Done (store_starts owner lucks w) answer) }
+        × IsAnswered D.state store.old store.new moves.Done (store_starts owner lucks w) answer
+        × AreLeftOver D.state D.images w (tables_start (tables_of w owner) lucks w).world store.old.tables
+        store.new.tables) }
     ensures counted { IfOk result (λ answer.
         IsCounted D.state (is_fault (answer_of answer)) store.old.tables store.new.tables) }
     ensures memory { IfErr result (λ e. e ≡ Memory) }
@@ -142,6 +155,8 @@ pub(crate) fn add<D: Disk + Drop>(
     ensures added { (w : AWorld) → HoldsStore D.state w store.old → OnOk result ((luck : Luck)
         × HoldsStore D.state (made_with w table schema luck) store.new
         × IsCounted D.state (is_failure luck) store.old.tables store.new.tables) }
+    ensures rows { (w : AWorld) → HoldsStore D.state w store.old → OnOk result
+        (AreStill D.state D.images w store.old.tables store.new.tables) }
     ensures outs { store.new.outs ≡ store.old.outs }
     ensures memory { IfErr result (λ e. e ≡ Memory) }
 {
@@ -168,6 +183,8 @@ pub(crate) fn show<D: Disk + Drop>(
         (read_moves w luck) answer) }
     ensures counted { IfOk result (λ answer.
         IsCounted D.state (is_fault (answer_of answer)) store.old.tables store.new.tables) }
+    ensures rows { (w : AWorld) → HoldsStore D.state w store.old → IfOk result (λ answer.
+        AreLeft D.state D.images w store.old.tables store.new.tables) }
     ensures memory { IfErr result (λ e. e ≡ Memory) }
 {
     match store.show(table, row) {
@@ -194,6 +211,8 @@ fn follow_table<D: Disk + Drop>(
         × IsAnswered D.state store.old store.new moves.Done (table_follows table lucks w) answer) }
     ensures counted { IfOk result (λ answer.
         IsCounted D.state (is_fault (answer_of answer)) store.old.tables store.new.tables) }
+    ensures rows { (w : AWorld) → HoldsStore D.state w store.old → IfOk result (λ answer.
+        AreLeft D.state D.images w store.old.tables store.new.tables) }
     ensures memory { IfErr result (λ e. e ≡ Memory) }
 {
     if store.is_busy(table) {
@@ -218,6 +237,9 @@ pub(crate) fn take<D: Disk + Drop>(
         × IsTakenAs D.state w from (message_of message.now) lucks store.old store.new answer) }
     ensures counted { IfOk result (λ answer.
         IsCounted D.state (is_fault (answer_of answer)) store.old.tables store.new.tables) }
+    ensures rows { (w : AWorld) → HoldsStore D.state w store.old → FitsIn w message.now → IfOk result (λ answer.
+        AreLeftOver D.state D.images w (move_table (table_of (message_of message.now))
+        (Take from (message_of message.now)) w).world store.old.tables store.new.tables) }
     ensures left { (w : AWorld) → HoldsStore D.state w store.old
         → IfErr result (λ e. e ≢ Memory → HoldsStore D.state w store.new
         × (store.new.outs ≡ store.old.outs) × SameFaults D.state store.old.tables store.new.tables) }
@@ -245,6 +267,9 @@ fn take_there<D: Disk + Drop>(
         × IsTakenAs D.state w from (message_of message.now) lucks store.old store.new answer) }
     ensures counted { IfOk result (λ answer.
         IsCounted D.state (is_fault (answer_of answer)) store.old.tables store.new.tables) }
+    ensures rows { (w : AWorld) → HoldsStore D.state w store.old → FitsIn w message.now → IfOk result (λ answer.
+        AreLeftOver D.state D.images w (move_table (table_of (message_of message.now))
+        (Take from (message_of message.now)) w).world store.old.tables store.new.tables) }
     ensures left { (w : AWorld) → HoldsStore D.state w store.old
         → IfErr result (λ e. e ≢ Memory → HoldsStore D.state w store.new
         × (store.new.outs ≡ store.old.outs) × SameFaults D.state store.old.tables store.new.tables) }

@@ -7,11 +7,13 @@ ghost use Rattle.table_model.specs.declared.event.Event.TheVariants as events;
 ghost use Rattle.world_tables.specs.World.{World as AWorld, step, worked, all_worked, crashed, started, the_store};
 ghost use Rattle.world_tables.specs.World.{is_down, same_node, answered, with_down};
 ghost use Rattle.world_tables.specs.Faults.{is_device_fault, fails_crash};
-ghost use Rattle.store_host.specs.Holds.{IsStore};
+ghost use Rattle.world_tables.specs.Passed.{started_at, first_part};
+ghost use Rattle.store_host.specs.Holds.{IsStore, AreLeft};
 ghost use Rattle.world_steps.specs.declared.fault.WorldFault.TheVariants.{Memory};
 ghost use Rattle.world_steps.specs.Calls.{Comes, HasTold};
 ghost use Rattle.world_steps.specs.Faults.{AreCounted, ComesCounted};
 ghost use Rattle.world_steps.specs.Holds.{Holds, HasDevices};
+ghost use Rattle.world_steps.specs.Rows.{ComesLeft};
 
 use crate::fault::WorldFault;
 use crate::holds::is_owner;
@@ -41,6 +43,8 @@ impl<D: Disk + Drop> World<D> {
         ensures done { (w : AWorld) → Holds D.state w self.old
             → Comes D.state w (step w (events.Work node)) result self.new }
         ensures counted { AreCounted D.state result self.old self.new }
+        ensures rows { (w : AWorld) → Holds D.state w self.old → IfOk result (λ lines.
+            AreLeft D.state D.images w self.old.store.tables self.new.store.tables) }
         ensures memory { IfErr result (λ e. e ≡ Memory) }
     {
         if self.is_down(node) {
@@ -53,8 +57,10 @@ impl<D: Disk + Drop> World<D> {
         requires held { IsStore D.state self.old.store }
         requires up { same_node node the_store ≡ true → self.old.store.is_up ≡ true }
         ensures done { (w : AWorld) → Holds D.state w self.old
-            → Comes D.state w (λ lucks. worked w lucks node) result self.new }
+            → Comes D.state w (λ lucks. worked w lucks.calls node) result self.new }
         ensures counted { AreCounted D.state result self.old self.new }
+        ensures rows { (w : AWorld) → Holds D.state w self.old → IfOk result (λ lines.
+            AreLeft D.state D.images w self.old.store.tables self.new.store.tables) }
         ensures memory { IfErr result (λ e. e ≡ Memory) }
     {
         if is_owner(node) {
@@ -67,8 +73,10 @@ impl<D: Disk + Drop> World<D> {
         requires held { IsStore D.state self.old.store }
         requires up { self.old.store.is_up ≡ true }
         ensures done { (w : AWorld) → Holds D.state w self.old
-            → Comes D.state w (λ lucks. worked w lucks the_store) result self.new }
+            → Comes D.state w (λ lucks. worked w lucks.calls the_store) result self.new }
         ensures counted { AreCounted D.state result self.old self.new }
+        ensures rows { (w : AWorld) → Holds D.state w self.old → IfOk result (λ lines.
+            AreLeft D.state D.images w self.old.store.tables self.new.store.tables) }
         ensures memory { IfErr result (λ e. e ≡ Memory) }
     {
         let answer = work_once(&mut self.store)?;
@@ -81,6 +89,8 @@ impl<D: Disk + Drop> World<D> {
         ensures done { (w : AWorld) → Holds D.state w self.old
             → Comes D.state w (step w (events.WorkAll node)) result self.new }
         ensures counted { AreCounted D.state result self.old self.new }
+        ensures rows { (w : AWorld) → Holds D.state w self.old → IfOk result (λ lines.
+            AreLeft D.state D.images w self.old.store.tables self.new.store.tables) }
         ensures memory { IfErr result (λ e. e ≡ Memory) }
     {
         if self.is_down(node) {
@@ -93,8 +103,10 @@ impl<D: Disk + Drop> World<D> {
         requires held { IsStore D.state self.old.store }
         requires up { same_node node the_store ≡ true → self.old.store.is_up ≡ true }
         ensures done { (w : AWorld) → Holds D.state w self.old
-            → Comes D.state w (λ lucks. all_worked w lucks node) result self.new }
+            → Comes D.state w (λ lucks. all_worked w lucks.calls node) result self.new }
         ensures counted { AreCounted D.state result self.old self.new }
+        ensures rows { (w : AWorld) → Holds D.state w self.old → IfOk result (λ lines.
+            AreLeft D.state D.images w self.old.store.tables self.new.store.tables) }
         ensures memory { IfErr result (λ e. e ≡ Memory) }
     {
         if is_owner(node) {
@@ -107,8 +119,10 @@ impl<D: Disk + Drop> World<D> {
         requires held { IsStore D.state self.old.store }
         requires up { self.old.store.is_up ≡ true }
         ensures done { (w : AWorld) → Holds D.state w self.old
-            → Comes D.state w (λ lucks. all_worked w lucks the_store) result self.new }
+            → Comes D.state w (λ lucks. all_worked w lucks.calls the_store) result self.new }
         ensures counted { AreCounted D.state result self.old self.new }
+        ensures rows { (w : AWorld) → Holds D.state w self.old → IfOk result (λ lines.
+            AreLeft D.state D.images w self.old.store.tables self.new.store.tables) }
         ensures memory { IfErr result (λ e. e ≡ Memory) }
     {
         let answer = work_all(&mut self.store)?;
@@ -122,6 +136,8 @@ impl<D: Disk + Drop> World<D> {
         ensures done { (w : AWorld) → Holds D.state w self.old
             → ComesCounted D.state w (step w (events.Crash node calls pick))
             (λ lucks. is_device_fault w (events.Crash node calls pick) lucks) result self.old self.new }
+        ensures rows { (w : AWorld) → Holds D.state w self.old → IfOk result (λ lines.
+            AreLeft D.state D.images w self.old.store.tables self.new.store.tables) }
         ensures memory { IfErr result (λ e. e ≡ Memory) }
     {
         if self.is_down(node) {
@@ -135,8 +151,10 @@ impl<D: Disk + Drop> World<D> {
         requires held { IsStore D.state self.old.store }
         requires up { same_node node the_store ≡ true → self.old.store.is_up ≡ true }
         ensures done { (w : AWorld) → Holds D.state w self.old
-            → ComesCounted D.state w (λ lucks. crashed w calls lucks node) (λ lucks. fails_crash w lucks node) result
-            self.old self.new }
+            → ComesCounted D.state w (λ lucks. crashed w calls lucks.calls node)
+            (λ lucks. fails_crash w lucks.calls node) result self.old self.new }
+        ensures rows { (w : AWorld) → Holds D.state w self.old → IfOk result (λ lines.
+            AreLeft D.state D.images w self.old.store.tables self.new.store.tables) }
         ensures memory { IfErr result (λ e. e ≡ Memory) }
     {
         if is_owner(node) {
@@ -149,8 +167,10 @@ impl<D: Disk + Drop> World<D> {
         requires held { IsStore D.state self.old.store }
         requires up { self.old.store.is_up ≡ true }
         ensures done { (w : AWorld) → Holds D.state w self.old
-            → ComesCounted D.state w (λ lucks. crashed w calls lucks the_store)
-            (λ lucks. fails_crash w lucks the_store) result self.old self.new }
+            → ComesCounted D.state w (λ lucks. crashed w calls lucks.calls the_store)
+            (λ lucks. fails_crash w lucks.calls the_store) result self.old self.new }
+        ensures rows { (w : AWorld) → Holds D.state w self.old → IfOk result (λ lines.
+            AreLeft D.state D.images w self.old.store.tables self.new.store.tables) }
         ensures memory { IfErr result (λ e. e ≡ Memory) }
     {
         let answer = crash(&mut self.store, calls, pick);
@@ -162,8 +182,10 @@ impl<D: Disk + Drop> World<D> {
         requires other { same_node node the_store ≡ false }
         requires devices { HasDevices node }
         ensures done { (w : AWorld) (calls : ℕ) → Holds D.state w self.old
-            → ComesCounted D.state w (λ lucks. crashed w calls lucks node) (λ lucks. fails_crash w lucks node) result
-            self.old self.new }
+            → ComesCounted D.state w (λ lucks. crashed w calls lucks.calls node)
+            (λ lucks. fails_crash w lucks.calls node) result self.old self.new }
+        ensures rows { (w : AWorld) → Holds D.state w self.old → IfOk result (λ lines.
+            AreLeft D.state D.images w self.old.store.tables self.new.store.tables) }
         ensures memory { IfErr result (λ e. e ≡ Memory) }
     {
         match node {
@@ -188,7 +210,8 @@ impl<D: Disk + Drop> World<D> {
     pub(crate) fn start(&mut self, node: Node) -> Result<Lines, WorldFault>
         requires held { IsStore D.state self.old.store }
         ensures done { (w : AWorld) → Holds D.state w self.old
-            → Comes D.state w (step w (events.Start node)) result self.new }
+            → ComesLeft D.state D.images w (step w (events.Start node)) (first_part w (events.Start node)) result
+            self.old self.new }
         ensures counted { AreCounted D.state result self.old self.new }
         ensures memory { IfErr result (λ e. e ≡ Memory) }
     {
@@ -202,7 +225,8 @@ impl<D: Disk + Drop> World<D> {
         requires held { IsStore D.state self.old.store }
         requires down { same_node node the_store ≡ true → self.old.store.is_up ≡ false }
         ensures done { (w : AWorld) → Holds D.state w self.old → true ≡ is_down w node
-            → Comes D.state w (λ lucks. started w lucks node) result self.new }
+            → ComesLeft D.state D.images w (λ lucks. started w lucks.shape lucks.calls node)
+            (λ lucks. started_at w lucks.calls node) result self.old self.new }
         ensures counted { AreCounted D.state result self.old self.new }
         ensures memory { IfErr result (λ e. e ≡ Memory) }
     {
@@ -215,7 +239,8 @@ impl<D: Disk + Drop> World<D> {
     fn bring_up(&mut self, node: Node) -> Result<Lines, WorldFault>
         requires { same_node node the_store ≡ false }
         ensures done { (w : AWorld) → Holds D.state w self.old → true ≡ is_down w node
-            → Comes D.state w (λ lucks. started w lucks node) result self.new }
+            → ComesLeft D.state D.images w (λ lucks. started w lucks.shape lucks.calls node)
+            (λ lucks. started_at w lucks.calls node) result self.old self.new }
         ensures counted { AreCounted D.state result self.old self.new }
         ensures memory { IfErr result (λ e. e ≡ Memory) }
     {
@@ -227,7 +252,8 @@ impl<D: Disk + Drop> World<D> {
         requires held { IsStore D.state self.old.store }
         requires down { self.old.store.is_up ≡ false }
         ensures done { (w : AWorld) → Holds D.state w self.old → true ≡ is_down w the_store
-            → Comes D.state w (λ lucks. started w lucks the_store) result self.new }
+            → ComesLeft D.state D.images w (λ lucks. started w lucks.shape lucks.calls the_store)
+            (λ lucks. started_at w lucks.calls the_store) result self.old self.new }
         ensures counted { AreCounted D.state result self.old self.new }
         ensures memory { IfErr result (λ e. e ≡ Memory) }
     {

@@ -23,7 +23,7 @@ fn told(fact: StoreFact) -> Fact
         StoreFact::Accepted { table, entry } => Fact::Accepted { table, entry },
         StoreFact::Forward { table, entry } => Fact::Forward { table, entry },
         StoreFact::Back { table, version } => Fact::Back { table, version },
-        StoreFact::Recovered { store, table } => Fact::Recovered { store, table },
+        StoreFact::Recovered { store, table } => Fact::StoreRecovered { store, table },
     }
 }
 

@@ -10,7 +10,7 @@ ghost use Rattle.world_tables.specs.World.{World as AWorld, Hosted as AHosted, s
 ghost use Rattle.world_tables.specs.World.{names_on};
 ghost use Rattle.world_tables.specs.World.{row_read, hosted_at, first_luck, answered, chunk_in, schema_at};
 ghost use Rattle.world_tables.specs.World.{unless_down, the_store};
-ghost use Rattle.store_host.specs.Holds.{IsStore};
+ghost use Rattle.store_host.specs.Holds.{IsStore, AreLeft};
 ghost use Rattle.world_steps.specs.declared.fault.WorldFault.TheVariants.{Memory};
 ghost use Rattle.world_steps.specs.Calls.{Comes};
 ghost use Rattle.world_steps.specs.Faults.{AreCounted};
@@ -69,6 +69,8 @@ impl<D: Disk + Drop> World<D> {
         ensures done { (w : AWorld) → Holds D.state w self.old
             → Comes D.state w (step w (events.StoreShow table row.now)) result self.new }
         ensures counted { AreCounted D.state result self.old self.new }
+        ensures rows { (w : AWorld) → Holds D.state w self.old → IfOk result (λ lines.
+            AreLeft D.state D.images w self.old.store.tables self.new.store.tables) }
         ensures memory { IfErr result (λ e. e ≡ Memory) }
     {
         if self.store.has(table) {
@@ -81,9 +83,11 @@ impl<D: Disk + Drop> World<D> {
         requires held { IsStore D.state self.old.store }
         requires there { IsSome (tree.get nat_cmp self.old.store.tables table) }
         ensures done { (w : AWorld) (hosted : AHosted) → Holds D.state w self.old → hosted_at w table ≡ Some hosted
-            → Comes D.state w (λ lucks. unless_down w the_store (row_read w hosted row.now (first_luck lucks)))
+            → Comes D.state w (λ lucks. unless_down w the_store (row_read w hosted row.now (first_luck lucks.calls)))
             result self.new }
         ensures counted { AreCounted D.state result self.old self.new }
+        ensures rows { (w : AWorld) → Holds D.state w self.old → IfOk result (λ lines.
+            AreLeft D.state D.images w self.old.store.tables self.new.store.tables) }
         ensures memory { IfErr result (λ e. e ≡ Memory) }
     {
         if self.is_down(STORE) {
@@ -97,8 +101,10 @@ impl<D: Disk + Drop> World<D> {
         requires up { self.old.store.is_up ≡ true }
         requires there { IsSome (tree.get nat_cmp self.old.store.tables table) }
         ensures done { (w : AWorld) (hosted : AHosted) → Holds D.state w self.old → hosted_at w table ≡ Some hosted
-            → Comes D.state w (λ lucks. row_read w hosted row.now (first_luck lucks)) result self.new }
+            → Comes D.state w (λ lucks. row_read w hosted row.now (first_luck lucks.calls)) result self.new }
         ensures counted { AreCounted D.state result self.old self.new }
+        ensures rows { (w : AWorld) → Holds D.state w self.old → IfOk result (λ lines.
+            AreLeft D.state D.images w self.old.store.tables self.new.store.tables) }
         ensures memory { IfErr result (λ e. e ≡ Memory) }
     {
         let answer = show(&mut self.store, table, row)?;

@@ -63,7 +63,8 @@ impl<D: Disk + Drop> World<D> {
         requires built { IsBuilt event.now }
         requires held { IsWorld D.state (P.state depot.old).is_out self.old }
         ensures done { (w : AWorld) → IsReached w → Holds D.state w self.old → AreOut (P.state depot.old).is_out w
-            → IfOk result (λ lines. IsStep D.state w event.now lines (P.state depot.new).is_out self.old self.new) }
+            → IfOk result (λ lines. IsStep D.state D.images w event.now lines (P.state depot.new).is_out self.old
+            self.new) }
         ensures limit { (w : AWorld) → IsReached w → Holds D.state w self.old
             → IfErr result (λ e. (code count : ℕ) → e ≡ LimitPassed code count → (code ≡ 11) × Spends w event.now) }
         ensures left { (w : AWorld) → IsReached w → Holds D.state w self.old → AreOut (P.state depot.old).is_out w
@@ -80,6 +81,8 @@ impl<D: Disk + Drop> World<D> {
                 row,
                 content,
             } => self.write(*client, *table, *row, content),
+            Event::Edit { .. } => unreachable!(),
+            Event::Link { .. } => unreachable!(),
             Event::Show { client, table, row } => self.show(*client, *table, *row),
             Event::Sum { client, table, row } => self.sum(*client, *table, *row),
             Event::Sync { client, table } => self.sync(*client, *table),

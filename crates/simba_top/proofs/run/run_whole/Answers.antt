@@ -1,7 +1,7 @@
 use Rattle.std.proofs.Common.{◌≡◌, ℕ, List, Option, Some, None, refl}
 use Rattle.std.specs.Prelude.{IfSome}
 use Rattle.simba_top.proofs.Endings.{done_map}
-use Rattle.simba_top.proofs.Sounds.{caused}
+use Rattle.simba_top.proofs.Sounds.{on_disks}
 use Rattle.simba_top.proofs.run.run_whole.Goals as goal
 
 known : (o : Option (List ℕ)) (P : List ℕ → Type 0) → ((input : List ℕ) → o ≡ Some input → P input) → IfSome o P
@@ -14,5 +14,5 @@ returns-in-Err-clause-stopped g c = known _ _ (λ input is.
 
 pub returns-in-Ok-clause-done : goal.returns-in-Ok-clause-done
 returns-in-Ok-clause-done g c = known _ _ (λ input is.
-    done_map _ _ (caused _ c.whole.new.self.world _ c.close.ensures.told) input _ _
+    done_map _ _ (on_disks _ c.whole.new.self.world _ c.close.ensures.told c.close.ensures.rows) input _ _
     (c.in-Ok.ensures.done input (rw is (c.new-run.ensures.stands input (g.P.Depot.state c.args.depot.now).is_out c.requires))))

@@ -14,3 +14,6 @@ returns-in-Err-Disk-clause-added g c w h =
           (added_badly g.D.Disk.state c.args.store.now.tables c.add.new.self.tables c.args.table 0 c.requires.absent
           (subst (λ (n : ℕ). n < faults_at g.D.Disk.state c.add.new.self.tables c.args.table) c.requires.sound (k.cause cc)) (λ q no. k.others_failed q no cc)),
     )
+
+pub returns-in-Err-Disk-clause-rows : goal.returns-in-Err-Disk-clause-rows
+returns-in-Err-Disk-clause-rows g c w h = let is = c.in-Err-Disk.field-0-is in c.in-Err-Disk.ensures.left_failed w h cc

@@ -1,5 +1,6 @@
 use Rattle.std.proofs.Common.{refl, sym, ◌∙◌}
 use Rattle.world_steps.proofs.Taken.{goes_on, rests}
+use Rattle.world_steps.proofs.Rows.{none_left}
 use Rattle.world_steps.proofs.moves.follow_table.Goals as goal
 
 pub returns-then-is_busy-clause-done : goal.returns-then-is_busy-clause-done
@@ -9,3 +10,6 @@ returns-then-is_busy-clause-done g c w h is =
 pub returns-clause-done : goal.returns-clause-done
 returns-clause-done g c w h is =
     rests g.D.Disk.state _ w c.args.table _ h (sym c.if-is_busy.false ∙ c.is_busy.ensures w h) refl
+
+pub returns-clause-rows : goal.returns-clause-rows
+returns-clause-rows g c w h = none_left g.D.Disk.state g.D.Disk.images g.met.D.Disk.only_now w c.args.store.now h

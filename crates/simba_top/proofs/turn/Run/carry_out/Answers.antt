@@ -12,7 +12,7 @@ returns-clause-held g c =
     let w = c.requires.held in
     let out = (g.P.Depot.state c.args.depot.now).is_out in
     let new = (g.P.Depot.state c.step.new.depot).is_out in
-    world_on g.D.Disk.state out new c.args.self.now.world c.step.new.self c.args.event.now c.in_ok-lines.lines w c.requires.built
+    world_on g.D.Disk.state g.D.Disk.images out new c.args.self.now.world c.step.new.self c.args.event.now c.in_ok-lines.lines w c.requires.built
     (c.in_ok-lines.ensures.done w.w w.reached w.held w.out)
 
 pub returns-clause-texts : goal.returns-clause-texts
@@ -21,7 +21,7 @@ returns-clause-texts g c = λ input script told line left has spells.
     let out = (g.P.Depot.state c.args.depot.now).is_out in
     let new = (g.P.Depot.state c.step.new.depot).is_out in
     let l = has.world in
-    carries_out state input script told line c.args.self.now out left has c.requires.few c.args.event.now c.add.new.self c.add-2.new.self c.step.new.self new
+    carries_out state input script told line c.args.self.now out left has c.requires.few g.D.Disk.images c.args.event.now c.add.new.self c.add-2.new.self c.step.new.self new
     c.in_ok-lines.lines c.in_ok-texts.texts.items
     spells c.in_ok-add.ensures.ok (c.in_ok-add-2.ensures.rows script has.rows) (c.in_ok-add-2.ensures.few script has.rows has.front.rows) c.requires.built
     (c.in_ok-lines.ensures.done (world_from start l.run) (reached state script told c.args.self.now.world out l) l.held l.out) c.in_ok-texts.ensures

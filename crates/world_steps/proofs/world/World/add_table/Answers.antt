@@ -12,6 +12,9 @@ use Rattle.world_tables.specs.Faults.{is_failure}
 use Rattle.world_steps.specs.Faults.{IsCounted}
 use Rattle.world_steps.specs.Steps.{IsStep}
 use Rattle.world_steps.proofs.Declared.{made_ok, not_there, not_out}
+use Rattle.world_tables.specs.Passed.{first_part}
+use Rattle.store_host.proofs.Lefts.{still_left}
+use Rattle.world_steps.proofs.Rows.{over_first, stay_over}
 use Rattle.world_steps.proofs.world.World.add_table.Goals as goal
 
 pub hand_out_three-requires-clause-small : goal.hand_out_three-requires-clause-small
@@ -23,13 +26,18 @@ hand_out_three-requires-clause-free g c =
     let k = c.requires.held in not_out g.D.Disk.state k.0 c.args.table c.args.self.now k.1 (g.P.Depot.state c.args.depot.now).is_out k.2 c.requires.absent c.requires.made.least
 
 pub returns-clause-done : goal.returns-clause-done
-returns-clause-done g c w h out =
-    subst (λ (ls : List TextLine). IsStep g.D.Disk.state w (events.Table c.args.table c.args.schema.now) ls (g.P.Depot.state c.hand_out_three.new.depot).is_out
+returns-clause-done g c w reached h out =
+    let event = events.Table c.args.table c.args.schema.now in
+    let new = record c.args.self.now { schemas = c.insert.new.self; store = c.add.new.store } in
+    subst (λ (ls : List TextLine). IsStep g.D.Disk.state g.D.Disk.images w (events.Table c.args.table c.args.schema.now) ls (g.P.Depot.state c.hand_out_three.new.depot).is_out
     c.args.self.now (record c.args.self.now { schemas = c.insert.new.self; store = c.add.new.store })) (sym c.new.ensures)
-    (made_ok g.D.Disk.state w c.args.table c.args.schema.now (g.P.Depot.state c.args.depot.now).is_out (g.P.Depot.state c.hand_out_three.new.depot).is_out c.args.self.now c.insert.new.self
+    (made_ok g.D.Disk.state g.D.Disk.images w c.args.table c.args.schema.now (g.P.Depot.state c.args.depot.now).is_out (g.P.Depot.state c.hand_out_three.new.depot).is_out c.args.self.now c.insert.new.self
     c.add.new.store h out (not_there g.D.Disk.state w c.args.table c.args.self.now h c.requires.absent) (c.requires.made.least, c.requires.made.most)
     (subst (λ (s : Schema). (q : ℕ) → tree.get nat_cmp c.insert.new.self q ≡ cond (is_at (nat_cmp c.args.table) q) (Some s) (tree.get nat_cmp c.args.self.now.schemas q)) c.in_ok-known.ensures
     c.in_ok-insert.ensures.updates.0) c.in_ok-disks.ensures.out
     (subst (λ (s : Schema). (luck : Luck) × HoldsStore g.D.Disk.state (made_with w c.args.table s luck) c.add.new.store
     × IsCounted g.D.Disk.state (is_failure luck) c.args.self.now.store.tables c.add.new.store.tables) c.in_ok-own.ensures (c.in_ok-add.ensures.added w h.store))
-    c.in_ok-add.ensures.outs)
+    c.in_ok-add.ensures.outs
+    (λ lucks. stay_over g.D.Disk.state g.D.Disk.images w reached event lucks c.args.self.now new
+    (over_first g.D.Disk.state g.D.Disk.images w (first_part w event lucks) c.args.self.now.store.tables c.add.new.store.tables
+    (still_left g.D.Disk.state g.D.Disk.images w c.args.self.now.store.tables c.add.new.store.tables (c.in_ok-add.ensures.rows w h.store)))))

@@ -1,6 +1,7 @@
 use Rattle.std.proofs.Common.{◌≡◌, ◌∙◌, ℕ, refl, sym, ap}
 use Rattle.store_host.specs.Holds.{disks_at}
 use Rattle.world_steps.proofs.Closing.{closing_starts, next_table, goes_back, ones_there, none_out, all_told, at_end}
+use Rattle.world_steps.proofs.Returned.{all_rows_back}
 use Rattle.world_steps.proofs.world.World.close.Goals as goal
 
 pub tables-init : goal.tables-init
@@ -43,3 +44,8 @@ pub returns-clause-told : goal.returns-clause-told
 returns-clause-told g c w h =
     all_told g.D.Disk.state w c.args.self h c.tables.store.tables (g.P.Depot.state c.tables.depot).is_out (g.P.Depot.returned c.tables.depot) c.tables.invariant.closing
     (at_end c.tables.store.tables.entries disks_at c.in_default.ensures.disks)
+
+pub returns-clause-rows : goal.returns-clause-rows
+returns-clause-rows g c w r h =
+    all_rows_back g.D.Disk.state g.D.Disk.images g.met.D.Disk.counts_now g.met.D.Disk.only_now w r c.args.self h c.tables.store.tables (g.P.Depot.state c.tables.depot).is_out
+    (g.P.Depot.returned c.tables.depot) c.tables.invariant.closing (at_end c.tables.store.tables.entries disks_at c.in_default.ensures.disks)

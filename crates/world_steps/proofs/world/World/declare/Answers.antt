@@ -1,16 +1,22 @@
 use Rattle.std.proofs.Common.{sym, ◌∙◌, subst, List}
 use Rattle.table_model.specs.declared.event.Event.TheVariants as events
 use Rattle.table_model.specs.declared.line.TextLine.{TextLine}
+use Rattle.world_tables.specs.Passed.{first_part}
 use Rattle.world_steps.specs.Steps.{IsStep}
 use Rattle.world_steps.proofs.Declared.{stays_declared, nothing_at}
+use Rattle.world_steps.proofs.Rows.{none_left, over_first, stay_over}
 use Rattle.world_steps.proofs.world.World.declare.Goals as goal
 
 pub returns-then-has-clause-done : goal.returns-then-has-clause-done
-returns-then-has-clause-done g c w h out =
-    subst (λ (ls : List TextLine). IsStep g.D.Disk.state w (events.Table c.args.table c.args.schema.now) ls (g.P.Depot.state c.args.depot.now).is_out c.args.self.now c.args.self.now)
+returns-then-has-clause-done g c w reached h out =
+    let event = events.Table c.args.table c.args.schema.now in
+    let tables = c.args.self.now.store.tables in
+    subst (λ (ls : List TextLine). IsStep g.D.Disk.state g.D.Disk.images w (events.Table c.args.table c.args.schema.now) ls (g.P.Depot.state c.args.depot.now).is_out c.args.self.now c.args.self.now)
     (sym c.new.ensures)
-    (stays_declared g.D.Disk.state w c.args.table c.args.schema.now (g.P.Depot.state c.args.depot.now).is_out (g.P.Depot.state c.args.depot.now).is_out c.args.self.now h out
-    (sym c.if-has.true ∙ c.has.ensures.held w h.store))
+    (stays_declared g.D.Disk.state g.D.Disk.images w c.args.table c.args.schema.now (g.P.Depot.state c.args.depot.now).is_out (g.P.Depot.state c.args.depot.now).is_out c.args.self.now h out
+    (sym c.if-has.true ∙ c.has.ensures.held w h.store)
+    (λ lucks. stay_over g.D.Disk.state g.D.Disk.images w reached event lucks c.args.self.now c.args.self.now (over_first g.D.Disk.state g.D.Disk.images w (first_part w event lucks) tables tables
+    (none_left g.D.Disk.state g.D.Disk.images g.met.D.Disk.only_now w c.args.self.now.store h.store))))
 
 pub add_table-requires-clause-absent : goal.add_table-requires-clause-absent
 add_table-requires-clause-absent g c =

@@ -2,18 +2,26 @@ use Rattle.std.proofs.Common.{◌∷◌, []}
 use Rattle.step_tables.specs.Store.{current_of}
 use Rattle.world_tables.specs.World.{row_read, row_shown, first_luck}
 use Rattle.world_steps.specs.Outs.{read_moves}
+use Rattle.world_steps.specs.Calls.{with_calls}
 use Rattle.world_steps.proofs.Counted.{told_counted}
 use Rattle.world_steps.proofs.Done.{told_moves}
 use Rattle.world_steps.proofs.Showing.{read_goes, read_is, no_outs}
+use Rattle.store_host.specs.Holds.{AreLeft}
+use Rattle.world_steps.proofs.Rows.{told_tables}
 use Rattle.world_steps.proofs.world.World.show_stored.Goals as goal
 
 pub returns-clause-done : goal.returns-clause-done
 returns-clause-done g c w hosted h at =
     let k = c.in_ok-answer.ensures.done w hosted h.store (no_outs c.args.self.now.store h.told) at in
     told_moves g.D.Disk.state w c.args.self.now h (read_moves w k.0) (read_goes w k.0 h.fair.tables) (row_shown (current_of hosted.store.disk.items c.args.row.now)) _ _ c.tell.result
-    c.tell.new.self (λ lucks. row_read w hosted c.args.row.now (first_luck lucks)) (k.0 ∷ [])
+    c.tell.new.self (λ lucks. row_read w hosted c.args.row.now (first_luck lucks.calls)) (with_calls (k.0 ∷ []))
     (read_is w hosted c.args.row.now k.0) k.1 c.tell.ensures.told
 
 pub returns-clause-counted : goal.returns-clause-counted
 returns-clause-counted g c =
     told_counted g.D.Disk.state c.tell.result _ c.args.self.now c.tell.new.self c.show.new.store c.in_ok-answer.ensures.counted c.tell.ensures.told
+
+pub returns-clause-rows : goal.returns-clause-rows
+returns-clause-rows g c w h =
+    told_tables (AreLeft g.D.Disk.state g.D.Disk.images w c.args.self.now.store.tables) c.tell.result _ c.args.self.now c.tell.new.self c.show.new.store
+    (c.in_ok-answer.ensures.rows w h.store) c.tell.ensures.told

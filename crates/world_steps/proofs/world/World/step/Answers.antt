@@ -2,24 +2,28 @@ use Rattle.std.proofs.Common.{◌≡◌, ℕ, false, List, [], refl, sym, subst}
 use Rattle.std.specs.Prelude.{IfOk, IfErr}
 use Rattle.table_model.specs.declared.event.Event.{Event}
 use Rattle.table_model.specs.declared.event.Event.TheVariants as events
-use Rattle.step_tables.specs.Messages.{Luck}
+use Rattle.step_tables.specs.Messages as messages
 use Rattle.world_tables.specs.Faults.{is_device_fault, is_fault_answer}
 use Rattle.fault_laws.proofs.Answered.{is_declaration}
 use Rattle.fault_laws.proofs.Well.{fine_step}
-use Rattle.world_tables.specs.World.{step, joined, client_at}
+use Rattle.world_tables.specs.Passed.{first_part}
+use Rattle.world_tables.specs.World.{Lucks, step, joined, client_at}
 use Rattle.world_steps.specs.declared.fault.WorldFault.TheVariants.{Limit as LimitPassed}
 use Rattle.world_steps.specs.Calls.{Comes}
 use Rattle.world_steps.specs.Faults.{ComesCounted}
 use Rattle.world_steps.specs.Holds.{Holds, IsBuilt}
+use Rattle.world_steps.specs.Rows.{ComesLeft}
 use Rattle.world_steps.specs.Steps.{IsStep, Spends}
-use Rattle.world_steps.proofs.Counted.{stepped, stepped_still, stepped_counted, never_left, left_still, left_same}
+use Rattle.world_steps.proofs.Counted.{stepped, stepped_first, stepped_still, stepped_counted, never_left, left_still, left_same}
+use Rattle.world_steps.proofs.Rows.{Stays, any_ok, none_left, stay_left, stay_still, stay_taken}
 use Rattle.world_steps.proofs.Stepping.{nothing_done, client_joins, memory_limit, either_limit, other_counted, memory_other, places}
 use Rattle.world_steps.proofs.world.World.step.Goals as goal
 
 pub returns-in-Store-clause-done : goal.returns-in-Store-clause-done
 returns-in-Store-clause-done g c w r h out =
-    subst (λ (e : Event). IsStep g.D.Disk.state w e c.new.result (g.P.Depot.state c.args.depot.now).is_out c.args.self.now c.args.self.now) (sym c.in-Store.is)
-    (nothing_done g.D.Disk.state w _ (g.P.Depot.state c.args.depot.now).is_out c.args.self.now c.new.result h out c.new.ensures)
+    subst (λ (e : Event). IsStep g.D.Disk.state g.D.Disk.images w e c.new.result (g.P.Depot.state c.args.depot.now).is_out c.args.self.now c.args.self.now) (sym c.in-Store.is)
+    (nothing_done g.D.Disk.state g.D.Disk.images w _ (g.P.Depot.state c.args.depot.now).is_out c.args.self.now c.new.result r h out c.new.ensures
+    (none_left g.D.Disk.state g.D.Disk.images g.met.D.Disk.only_now w c.args.self.now.store h.store))
 
 pub declare-requires-clause-made : goal.declare-requires-clause-made
 declare-requires-clause-made g c =
@@ -31,8 +35,8 @@ declare-requires-clause-held g c =
 
 pub returns-in-Table-clause-done : goal.returns-in-Table-clause-done
 returns-in-Table-clause-done g c w r h out =
-    subst (λ (e : Event). IfOk c.declare.result (λ lines. IsStep g.D.Disk.state w e lines (g.P.Depot.state c.declare.new.depot).is_out c.args.self.now c.declare.new.self)) (sym c.in-Table.is)
-    (c.declare.ensures.done w h out)
+    subst (λ (e : Event). IfOk c.declare.result (λ lines. IsStep g.D.Disk.state g.D.Disk.images w e lines (g.P.Depot.state c.declare.new.depot).is_out c.args.self.now c.declare.new.self)) (sym c.in-Table.is)
+    (c.declare.ensures.done w r h out)
 
 pub returns-in-Table-clause-limit : goal.returns-in-Table-clause-limit
 returns-in-Table-clause-limit g c w r h =
@@ -48,10 +52,11 @@ join-requires-clause-most g c =
 
 pub returns-in-Client-clause-done : goal.returns-in-Client-clause-done
 returns-in-Client-clause-done g c w r h out =
-    subst (λ (e : Event). IfOk c.join.result (λ lines. IsStep g.D.Disk.state w e lines (g.P.Depot.state c.args.depot.now).is_out c.args.self.now c.join.new.self)) (sym c.in-Client.is)
-    (client_joins g.D.Disk.state w c.in-Client.client _ _ (g.P.Depot.state c.args.depot.now).is_out c.args.self.now c.join.new.self c.join.result out c.join.ensures.same
-    (subst (λ (ts : List ℕ). IfOk c.join.result (λ lines. (lines ≡ []) × Holds g.D.Disk.state (joined w c.in-Client.client ts (client_at w c.in-Client.client)) c.join.new.self))
-    c.as_slice.ensures (c.join.ensures.done w h)))
+    subst (λ (e : Event). IfOk c.join.result (λ lines. IsStep g.D.Disk.state g.D.Disk.images w e lines (g.P.Depot.state c.args.depot.now).is_out c.args.self.now c.join.new.self)) (sym c.in-Client.is)
+    (client_joins g.D.Disk.state g.D.Disk.images w c.in-Client.client _ _ (g.P.Depot.state c.args.depot.now).is_out c.args.self.now c.join.new.self c.join.result r out c.join.ensures.same
+    (subst (λ (ts : List ℕ). IfOk c.join.result (λ lines. (lines ≡ []) × Holds g.D.Disk.state (joined w c.in-Client.client ts messages.Done (client_at w c.in-Client.client)) c.join.new.self))
+    c.as_slice.ensures (c.join.ensures.done w h))
+    (none_left g.D.Disk.state g.D.Disk.images g.met.D.Disk.only_now w c.args.self.now.store h.store))
 
 pub returns-in-Client-clause-limit : goal.returns-in-Client-clause-limit
 returns-in-Client-clause-limit g c w r h =
@@ -63,11 +68,13 @@ returns-in-Client-clause-depot g c =
 
 pub returns-in-Write-clause-done : goal.returns-in-Write-clause-done
 returns-in-Write-clause-done g c w r h out =
-    stepped g.D.Disk.state w c.args.event.now (g.P.Depot.state c.args.depot.now).is_out c.args.self.now c.write.new.self c.write.result out (subst (λ (e : Event). is_declaration e ≡ false)
+    stepped g.D.Disk.state g.D.Disk.images w c.args.event.now (g.P.Depot.state c.args.depot.now).is_out c.args.self.now c.write.new.self c.write.result out (subst (λ (e : Event). is_declaration e ≡ false)
     (sym c.in-Write.is) refl)
-    (subst (λ (e : Event). (lucks : List Luck) → is_device_fault w e lucks ≡ is_fault_answer (step w e lucks).answer) (sym c.in-Write.is) (λ lucks. refl))
+    (subst (λ (e : Event). (lucks : Lucks) → is_device_fault w e lucks ≡ is_fault_answer (step w e lucks).answer) (sym c.in-Write.is) (λ lucks. refl))
     (subst (λ (e : Event). Comes g.D.Disk.state w (step w e) c.write.result c.write.new.self) (sym c.in-Write.is) (c.write.ensures.done w h))
     (c.write.ensures.counted w h)
+    (stay_still g.D.Disk.state g.D.Disk.images w r c.args.event.now c.write.result c.args.self.now c.write.new.self g.met.D.Disk.only_now h
+    c.write.ensures.same)
 
 pub returns-in-Write-clause-limit : goal.returns-in-Write-clause-limit
 returns-in-Write-clause-limit g c w r h =
@@ -77,13 +84,23 @@ pub returns-in-Write-clause-depot : goal.returns-in-Write-clause-depot
 returns-in-Write-clause-depot g c =
     other_counted c.write.result c.write.ensures.only (g.P.Depot.state c.args.depot.now).faults
 
+pub unreachable-requires : goal.unreachable-requires
+unreachable-requires g c =
+    absurd (subst (λ (e : Event). IsBuilt e) c.in-Edit.is c.requires.built)
+
+pub unreachable-requires-in-Link : goal.unreachable-requires-in-Link
+unreachable-requires-in-Link g c =
+    absurd (subst (λ (e : Event). IsBuilt e) c.in-Link.is c.requires.built)
+
 pub returns-in-Show-clause-done : goal.returns-in-Show-clause-done
 returns-in-Show-clause-done g c w r h out =
-    stepped g.D.Disk.state w c.args.event.now (g.P.Depot.state c.args.depot.now).is_out c.args.self.now c.args.self.now c.show.result out (subst (λ (e : Event). is_declaration e ≡ false)
+    stepped g.D.Disk.state g.D.Disk.images w c.args.event.now (g.P.Depot.state c.args.depot.now).is_out c.args.self.now c.args.self.now c.show.result out (subst (λ (e : Event). is_declaration e ≡ false)
     (sym c.in-Show.is) refl)
-    (subst (λ (e : Event). (lucks : List Luck) → is_device_fault w e lucks ≡ is_fault_answer (step w e lucks).answer) (sym c.in-Show.is) (λ lucks. refl))
+    (subst (λ (e : Event). (lucks : Lucks) → is_device_fault w e lucks ≡ is_fault_answer (step w e lucks).answer) (sym c.in-Show.is) (λ lucks. refl))
     (subst (λ (e : Event). Comes g.D.Disk.state w (step w e) c.show.result c.args.self.now) (sym c.in-Show.is) (c.show.ensures.done w h))
     (c.show.ensures.counted w h)
+    (stay_still g.D.Disk.state g.D.Disk.images w r c.args.event.now c.show.result c.args.self.now c.args.self.now g.met.D.Disk.only_now h
+    (any_ok c.show.result _ refl))
 
 pub returns-in-Show-clause-limit : goal.returns-in-Show-clause-limit
 returns-in-Show-clause-limit g c w r h =
@@ -95,11 +112,13 @@ returns-in-Show-clause-depot g c =
 
 pub returns-in-Sum-clause-done : goal.returns-in-Sum-clause-done
 returns-in-Sum-clause-done g c w r h out =
-    stepped g.D.Disk.state w c.args.event.now (g.P.Depot.state c.args.depot.now).is_out c.args.self.now c.args.self.now c.sum.result out (subst (λ (e : Event). is_declaration e ≡ false)
+    stepped g.D.Disk.state g.D.Disk.images w c.args.event.now (g.P.Depot.state c.args.depot.now).is_out c.args.self.now c.args.self.now c.sum.result out (subst (λ (e : Event). is_declaration e ≡ false)
     (sym c.in-Sum.is) refl)
-    (subst (λ (e : Event). (lucks : List Luck) → is_device_fault w e lucks ≡ is_fault_answer (step w e lucks).answer) (sym c.in-Sum.is) (λ lucks. refl))
+    (subst (λ (e : Event). (lucks : Lucks) → is_device_fault w e lucks ≡ is_fault_answer (step w e lucks).answer) (sym c.in-Sum.is) (λ lucks. refl))
     (subst (λ (e : Event). Comes g.D.Disk.state w (step w e) c.sum.result c.args.self.now) (sym c.in-Sum.is) (c.sum.ensures.done w h))
     (c.sum.ensures.counted w h)
+    (stay_still g.D.Disk.state g.D.Disk.images w r c.args.event.now c.sum.result c.args.self.now c.args.self.now g.met.D.Disk.only_now h
+    (any_ok c.sum.result _ refl))
 
 pub returns-in-Sum-clause-limit : goal.returns-in-Sum-clause-limit
 returns-in-Sum-clause-limit g c w r h =
@@ -111,11 +130,13 @@ returns-in-Sum-clause-depot g c =
 
 pub returns-in-Sync-clause-done : goal.returns-in-Sync-clause-done
 returns-in-Sync-clause-done g c w r h out =
-    stepped g.D.Disk.state w c.args.event.now (g.P.Depot.state c.args.depot.now).is_out c.args.self.now c.sync.new.self c.sync.result out (subst (λ (e : Event). is_declaration e ≡ false)
+    stepped g.D.Disk.state g.D.Disk.images w c.args.event.now (g.P.Depot.state c.args.depot.now).is_out c.args.self.now c.sync.new.self c.sync.result out (subst (λ (e : Event). is_declaration e ≡ false)
     (sym c.in-Sync.is) refl)
-    (subst (λ (e : Event). (lucks : List Luck) → is_device_fault w e lucks ≡ is_fault_answer (step w e lucks).answer) (sym c.in-Sync.is) (λ lucks. refl))
+    (subst (λ (e : Event). (lucks : Lucks) → is_device_fault w e lucks ≡ is_fault_answer (step w e lucks).answer) (sym c.in-Sync.is) (λ lucks. refl))
     (subst (λ (e : Event). Comes g.D.Disk.state w (step w e) c.sync.result c.sync.new.self) (sym c.in-Sync.is) (c.sync.ensures.done w h))
     (c.sync.ensures.counted w h)
+    (stay_still g.D.Disk.state g.D.Disk.images w r c.args.event.now c.sync.result c.args.self.now c.sync.new.self g.met.D.Disk.only_now h
+    c.sync.ensures.same)
 
 pub returns-in-Sync-clause-limit : goal.returns-in-Sync-clause-limit
 returns-in-Sync-clause-limit g c w r h =
@@ -127,11 +148,13 @@ returns-in-Sync-clause-depot g c =
 
 pub returns-in-Pull-clause-done : goal.returns-in-Pull-clause-done
 returns-in-Pull-clause-done g c w r h out =
-    stepped g.D.Disk.state w c.args.event.now (g.P.Depot.state c.args.depot.now).is_out c.args.self.now c.pull.new.self c.pull.result out (subst (λ (e : Event). is_declaration e ≡ false)
+    stepped g.D.Disk.state g.D.Disk.images w c.args.event.now (g.P.Depot.state c.args.depot.now).is_out c.args.self.now c.pull.new.self c.pull.result out (subst (λ (e : Event). is_declaration e ≡ false)
     (sym c.in-Pull.is) refl)
-    (subst (λ (e : Event). (lucks : List Luck) → is_device_fault w e lucks ≡ is_fault_answer (step w e lucks).answer) (sym c.in-Pull.is) (λ lucks. refl))
+    (subst (λ (e : Event). (lucks : Lucks) → is_device_fault w e lucks ≡ is_fault_answer (step w e lucks).answer) (sym c.in-Pull.is) (λ lucks. refl))
     (subst (λ (e : Event). Comes g.D.Disk.state w (step w e) c.pull.result c.pull.new.self) (sym c.in-Pull.is) (c.pull.ensures.done w h))
     (c.pull.ensures.counted w h)
+    (stay_still g.D.Disk.state g.D.Disk.images w r c.args.event.now c.pull.result c.args.self.now c.pull.new.self g.met.D.Disk.only_now h
+    c.pull.ensures.same)
 
 pub returns-in-Pull-clause-limit : goal.returns-in-Pull-clause-limit
 returns-in-Pull-clause-limit g c w r h =
@@ -143,11 +166,13 @@ returns-in-Pull-clause-depot g c =
 
 pub returns-in-Deliver-clause-done : goal.returns-in-Deliver-clause-done
 returns-in-Deliver-clause-done g c w r h out =
-    stepped g.D.Disk.state w c.args.event.now (g.P.Depot.state c.args.depot.now).is_out c.args.self.now c.deliver.new.self c.deliver.result out (subst (λ
+    stepped g.D.Disk.state g.D.Disk.images w c.args.event.now (g.P.Depot.state c.args.depot.now).is_out c.args.self.now c.deliver.new.self c.deliver.result out (subst (λ
     (e : Event). is_declaration e ≡ false) (sym c.in-Deliver.is) refl)
-    (subst (λ (e : Event). (lucks : List Luck) → is_device_fault w e lucks ≡ is_fault_answer (step w e lucks).answer) (sym c.in-Deliver.is) (λ lucks. refl))
+    (subst (λ (e : Event). (lucks : Lucks) → is_device_fault w e lucks ≡ is_fault_answer (step w e lucks).answer) (sym c.in-Deliver.is) (λ lucks. refl))
     (subst (λ (e : Event). Comes g.D.Disk.state w (step w e) c.deliver.result c.deliver.new.self) (sym c.in-Deliver.is) (c.deliver.ensures.done w h (places w r)))
     c.deliver.ensures.counted
+    (subst (λ (e : Event). IfOk c.deliver.result (λ lines. Stays g.D.Disk.state g.D.Disk.images w e c.args.self.now c.deliver.new.self)) (sym c.in-Deliver.is)
+    (stay_taken g.D.Disk.state g.D.Disk.images w r c.in-Deliver.packet c.deliver.result c.args.self.now c.deliver.new.self (c.deliver.ensures.rows w h (places w r))))
 
 pub returns-in-Deliver-clause-limit : goal.returns-in-Deliver-clause-limit
 returns-in-Deliver-clause-limit g c w r h =
@@ -159,11 +184,12 @@ returns-in-Deliver-clause-depot g c =
 
 pub returns-in-StoreShow-clause-done : goal.returns-in-StoreShow-clause-done
 returns-in-StoreShow-clause-done g c w r h out =
-    stepped g.D.Disk.state w c.args.event.now (g.P.Depot.state c.args.depot.now).is_out c.args.self.now c.store_show.new.self c.store_show.result out (subst (λ
+    stepped g.D.Disk.state g.D.Disk.images w c.args.event.now (g.P.Depot.state c.args.depot.now).is_out c.args.self.now c.store_show.new.self c.store_show.result out (subst (λ
     (e : Event). is_declaration e ≡ false) (sym c.in-StoreShow.is) refl)
-    (subst (λ (e : Event). (lucks : List Luck) → is_device_fault w e lucks ≡ is_fault_answer (step w e lucks).answer) (sym c.in-StoreShow.is) (λ lucks. refl))
+    (subst (λ (e : Event). (lucks : Lucks) → is_device_fault w e lucks ≡ is_fault_answer (step w e lucks).answer) (sym c.in-StoreShow.is) (λ lucks. refl))
     (subst (λ (e : Event). Comes g.D.Disk.state w (step w e) c.store_show.result c.store_show.new.self) (sym c.in-StoreShow.is) (c.store_show.ensures.done w h))
     c.store_show.ensures.counted
+    (stay_left g.D.Disk.state g.D.Disk.images w r c.args.event.now c.store_show.result c.args.self.now c.store_show.new.self (c.store_show.ensures.rows w h))
 
 pub returns-in-StoreShow-clause-limit : goal.returns-in-StoreShow-clause-limit
 returns-in-StoreShow-clause-limit g c w r h =
@@ -175,9 +201,11 @@ returns-in-StoreShow-clause-depot g c =
 
 pub returns-in-History-clause-done : goal.returns-in-History-clause-done
 returns-in-History-clause-done g c w r h out =
-    stepped_still g.D.Disk.state w c.args.event.now (g.P.Depot.state c.args.depot.now).is_out c.args.self.now c.args.self.now c.history.result out
-    (subst (λ (e : Event). (lucks : List Luck) → is_device_fault w e lucks ≡ false) (sym c.in-History.is) (λ lucks. fine_step w (events.History c.in-History.table) lucks)) refl
+    stepped_still g.D.Disk.state g.D.Disk.images w c.args.event.now (g.P.Depot.state c.args.depot.now).is_out c.args.self.now c.args.self.now c.history.result out
+    (subst (λ (e : Event). (lucks : Lucks) → is_device_fault w e lucks ≡ false) (sym c.in-History.is) (λ lucks. fine_step w (events.History c.in-History.table) lucks)) refl
     (subst (λ (e : Event). Comes g.D.Disk.state w (step w e) c.history.result c.args.self.now) (sym c.in-History.is) (c.history.ensures.done w h))
+    (stay_still g.D.Disk.state g.D.Disk.images w r c.args.event.now c.history.result c.args.self.now c.args.self.now g.met.D.Disk.only_now h
+    (any_ok c.history.result _ refl))
 
 pub returns-in-History-clause-limit : goal.returns-in-History-clause-limit
 returns-in-History-clause-limit g c w r h =
@@ -189,9 +217,11 @@ returns-in-History-clause-depot g c =
 
 pub returns-in-Chunks-clause-done : goal.returns-in-Chunks-clause-done
 returns-in-Chunks-clause-done g c w r h out =
-    stepped_still g.D.Disk.state w c.args.event.now (g.P.Depot.state c.args.depot.now).is_out c.args.self.now c.args.self.now c.chunks.result out
-    (subst (λ (e : Event). (lucks : List Luck) → is_device_fault w e lucks ≡ false) (sym c.in-Chunks.is) (λ lucks. fine_step w (events.Chunks c.in-Chunks.table) lucks)) refl
+    stepped_still g.D.Disk.state g.D.Disk.images w c.args.event.now (g.P.Depot.state c.args.depot.now).is_out c.args.self.now c.args.self.now c.chunks.result out
+    (subst (λ (e : Event). (lucks : Lucks) → is_device_fault w e lucks ≡ false) (sym c.in-Chunks.is) (λ lucks. fine_step w (events.Chunks c.in-Chunks.table) lucks)) refl
     (subst (λ (e : Event). Comes g.D.Disk.state w (step w e) c.chunks.result c.args.self.now) (sym c.in-Chunks.is) (c.chunks.ensures.done w h))
+    (stay_still g.D.Disk.state g.D.Disk.images w r c.args.event.now c.chunks.result c.args.self.now c.args.self.now g.met.D.Disk.only_now h
+    (any_ok c.chunks.result _ refl))
 
 pub returns-in-Chunks-clause-limit : goal.returns-in-Chunks-clause-limit
 returns-in-Chunks-clause-limit g c w r h =
@@ -203,9 +233,11 @@ returns-in-Chunks-clause-depot g c =
 
 pub returns-in-Hold-clause-done : goal.returns-in-Hold-clause-done
 returns-in-Hold-clause-done g c w r h out =
-    stepped_still g.D.Disk.state w c.args.event.now (g.P.Depot.state c.args.depot.now).is_out c.args.self.now c.hold.new.self c.hold.result out
-    (subst (λ (e : Event). (lucks : List Luck) → is_device_fault w e lucks ≡ false) (sym c.in-Hold.is) (λ lucks. fine_step w (events.Hold c.in-Hold.node) lucks)) c.hold.ensures.same
+    stepped_still g.D.Disk.state g.D.Disk.images w c.args.event.now (g.P.Depot.state c.args.depot.now).is_out c.args.self.now c.hold.new.self c.hold.result out
+    (subst (λ (e : Event). (lucks : Lucks) → is_device_fault w e lucks ≡ false) (sym c.in-Hold.is) (λ lucks. fine_step w (events.Hold c.in-Hold.node) lucks)) c.hold.ensures.same
     (subst (λ (e : Event). Comes g.D.Disk.state w (step w e) c.hold.result c.hold.new.self) (sym c.in-Hold.is) (c.hold.ensures.done w h))
+    (stay_still g.D.Disk.state g.D.Disk.images w r c.args.event.now c.hold.result c.args.self.now c.hold.new.self g.met.D.Disk.only_now h
+    (any_ok c.hold.result _ c.hold.ensures.same))
 
 pub returns-in-Hold-clause-limit : goal.returns-in-Hold-clause-limit
 returns-in-Hold-clause-limit g c w r h =
@@ -217,9 +249,11 @@ returns-in-Hold-clause-depot g c =
 
 pub returns-in-Free-clause-done : goal.returns-in-Free-clause-done
 returns-in-Free-clause-done g c w r h out =
-    stepped_still g.D.Disk.state w c.args.event.now (g.P.Depot.state c.args.depot.now).is_out c.args.self.now c.free.new.self c.free.result out
-    (subst (λ (e : Event). (lucks : List Luck) → is_device_fault w e lucks ≡ false) (sym c.in-Free.is) (λ lucks. fine_step w (events.Free c.in-Free.node) lucks)) c.free.ensures.same
+    stepped_still g.D.Disk.state g.D.Disk.images w c.args.event.now (g.P.Depot.state c.args.depot.now).is_out c.args.self.now c.free.new.self c.free.result out
+    (subst (λ (e : Event). (lucks : Lucks) → is_device_fault w e lucks ≡ false) (sym c.in-Free.is) (λ lucks. fine_step w (events.Free c.in-Free.node) lucks)) c.free.ensures.same
     (subst (λ (e : Event). Comes g.D.Disk.state w (step w e) c.free.result c.free.new.self) (sym c.in-Free.is) (c.free.ensures.done w h))
+    (stay_still g.D.Disk.state g.D.Disk.images w r c.args.event.now c.free.result c.args.self.now c.free.new.self g.met.D.Disk.only_now h
+    (any_ok c.free.result _ c.free.ensures.same))
 
 pub returns-in-Free-clause-limit : goal.returns-in-Free-clause-limit
 returns-in-Free-clause-limit g c w r h =
@@ -231,11 +265,12 @@ returns-in-Free-clause-depot g c =
 
 pub returns-in-Work-clause-done : goal.returns-in-Work-clause-done
 returns-in-Work-clause-done g c w r h out =
-    stepped g.D.Disk.state w c.args.event.now (g.P.Depot.state c.args.depot.now).is_out c.args.self.now c.work.new.self c.work.result out (subst (λ (e : Event). is_declaration e ≡ false)
+    stepped g.D.Disk.state g.D.Disk.images w c.args.event.now (g.P.Depot.state c.args.depot.now).is_out c.args.self.now c.work.new.self c.work.result out (subst (λ (e : Event). is_declaration e ≡ false)
     (sym c.in-Work.is) refl)
-    (subst (λ (e : Event). (lucks : List Luck) → is_device_fault w e lucks ≡ is_fault_answer (step w e lucks).answer) (sym c.in-Work.is) (λ lucks. refl))
+    (subst (λ (e : Event). (lucks : Lucks) → is_device_fault w e lucks ≡ is_fault_answer (step w e lucks).answer) (sym c.in-Work.is) (λ lucks. refl))
     (subst (λ (e : Event). Comes g.D.Disk.state w (step w e) c.work.result c.work.new.self) (sym c.in-Work.is) (c.work.ensures.done w h))
     c.work.ensures.counted
+    (stay_left g.D.Disk.state g.D.Disk.images w r c.args.event.now c.work.result c.args.self.now c.work.new.self (c.work.ensures.rows w h))
 
 pub returns-in-Work-clause-limit : goal.returns-in-Work-clause-limit
 returns-in-Work-clause-limit g c w r h =
@@ -247,11 +282,12 @@ returns-in-Work-clause-depot g c =
 
 pub returns-in-WorkAll-clause-done : goal.returns-in-WorkAll-clause-done
 returns-in-WorkAll-clause-done g c w r h out =
-    stepped g.D.Disk.state w c.args.event.now (g.P.Depot.state c.args.depot.now).is_out c.args.self.now c.work_all.new.self c.work_all.result out (subst (λ
+    stepped g.D.Disk.state g.D.Disk.images w c.args.event.now (g.P.Depot.state c.args.depot.now).is_out c.args.self.now c.work_all.new.self c.work_all.result out (subst (λ
     (e : Event). is_declaration e ≡ false) (sym c.in-WorkAll.is) refl)
-    (subst (λ (e : Event). (lucks : List Luck) → is_device_fault w e lucks ≡ is_fault_answer (step w e lucks).answer) (sym c.in-WorkAll.is) (λ lucks. refl))
+    (subst (λ (e : Event). (lucks : Lucks) → is_device_fault w e lucks ≡ is_fault_answer (step w e lucks).answer) (sym c.in-WorkAll.is) (λ lucks. refl))
     (subst (λ (e : Event). Comes g.D.Disk.state w (step w e) c.work_all.result c.work_all.new.self) (sym c.in-WorkAll.is) (c.work_all.ensures.done w h))
     c.work_all.ensures.counted
+    (stay_left g.D.Disk.state g.D.Disk.images w r c.args.event.now c.work_all.result c.args.self.now c.work_all.new.self (c.work_all.ensures.rows w h))
 
 pub returns-in-WorkAll-clause-limit : goal.returns-in-WorkAll-clause-limit
 returns-in-WorkAll-clause-limit g c w r h =
@@ -263,9 +299,10 @@ returns-in-WorkAll-clause-depot g c =
 
 pub returns-in-Crash-clause-done : goal.returns-in-Crash-clause-done
 returns-in-Crash-clause-done g c w r h out =
-    stepped_counted g.D.Disk.state w c.args.event.now (g.P.Depot.state c.args.depot.now).is_out c.args.self.now c.crash.new.self c.crash.result out
+    stepped_counted g.D.Disk.state g.D.Disk.images w c.args.event.now (g.P.Depot.state c.args.depot.now).is_out c.args.self.now c.crash.new.self c.crash.result out
     (subst (λ (e : Event). ComesCounted g.D.Disk.state w (step w e) (λ lucks. is_device_fault w e lucks) c.crash.result c.args.self.now c.crash.new.self) (sym c.in-Crash.is)
     (c.crash.ensures.done w h))
+    (stay_left g.D.Disk.state g.D.Disk.images w r c.args.event.now c.crash.result c.args.self.now c.crash.new.self (c.crash.ensures.rows w h))
 
 pub returns-in-Crash-clause-limit : goal.returns-in-Crash-clause-limit
 returns-in-Crash-clause-limit g c w r h =
@@ -277,10 +314,10 @@ returns-in-Crash-clause-depot g c =
 
 pub returns-in-Start-clause-done : goal.returns-in-Start-clause-done
 returns-in-Start-clause-done g c w r h out =
-    stepped g.D.Disk.state w c.args.event.now (g.P.Depot.state c.args.depot.now).is_out c.args.self.now c.start.new.self c.start.result out (subst (λ (e : Event). is_declaration e ≡ false)
+    stepped_first g.D.Disk.state g.D.Disk.images w c.args.event.now (g.P.Depot.state c.args.depot.now).is_out c.args.self.now c.start.new.self c.start.result out r (subst (λ (e : Event). is_declaration e ≡ false)
     (sym c.in-Start.is) refl)
-    (subst (λ (e : Event). (lucks : List Luck) → is_device_fault w e lucks ≡ is_fault_answer (step w e lucks).answer) (sym c.in-Start.is) (λ lucks. refl))
-    (subst (λ (e : Event). Comes g.D.Disk.state w (step w e) c.start.result c.start.new.self) (sym c.in-Start.is) (c.start.ensures.done w h))
+    (subst (λ (e : Event). (lucks : Lucks) → is_device_fault w e lucks ≡ is_fault_answer (step w e lucks).answer) (sym c.in-Start.is) (λ lucks. refl))
+    (subst (λ (e : Event). ComesLeft g.D.Disk.state g.D.Disk.images w (step w e) (first_part w e) c.start.result c.args.self.now c.start.new.self) (sym c.in-Start.is) (c.start.ensures.done w h))
     c.start.ensures.counted
 
 pub returns-in-Start-clause-limit : goal.returns-in-Start-clause-limit

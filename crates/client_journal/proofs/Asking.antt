@@ -36,7 +36,9 @@ use Rattle.client_journal.specs.Devs.{ClientDevs}
 use Rattle.client_journal.specs.Standing.{devs, writes_of, all_faults, AreUp, IsOneDown, AreLookedAt, AreSound, DevsLeave}
 use Rattle.client_journal.specs.TakesOn.{IsNotDisk}
 use Rattle.client_journal.specs.Asking.{AllStay, AllLeave, Reads, Asks}
+use Rattle.client_journal.specs.Unset.{KeepsUnset}
 use Rattle.client_journal.proofs.Works.{still_chunk, still_slot, still_journal, all_same, up_or_down}
+use Rattle.client_journal.proofs.Fusing.{keeps_then, keeps_vaults, keeps_same, chunk_same, slot_same, journal_same}
 
 abbrev OnlyThese : {T : Type 0} → Result T JournalFault → Type 0
 OnlyThese result = IfErr result (λ e. (e ≡ Disk) ⊎ (e ≡ Memory))
@@ -96,6 +98,7 @@ module _ {D : Type 0} (state : D → DiskState) (images : D → ℕ → List ℕ
     any_moment = λ up. absurd (up_or_down old up down);
     leave = λ up. absurd (up_or_down old up down);
     agenda = refl;
+    fuse = keeps_same state old old refl refl refl;
   }
 
   module _ (up : AreUp old) (looked : AreLookedAt state old) where
@@ -119,6 +122,7 @@ module _ {D : Type 0} (state : D → DiskState) (images : D → ℕ → List ℕ
       any_moment = λ up sound. all_same state images only_now old new (k.chunks sound) (k.slots sound) (k.journal sound);
       leave = λ up sound. record { chunks = k.chunks sound; slots = k.slots sound; journal = k.journal sound };
       agenda = k.agenda;
+      fuse = k.fuse;
     }
 
     leaves_chunks : AreSound state old → chunks.Leaves state images old.chunks old.chunks (λ here. here ≡ chunks.chunks state old.chunks)
@@ -141,13 +145,14 @@ module _ {D : Type 0} (state : D → DiskState) (images : D → ℕ → List ℕ
       slots = leaves_slots;
       journal = leaves_journal;
       agenda = refl;
+      fuse = keeps_same state old old refl refl refl;
     }
 
     pub asks_none : {T : Type 0} (r : Result T JournalFault) → IsNotDisk r → OnlyThese r → Asks state images old old r
     asks_none r not_disk only = asks_reads old r (reads_none r not_disk only)
 
     -- the device of the chunks alone was asked
-    module _ {T : Type 0} (dev : ChunkDev D) (leaves : AreSound state old → chunks.Leaves state images old.chunks dev (λ here. here ≡ chunks.chunks state old.chunks)) where
+    module _ {T : Type 0} (dev : ChunkDev D) (leaves : AreSound state old → chunks.Leaves state images old.chunks dev (λ here. here ≡ chunks.chunks state old.chunks)) (fuse : KeepsUnset state old (record old { chunks = dev })) where
       chunk_stays : (r : Result T JournalFault) → chunks.Stays state old.chunks dev → faults state (chunks.vault_of dev) ≡ faults state (chunks.vault_of old.chunks) → IsNotDisk r → OnlyThese r → Reads state images old (record old { chunks = dev }) r
       chunk_stays r stays counted not_disk only = record {
         stay = λ n. record { chunks = stays; slots = itself state _ _ old.slots.inner; journal = itself state _ _ old.journal.inner };
@@ -158,6 +163,7 @@ module _ {D : Type 0} (state : D → DiskState) (images : D → ℕ → List ℕ
         slots = leaves_slots;
         journal = leaves_journal;
         agenda = refl;
+        fuse = fuse;
       }
 
       chunk_fails : IsDown (chunks.vault_of dev) → faults state (chunks.vault_of old.chunks) < faults state (chunks.vault_of dev) → Reads {T = T} state images old (record old { chunks = dev }) (Err Disk)
@@ -170,21 +176,22 @@ module _ {D : Type 0} (state : D → DiskState) (images : D → ℕ → List ℕ
         slots = leaves_slots;
         journal = leaves_journal;
         agenda = refl;
+        fuse = fuse;
       }
 
     -- a chunk was looked for
     pub chunk_read : (dev : ChunkDev D) (r : Result (List ℕ) ChunkFault) → chunks.Gets state images old.chunks dev r → (IsErrOf r chunk_faults.Absent → dev ≡ old.chunks)
         → Reads state images old (record old { chunks = dev }) (chunk_found r)
-    chunk_read dev (Ok x) k same = chunk_stays dev (λ s. k.any_moment up.chunks s.chunks) (Ok (Some x)) k.stays k.refuses.cause (λ is. cc) tt
+    chunk_read dev (Ok x) k same = chunk_stays dev (λ s. k.any_moment up.chunks s.chunks) (chunk_same state old dev k.fuse) (Ok (Some x)) k.stays k.refuses.cause (λ is. cc) tt
     chunk_read dev (Err chunk_faults.Absent) k same =
         let none : Option (List ℕ) = None in
         subst (λ (d : ChunkDev D). Reads state images old (record old { chunks = d }) (Ok none)) (sym (same refl)) (reads_none {T = Option (List ℕ)} (Ok None) (λ is. cc) tt)
-    chunk_read dev (Err chunk_faults.Disk) k same = chunk_fails dev (λ s. k.any_moment up.chunks s.chunks) (k.refuses.disk refl) (k.refuses.cause.0 refl)
-    chunk_read dev (Err chunk_faults.Memory) k same = chunk_stays dev (λ s. k.any_moment up.chunks s.chunks) (Err Memory) (k.memory refl) (k.refuses.cause.1 (λ is. cc)) (λ is. cc) (inr refl)
+    chunk_read dev (Err chunk_faults.Disk) k same = chunk_fails dev (λ s. k.any_moment up.chunks s.chunks) (chunk_same state old dev k.fuse) (k.refuses.disk refl) (k.refuses.cause.0 refl)
+    chunk_read dev (Err chunk_faults.Memory) k same = chunk_stays dev (λ s. k.any_moment up.chunks s.chunks) (chunk_same state old dev k.fuse) (Err Memory) (k.memory refl) (k.refuses.cause.1 (λ is. cc)) (λ is. cc) (inr refl)
     chunk_read dev (Err chunk_faults.Down) k same = let down : IsDown (chunks.vault_of old.chunks) = k.refuses.down.0 refl in let is = up.chunks in absurd cc
 
     -- the device of the slots alone was asked
-    module _ {T : Type 0} (dev : SlotDev D) (leaves : AreSound state old → slots.Leaves state images old.slots dev (λ here. here ≡ slots.held state old.slots)) where
+    module _ {T : Type 0} (dev : SlotDev D) (leaves : AreSound state old → slots.Leaves state images old.slots dev (λ here. here ≡ slots.held state old.slots)) (fuse : KeepsUnset state old (record old { slots = dev })) where
       slot_stays : (r : Result T JournalFault) → slots.Stays state old.slots dev → faults state (slots.vault_of dev) ≡ faults state (slots.vault_of old.slots) → IsNotDisk r → OnlyThese r → Reads state images old (record old { slots = dev }) r
       slot_stays r stays counted not_disk only = record {
         stay = λ n. record { chunks = itself state _ _ old.chunks.inner; slots = stays; journal = itself state _ _ old.journal.inner };
@@ -195,6 +202,7 @@ module _ {D : Type 0} (state : D → DiskState) (images : D → ℕ → List ℕ
         slots = leaves;
         journal = leaves_journal;
         agenda = refl;
+        fuse = fuse;
       }
 
       slot_fails : IsDown (slots.vault_of dev) → faults state (slots.vault_of old.slots) < faults state (slots.vault_of dev) → Reads {T = T} state images old (record old { slots = dev }) (Err Disk)
@@ -207,17 +215,18 @@ module _ {D : Type 0} (state : D → DiskState) (images : D → ℕ → List ℕ
         slots = leaves;
         journal = leaves_journal;
         agenda = refl;
+        fuse = fuse;
       }
 
     -- a row's slots were looked for
     pub slots_read : (dev : SlotDev D) (r : Result RowSlots SlotFault) → slots.Gets state images old.slots dev r → (IsErrOf r slot_faults.NoRow → dev ≡ old.slots)
         → Reads state images old (record old { slots = dev }) (slots_found r)
-    slots_read dev (Ok x) k same = slot_stays dev (λ s. k.any_moment up.slots s.slots) (Ok (Some x)) k.stays k.refuses.cause (λ is. cc) tt
+    slots_read dev (Ok x) k same = slot_stays dev (λ s. k.any_moment up.slots s.slots) (slot_same state old dev k.fuse) (Ok (Some x)) k.stays k.refuses.cause (λ is. cc) tt
     slots_read dev (Err slot_faults.NoRow) k same =
         let none : Option RowSlots = None in
         subst (λ (d : SlotDev D). Reads state images old (record old { slots = d }) (Ok none)) (sym (same refl)) (reads_none {T = Option RowSlots} (Ok None) (λ is. cc) tt)
-    slots_read dev (Err slot_faults.Disk) k same = slot_fails dev (λ s. k.any_moment up.slots s.slots) (k.refuses.disk refl) (k.refuses.cause.0 refl)
-    slots_read dev (Err slot_faults.Memory) k same = slot_stays dev (λ s. k.any_moment up.slots s.slots) (Err Memory) (k.memory refl) (k.refuses.cause.1 (λ is. cc)) (λ is. cc) (inr refl)
+    slots_read dev (Err slot_faults.Disk) k same = slot_fails dev (λ s. k.any_moment up.slots s.slots) (slot_same state old dev k.fuse) (k.refuses.disk refl) (k.refuses.cause.0 refl)
+    slots_read dev (Err slot_faults.Memory) k same = slot_stays dev (λ s. k.any_moment up.slots s.slots) (slot_same state old dev k.fuse) (Err Memory) (k.memory refl) (k.refuses.cause.1 (λ is. cc)) (λ is. cc) (inr refl)
     slots_read dev (Err slot_faults.Down) k same = let down : IsDown (slots.vault_of old.slots) = k.refuses.down.0 refl in let is = up.slots in absurd cc
 
     -- the rows that are kept in memory were listed
@@ -226,7 +235,7 @@ module _ {D : Type 0} (state : D → DiskState) (images : D → ℕ → List ℕ
       listed r not_disk only =
           slot_stays dev
           (λ s. subst (λ (v : Vault D). vaults.Leaves state images (slots.vault_of old.slots) v (λ l. data_of l ≡ slots.held state old.slots)) (sym vault) (leaves_slots s))
-          r stays (ap (λ (v : Vault D). faults state v) vault) not_disk only
+          (keeps_vaults state old (record old { slots = dev }) refl vault refl) r stays (ap (λ (v : Vault D). faults state v) vault) not_disk only
 
       pub slots_listed : (r : Result T SlotFault) → (IsErrOf r slot_faults.NoRow → ⊥) → (IsErrOf r slot_faults.Disk → ⊥) → (IsErrOf r slot_faults.Down → IsDown (slots.vault_of old.slots)) → Reads state images old (record old { slots = dev }) (caused slot_cause r)
       slots_listed (Ok x) no_row no_disk down = listed (Ok x) (λ is. cc) tt
@@ -236,7 +245,7 @@ module _ {D : Type 0} (state : D → DiskState) (images : D → ℕ → List ℕ
       slots_listed (Err slot_faults.Memory) no_row no_disk down = listed (Err Memory) (λ is. cc) (inr refl)
 
     -- the journal alone was asked
-    module _ {T : Type 0} (dev : PlanLog D) (leaves : AreSound state old → journals.Leaves state images old.journal dev (λ here. here ≡ journals.held state old.journal)) where
+    module _ {T : Type 0} (dev : PlanLog D) (leaves : AreSound state old → journals.Leaves state images old.journal dev (λ here. here ≡ journals.held state old.journal)) (fuse : KeepsUnset state old (record old { journal = dev })) where
       journal_stays : (r : Result T JournalFault) → journals.Stays state old.journal dev → faults state (journals.vault_of dev) ≡ faults state (journals.vault_of old.journal) → IsNotDisk r → OnlyThese r → Reads state images old (record old { journal = dev }) r
       journal_stays r stays counted not_disk only = record {
         stay = λ n. record { chunks = itself state _ _ old.chunks.inner; slots = itself state _ _ old.slots.inner; journal = stays };
@@ -247,6 +256,7 @@ module _ {D : Type 0} (state : D → DiskState) (images : D → ℕ → List ℕ
         slots = leaves_slots;
         journal = leaves;
         agenda = refl;
+        fuse = fuse;
       }
 
       journal_fails : IsDown (journals.vault_of dev) → faults state (journals.vault_of old.journal) < faults state (journals.vault_of dev) → Reads {T = T} state images old (record old { journal = dev }) (Err Disk)
@@ -259,13 +269,14 @@ module _ {D : Type 0} (state : D → DiskState) (images : D → ℕ → List ℕ
         slots = leaves_slots;
         journal = leaves;
         agenda = refl;
+        fuse = fuse;
       }
 
     -- the commit at work was read
     pub commit_read : {T : Type 0} (dev : PlanLog D) (r : Result T PlanFault) → journals.Gets state images old.journal dev r → Reads state images old (record old { journal = dev }) (caused journal_cause r)
-    commit_read dev (Ok x) k = journal_stays dev (λ s. k.any_moment up.journal s.journal) (Ok x) k.stays k.refuses.cause (λ is. cc) tt
-    commit_read dev (Err journal_faults.Disk) k = journal_fails dev (λ s. k.any_moment up.journal s.journal) (k.refuses.disk refl) (k.refuses.cause.0 refl)
-    commit_read dev (Err journal_faults.Memory) k = journal_stays dev (λ s. k.any_moment up.journal s.journal) (Err Memory) (k.memory refl) (k.refuses.cause.1 (λ is. cc)) (λ is. cc) (inr refl)
+    commit_read dev (Ok x) k = journal_stays dev (λ s. k.any_moment up.journal s.journal) (journal_same state old dev k.fuse) (Ok x) k.stays k.refuses.cause (λ is. cc) tt
+    commit_read dev (Err journal_faults.Disk) k = journal_fails dev (λ s. k.any_moment up.journal s.journal) (journal_same state old dev k.fuse) (k.refuses.disk refl) (k.refuses.cause.0 refl)
+    commit_read dev (Err journal_faults.Memory) k = journal_stays dev (λ s. k.any_moment up.journal s.journal) (journal_same state old dev k.fuse) (Err Memory) (k.memory refl) (k.refuses.cause.1 (λ is. cc)) (λ is. cc) (inr refl)
     commit_read dev (Err journal_faults.Down) k = let down : IsDown (journals.vault_of old.journal) = k.refuses.down.0 refl in let is = up.journal in absurd cc
 
 -- ---- one call, and then another
@@ -293,6 +304,7 @@ module _ {D T S : Type 0} (state : D → DiskState) (images : D → ℕ → List
     journal = λ s. runs_then state images (journals.vault_of old.journal) (journals.vault_of mid.journal) (journals.vault_of new.journal) (λ l. journal_of l ≡ journals.held state old.journal) (λ l. journal_of l ≡ journals.held state mid.journal) (λ l. journal_of l ≡ journals.held state old.journal)
         (a.journal s) (b.journal (stay_sound state old mid first s)) (λ l is. is) (λ l is. is ∙ ap journal_of first.journal.same);
     agenda = b.agenda ∙ a.agenda;
+    fuse = keeps_then state old mid new a.fuse b.fuse;
   }
 
 -- the same under another answer, which isn't that of a disk
@@ -306,6 +318,7 @@ reads_other state images old new x w r not_disk only = record {
   slots = w.slots;
   journal = w.journal;
   agenda = w.agenda;
+  fuse = w.fuse;
 }
 
 -- the same fault in another answer
@@ -319,6 +332,7 @@ reads_err {D} {T} {S} state images old new e w = record {
   slots = w.slots;
   journal = w.journal;
   agenda = w.agenda;
+  fuse = w.fuse;
 }
   where
     not_it : IsNotDisk {T = T} (Err e) → IsNotDisk {T = S} (Err e)
@@ -369,4 +383,5 @@ module _ {D T S : Type 0} (state : D → DiskState) (images : D → ℕ → List
     any_moment = λ up sound. let l = leave_both up sound in all_same state images only_now old new l.chunks l.slots l.journal;
     leave = leave_both;
     agenda = b.agenda ∙ a.agenda;
+    fuse = keeps_then state old mid new a.fuse b.fuse;
   }

@@ -11,6 +11,7 @@ use Rattle.client_journal.specs.Devs.{Write}
 use Rattle.client_journal.specs.Standing.{writes_of, AreUp, IsReady}
 use Rattle.client_journal.specs.TakesOn.{Waits, IsFree, TakesOn}
 use Rattle.client_journal.proofs.Works.{all_same, rests_leave, up_or_down}
+use Rattle.client_journal.proofs.Fusing.{keeps_then, keeps_same}
 
 module _ {D T : Type 0} (state : D → DiskState) (images : D → ℕ → List ℕ → Type 0) (only_now : (disk : D) (image : List ℕ) → images disk (state disk).moment image → IsImage (state disk).pending image) (is_spent : Type 0) (writes : T → List Write) (old : Journal D) where
   -- where they aren't free
@@ -32,6 +33,7 @@ module _ {D T : Type 0} (state : D → DiskState) (images : D → ℕ → List �
     unchanged = λ not_disk not_memory. refl;
     disk = λ is. let same : e ≡ Disk = cc in absurd (⊎_elim (λ down. cc) (λ busy. cc) f.only);
     counted = λ n. refl;
+    fuse = keeps_same state old old refl refl refl;
   }
 
   module _ (up : AreUp old) (idle : writes_of old ≡ []) (rests : IsReady state old []) where
@@ -50,6 +52,7 @@ module _ {D T : Type 0} (state : D → DiskState) (images : D → ℕ → List �
       unchanged = λ not_disk not_memory. refl;
       disk = λ is. cc;
       counted = λ n. refl;
+      fuse = keeps_same state old old refl refl refl;
     }
 
     module _ (not_spent : is_spent → ⊥) (new : Journal D) where
@@ -70,6 +73,7 @@ module _ {D T : Type 0} (state : D → DiskState) (images : D → ℕ → List �
         unchanged = λ not_disk not_memory. absurd (⊎_elim not_disk not_memory w.only);
         disk = λ is. w.disk (let same : e ≡ Disk = cc in ap (λ (x : JournalFault). Err x) same);
         counted = λ n. w.counted (λ is. n (let same : e ≡ Disk = cc in ap (λ (x : JournalFault). Err x) same));
+        fuse = w.fuse;
       }
 
       pub was_taken : {S : Type 0} (mid : Journal D) (s : S) (x : T) → Waits {T = S} state images old mid (Ok s) → new.chunks ≡ mid.chunks → new.slots ≡ mid.slots → new.journal ≡ mid.journal → writes_of new ≡ writes x → IsReady state new (writes_of new)
@@ -88,4 +92,5 @@ module _ {D T : Type 0} (state : D → DiskState) (images : D → ℕ → List �
         unchanged = tt;
         disk = λ is. cc;
         counted = λ n. rw (cs, rs, ls) (w.counted (λ is. cc));
+        fuse = keeps_then state old mid new w.fuse (keeps_same state mid new cs rs ls);
       }

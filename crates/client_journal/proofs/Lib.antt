@@ -31,3 +31,5 @@ pub mod Sparing
 pub mod Renewing
 pub mod Resting
 pub mod Refusals
+pub mod Fusing
+pub mod Arming

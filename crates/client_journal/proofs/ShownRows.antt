@@ -89,6 +89,7 @@ asks_other state images old new x k r not_disk not_down only = record {
   any_moment = k.any_moment;
   leave = k.leave;
   agenda = k.agenda;
+  fuse = k.fuse;
 }
 
 pub asks_err : {D T S : Type 0} (state : D → DiskState) (images : D → ℕ → List ℕ → Type 0) (old new : Journal D) (e : JournalFault) → Asks {T = S} state images old new (Err e) → Asks {T = T} state images old new (Err e)
@@ -103,6 +104,7 @@ asks_err {D} {T} {S} state images old new e k = record {
   any_moment = k.any_moment;
   leave = k.leave;
   agenda = k.agenda;
+  fuse = k.fuse;
 }
   where
     not_it : IsNotDisk {T = T} (Err e) → IsNotDisk {T = S} (Err e)

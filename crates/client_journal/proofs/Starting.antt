@@ -38,7 +38,9 @@ use Rattle.client_journal.specs.Devs.{ClientDevs}
 use Rattle.client_journal.specs.Standing.{devs, AreUp, IsReady}
 use Rattle.client_journal.specs.TakesOn.{IsNotDisk}
 use Rattle.client_journal.specs.Recover.{IsStarting, Starts}
+use Rattle.client_journal.specs.Unset.{KeepsUnset}
 use Rattle.client_journal.proofs.Works.{still_chunk, still_slot, still_journal}
+use Rattle.client_journal.proofs.Fusing.{keeps_then, keeps_vaults, keeps_same, chunk_same, slot_same, journal_same}
 
 abbrev OnlyThese : {T : Type 0} → Result T JournalFault → Type 0
 OnlyThese result = IfErr result (λ e. (e ≡ Disk) ⊎ (e ≡ Memory))
@@ -56,9 +58,10 @@ module _ {D : Type 0} (state : D → DiskState) (images : D → ℕ → List ℕ
     chunks = still_chunk state images only_now old.chunks s.looked.chunks.vault s.sound.chunks;
     slots = still_slot state images only_now old.slots s.looked.slots.vault s.sound.slots;
     journal = still_journal state images only_now old.journal s.looked.journal.vault s.sound.journal;
+    fuse = keeps_same state old old refl refl refl;
   }
 
-  module _ (dev : ChunkDev D) (leaves : chunks.Leaves state images old.chunks dev (λ here. here ≡ chunks.chunks state old.chunks)) where
+  module _ (dev : ChunkDev D) (leaves : chunks.Leaves state images old.chunks dev (λ here. here ≡ chunks.chunks state old.chunks)) (fuse : KeepsUnset state old (record old { chunks = dev })) where
     chunk_stays : {T : Type 0} (r : Result T JournalFault) → chunks.Stays state old.chunks dev → faults state (chunks.vault_of dev) ≡ faults state (chunks.vault_of old.chunks) → IsNotDisk r
         → OnlyThese r
         → Starts state images old (record old { chunks = dev }) r
@@ -77,6 +80,7 @@ module _ {D : Type 0} (state : D → DiskState) (images : D → ℕ → List ℕ
       chunks = leaves;
       slots = still_slot state images only_now old.slots s.looked.slots.vault s.sound.slots;
       journal = still_journal state images only_now old.journal s.looked.journal.vault s.sound.journal;
+      fuse = fuse;
     }
 
     chunk_fails : {T : Type 0} → IsDown (chunks.vault_of dev) → faults state (chunks.vault_of old.chunks) < faults state (chunks.vault_of dev) → Starts {T = T} state images old (record old { chunks = dev }) (Err Disk)
@@ -90,13 +94,14 @@ module _ {D : Type 0} (state : D → DiskState) (images : D → ℕ → List ℕ
       chunks = leaves;
       slots = still_slot state images only_now old.slots s.looked.slots.vault s.sound.slots;
       journal = still_journal state images only_now old.journal s.looked.journal.vault s.sound.journal;
+      fuse = fuse;
     }
 
   module _ (dev : ChunkDev D) (puts bytes : ℕ) where
     pub chunk_start_reserved : (r : Result (Unit {0}) ChunkFault) → chunks.Reserves state images puts bytes old.chunks dev r → Starts state images old (record old { chunks = dev }) (caused chunk_cause r)
-    chunk_start_reserved (Ok x) k = chunk_stays dev (k.any_moment s.looked.chunks.vault.up s.sound.chunks) (Ok x) k.stays k.refuses.cause (λ is. cc) tt
-    chunk_start_reserved (Err chunk_faults.Disk) k = chunk_fails dev (k.any_moment s.looked.chunks.vault.up s.sound.chunks) (k.refuses.disk refl) (k.refuses.cause.0 refl)
-    chunk_start_reserved (Err chunk_faults.Memory) k = chunk_stays dev (k.any_moment s.looked.chunks.vault.up s.sound.chunks) (Err Memory) (k.memory refl) (k.refuses.cause.1 (λ is. cc)) (λ is. cc) (inr refl)
+    chunk_start_reserved (Ok x) k = chunk_stays dev (k.any_moment s.looked.chunks.vault.up s.sound.chunks) (chunk_same state old dev k.fuse) (Ok x) k.stays k.refuses.cause (λ is. cc) tt
+    chunk_start_reserved (Err chunk_faults.Disk) k = chunk_fails dev (k.any_moment s.looked.chunks.vault.up s.sound.chunks) (chunk_same state old dev k.fuse) (k.refuses.disk refl) (k.refuses.cause.0 refl)
+    chunk_start_reserved (Err chunk_faults.Memory) k = chunk_stays dev (k.any_moment s.looked.chunks.vault.up s.sound.chunks) (chunk_same state old dev k.fuse) (Err Memory) (k.memory refl) (k.refuses.cause.1 (λ is. cc)) (λ is. cc) (inr refl)
     chunk_start_reserved (Err chunk_faults.Down) k = let down : IsDown (chunks.vault_of old.chunks) = k.refuses.down.0 refl in let is = s.looked.chunks.vault.up in absurd cc
     chunk_start_reserved (Err chunk_faults.Absent) k = absurd (not_its k.only.0 k.only.1)
       where
@@ -109,7 +114,7 @@ module _ {D : Type 0} (state : D → DiskState) (images : D → ℕ → List ℕ
     chunk_start_room (Ok x) k = k.room
     chunk_start_room (Err e) k = tt
 
-  module _ (dev : SlotDev D) (leaves : slots.Leaves state images old.slots dev (λ here. here ≡ slots.held state old.slots)) where
+  module _ (dev : SlotDev D) (leaves : slots.Leaves state images old.slots dev (λ here. here ≡ slots.held state old.slots)) (fuse : KeepsUnset state old (record old { slots = dev })) where
     slot_stays : {T : Type 0} (r : Result T JournalFault) → slots.Stays state old.slots dev → faults state (slots.vault_of dev) ≡ faults state (slots.vault_of old.slots) → IsNotDisk r → OnlyThese r
         → Starts state images old (record old { slots = dev }) r
     slot_stays r stays counted not_disk only = record {
@@ -127,6 +132,7 @@ module _ {D : Type 0} (state : D → DiskState) (images : D → ℕ → List ℕ
       chunks = still_chunk state images only_now old.chunks s.looked.chunks.vault s.sound.chunks;
       slots = leaves;
       journal = still_journal state images only_now old.journal s.looked.journal.vault s.sound.journal;
+      fuse = fuse;
     }
 
     slot_fails : {T : Type 0} → IsDown (slots.vault_of dev) → faults state (slots.vault_of old.slots) < faults state (slots.vault_of dev) → Starts {T = T} state images old (record old { slots = dev }) (Err Disk)
@@ -140,13 +146,14 @@ module _ {D : Type 0} (state : D → DiskState) (images : D → ℕ → List ℕ
       chunks = still_chunk state images only_now old.chunks s.looked.chunks.vault s.sound.chunks;
       slots = leaves;
       journal = still_journal state images only_now old.journal s.looked.journal.vault s.sound.journal;
+      fuse = fuse;
     }
 
   module _ (dev : SlotDev D) (puts bytes : ℕ) where
     pub slot_start_reserved : (r : Result (Unit {0}) SlotFault) → slots.Reserves state images puts bytes old.slots dev r → Starts state images old (record old { slots = dev }) (caused slot_cause r)
-    slot_start_reserved (Ok x) k = slot_stays dev (k.any_moment s.looked.slots.vault.up s.sound.slots) (Ok x) k.stays k.refuses.cause (λ is. cc) tt
-    slot_start_reserved (Err slot_faults.Disk) k = slot_fails dev (k.any_moment s.looked.slots.vault.up s.sound.slots) (k.refuses.disk refl) (k.refuses.cause.0 refl)
-    slot_start_reserved (Err slot_faults.Memory) k = slot_stays dev (k.any_moment s.looked.slots.vault.up s.sound.slots) (Err Memory) (k.memory refl) (k.refuses.cause.1 (λ is. cc)) (λ is. cc) (inr refl)
+    slot_start_reserved (Ok x) k = slot_stays dev (k.any_moment s.looked.slots.vault.up s.sound.slots) (slot_same state old dev k.fuse) (Ok x) k.stays k.refuses.cause (λ is. cc) tt
+    slot_start_reserved (Err slot_faults.Disk) k = slot_fails dev (k.any_moment s.looked.slots.vault.up s.sound.slots) (slot_same state old dev k.fuse) (k.refuses.disk refl) (k.refuses.cause.0 refl)
+    slot_start_reserved (Err slot_faults.Memory) k = slot_stays dev (k.any_moment s.looked.slots.vault.up s.sound.slots) (slot_same state old dev k.fuse) (Err Memory) (k.memory refl) (k.refuses.cause.1 (λ is. cc)) (λ is. cc) (inr refl)
     slot_start_reserved (Err slot_faults.Down) k = let down : IsDown (slots.vault_of old.slots) = k.refuses.down.0 refl in let is = s.looked.slots.vault.up in absurd cc
     slot_start_reserved (Err slot_faults.NoRow) k = absurd (not_its k.only.0 k.only.1)
       where
@@ -159,7 +166,7 @@ module _ {D : Type 0} (state : D → DiskState) (images : D → ℕ → List ℕ
     slot_start_room (Ok x) k = k.room
     slot_start_room (Err e) k = tt
 
-  module _ (dev : PlanLog D) (leaves : journals.Leaves state images old.journal dev (λ here. here ≡ journals.held state old.journal)) where
+  module _ (dev : PlanLog D) (leaves : journals.Leaves state images old.journal dev (λ here. here ≡ journals.held state old.journal)) (fuse : KeepsUnset state old (record old { journal = dev })) where
     journal_stays : {T : Type 0} (r : Result T JournalFault) → journals.Stays state old.journal dev → faults state (journals.vault_of dev) ≡ faults state (journals.vault_of old.journal) → IsNotDisk r → OnlyThese r
         → Starts state images old (record old { journal = dev }) r
     journal_stays r stays counted not_disk only = record {
@@ -177,6 +184,7 @@ module _ {D : Type 0} (state : D → DiskState) (images : D → ℕ → List ℕ
       chunks = still_chunk state images only_now old.chunks s.looked.chunks.vault s.sound.chunks;
       slots = still_slot state images only_now old.slots s.looked.slots.vault s.sound.slots;
       journal = leaves;
+      fuse = fuse;
     }
 
     journal_fails : {T : Type 0} → IsDown (journals.vault_of dev) → faults state (journals.vault_of old.journal) < faults state (journals.vault_of dev) → Starts {T = T} state images old (record old { journal = dev }) (Err Disk)
@@ -190,13 +198,14 @@ module _ {D : Type 0} (state : D → DiskState) (images : D → ℕ → List ℕ
       chunks = still_chunk state images only_now old.chunks s.looked.chunks.vault s.sound.chunks;
       slots = still_slot state images only_now old.slots s.looked.slots.vault s.sound.slots;
       journal = leaves;
+      fuse = fuse;
     }
 
   module _ (dev : PlanLog D) (puts bytes : ℕ) where
     pub journal_start_reserved : (r : Result (Unit {0}) PlanFault) → journals.Reserves state images puts bytes old.journal dev r → Starts state images old (record old { journal = dev }) (caused journal_cause r)
-    journal_start_reserved (Ok x) k = journal_stays dev (k.any_moment s.looked.journal.vault.up s.sound.journal) (Ok x) k.stays k.refuses.cause (λ is. cc) tt
-    journal_start_reserved (Err journal_faults.Disk) k = journal_fails dev (k.any_moment s.looked.journal.vault.up s.sound.journal) (k.refuses.disk refl) (k.refuses.cause.0 refl)
-    journal_start_reserved (Err journal_faults.Memory) k = journal_stays dev (k.any_moment s.looked.journal.vault.up s.sound.journal) (Err Memory) (k.memory refl) (k.refuses.cause.1 (λ is. cc)) (λ is. cc) (inr refl)
+    journal_start_reserved (Ok x) k = journal_stays dev (k.any_moment s.looked.journal.vault.up s.sound.journal) (journal_same state old dev k.fuse) (Ok x) k.stays k.refuses.cause (λ is. cc) tt
+    journal_start_reserved (Err journal_faults.Disk) k = journal_fails dev (k.any_moment s.looked.journal.vault.up s.sound.journal) (journal_same state old dev k.fuse) (k.refuses.disk refl) (k.refuses.cause.0 refl)
+    journal_start_reserved (Err journal_faults.Memory) k = journal_stays dev (k.any_moment s.looked.journal.vault.up s.sound.journal) (journal_same state old dev k.fuse) (Err Memory) (k.memory refl) (k.refuses.cause.1 (λ is. cc)) (λ is. cc) (inr refl)
     journal_start_reserved (Err journal_faults.Down) k = let down : IsDown (journals.vault_of old.journal) = k.refuses.down.0 refl in let is = s.looked.journal.vault.up in absurd cc
 
     pub journal_start_room : (r : Result (Unit {0}) PlanFault) → journals.Reserves state images puts bytes old.journal dev r → OnOk (caused journal_cause r) (journals.HasRoom state dev 1 puts bytes)
@@ -205,9 +214,9 @@ module _ {D : Type 0} (state : D → DiskState) (images : D → ℕ → List ℕ
 
   module _ {T : Type 0} (dev : PlanLog D) where
     pub journal_read : (r : Result T PlanFault) → journals.Gets state images old.journal dev r → Starts state images old (record old { journal = dev }) (caused journal_cause r)
-    journal_read (Ok x) k = journal_stays dev (k.any_moment s.looked.journal.vault.up s.sound.journal) (Ok x) k.stays k.refuses.cause (λ is. cc) tt
-    journal_read (Err journal_faults.Disk) k = journal_fails dev (k.any_moment s.looked.journal.vault.up s.sound.journal) (k.refuses.disk refl) (k.refuses.cause.0 refl)
-    journal_read (Err journal_faults.Memory) k = journal_stays dev (k.any_moment s.looked.journal.vault.up s.sound.journal) (Err Memory) (k.memory refl) (k.refuses.cause.1 (λ is. cc)) (λ is. cc) (inr refl)
+    journal_read (Ok x) k = journal_stays dev (k.any_moment s.looked.journal.vault.up s.sound.journal) (journal_same state old dev k.fuse) (Ok x) k.stays k.refuses.cause (λ is. cc) tt
+    journal_read (Err journal_faults.Disk) k = journal_fails dev (k.any_moment s.looked.journal.vault.up s.sound.journal) (journal_same state old dev k.fuse) (k.refuses.disk refl) (k.refuses.cause.0 refl)
+    journal_read (Err journal_faults.Memory) k = journal_stays dev (k.any_moment s.looked.journal.vault.up s.sound.journal) (journal_same state old dev k.fuse) (Err Memory) (k.memory refl) (k.refuses.cause.1 (λ is. cc)) (λ is. cc) (inr refl)
     journal_read (Err journal_faults.Down) k = let down : IsDown (journals.vault_of old.journal) = k.refuses.down.0 refl in let is = s.looked.journal.vault.up in absurd cc
 
   -- the names below a count were read
@@ -216,7 +225,7 @@ module _ {D : Type 0} (state : D → DiskState) (images : D → ℕ → List ℕ
   chunks_told dev stays same r not_disk only =
       chunk_stays dev
       (subst (λ (v : Vault D). vaults.Leaves state images (chunks.vault_of old.chunks) v (λ l. chunks_of l ≡ chunks.chunks state old.chunks)) (sym same) (still_chunk state images only_now old.chunks s.looked.chunks.vault s.sound.chunks))
-      r stays (ap (λ (v : Vault D). faults state v) same) not_disk only
+      (keeps_vaults state old (record old { chunks = dev }) same refl refl) r stays (ap (λ (v : Vault D). faults state v) same) not_disk only
 
 -- one call, and then another
 module _ {D T S : Type 0} (state : D → DiskState) (images : D → ℕ → List ℕ → Type 0) (old mid new : Journal D) (first : Result T JournalFault) (not_disk : IsNotDisk first) (a : Starts state images old mid first) (r : Result S JournalFault) (b : Starts state images mid new r) where
@@ -237,6 +246,7 @@ module _ {D T S : Type 0} (state : D → DiskState) (images : D → ℕ → List
         a.slots b.slots (λ l is. is) (λ l is. is ∙ ap (λ (d : ClientDevs). d.held) before);
     journal = runs_then state images (journals.vault_of old.journal) (journals.vault_of mid.journal) (journals.vault_of new.journal) (λ l. journal_of l ≡ journals.held state old.journal) (λ l. journal_of l ≡ journals.held state mid.journal) (λ l. journal_of l ≡ journals.held state old.journal)
         a.journal b.journal (λ l is. is) (λ l is. is ∙ ap (λ (d : ClientDevs). d.journal) before);
+    fuse = keeps_then state old mid new a.fuse b.fuse;
   }
 
 -- the same under another answer, which isn't that of a disk
@@ -253,6 +263,7 @@ starts_other state images old new first was_not w r not_disk only = record {
   chunks = w.chunks;
   slots = w.slots;
   journal = w.journal;
+  fuse = w.fuse;
 }
 
 -- the same fault in another answer
@@ -267,6 +278,7 @@ starts_err {D} {T} {S} state images old new e w = record {
   chunks = w.chunks;
   slots = w.slots;
   journal = w.journal;
+  fuse = w.fuse;
 }
   where
     not_it : IsNotDisk {T = T} (Err e) → IsNotDisk {T = S} (Err e)

@@ -33,7 +33,9 @@ use Rattle.client_journal.specs.Fault.{caused, chunk_cause, slot_cause, journal_
 use Rattle.client_journal.specs.Devs.{ClientDevs}
 use Rattle.client_journal.specs.Standing.{devs, AreUp, IsReady}
 use Rattle.client_journal.specs.TakesOn.{IsNotDisk, Waits}
+use Rattle.client_journal.specs.Unset.{KeepsUnset}
 use Rattle.client_journal.proofs.Works.{still_chunk, still_slot, still_journal}
+use Rattle.client_journal.proofs.Fusing.{keeps_then, keeps_same, chunk_same, slot_same, journal_same}
 
 abbrev OnlyThese : {T : Type 0} → Result T JournalFault → Type 0
 OnlyThese result = IfErr result (λ e. (e ≡ Disk) ⊎ (e ≡ Memory))
@@ -52,9 +54,10 @@ module _ {D : Type 0} (state : D → DiskState) (images : D → ℕ → List ℕ
     chunks = still_chunk state images only_now old.chunks rests.chunk_looked.vault rests.chunk_sound;
     slots = still_slot state images only_now old.slots rests.slot_looked.vault rests.slot_sound;
     journal = still_journal state images only_now old.journal rests.journal_looked.vault rests.journal_sound;
+    fuse = keeps_same state old old refl refl refl;
   }
 
-  module _ (dev : ChunkDev D) (leaves : chunks.Leaves state images old.chunks dev (λ here. here ≡ chunks.chunks state old.chunks)) where
+  module _ (dev : ChunkDev D) (leaves : chunks.Leaves state images old.chunks dev (λ here. here ≡ chunks.chunks state old.chunks)) (fuse : KeepsUnset state old (record old { chunks = dev })) where
     chunk_stays : {T : Type 0} (r : Result T JournalFault) → chunks.Stays state old.chunks dev → faults state (chunks.vault_of dev) ≡ faults state (chunks.vault_of old.chunks) → IsNotDisk r
         → OnlyThese r
         → Waits state images old (record old { chunks = dev }) r
@@ -83,6 +86,7 @@ module _ {D : Type 0} (state : D → DiskState) (images : D → ℕ → List ℕ
       chunks = leaves;
       slots = still_slot state images only_now old.slots rests.slot_looked.vault rests.slot_sound;
       journal = still_journal state images only_now old.journal rests.journal_looked.vault rests.journal_sound;
+      fuse = fuse;
     }
 
     chunk_fails : {T : Type 0} → IsDown (chunks.vault_of dev) → faults state (chunks.vault_of old.chunks) < faults state (chunks.vault_of dev) → Waits {T = T} state images old (record old { chunks = dev }) (Err Disk)
@@ -97,13 +101,14 @@ module _ {D : Type 0} (state : D → DiskState) (images : D → ℕ → List ℕ
       chunks = leaves;
       slots = still_slot state images only_now old.slots rests.slot_looked.vault rests.slot_sound;
       journal = still_journal state images only_now old.journal rests.journal_looked.vault rests.journal_sound;
+      fuse = fuse;
     }
 
   module _ (dev : ChunkDev D) (puts bytes : ℕ) where
     pub chunk_reserved : (r : Result (Unit {0}) ChunkFault) → chunks.Reserves state images puts bytes old.chunks dev r → Waits state images old (record old { chunks = dev }) (caused chunk_cause r)
-    chunk_reserved (Ok x) k = chunk_stays dev (k.any_moment up.chunks rests.chunk_sound) (Ok x) k.stays k.refuses.cause (λ is. cc) tt
-    chunk_reserved (Err chunk_faults.Disk) k = chunk_fails dev (k.any_moment up.chunks rests.chunk_sound) (k.refuses.disk refl) (k.refuses.cause.0 refl)
-    chunk_reserved (Err chunk_faults.Memory) k = chunk_stays dev (k.any_moment up.chunks rests.chunk_sound) (Err Memory) (k.memory refl) (k.refuses.cause.1 (λ is. cc)) (λ is. cc) (inr refl)
+    chunk_reserved (Ok x) k = chunk_stays dev (k.any_moment up.chunks rests.chunk_sound) (chunk_same state old dev k.fuse) (Ok x) k.stays k.refuses.cause (λ is. cc) tt
+    chunk_reserved (Err chunk_faults.Disk) k = chunk_fails dev (k.any_moment up.chunks rests.chunk_sound) (chunk_same state old dev k.fuse) (k.refuses.disk refl) (k.refuses.cause.0 refl)
+    chunk_reserved (Err chunk_faults.Memory) k = chunk_stays dev (k.any_moment up.chunks rests.chunk_sound) (chunk_same state old dev k.fuse) (Err Memory) (k.memory refl) (k.refuses.cause.1 (λ is. cc)) (λ is. cc) (inr refl)
     chunk_reserved (Err chunk_faults.Down) k = let down : IsDown (chunks.vault_of old.chunks) = k.refuses.down.0 refl in let is = up.chunks in absurd cc
     chunk_reserved (Err chunk_faults.Absent) k = absurd (not_its k.only.0 k.only.1)
       where
@@ -116,7 +121,7 @@ module _ {D : Type 0} (state : D → DiskState) (images : D → ℕ → List ℕ
     chunk_has_room (Ok x) k = k.room
     chunk_has_room (Err e) k = tt
 
-  module _ (dev : SlotDev D) (leaves : slots.Leaves state images old.slots dev (λ here. here ≡ slots.held state old.slots)) where
+  module _ (dev : SlotDev D) (leaves : slots.Leaves state images old.slots dev (λ here. here ≡ slots.held state old.slots)) (fuse : KeepsUnset state old (record old { slots = dev })) where
     slot_stays : {T : Type 0} (r : Result T JournalFault) → slots.Stays state old.slots dev → faults state (slots.vault_of dev) ≡ faults state (slots.vault_of old.slots) → IsNotDisk r → OnlyThese r
         → Waits state images old (record old { slots = dev }) r
     slot_stays r stays counted not_disk only = record {
@@ -144,6 +149,7 @@ module _ {D : Type 0} (state : D → DiskState) (images : D → ℕ → List ℕ
       chunks = still_chunk state images only_now old.chunks rests.chunk_looked.vault rests.chunk_sound;
       slots = leaves;
       journal = still_journal state images only_now old.journal rests.journal_looked.vault rests.journal_sound;
+      fuse = fuse;
     }
 
     slot_fails : {T : Type 0} → IsDown (slots.vault_of dev) → faults state (slots.vault_of old.slots) < faults state (slots.vault_of dev) → Waits {T = T} state images old (record old { slots = dev }) (Err Disk)
@@ -158,13 +164,14 @@ module _ {D : Type 0} (state : D → DiskState) (images : D → ℕ → List ℕ
       chunks = still_chunk state images only_now old.chunks rests.chunk_looked.vault rests.chunk_sound;
       slots = leaves;
       journal = still_journal state images only_now old.journal rests.journal_looked.vault rests.journal_sound;
+      fuse = fuse;
     }
 
   module _ (dev : SlotDev D) (puts bytes : ℕ) where
     pub slot_reserved : (r : Result (Unit {0}) SlotFault) → slots.Reserves state images puts bytes old.slots dev r → Waits state images old (record old { slots = dev }) (caused slot_cause r)
-    slot_reserved (Ok x) k = slot_stays dev (k.any_moment up.slots rests.slot_sound) (Ok x) k.stays k.refuses.cause (λ is. cc) tt
-    slot_reserved (Err slot_faults.Disk) k = slot_fails dev (k.any_moment up.slots rests.slot_sound) (k.refuses.disk refl) (k.refuses.cause.0 refl)
-    slot_reserved (Err slot_faults.Memory) k = slot_stays dev (k.any_moment up.slots rests.slot_sound) (Err Memory) (k.memory refl) (k.refuses.cause.1 (λ is. cc)) (λ is. cc) (inr refl)
+    slot_reserved (Ok x) k = slot_stays dev (k.any_moment up.slots rests.slot_sound) (slot_same state old dev k.fuse) (Ok x) k.stays k.refuses.cause (λ is. cc) tt
+    slot_reserved (Err slot_faults.Disk) k = slot_fails dev (k.any_moment up.slots rests.slot_sound) (slot_same state old dev k.fuse) (k.refuses.disk refl) (k.refuses.cause.0 refl)
+    slot_reserved (Err slot_faults.Memory) k = slot_stays dev (k.any_moment up.slots rests.slot_sound) (slot_same state old dev k.fuse) (Err Memory) (k.memory refl) (k.refuses.cause.1 (λ is. cc)) (λ is. cc) (inr refl)
     slot_reserved (Err slot_faults.Down) k = let down : IsDown (slots.vault_of old.slots) = k.refuses.down.0 refl in let is = up.slots in absurd cc
     slot_reserved (Err slot_faults.NoRow) k = absurd (not_its k.only.0 k.only.1)
       where
@@ -177,7 +184,7 @@ module _ {D : Type 0} (state : D → DiskState) (images : D → ℕ → List ℕ
     slot_has_room (Ok x) k = k.room
     slot_has_room (Err e) k = tt
 
-  module _ (dev : PlanLog D) (leaves : journals.Leaves state images old.journal dev (λ here. here ≡ journals.held state old.journal)) where
+  module _ (dev : PlanLog D) (leaves : journals.Leaves state images old.journal dev (λ here. here ≡ journals.held state old.journal)) (fuse : KeepsUnset state old (record old { journal = dev })) where
     journal_stays : {T : Type 0} (r : Result T JournalFault) → journals.Stays state old.journal dev → faults state (journals.vault_of dev) ≡ faults state (journals.vault_of old.journal) → IsNotDisk r → OnlyThese r
         → Waits state images old (record old { journal = dev }) r
     journal_stays r stays counted not_disk only = record {
@@ -205,6 +212,7 @@ module _ {D : Type 0} (state : D → DiskState) (images : D → ℕ → List ℕ
       chunks = still_chunk state images only_now old.chunks rests.chunk_looked.vault rests.chunk_sound;
       slots = still_slot state images only_now old.slots rests.slot_looked.vault rests.slot_sound;
       journal = leaves;
+      fuse = fuse;
     }
 
     journal_fails : {T : Type 0} → IsDown (journals.vault_of dev) → faults state (journals.vault_of old.journal) < faults state (journals.vault_of dev) → Waits {T = T} state images old (record old { journal = dev }) (Err Disk)
@@ -219,13 +227,14 @@ module _ {D : Type 0} (state : D → DiskState) (images : D → ℕ → List ℕ
       chunks = still_chunk state images only_now old.chunks rests.chunk_looked.vault rests.chunk_sound;
       slots = still_slot state images only_now old.slots rests.slot_looked.vault rests.slot_sound;
       journal = leaves;
+      fuse = fuse;
     }
 
   module _ (dev : PlanLog D) (puts bytes : ℕ) where
     pub journal_reserved : (r : Result (Unit {0}) PlanFault) → journals.Reserves state images puts bytes old.journal dev r → Waits state images old (record old { journal = dev }) (caused journal_cause r)
-    journal_reserved (Ok x) k = journal_stays dev (k.any_moment up.journal rests.journal_sound) (Ok x) k.stays k.refuses.cause (λ is. cc) tt
-    journal_reserved (Err journal_faults.Disk) k = journal_fails dev (k.any_moment up.journal rests.journal_sound) (k.refuses.disk refl) (k.refuses.cause.0 refl)
-    journal_reserved (Err journal_faults.Memory) k = journal_stays dev (k.any_moment up.journal rests.journal_sound) (Err Memory) (k.memory refl) (k.refuses.cause.1 (λ is. cc)) (λ is. cc) (inr refl)
+    journal_reserved (Ok x) k = journal_stays dev (k.any_moment up.journal rests.journal_sound) (journal_same state old dev k.fuse) (Ok x) k.stays k.refuses.cause (λ is. cc) tt
+    journal_reserved (Err journal_faults.Disk) k = journal_fails dev (k.any_moment up.journal rests.journal_sound) (journal_same state old dev k.fuse) (k.refuses.disk refl) (k.refuses.cause.0 refl)
+    journal_reserved (Err journal_faults.Memory) k = journal_stays dev (k.any_moment up.journal rests.journal_sound) (journal_same state old dev k.fuse) (Err Memory) (k.memory refl) (k.refuses.cause.1 (λ is. cc)) (λ is. cc) (inr refl)
     journal_reserved (Err journal_faults.Down) k = let down : IsDown (journals.vault_of old.journal) = k.refuses.down.0 refl in let is = up.journal in absurd cc
 
     pub journal_has_room : (r : Result (Unit {0}) PlanFault) → journals.Reserves state images puts bytes old.journal dev r → OnOk (caused journal_cause r) (journals.HasRoom state dev 1 puts bytes)
@@ -252,6 +261,7 @@ module _ {D T S : Type 0} (state : D → DiskState) (images : D → ℕ → List
         a.slots b.slots (λ l is. is) (λ l is. is ∙ ap (λ (d : ClientDevs). d.held) before);
     journal = runs_then state images (journals.vault_of old.journal) (journals.vault_of mid.journal) (journals.vault_of new.journal) (λ l. journal_of l ≡ journals.held state old.journal) (λ l. journal_of l ≡ journals.held state mid.journal) (λ l. journal_of l ≡ journals.held state old.journal)
         a.journal b.journal (λ l is. is) (λ l is. is ∙ ap (λ (d : ClientDevs). d.journal) before);
+    fuse = keeps_then state old mid new a.fuse b.fuse;
   }
 
 -- the same under another answer, which isn't that of a disk
@@ -269,6 +279,7 @@ waits_other state images old new first was_not w r not_disk only = record {
   chunks = w.chunks;
   slots = w.slots;
   journal = w.journal;
+  fuse = w.fuse;
 }
 
 -- the same fault in another answer
@@ -284,6 +295,7 @@ waits_err {D} {T} {S} state images old new e w = record {
   chunks = w.chunks;
   slots = w.slots;
   journal = w.journal;
+  fuse = w.fuse;
 }
   where
     not_it : IsNotDisk {T = T} (Err e) → IsNotDisk {T = S} (Err e)

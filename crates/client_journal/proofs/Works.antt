@@ -724,11 +724,11 @@ module _ {D : Type 0} (state : D → DiskState) (images : D → ℕ → List ℕ
       let here : P file = (payloads state vault, sound, refl) in
       started state images (disk_of vault) P (λ image left. subst P (sym (settled_only file image (subst (λ q. IsImage q image) synced (only_now (disk_of vault) image left)))) here)
 
-  synced_slots : (dev : SlotDev D) → IsUp (slots.vault_of dev) → IsSynced state (slots.vault_of dev) → IsSound state (slots.vault_of dev)
+  pub synced_slots : (dev : SlotDev D) → IsUp (slots.vault_of dev) → IsSynced state (slots.vault_of dev) → IsSound state (slots.vault_of dev)
       → vaults.Leaves state images (slots.vault_of dev) (slots.vault_of dev) (λ l. data_of l ≡ slots.held state dev)
   synced_slots dev up synced sound = runs_weaker state images (slots.vault_of dev) (slots.vault_of dev) (λ l. l ≡ payloads state (slots.vault_of dev)) (λ l. data_of l ≡ slots.held state dev) (synced_leaves (slots.vault_of dev) (synced up) sound) (λ l is. ap data_of is)
 
-  synced_journal : (dev : PlanLog D) → IsUp (journals.vault_of dev) → IsSynced state (journals.vault_of dev) → IsSound state (journals.vault_of dev)
+  pub synced_journal : (dev : PlanLog D) → IsUp (journals.vault_of dev) → IsSynced state (journals.vault_of dev) → IsSound state (journals.vault_of dev)
       → vaults.Leaves state images (journals.vault_of dev) (journals.vault_of dev) (λ l. journal_of l ≡ journals.held state dev)
   synced_journal dev up synced sound = runs_weaker state images (journals.vault_of dev) (journals.vault_of dev) (λ l. l ≡ payloads state (journals.vault_of dev)) (λ l. journal_of l ≡ journals.held state dev) (synced_leaves (journals.vault_of dev) (synced up) sound) (λ l is. ap journal_of is)
 

@@ -16,6 +16,7 @@ use Rattle.client_journal.specs.declared.fault.JournalFault.TheVariants.{Disk, D
 use Rattle.client_journal.specs.Redone.{applied}
 use Rattle.client_journal.specs.Standing.{devs, writes_of, all_faults, AreUp, IsOneDown, AreSound, DevsLeave}
 use Rattle.client_journal.specs.TakesOn.{IsNotDisk}
+use Rattle.client_journal.specs.Unset.{KeepsUnset}
 
 -- the commit at work
 abbrev pub commit_of : AtWork → Option Commit
@@ -70,6 +71,7 @@ pub record Reads {D T : Type 0} (state : D → DiskState) (images : D → ℕ �
   pub journal : AreSound state old
       → journals.Leaves state images old.journal new.journal (λ here. here ≡ journals.held state old.journal)
   pub agenda : writes_of new ≡ writes_of old
+  pub fuse : KeepsUnset state old new
 
 -- A call that writes nothing: the devices stay, or a disk failed and its device is down. Each refusal has its cause.
 pub record Asks {D T : Type 0} (state : D → DiskState) (images : D → ℕ → List ℕ → Type 0) (old new : Journal D)
@@ -86,6 +88,7 @@ pub record Asks {D T : Type 0} (state : D → DiskState) (images : D → ℕ →
   -- so calls can be put together, one after the other
   pub leave : AreUp old → AreSound state old → AllLeave state images old new
   pub agenda : writes_of new ≡ writes_of old
+  pub fuse : KeepsUnset state old new
 
 -- a count stayed, or rose by one where it isn't at its end
 abbrev pub IsOnceMore : ℕ → ℕ → Type 0

@@ -22,6 +22,7 @@ use Rattle.client_journal.specs.Agenda.{Runs, IsRedoing, recovery_writes, AreLef
 use Rattle.client_journal.specs.Standing.{devs, writes_of, all_faults, AreUp, IsOneDown, AreLookedAt, AreSound}
 use Rattle.client_journal.specs.Standing.{HaveOpenings, IsReady, DevsLeave}
 use Rattle.client_journal.specs.TakesOn.{IsNotDisk}
+use Rattle.client_journal.specs.Unset.{KeepsUnset}
 
 -- What is told of the plan at work: a commit that is redone, by its table, its row and what it tells; or the row from
 -- the Store whose chunks were being brought.
@@ -73,6 +74,7 @@ pub record Starts {D T : Type 0} (state : D → DiskState) (images : D → ℕ �
   pub chunks : chunks.Leaves state images old.chunks new.chunks (λ here. here ≡ chunks.chunks state old.chunks)
   pub slots : slots.Leaves state images old.slots new.slots (λ here. here ≡ slots.held state old.slots)
   pub journal : journals.Leaves state images old.journal new.journal (λ here. here ≡ journals.held state old.journal)
+  pub fuse : KeepsUnset state old new
 
 -- nothing was done
 pub record StaysAtStart {D : Type 0} (state : D → DiskState) (old new : Journal D) : Type 0 where

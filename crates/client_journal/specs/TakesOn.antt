@@ -11,6 +11,7 @@ use Rattle.client_journal.specs.declared.fault.JournalFault.TheVariants.{Busy, S
 use Rattle.client_journal.specs.Devs.{Write}
 use Rattle.client_journal.specs.Plan.{plan_at_work}
 use Rattle.client_journal.specs.Standing.{devs, writes_of, AreUp, IsOneDown, all_faults, IsReady, DevsLeave}
+use Rattle.client_journal.specs.Unset.{KeepsUnset}
 
 abbrev pub IsNotDisk : {T : Type 0} → Result T JournalFault → Type 0
 IsNotDisk result = IsErrOf result Disk → ⊥
@@ -29,6 +30,7 @@ pub record Waits {D T : Type 0} (state : D → DiskState) (images : D → ℕ �
   pub chunks : chunks.Leaves state images old.chunks new.chunks (λ here. here ≡ chunks.chunks state old.chunks)
   pub slots : slots.Leaves state images old.slots new.slots (λ here. here ≡ slots.held state old.slots)
   pub journal : journals.Leaves state images old.journal new.journal (λ here. here ≡ journals.held state old.journal)
+  pub fuse : KeepsUnset state old new
 
 -- Whether writes can be taken on: each device is up, and none is to be done.
 pub record IsFree {D : Type 0} (state : D → DiskState) (client : Journal D)
@@ -61,3 +63,4 @@ pub record TakesOn {D T : Type 0} (state : D → DiskState) (images : D → ℕ 
   pub unchanged : IfErr result (λ e. (e ≡ Disk → ⊥) → (e ≡ Memory → ⊥) → new ≡ old)
   pub disk : IsErrOf result Disk → (all_faults state old < all_faults state new) × IsOneDown new
   pub counted : IsNotDisk result → all_faults state new ≡ all_faults state old
+  pub fuse : KeepsUnset state old new

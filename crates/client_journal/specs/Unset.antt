@@ -1,4 +1,4 @@
--- Fuses that aren't set, and those that are as new.
+-- Fuses that aren't set, those that are as new, and what a call keeps of both.
 use Rattle.std.specs.Prelude.{◌≡◌, ℕ, false}
 use Rattle.disk_trait.specs.Calls.{DiskState}
 use Rattle.vault.specs.Standing.{disk_of}
@@ -6,7 +6,7 @@ use Rattle.chunk_store.specs.Standing as chunks
 use Rattle.slot_store.specs.Standing as slots
 use Rattle.plan_log.specs.Standing as journals
 use Rattle.client_journal.specs.declared.devs.Journal.{Journal}
-use Rattle.client_journal.specs.Standing.{all_stops}
+pub use Rattle.client_journal.specs.Standing.{all_stops}
 
 -- no disk's fuse is set
 pub record AreUnset {D : Type 0} (state : D → DiskState) (client : Journal D) : Type 0 where
@@ -18,3 +18,9 @@ pub record AreUnset {D : Type 0} (state : D → DiskState) (client : Journal D) 
 pub record AreFresh {D : Type 0} (state : D → DiskState) (client : Journal D) : Type 0 where
   pub unset : AreUnset state client
   pub unstopped : all_stops state client ≡ 0
+
+-- Where no fuse was set, none is, and none has stopped a call.
+pub record KeepsUnset {D : Type 0} (state : D → DiskState) (old new : Journal D) : Type 0 where
+  pub unset : AreUnset state old → AreUnset state new
+  pub stopped : AreUnset state old → all_stops state new ≡ all_stops state old
+  pub fresh : AreFresh state old → AreFresh state new

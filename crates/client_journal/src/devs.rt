@@ -1,5 +1,5 @@
 //! The three devices of a client.
-ghost use Rattle.std.specs.Prelude.{◌≡◌, ◌↔◌, ℕ, List, [], ◌∷◌, IsErrOf, OnOk};
+ghost use Rattle.std.specs.Prelude.{◌≡◌, ◌↔◌, ◌+◌, ◌≤◌, ℕ, List, [], ◌∷◌, IsErrOf, OnOk};
 ghost use Rattle.std.specs.Bool.{MatchBool};
 ghost use Rattle.vault.specs.Standing.{disk_of};
 ghost use Rattle.vault.specs.Calls.{IsEither};
@@ -11,11 +11,13 @@ ghost use Rattle.plan_log.specs.declared.plan.Commit.{Commit};
 ghost use Rattle.plan_log.specs.Standing as journals;
 ghost use Rattle.client_journal.specs.Devs.{ClientDevs, Write, OpenJournal, OpenSlots, OpenChunks, PutIntend};
 ghost use Rattle.client_journal.specs.Devs.{PutChunk, PutCommit, PutSlots, PutRecord, DropChunk, PutDone};
+ghost use Rattle.client_journal.specs.Asking.{AllLeave};
 ghost use Rattle.client_journal.specs.Agenda.{Runs, IsMoment, IsRedoing};
 ghost use Rattle.client_journal.specs.Causes.{HasCause};
 ghost use Rattle.client_journal.specs.Standing.{write_of, writes_of, AreUp, IsOneDown, IsReady, Works, WorksOn, devs};
 ghost use Rattle.client_journal.specs.Standing.{DevsLeave, AreLookedAt, AreSound, AreSynced, AreBlank, HaveOpenings};
-ghost use Rattle.client_journal.specs.Standing.{nothing, GoesOn};
+ghost use Rattle.client_journal.specs.Standing.{all_stops, nothing, GoesOn};
+ghost use Rattle.client_journal.specs.Unset.{KeepsUnset};
 
 use crate::fault::{JournalFault, told};
 use crate::task::Task;
@@ -92,6 +94,8 @@ impl<D: Disk + Drop> Journal<D> {
     fn open_journal(&mut self) -> Result<(), JournalFault>
         requires up { AreUp self.old }
         requires ready { IsReady D.state self.old (OpenJournal ∷ writes_of self.old) }
+        ensures fuse { KeepsUnset D.state self.old self.new }
+        ensures once { all_stops D.state self.new ≤ all_stops D.state self.old + 1 }
         ensures works { Works D.state D.images OpenJournal (writes_of self.old) self.old self.new result }
         ensures agenda { self.new.agenda ≡ self.old.agenda }
     {
@@ -101,6 +105,8 @@ impl<D: Disk + Drop> Journal<D> {
     fn open_slots(&mut self) -> Result<(), JournalFault>
         requires up { AreUp self.old }
         requires ready { IsReady D.state self.old (OpenSlots ∷ writes_of self.old) }
+        ensures fuse { KeepsUnset D.state self.old self.new }
+        ensures once { all_stops D.state self.new ≤ all_stops D.state self.old + 1 }
         ensures works { Works D.state D.images OpenSlots (writes_of self.old) self.old self.new result }
         ensures agenda { self.new.agenda ≡ self.old.agenda }
     {
@@ -110,6 +116,8 @@ impl<D: Disk + Drop> Journal<D> {
     fn open_chunks(&mut self) -> Result<(), JournalFault>
         requires up { AreUp self.old }
         requires ready { IsReady D.state self.old (OpenChunks ∷ writes_of self.old) }
+        ensures fuse { KeepsUnset D.state self.old self.new }
+        ensures once { all_stops D.state self.new ≤ all_stops D.state self.old + 1 }
         ensures works { Works D.state D.images OpenChunks (writes_of self.old) self.old self.new result }
         ensures agenda { self.new.agenda ≡ self.old.agenda }
     {
@@ -119,6 +127,8 @@ impl<D: Disk + Drop> Journal<D> {
     fn put_intend(&mut self, intend: &Intend) -> Result<(), JournalFault>
         requires up { AreUp self.old }
         requires ready { IsReady D.state self.old (PutIntend intend.now ∷ writes_of self.old) }
+        ensures fuse { KeepsUnset D.state self.old self.new }
+        ensures once { all_stops D.state self.new ≤ all_stops D.state self.old + 1 }
         ensures works { Works D.state D.images (PutIntend intend.now) (writes_of self.old) self.old self.new result }
         ensures agenda { self.new.agenda ≡ self.old.agenda }
     {
@@ -128,6 +138,8 @@ impl<D: Disk + Drop> Journal<D> {
     fn put_chunk(&mut self, name: LocalName, bytes: &[u8]) -> Result<(), JournalFault>
         requires up { AreUp self.old }
         requires ready { IsReady D.state self.old (PutChunk name bytes.now ∷ writes_of self.old) }
+        ensures fuse { KeepsUnset D.state self.old self.new }
+        ensures once { all_stops D.state self.new ≤ all_stops D.state self.old + 1 }
         ensures works { Works D.state D.images (PutChunk name bytes.now) (writes_of self.old) self.old self.new result }
         ensures agenda { self.new.agenda ≡ self.old.agenda }
     {
@@ -141,6 +153,8 @@ impl<D: Disk + Drop> Journal<D> {
     fn put_commit(&mut self, commit: &Commit) -> Result<(), JournalFault>
         requires up { AreUp self.old }
         requires ready { IsReady D.state self.old (PutCommit commit.now ∷ writes_of self.old) }
+        ensures fuse { KeepsUnset D.state self.old self.new }
+        ensures once { all_stops D.state self.new ≤ all_stops D.state self.old + 1 }
         ensures works { Works D.state D.images (PutCommit commit.now) (writes_of self.old) self.old self.new result }
         ensures agenda { self.new.agenda ≡ self.old.agenda }
     {
@@ -150,6 +164,8 @@ impl<D: Disk + Drop> Journal<D> {
     fn put_slots(&mut self, row: &RowSlots) -> Result<(), JournalFault>
         requires up { AreUp self.old }
         requires ready { IsReady D.state self.old (PutSlots row.now ∷ writes_of self.old) }
+        ensures fuse { KeepsUnset D.state self.old self.new }
+        ensures once { all_stops D.state self.new ≤ all_stops D.state self.old + 1 }
         ensures works { Works D.state D.images (PutSlots row.now) (writes_of self.old) self.old self.new result }
         ensures agenda { self.new.agenda ≡ self.old.agenda }
     {
@@ -159,6 +175,8 @@ impl<D: Disk + Drop> Journal<D> {
     pub(crate) fn put_record(&mut self, table: &TableRecord) -> Result<(), JournalFault>
         requires up { AreUp self.old }
         requires ready { IsReady D.state self.old (PutRecord table.now ∷ writes_of self.old) }
+        ensures fuse { KeepsUnset D.state self.old self.new }
+        ensures once { all_stops D.state self.new ≤ all_stops D.state self.old + 1 }
         ensures works { Works D.state D.images (PutRecord table.now) (writes_of self.old) self.old self.new result }
         ensures agenda { self.new.agenda ≡ self.old.agenda }
     {
@@ -168,6 +186,8 @@ impl<D: Disk + Drop> Journal<D> {
     fn drop_chunk(&mut self, name: LocalName) -> Result<(), JournalFault>
         requires up { AreUp self.old }
         requires ready { IsReady D.state self.old (DropChunk name ∷ writes_of self.old) }
+        ensures fuse { KeepsUnset D.state self.old self.new }
+        ensures once { all_stops D.state self.new ≤ all_stops D.state self.old + 1 }
         ensures works { Works D.state D.images (DropChunk name) (writes_of self.old) self.old self.new result }
         ensures agenda { self.new.agenda ≡ self.old.agenda }
     {
@@ -181,6 +201,8 @@ impl<D: Disk + Drop> Journal<D> {
     fn put_done(&mut self) -> Result<(), JournalFault>
         requires up { AreUp self.old }
         requires ready { IsReady D.state self.old (PutDone ∷ writes_of self.old) }
+        ensures fuse { KeepsUnset D.state self.old self.new }
+        ensures once { all_stops D.state self.new ≤ all_stops D.state self.old + 1 }
         ensures works { Works D.state D.images PutDone (writes_of self.old) self.old self.new result }
         ensures agenda { self.new.agenda ≡ self.old.agenda }
     {
@@ -191,6 +213,8 @@ impl<D: Disk + Drop> Journal<D> {
     fn perform(&mut self, task: Task) -> Result<(), JournalFault>
         requires up { AreUp self.old }
         requires ready { IsReady D.state self.old (write_of task ∷ writes_of self.old) }
+        ensures fuse { KeepsUnset D.state self.old self.new }
+        ensures once { all_stops D.state self.new ≤ all_stops D.state self.old + 1 }
         ensures works { Works D.state D.images (write_of task) (writes_of self.old) self.old self.new result }
         ensures agenda { self.new.agenda ≡ self.old.agenda }
     {
@@ -211,6 +235,10 @@ impl<D: Disk + Drop> Journal<D> {
     /// Does the next write, if there is one. It takes no memory.
     pub fn work(&mut self) -> Result<Step, JournalFault>
         requires ready { AreUp self.old → IsReady D.state self.old (writes_of self.old) }
+        // A fuse that isn't set stops nothing.
+        ensures fuse { KeepsUnset D.state self.old self.new }
+        // It stops one call at most.
+        ensures once { all_stops D.state self.new ≤ all_stops D.state self.old + 1 }
         ensures works { AreUp self.old → WorksOn D.state D.images self.old self.new result (writes_of self.old) }
         ensures down { IsErrOf result JournalFault.Down ↔ IsOneDown self.old }
         ensures unchanged { IsErrOf result JournalFault.Down → self.new ≡ self.old }
@@ -268,6 +296,7 @@ impl<D: Disk + Drop> Journal<D> {
     /// vaults are then unopened.
     pub fn look(&mut self) -> Result<(), JournalFault>
         requires synced { AreSynced D.state self.old }
+        ensures fuse { KeepsUnset D.state self.old self.new }
         ensures cause { AreUp self.old → HasCause D.state self.old self.new result }
         ensures looked { OnOk result (AreLookedAt D.state self.new) }
         ensures same { OnOk result (devs D.state self.new ≡ devs D.state self.old) }
@@ -276,6 +305,8 @@ impl<D: Disk + Drop> Journal<D> {
         // Where the files stand for what is held, each crash at any moment leaves it.
         ensures any_moment { AreUp self.old → AreSound D.state self.old
             → DevsLeave D.state D.images self.old self.new (λ d. d ≡ devs D.state self.old) }
+        // So calls can be put together, one after the other.
+        ensures leave { AreUp self.old → AreSound D.state self.old → AllLeave D.state D.images self.old self.new }
         ensures agenda { self.new.agenda ≡ self.old.agenda }
     {
         self.chunks.look()?;
@@ -286,6 +317,7 @@ impl<D: Disk + Drop> Journal<D> {
 
     /// Makes the three disks those of no table. The devices are then at rest.
     pub fn format(&mut self) -> Result<(), JournalFault>
+        ensures fuse { AreUp self.old → KeepsUnset D.state self.old self.new }
         ensures cause { AreUp self.old → HasCause D.state self.old self.new result }
         ensures rests { OnOk result (IsReady D.state self.new []) }
         ensures empty { OnOk result (devs D.state self.new ≡ nothing) }

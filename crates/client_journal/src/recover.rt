@@ -18,11 +18,13 @@ ghost use Rattle.plan_log.specs.Standing as journals;
 ghost use Rattle.client_journal.specs.Devs.{local_of, OpenJournal, OpenSlots, OpenChunks, PutDone};
 ghost use Rattle.client_journal.specs.Redone.{row_behind, record_for};
 ghost use Rattle.client_journal.specs.NamedSlots.{IsNotCommitted};
+ghost use Rattle.client_journal.specs.Asking.{AllLeave};
 ghost use Rattle.client_journal.specs.Agenda.{drops, slot_writes, record_writes, AreLeftovers};
 ghost use Rattle.client_journal.specs.Made.{bytes_of_row, bytes_of_record, IsOld};
 ghost use Rattle.client_journal.specs.Recover.{rolled_of, AreStillThere, AreRecoveryWrites, IsStarting, Starts};
 ghost use Rattle.client_journal.specs.Recover.{Recovers};
 ghost use Rattle.client_journal.specs.Standing.{devs, write_of, AreUp, IsOneDown, IsReady};
+ghost use Rattle.client_journal.specs.Unset.{KeepsUnset};
 
 use crate::Journal;
 use crate::fault::{JournalFault, of_chunks, of_journal, of_slots};
@@ -407,7 +409,10 @@ impl<D: Disk + Drop> Journal<D> {
     /// the devices were looked at, and reads the commit.
     pub fn recover(&mut self) -> Result<Rolled, JournalFault>
         requires { AreUp self.old → IsStarting D.state self.old }
+        ensures fuse { KeepsUnset D.state self.old self.new }
         ensures recovers { AreUp self.old → Recovers D.state D.images self.old self.new result }
+        // So a call that reads can stand before or behind it.
+        ensures leave { AreUp self.old → AllLeave D.state D.images self.old self.new }
         ensures down { IsErrOf result JournalFault.Down ↔ IsOneDown self.old }
         ensures unchanged { IsErrOf result JournalFault.Down → self.new ≡ self.old }
     {

@@ -3,6 +3,7 @@ ghost use Rattle.std.specs.Prelude.{◌≡◌, ◌↔◌, filter, not, IfOk, IsE
 ghost use Rattle.client_journal.specs.Recover.{IsStarting};
 ghost use Rattle.client_journal.specs.Spare.{is_in, spares, Spares};
 ghost use Rattle.client_journal.specs.Standing.{write_of, AreUp, IsOneDown};
+ghost use Rattle.client_journal.specs.Unset.{KeepsUnset};
 
 use crate::Journal;
 use crate::fault::JournalFault;
@@ -46,6 +47,7 @@ impl<D: Disk + Drop> Journal<D> {
     /// once the devices were looked at and scanned.
     pub fn recover_sparing(&mut self, scanned: &Scanned) -> Result<Rolled, JournalFault>
         requires { AreUp self.old → IsStarting D.state self.old }
+        ensures fuse { KeepsUnset D.state self.old self.new }
         ensures spares { AreUp self.old → Spares D.state D.images scanned.now self.old self.new result }
         ensures down { IsErrOf result JournalFault.Down ↔ IsOneDown self.old }
         ensures unchanged { IsErrOf result JournalFault.Down → self.new ≡ self.old }

@@ -20,6 +20,7 @@ ghost use Rattle.client_journal.specs.Plan.{commit_for, intend_for, id_or, IsPla
 ghost use Rattle.client_journal.specs.Made.{bytes_of_row, bytes_of_record, IsMade, IsOld};
 ghost use Rattle.client_journal.specs.TakesOn.{IsNotDisk, Waits, IsFree, TakesOn};
 ghost use Rattle.client_journal.specs.Asking.{AllLeave};
+ghost use Rattle.client_journal.specs.Unset.{KeepsUnset};
 
 use crate::Journal;
 use crate::fault::{JournalFault, of_chunks, of_journal, of_slots};
@@ -220,6 +221,7 @@ impl<D: Disk + Drop> Journal<D> {
         requires idle { writes_of self.old ≡ [] }
         requires spelled { HasRecordSpelling table.now }
         requires short { length (record_payload table.now) ≤ payload_most }
+        ensures fuse { KeepsUnset D.state self.old self.new }
         ensures put { OnOk result (devs D.state self.new ≡ changed_by (devs D.state self.old) (PutRecord table.now)) }
         ensures up { OnOk result (AreUp self.new) }
         ensures rests { OnOk result (IsReady D.state self.new []) }

@@ -1,8 +1,9 @@
-use Rattle.std.proofs.Common.{◌≡◌, ◌+◌, List, [], ◌∷◌, length, sym, ◌∙◌, subst, arith}
+use Rattle.std.proofs.Common.{◌≡◌, ◌+◌, List, [], ◌∷◌, length, refl, sym, ◌∙◌, subst, arith}
 use Rattle.slot_store.specs.Spelling.{record_payload}
 use Rattle.client_journal.specs.Devs.{Write, PutRecord}
 use Rattle.client_journal.specs.Standing.{writes_of, IsReady}
 use Rattle.client_journal.proofs.Ready.{slot_less}
+use Rattle.client_journal.proofs.Fusing.{keeps_then, keeps_same}
 use Rattle.client_journal.proofs.devs.Journal.declare.Goals as goal
 
 pub put_record-requires-clause-ready : goal.put_record-requires-clause-ready
@@ -27,3 +28,12 @@ put_record-requires-clause-ready g c =
       journal_is_opened = r.journal_is_opened;
       journal_room = r.journal_room;
     })
+
+pub returns-in_err-size-clause-fuse : goal.returns-in_err-size-clause-fuse
+returns-in_err-size-clause-fuse g c = keeps_same g.D.Disk.state c.args.self.now c.args.self.now refl refl refl
+
+pub returns-in_err-reserve_slots-clause-fuse : goal.returns-in_err-reserve_slots-clause-fuse
+returns-in_err-reserve_slots-clause-fuse g c = c.reserve_slots.ensures.waits.fuse
+
+pub returns-clause-fuse : goal.returns-clause-fuse
+returns-clause-fuse g c = keeps_then g.D.Disk.state c.args.self.now c.reserve_slots.new.self c.put_record.new.self c.reserve_slots.ensures.waits.fuse c.put_record.ensures.fuse

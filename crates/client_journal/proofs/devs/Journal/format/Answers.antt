@@ -5,6 +5,7 @@ use Rattle.plan_log.specs.Standing as journals
 use Rattle.client_journal.proofs.Works.{one_blank, two_blank, all_blank, all_empty, at_rest}
 use Rattle.std.proofs.lemmas.Result.{err_from_is_err_and}
 use Rattle.client_journal.proofs.Refusals.{cause_then, chunk_caused, slot_caused, journal_caused}
+use Rattle.client_journal.proofs.Fusing.{keeps_then, keeps_same, chunk_burns, slot_burns, journal_burns}
 use Rattle.client_journal.proofs.devs.Journal.format.Goals as goal
 
 pub returns-in_err-format-clause-blank : goal.returns-in_err-format-clause-blank
@@ -70,3 +71,35 @@ returns-clause-cause g c up =
     let three = record two { journal = c.format-3.new.self } in
     let k = cause_then s old two three tt _ (cause_then s old one two tt (Ok tt) (chunk_caused s old c.format.new.self old.chunks c.format.new.self (Ok tt) c.in_ok-format.ensures.refuses c.in_ok-format.ensures.only up.chunks) (slot_caused s one c.format-2.new.self old.slots c.format-2.new.self (Ok tt) c.in_ok-format-2.ensures.formats.refuses c.in_ok-format-2.ensures.formats.only up.slots)) (journal_caused s two c.format-3.new.self old.journal c.format-3.new.self (Ok tt) c.in_ok-format-3.ensures.refuses c.in_ok-format-3.ensures.only up.journal) in
     record { cause = k.cause; only = k.only }
+
+pub returns-in_err-format-clause-fuse : goal.returns-in_err-format-clause-fuse
+returns-in_err-format-clause-fuse g c up =
+    let s = g.D.Disk.state in
+    let old = record c.args.self.now { agenda = c.clear.new.self } in
+    keeps_then s c.args.self.now old _ (keeps_same s c.args.self.now old refl refl refl) (chunk_burns s old c.format.new.self 3 c.format.result (c.format.ensures.fuse up.chunks))
+
+pub returns-in_err-format-2-clause-fuse : goal.returns-in_err-format-2-clause-fuse
+returns-in_err-format-2-clause-fuse g c up =
+    let s = g.D.Disk.state in
+    let old = record c.args.self.now { agenda = c.clear.new.self } in
+    let one = record old { chunks = c.format.new.self } in
+    let two = record one { slots = c.format-2.new.self } in
+    keeps_then s c.args.self.now old _ (keeps_same s c.args.self.now old refl refl refl) (keeps_then s old one two (chunk_burns s old c.format.new.self 3 c.format.result (c.format.ensures.fuse up.chunks)) (slot_burns s one c.format-2.new.self 3 c.format-2.result (c.format-2.ensures.formats.fuse up.slots)))
+
+pub returns-in_err-format-3-clause-fuse : goal.returns-in_err-format-3-clause-fuse
+returns-in_err-format-3-clause-fuse g c up =
+    let s = g.D.Disk.state in
+    let old = record c.args.self.now { agenda = c.clear.new.self } in
+    let one = record old { chunks = c.format.new.self } in
+    let two = record one { slots = c.format-2.new.self } in
+    let three = record two { journal = c.format-3.new.self } in
+    keeps_then s c.args.self.now old _ (keeps_same s c.args.self.now old refl refl refl) (keeps_then s old two three (keeps_then s old one two (chunk_burns s old c.format.new.self 3 c.format.result (c.format.ensures.fuse up.chunks)) (slot_burns s one c.format-2.new.self 3 c.format-2.result (c.format-2.ensures.formats.fuse up.slots))) (journal_burns s two c.format-3.new.self 3 c.format-3.result (c.format-3.ensures.fuse up.journal)))
+
+pub returns-clause-fuse : goal.returns-clause-fuse
+returns-clause-fuse g c up =
+    let s = g.D.Disk.state in
+    let old = record c.args.self.now { agenda = c.clear.new.self } in
+    let one = record old { chunks = c.format.new.self } in
+    let two = record one { slots = c.format-2.new.self } in
+    let three = record two { journal = c.format-3.new.self } in
+    keeps_then s c.args.self.now old _ (keeps_same s c.args.self.now old refl refl refl) (keeps_then s old two three (keeps_then s old one two (chunk_burns s old c.format.new.self 3 c.format.result (c.format.ensures.fuse up.chunks)) (slot_burns s one c.format-2.new.self 3 c.format-2.result (c.format-2.ensures.formats.fuse up.slots))) (journal_burns s two c.format-3.new.self 3 c.format-3.result (c.format-3.ensures.fuse up.journal)))

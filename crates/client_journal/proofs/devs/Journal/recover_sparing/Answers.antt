@@ -8,6 +8,7 @@ use Rattle.client_journal.specs.Spare.{is_in, unspared}
 use Rattle.client_journal.proofs.Recovers.{was_refused, was_recovered}
 use Rattle.client_journal.proofs.Starting.{starts_other}
 use Rattle.client_journal.proofs.Sparing.{refused, sparing, tasks_left}
+use Rattle.client_journal.proofs.Fusing.{keeps_then, keeps_same}
 use Rattle.client_journal.proofs.devs.Journal.recover_sparing.Goals as goal
 
 pub returns-in_err-rolled-clause-spares : goal.returns-in_err-rolled-clause-spares
@@ -35,3 +36,19 @@ returns-clause-spares g c up =
     sparing s i c.args.scanned.now c.args.self.now full new c.in_ok-rolled.rolled refl refl refl
     (was_recovered s i g.met.D.Disk.only_now c.args.self.now c.rolled.new.self (c.requires up) _ c.in_ok-rolled.rolled full k.starts refl refl refl k.answer k.tasks k.ready)
     (ap (λ l. map write_of l) c.in_ok-kept.ensures ∙ tasks_left (is_in c.args.scanned.now.named) c.in_ok-rolled.tasks.items)
+
+pub returns-then-is_down-clause-fuse : goal.returns-then-is_down-clause-fuse
+returns-then-is_down-clause-fuse g c = keeps_same g.D.Disk.state c.args.self.now c.args.self.now refl refl refl
+
+pub returns-in_err-rolled-clause-fuse : goal.returns-in_err-rolled-clause-fuse
+returns-in_err-rolled-clause-fuse g c = c.rolled.ensures.starts.fuse
+
+pub returns-in_err-kept-clause-fuse : goal.returns-in_err-kept-clause-fuse
+returns-in_err-kept-clause-fuse g c = c.rolled.ensures.starts.fuse
+
+pub returns-clause-fuse : goal.returns-clause-fuse
+returns-clause-fuse g c =
+    let s = g.D.Disk.state in
+    let mid = c.rolled.new.self in
+    let new = record mid { agenda = c.in_ok-kept.kept } in
+    keeps_then s c.args.self.now mid new c.rolled.ensures.starts.fuse (keeps_same s mid new refl refl refl)

@@ -11,6 +11,7 @@ use Rattle.client_journal.specs.Agenda.{Runs, IsMoment, IsRedoing}
 use Rattle.client_journal.specs.Standing.{write_of, writes_of, devs, IsReady, WorksOn}
 use Rattle.client_journal.proofs.Works.{works_named, works_failed, same_ready, same_works}
 use Rattle.client_journal.proofs.Moments.{goes_on}
+use Rattle.client_journal.proofs.Fusing.{keeps_then, keeps_same}
 use Rattle.client_journal.proofs.devs.Journal.work.Goals as goal
 
 pub perform-requires-clause-ready : goal.perform-requires-clause-ready
@@ -80,3 +81,33 @@ returns-then-is_empty-clause-redoing g c meaning before up runs =
     let none : length old.agenda.items ≡ 0 = first_of (grind (arith, nat_tests), grind (arith, common_steps), search (rules, eqb-true)) in
     let is : writes_of old ≡ [] = ap (map write_of) (nil_from_length old.agenda.items none) in
     goes_on s g.D.Disk.images g.met.D.Disk.only_now (IsRedoing meaning before) old old (Ok Idle) [] is (subst (λ (l : List Write). IsReady s old l) is (c.requires.ready up)) (refl, refl) (subst (λ (l : List Write). Runs (IsRedoing meaning before) (devs s old) l) is runs)
+
+pub returns-in-Ok-clause-fuse : goal.returns-in-Ok-clause-fuse
+returns-in-Ok-clause-fuse g c =
+    let s = g.D.Disk.state in
+    let popped = record c.args.self.now { agenda = c.pop_front.new.self } in
+    keeps_then s c.args.self.now popped c.perform.new.self (keeps_same s c.args.self.now popped refl refl refl) c.perform.ensures.fuse
+
+pub returns-in-Err-clause-fuse : goal.returns-in-Err-clause-fuse
+returns-in-Err-clause-fuse g c =
+    let s = g.D.Disk.state in
+    let popped = record c.args.self.now { agenda = c.pop_front.new.self } in
+    keeps_then s c.args.self.now popped c.perform.new.self (keeps_same s c.args.self.now popped refl refl refl) c.perform.ensures.fuse
+
+pub returns-then-is_empty-clause-fuse : goal.returns-then-is_empty-clause-fuse
+returns-then-is_empty-clause-fuse g c = keeps_same g.D.Disk.state c.args.self.now c.args.self.now refl refl refl
+
+pub returns-then-is_down-clause-fuse : goal.returns-then-is_down-clause-fuse
+returns-then-is_down-clause-fuse g c = keeps_same g.D.Disk.state c.args.self.now c.args.self.now refl refl refl
+
+pub returns-then-is_down-clause-once : goal.returns-then-is_down-clause-once
+returns-then-is_down-clause-once g c = omega arith
+
+pub returns-then-is_empty-clause-once : goal.returns-then-is_empty-clause-once
+returns-then-is_empty-clause-once g c = omega arith
+
+pub returns-in-Ok-clause-once : goal.returns-in-Ok-clause-once
+returns-in-Ok-clause-once g c = c.perform.ensures.once
+
+pub returns-in-Err-clause-once : goal.returns-in-Err-clause-once
+returns-in-Err-clause-once g c = c.perform.ensures.once

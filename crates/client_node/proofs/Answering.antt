@@ -8,18 +8,19 @@ use Rattle.disk_trait.specs.declared.fuse.FuseDisk.{FuseDisk}
 use Rattle.stab_base.specs.declared.limits.TheConstants.{NUMBER_MAX}
 use Rattle.client_journal.specs.declared.devs.Journal.{Journal}
 use Rattle.client_journal.specs.Plan.{plan_at_work}
-use Rattle.client_journal.specs.Standing.{devs, writes_of, all_faults}
+use Rattle.client_journal.specs.Standing.{devs, writes_of}
 use Rattle.step_tables.specs.Facts.{Answer, Refusal}
 use Rattle.step_tables.specs.Facts as facts
 use Rattle.step_tables.specs.ClientMoves.{ClientDisk, ClientTask, Client, ClientStep, ClientMove, Shape, quiet}
 use Rattle.client_node.specs.declared.fault.CallFault.{CallFault}
 use Rattle.client_node.specs.declared.fault.CallFault.TheVariants as call
 use Rattle.client_node.specs.declared.node.ClientNode.{ClientNode}
-use Rattle.client_node.specs.Node.{IsClient, IsNode, IsSame, told_by, sent_by, LeavesEither}
-use Rattle.client_node.specs.Calls.{Fell, Stays, IsBehind, faults_of}
+use Rattle.client_node.specs.Node.{IsClient, IsNode, IsSame, told_by, sent_by, own_faults, LeavesEither}
+use Rattle.client_node.specs.Calls.{Fell, Stays, IsBehind}
 use Rattle.client_node.specs.Looks.{IsNotDisk, Serves, Looks}
 use Rattle.client_node.specs.Does.{Does, IsOfNode, HasNoNumber, step_with, refusal_in}
 use Rattle.client_node.specs.Answers.{IsAnswered, IsFault}
+use Rattle.client_node.proofs.OwnFaults.{own_kept, fresh_now}
 use Rattle.client_node.proofs.Asked.{IsMid, mid_devs, again, call_leaves, call_fell, call_fell_leaves, call_fell_cause}
 
 pub disk_or : (e : CallFault) → (e ≡ call.Disk) ⊎ (e ≡ call.Disk → ⊥)
@@ -59,11 +60,16 @@ module _ {D : Type 0} (state : D → DiskState) (images : D → ℕ → List ℕ
     -- the devices hold what they held, and have the same to do
     pub stays : {T : Type 0} (r : Result T CallFault) (mid : ClientNode D) → IsMid old mid → Serves st im old.devs mid.devs r → IsNotDisk r → writes_of mid.devs ≡ writes_of old.devs → Stays state old mid (at disk agenda)
     stays r mid m k n writes = record {
-      client = again state images old mid m (k.same n) (k.up n) (k.ready n) writes disk agenda t is_up;
+      client = again state images old mid m (k.same n) (k.up n) k.fuse (k.ready n) writes disk agenda t is_up;
       told = m.told;
       sent = m.sent;
       same = record { number = m.number; linked = m.linked };
     }
+
+    -- no disk has failed
+    counted_with : {T : Type 0} (r : Result T CallFault) (client : Journal (FuseDisk D)) → Serves st im old.devs client r → IsNotDisk r → (new : ClientNode D) → new.devs ≡ client → own_faults state new ≡ own_faults state old
+    counted_with r client k n new is =
+        ap (λ (d : Journal (FuseDisk D)). own_faults state (record new { devs = d })) is ∙ own_kept state old (record new { devs = client }) (fresh_now state old disk agenda t) k.fuse (k.counted n)
 
     -- a call that is refused
     pub does_err : {S T : Type 0} (said : T → Answer) (e : CallFault) (mid : ClientNode D) → IsMid old mid → Serves {T = S} st im old.devs mid.devs (Err e)
@@ -96,7 +102,7 @@ module _ {D : Type 0} (state : D → DiskState) (images : D → ℕ → List ℕ
               spent = λ last was. spent last (of_err e (call.Spent last) was);
               kept = λ _. stays (Err e) mid m k n k.refused;
               fallen = λ is. absurd (apart (of_err e call.Disk is));
-              counted = λ _. k.counted n;
+              counted = λ _. own_kept state old mid (fresh_now state old disk agenda t) k.fuse (k.counted n);
               cause = λ is. absurd (apart (of_err e call.Disk is));
               any_moment = call_leaves state images only_now old disk agenda t is_up mid k.leave;
             })
@@ -110,7 +116,7 @@ module _ {D : Type 0} (state : D → DiskState) (images : D → ℕ → List ℕ
       spent = λ last no. absurd cc;
       kept = λ _. s;
       fallen = λ no. absurd cc;
-      counted = λ _. ap (λ (d : Journal (FuseDisk D)). all_faults st d) is ∙ k.counted (λ no. cc);
+      counted = λ _. counted_with (Ok x) client k (λ no. cc) new is;
       cause = λ no. absurd cc;
       any_moment = subst (λ (d : Journal (FuseDisk D)). LeavesEither state images old (record new { devs = d }) disk disk) (sym is) (call_leaves state images only_now old disk agenda t is_up (record new { devs = client }) k.leave);
     }
@@ -125,7 +131,7 @@ module _ {D : Type 0} (state : D → DiskState) (images : D → ℕ → List ℕ
       spent = λ last no. absurd cc;
       kept = λ _. tt;
       fallen = λ no. absurd cc;
-      counted = λ _. ap (λ (d : Journal (FuseDisk D)). all_faults st d) is ∙ k.counted (λ no. cc);
+      counted = λ _. counted_with (Ok x) client k (λ no. cc) new is;
       cause = λ no. absurd cc;
       any_moment = subst (λ (d : Journal (FuseDisk D)). LeavesEither state images old (record new { devs = d }) disk disk) (sym is) (call_leaves state images only_now old disk agenda t is_up (record new { devs = client }) k.leave);
     }

@@ -12,20 +12,22 @@ use Rattle.client_journal.specs.declared.devs.Journal.{Journal}
 use Rattle.client_journal.specs.Devs.{ClientDevs}
 use Rattle.client_journal.specs.Standing.{devs, writes_of, AreUp, IsReady, DevsLeave}
 use Rattle.client_journal.specs.Asking.{AllLeave}
+use Rattle.client_journal.specs.Unset.{KeepsUnset}
 use Rattle.client_journal.proofs.Works.{all_same}
 use Rattle.client_journal.proofs.Moments.{devs_weaker}
 use Rattle.step_tables.specs.ClientMoves.{ClientDisk, ClientTask, Client}
 use Rattle.client_node.specs.declared.fault.CallFault.{CallFault}
 use Rattle.client_node.specs.declared.fault.CallFault.TheVariants as call
 use Rattle.client_node.specs.declared.node.ClientNode.{ClientNode}
-use Rattle.client_node.specs.Node.{StandsFor, IsWorking, IsClient, IsSame, LeavesEither, told_by, sent_by}
-use Rattle.client_node.specs.Calls.{Fell, Stays, faults_of}
+use Rattle.client_node.specs.Node.{StandsFor, IsWorking, IsClient, IsSame, LeavesEither, told_by, sent_by, own_faults}
+use Rattle.client_node.specs.Calls.{Fell, Stays}
 use Rattle.client_node.specs.Looks.{IsNotDisk, Serves, Looks}
 use Rattle.client_node.specs.Waiting.{IsMore}
 use Rattle.client_node.specs.Steady.{IsSteady}
 use Rattle.gathering.specs.Room.{HasRoom}
 use Rattle.client_node.proofs.Steadies.{steady_more, tasks_more}
 use Rattle.client_node.proofs.Following.{follows_now}
+use Rattle.client_node.proofs.OwnFaults.{own_failed, fresh_now}
 use Rattle.client_node.proofs.Falling.{MayHold, fallen, fallen_leaves}
 
 -- a node amid a call: its devices were asked, room was made, and rows were noted
@@ -66,10 +68,10 @@ module _ {D : Type 0} (state : D → DiskState) (images : D → ℕ → List ℕ
   at disk agenda = record { disk = disk; agenda = agenda }
 
   -- devices that hold what they held, and have the same to do
-  pub again : (node mid : ClientNode D) → IsMid node mid → devs st mid.devs ≡ devs st node.devs → AreUp mid.devs → IsReady st mid.devs (writes_of mid.devs) → writes_of mid.devs ≡ writes_of node.devs
+  pub again : (node mid : ClientNode D) → IsMid node mid → devs st mid.devs ≡ devs st node.devs → AreUp mid.devs → KeepsUnset st node.devs mid.devs → IsReady st mid.devs (writes_of mid.devs) → writes_of mid.devs ≡ writes_of node.devs
       → (disk : ClientDisk) (agenda : Option (List ClientTask)) → IsClient state node (at disk agenda) → node.is_up ≡ true → IsClient state mid (at disk agenda)
-  again node mid m same up ready writes disk None t is_up = let no = t.at.0 in absurd cc
-  again node mid m same up ready writes disk (Some tasks) t is_up =
+  again node mid m same up keeps ready writes disk None t is_up = let no = t.at.0 in absurd cc
+  again node mid m same up keeps ready writes disk (Some tasks) t is_up =
       let h = t.at.1 in
       record {
         at = (
@@ -77,6 +79,7 @@ module _ {D : Type 0} (state : D → DiskState) (images : D → ℕ → List ℕ
           record {
             declared = m.declared ∙ h.declared;
             up = up;
+            fresh = keeps.fresh h.fresh;
             ready = ready;
             follows = rw (m.number, same, writes) h.follows;
             rests = rw (same, writes) h.rests;
@@ -144,5 +147,5 @@ module _ {D : Type 0} (state : D → DiskState) (images : D → ℕ → List ℕ
       pub call_fell_leaves : LeavesEither state images old new disk disk
       call_fell_leaves = fallen_leaves state images old mid new same_is mid.waiting f.falls.waiting declared_new f.down f.falls old.devs here here disk disk may run
 
-      pub call_fell_cause : faults_of state old < faults_of state new
-      call_fell_cause = let less = k.disk is in let n = f.falls.counted in omega (arith, less, n)
+      pub call_fell_cause : own_faults state old < own_faults state new
+      call_fell_cause = let less = own_failed state old mid (fresh_now state old disk agenda t) k.fuse (k.disk is) in let n = f.falls.counted in omega (arith, less, n)

@@ -30,6 +30,7 @@ module _ {D N : Type 0} (state : D → DiskState) (images : D → ℕ → List �
     counted = λ _. k.counted (λ is. cc);
     disk = λ is. absurd cc;
     leave = leave;
+    fuse = k.fuse;
   }
 
   -- why it isn't taken on
@@ -57,6 +58,7 @@ module _ {D N : Type 0} (state : D → DiskState) (images : D → ℕ → List �
     counted = λ n. k.counted (not_it n);
     disk = λ is. (k.disk (was_disk (which e k) is)).0;
     leave = leave;
+    fuse = k.fuse;
   }
     where
       not_it : IsNotDisk {T = T} (Err (fault_of e)) → IsErrOf {T = N} (Err e) journal.Disk → ⊥

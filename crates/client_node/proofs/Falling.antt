@@ -36,11 +36,13 @@ module _ {D : Type 0} (state : D → DiskState) (images : D → ℕ → List ℕ
         down,
         record {
           up = f.up;
+          fresh = f.fresh;
           idle = f.idle;
           synced = λ _. f.synced;
           sound = λ _. sound;
           stands = λ _. rw same.number stands;
-          nothing = λ is. absurd cc;
+          undeclared = λ is. absurd cc;
+          opens = λ is. absurd cc;
           steady = rw waits steady;
         },
       );

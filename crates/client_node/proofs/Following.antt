@@ -13,6 +13,7 @@ use Rattle.client_journal.specs.Devs as writes
 use Rattle.client_journal.specs.NamedSlots.{IsAtRest}
 use Rattle.client_journal.specs.Standing.{devs, writes_of, step_of, AreUp, IsReady}
 use Rattle.client_journal.specs.Standing as journals
+use Rattle.client_journal.specs.Unset.{KeepsUnset}
 use Rattle.step_tables.specs.declared.message.Message.{Message}
 use Rattle.step_tables.specs.Facts.{Fact}
 use Rattle.step_tables.specs.Messages.{Send}
@@ -20,6 +21,7 @@ use Rattle.step_tables.specs.ClientMoves.{ClientDisk, ClientChange, ClientTask, 
 use Rattle.step_tables.specs.ClientMoves as moves
 use Rattle.journal_laws.specs.Holds.{IsWriteOf}
 use Rattle.journal_laws.proofs.Crashes.{now}
+use Rattle.client_node.proofs.Fitting.{fit_now}
 use Rattle.client_node.proofs.Steadies.{steady_changed}
 use Rattle.gathering.specs.declared.gathered.Gathered.{Gathered}
 use Rattle.gathering.specs.Room.{HasRoom}
@@ -33,7 +35,7 @@ use Rattle.client_node.specs.Node.{AreOwed, StandsFor, FollowsFor, facts_owed, s
 -- ---- writes and tasks
 
 pub follows_now : (c : ℕ) (d : ClientDevs) (ws : List Write) (disk : ClientDisk) (tasks : List ClientTask) → FollowsFor c d ws disk tasks → StandsFor c d disk
-follows_now c d ws disk tasks f = (f.0, now c f.0 d ws disk tasks f.1)
+follows_now c d ws disk tasks f = (f.0, now c f.0 d ws disk tasks f.1, fit_now f.0 d ws f.2)
 
 pub no_write : (c : ℕ) (d : ClientDevs) (ws : List Write) (disk : ClientDisk) → FollowsFor c d ws disk [] → ws ≡ []
 no_write c d [] disk f = refl
@@ -82,16 +84,17 @@ module _ {D : Type 0} (state : D → DiskState) (images : D → ℕ → List ℕ
     step_w = let f = follows_w in same_step old.number f.0 w task.change f.1.1
 
     pub behind_w : FollowsFor old.number (changed_by here w) ws (changed disk task.change) tasks
-    behind_w = let f = follows_w in (f.0, f.1.2)
+    behind_w = let f = follows_w in (f.0, f.1.2, f.2.1)
 
     pub done_working : (client : Journal (FuseDisk D)) (facts : Gathered Told) (messages : Gathered (Option Node × Message)) (owed : Owed) (step : Step)
-        → journals.Works (behind state) (λ f. images (inner_of f)) w ws old.devs client (Ok step) → writes_of client ≡ ws
+        → journals.Works (behind state) (λ f. images (inner_of f)) w ws old.devs client (Ok step) → KeepsUnset (behind state) old.devs client → writes_of client ≡ ws
         → owed.when ≡ old.owed.when → facts_owed owed ≡ left_at old.owed.when (facts_owed old.owed) (step_of w) (is_last_of ws) → (is_last_of ws ≡ false → sends_owed owed ≡ sends_owed old.owed)
         → HasRoom facts (length owed.facts.items) → HasRoom messages (length owed.messages.items)
         → IsWorking state (record old { devs = client; facts = facts; messages = messages; owed = owed }) (changed disk task.change) tasks
-    done_working client facts messages owed step k rest when left sends fact_room message_room = record {
+    done_working client facts messages owed step k keeps rest when left sends fact_room message_room = record {
       declared = h.declared;
       up = k.up;
+      fresh = keeps.fresh h.fresh;
       ready = subst (λ (l : List Write). IsReady (behind state) client l) (sym rest) k.ready;
       follows = subst (λ (l : List Write). FollowsFor old.number (devs (behind state) client) l (changed disk task.change) tasks) (sym rest)
           (subst (λ (d : ClientDevs). FollowsFor old.number d ws (changed disk task.change) tasks) (sym k.devs_are) behind_w);

@@ -13,5 +13,5 @@ module _ {D : Type 0} (state : D → DiskState) (images : D → ℕ → List ℕ
   works_node s old new (Ok step) k = (_, k.done.0.client)
   works_node s old new (Err e) k = ⊎_elim (λ a. (_, a.client)) (λ a. (_, a.client)) k.failed
 
-  pub crashes_node : (s : Client) (old new : ClientNode D) → Crashes state images s old new → IsNode state new
-  crashes_node s old new k = ⊎_elim (λ a. (_, a.client)) (λ a. (_, a.client)) k.crashed
+  pub crashes_node : (calls : ℕ) (s : Client) (old new : ClientNode D) → Crashes state images calls s old new → IsNode state new
+  crashes_node calls s old new k = ⊎_elim (λ a. (_, a.client)) (λ a. (_, a.client)) k.crashed

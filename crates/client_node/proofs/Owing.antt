@@ -55,21 +55,21 @@ module _ (c : ℕ) (meaning : LocalName → List ℕ) where
 abbrev no_facts : List Fact
 no_facts = []
 
-none_told : (when : When) (step : Step) (last : Bool) → told_at when [] step last ≡ []
+pub none_told : (when : When) (step : Step) (last : Bool) → told_at when [] step last ≡ []
 none_told when step last = pick (is_due when step last)
   where
     pick : (b : Bool) → (if b then no_facts else no_facts) ≡ no_facts
     pick true = refl
     pick false = refl
 
-none_left : (when : When) (step : Step) (last : Bool) → left_at when [] step last ≡ []
+pub none_left : (when : When) (step : Step) (last : Bool) → left_at when [] step last ≡ []
 none_left when step last = pick (is_due when step last)
   where
     pick : (b : Bool) → (if b then no_facts else no_facts) ≡ no_facts
     pick true = refl
     pick false = refl
 
-abbrev AreQuiet : List ClientTask → Type 0
+abbrev pub AreQuiet : List ClientTask → Type 0
 AreQuiet [] = Unit {0}
 AreQuiet (task ∷ tasks) = (task.facts ≡ []) × (task.sends ≡ []) × AreQuiet tasks
 
@@ -87,15 +87,15 @@ quiet_front when sends (task ∷ front) rest q last h =
       subst (λ (l : List Fact). OwedTasks when l sends (front ++ rest)) (sym (none_left when step b)) (quiet_front when sends front rest q.2 last h),
     )
 
-keeps_quiet : (steps : List Step) → AreQuiet (keeps steps)
+pub keeps_quiet : (steps : List Step) → AreQuiet (keeps steps)
 keeps_quiet [] = tt
 keeps_quiet (step ∷ steps) = (refl, refl, keeps_quiet steps)
 
-row_quiet : (p : Plan) (o : Option RowPut) → AreQuiet (row_task p o)
+pub row_quiet : (p : Plan) (o : Option RowPut) → AreQuiet (row_task p o)
 row_quiet p None = tt
 row_quiet p (Some x) = (refl, refl, tt)
 
-table_quiet : (p : Plan) (o : Option ℕ) → AreQuiet (table_task p o)
+pub table_quiet : (p : Plan) (o : Option ℕ) → AreQuiet (table_task p o)
 table_quiet p None = tt
 table_quiet p (Some position) = (refl, refl, tt)
 

@@ -73,6 +73,7 @@ module _ {D : Type 0} (state : D → DiskState) (images : D → ℕ → List ℕ
             record {
               declared = h.declared ∙ w.declared;
               up = rw is w.up;
+              fresh = rw is w.fresh;
               ready = rw is w.ready;
               follows = rw (h.number, is) w.follows;
               rests = rw is w.rests;

@@ -17,6 +17,7 @@ use Rattle.client_journal.specs.Devs.{ClientDevs, Write}
 use Rattle.client_journal.specs.Standing.{devs, writes_of, all_faults, AreUp, AreLookedAt, AreSound, IsReady}
 use Rattle.client_journal.specs.Asking.{AllStay, AllLeave, Asks}
 use Rattle.client_journal.proofs.Asking.{stay_up}
+use Rattle.client_journal.proofs.Fusing.{keeps_then, keeps_same}
 use Rattle.client_journal.proofs.Fuses.{chunk_still_ready, slot_still_ready, journal_still_ready}
 use Rattle.client_journal.proofs.Works.{same_ready, up_or_down}
 use Rattle.client_journal.proofs.Resting.{rests_all}
@@ -75,6 +76,7 @@ module _ {D : Type 0} (state : D → DiskState) (images : D → ℕ → List ℕ
             counted = λ _. a.counted (λ is. cc);
             disk = λ is. absurd (n is);
             leave = a.leave up (ready_sound old (writes_of old) ready);
+            fuse = a.fuse;
           };
           agenda = a.agenda;
         }
@@ -90,6 +92,7 @@ module _ {D : Type 0} (state : D → DiskState) (images : D → ℕ → List ℕ
         counted = λ n. a.counted (not_it n);
         disk = λ is. (a.disk (was_disk e is (λ down. up_or_down old up (a.down.0 down)))).0;
         leave = a.leave up (ready_sound old (writes_of old) ready);
+        fuse = a.fuse;
       };
       agenda = a.agenda;
     }
@@ -119,6 +122,7 @@ module _ {D : Type 0} (state : D → DiskState) (images : D → ℕ → List ℕ
           counted = λ n. b.counted n ∙ counted;
           disk = λ is. let less = b.disk is in omega (arith, less, counted);
           leave = leave_then old mid new (a.serves.same (λ is. cc)) a.serves.leave b.leave;
+          fuse = keeps_then state old mid new a.serves.fuse b.fuse;
         }
       where
         behind : {T : Type 0} (r : Result T CallFault) → OnErr r (writes_of new ≡ writes_of mid) → OnErr r (writes_of new ≡ writes_of old)
@@ -139,6 +143,7 @@ module _ {D : Type 0} (state : D → DiskState) (images : D → ℕ → List ℕ
         counted = λ _. a.serves.counted (λ is. cc);
         disk = λ is. absurd (n is);
         leave = a.serves.leave;
+        fuse = a.serves.fuse;
       };
       agenda = a.agenda;
     }
@@ -153,6 +158,7 @@ module _ {D : Type 0} (state : D → DiskState) (images : D → ℕ → List ℕ
         counted = λ n. a.serves.counted (λ is. n (again is));
         disk = λ is. a.serves.disk (let same : e ≡ call.Disk = cc in ap (λ (x : CallFault). Err x) same);
         leave = a.serves.leave;
+        fuse = a.serves.fuse;
       };
       agenda = a.agenda;
     }
@@ -172,6 +178,7 @@ module _ {D : Type 0} (state : D → DiskState) (images : D → ℕ → List ℕ
       counted = λ _. refl;
       disk = λ is. absurd (n is);
       leave = rests_all state images only_now old (writes_of old) ready;
+      fuse = keeps_same state old old refl refl refl;
     };
     agenda = refl;
   }

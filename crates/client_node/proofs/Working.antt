@@ -12,9 +12,9 @@ use Rattle.step_tables.specs.declared.message.Message.{Message}
 use Rattle.client_journal.specs.declared.devs.Journal.{Journal}
 use Rattle.client_journal.specs.declared.fault.JournalFault.{JournalFault}
 use Rattle.client_journal.specs.Devs.{ClientDevs, Write, changed_by, IsBeforeOrAfter}
-use Rattle.client_journal.specs.Standing.{devs, writes_of, step_of, all_faults, IsReady, DevsLeave, WorksOn}
+use Rattle.client_journal.specs.Standing.{devs, writes_of, step_of, IsReady, DevsLeave, WorksOn}
 use Rattle.client_journal.specs.Standing as journals
-use Rattle.client_journal.specs.Fused.{StopsNext}
+use Rattle.client_journal.specs.Unset.{KeepsUnset}
 use Rattle.client_journal.proofs.Works.{rests_leave}
 use Rattle.client_journal.proofs.Moments.{devs_weaker}
 use Rattle.step_tables.specs.ClientMoves.{ClientDisk, ClientTask, Client, changed}
@@ -30,11 +30,11 @@ use Rattle.client_node.specs.declared.owed.Owed.{Owed}
 use Rattle.client_node.specs.declared.fault.CallFault.TheVariants as node_faults
 use Rattle.client_node.specs.declared.node.ClientNode.{ClientNode}
 use Rattle.client_node.specs.Node.{StandsFor, FollowsFor, IsWorking, IsClient, IsSame, told_by, sent_by, facts_owed, sends_owed, LeavesEither}
-use Rattle.client_node.specs.Calls.{Falls, Works, Crashes}
+use Rattle.client_node.specs.Calls.{Falls, Works}
 use Rattle.client_node.proofs.Following.{follows_now, follows_w, owed_w, step_w, behind_w, done_working}
+use Rattle.client_node.proofs.OwnFaults.{own_kept, own_failed}
 use Rattle.client_node.proofs.Falling.{MayHold, fallen, fallen_leaves}
 use Rattle.client_node.proofs.Steadies.{steady_changed}
-use Rattle.client_journal.proofs.Stopping.{since_stopped}
 
 -- a client that goes on from the same
 pub record IsKept {D : Type 0} (old new : ClientNode D) : Type 0 where
@@ -88,7 +88,7 @@ module _ {D : Type 0} (state : D → DiskState) (images : D → ℕ → List ℕ
     abbrev here : ClientDevs
     here = devs st old.devs
 
-    may : MayHold old.number old.waiting here (changed_by here w) disk (changed disk task.change)
+    pub may : MayHold old.number old.waiting here (changed_by here w) disk (changed disk task.change)
     may = record {
       first = follows_now old.number here (w ∷ ws) disk (task ∷ tasks) (follows_w state images old disk task tasks w ws is t.at.1);
       second = follows_now old.number (changed_by here w) ws (changed disk task.change) tasks (behind_w state images old disk task tasks w ws is t.at.1);
@@ -97,9 +97,9 @@ module _ {D : Type 0} (state : D → DiskState) (images : D → ℕ → List ℕ
     }
 
     pub done_at : (client : Journal (FuseDisk D)) (facts : Gathered Told) (messages : Gathered (Option Node × Message)) (owed : Owed) (step : Step) (is_last : Bool)
-        → journals.Works st im w ws old.devs client (Ok step) → writes_of client ≡ ws → step ≡ step_of w → is_last ≡ is_last_of ws → Gathers old facts messages owed step is_last
+        → journals.Works st im w ws old.devs client (Ok step) → KeepsUnset st old.devs client → writes_of client ≡ ws → step ≡ step_of w → is_last ≡ is_last_of ws → Gathers old facts messages owed step is_last
         → Works state images (at disk (Some (task ∷ tasks))) old (record old { devs = client; facts = facts; messages = messages; owed = owed }) (Ok step)
-    done_at client facts messages owed step is_last k rest name last g =
+    done_at client facts messages owed step is_last k keeps rest name last g =
         let h = t.at.1 in
         let due = owed_w state images old disk task tasks w ws is h in
         let when = old.owed.when in
@@ -111,7 +111,7 @@ module _ {D : Type 0} (state : D → DiskState) (images : D → ℕ → List ℕ
         record {
           done = (
             record {
-              client = record { at = (t.at.0, done_working state images old disk task tasks w ws is h client facts messages owed step k rest g.when left (λ no. g.sends (last ∙ no)) g.fact_room g.message_room) };
+              client = record { at = (t.at.0, done_working state images old disk task tasks w ws is h client facts messages owed step k keeps rest g.when left (λ no. g.sends (last ∙ no)) g.fact_room g.message_room) };
               told = g.told ∙ ap (λ (l : List Fact). told_by old ++ l) (sym facts_are);
               sent = g.sent ∙ ap (λ (l : List Send). sent_by old ++ l) (sym sends_are);
               same = record { number = refl; linked = refl };
@@ -119,7 +119,7 @@ module _ {D : Type 0} (state : D → DiskState) (images : D → ℕ → List ℕ
             name ∙ step_w state images old disk task tasks w ws is h,
           );
           failed = tt;
-          counted = k.counted;
+          counted = own_kept state old (record old { devs = client; facts = facts; messages = messages; owed = owed }) h.fresh keeps k.counted;
           cause = tt;
           only = tt;
           any_moment = devs_weaker st im old.devs client (IsBeforeOrAfter here w) (λ d. StandsFor old.number d disk ⊎ StandsFor old.number d (changed disk task.change)) k.any_moment
@@ -130,8 +130,8 @@ module _ {D : Type 0} (state : D → DiskState) (images : D → ℕ → List ℕ
       declared : new.is_declared ≡ true
       declared = kept.declared ∙ t.at.1.declared
 
-      pub failed_at : (e : JournalFault) → journals.Works {T = Step} st im w ws old.devs mid.devs (Err e) → Works state images (at disk (Some (task ∷ tasks))) old new (Err node_faults.Disk)
-      failed_at e k =
+      pub failed_at : (e : JournalFault) → journals.Works {T = Step} st im w ws old.devs mid.devs (Err e) → KeepsUnset st old.devs mid.devs → Works state images (at disk (Some (task ∷ tasks))) old new (Err node_faults.Disk)
+      failed_at e k keeps =
           let d = k.disk e refl in
           record {
             done = tt;
@@ -140,67 +140,26 @@ module _ {D : Type 0} (state : D → DiskState) (images : D → ℕ → List ℕ
                 (λ after. inr (record { client = after; told = kept.told ∙ sym (append-nil (told_by old)); sent = kept.sent ∙ sym (append-nil (sent_by old)); same = kept.same }))
                 (fallen state images old mid new kept.same old.waiting kept.waiting declared is_down falls old.devs here (changed_by here w) disk (changed disk task.change) may k.any_moment);
             counted = tt;
-            cause = let r = d.1 in let n = falls.counted in omega (arith, r, n);
+            cause = let r = own_failed state old mid t.at.1.fresh keeps d.1 in let n = falls.counted in omega (arith, r, n);
             only = refl;
             any_moment = fallen_leaves state images old mid new kept.same old.waiting kept.waiting declared is_down falls old.devs here (changed_by here w) disk (changed disk task.change) may k.any_moment;
-          }
-
-      pub crashed_at : (stopped : Journal (FuseDisk D)) (calls pick : ℕ) → StopsNext state images calls pick (w ∷ ws) old.devs stopped → devs st stopped ≡ here → DevsLeave st im stopped mid.devs (IsBeforeOrAfter (devs st stopped) w)
-          → Crashes state images (at disk (Some (task ∷ tasks))) old new
-      crashed_at stopped calls pick stops still run =
-          let run_here : DevsLeave st im stopped mid.devs (IsEither here (changed_by here w)) = subst (λ (d : ClientDevs). DevsLeave st im stopped mid.devs (IsEither d (changed_by d w))) still run in
-          let all : DevsLeave st im old.devs mid.devs (IsEither here (changed_by here w)) = since_stopped state images calls pick w ws old.devs stopped mid.devs (IsEither here (changed_by here w)) stops run_here in
-          record {
-            crashed = ⊎_elim
-                (λ before. inl (record { client = before; told = kept.told ∙ sym (append-nil (told_by old)); sent = kept.sent ∙ sym (append-nil (sent_by old)); same = kept.same }))
-                (λ after. inr (record { client = after; told = kept.told ∙ sym (append-nil (told_by old)); sent = kept.sent ∙ sym (append-nil (sent_by old)); same = kept.same }))
-                (fallen state images old mid new kept.same old.waiting kept.waiting declared is_down falls old.devs here (changed_by here w) disk (changed disk task.change) may all);
-            any_moment = fallen_leaves state images old mid new kept.same old.waiting kept.waiting declared is_down falls old.devs here (changed_by here w) disk (changed disk task.change) may all;
           }
 
   -- ---- by what stands in the agenda
 
   pub work_done : (old : ClientNode D) (l : List Write) → writes_of old.devs ≡ l → (writes_of old.devs ≡ [] → ⊥) → (disk : ClientDisk) (agenda : Option (List ClientTask)) → IsClient state old (at disk agenda) → old.is_up ≡ true
       → (client : Journal (FuseDisk D)) (facts : Gathered Told) (messages : Gathered (Option Node × Message)) (owed : Owed) (step : Step) (is_last : Bool)
-      → WorksOn st im old.devs client (Ok step) l → is_last ≡ is_last_of (writes_of client) → Gathers old facts messages owed step is_last
+      → WorksOn st im old.devs client (Ok step) l → KeepsUnset st old.devs client → is_last ≡ is_last_of (writes_of client) → Gathers old facts messages owed step is_last
       → Works state images (at disk agenda) old (record old { devs = client; facts = facts; messages = messages; owed = owed }) (Ok step)
-  work_done old l is some disk None t up client facts messages owed step is_last k last g = let no = t.at.0 in absurd cc
-  work_done old [] is some disk (Some tasks) t up client facts messages owed step is_last k last g = absurd (some is)
-  work_done old (w ∷ ws) is some disk (Some []) t up client facts messages owed step is_last k last g = absurd (subst (λ (l : List Write). FollowsFor old.number (devs st old.devs) l disk []) is t.at.1.follows).1
-  work_done old (w ∷ ws) is some disk (Some (task ∷ tasks)) t up client facts messages owed step is_last k last g = done_at old disk task tasks w ws is t client facts messages owed step is_last k.0 k.1 k.2 (last ∙ ap is_last_of k.1) g
+  work_done old l is some disk None t up client facts messages owed step is_last k keeps last g = let no = t.at.0 in absurd cc
+  work_done old [] is some disk (Some tasks) t up client facts messages owed step is_last k keeps last g = absurd (some is)
+  work_done old (w ∷ ws) is some disk (Some []) t up client facts messages owed step is_last k keeps last g = absurd (subst (λ (l : List Write). FollowsFor old.number (devs st old.devs) l disk []) is t.at.1.follows).1
+  work_done old (w ∷ ws) is some disk (Some (task ∷ tasks)) t up client facts messages owed step is_last k keeps last g = done_at old disk task tasks w ws is t client facts messages owed step is_last k.0 keeps k.1 k.2 (last ∙ ap is_last_of k.1) g
 
   pub work_failed : (old : ClientNode D) (l : List Write) → writes_of old.devs ≡ l → (writes_of old.devs ≡ [] → ⊥) → (disk : ClientDisk) (agenda : Option (List ClientTask)) → IsClient state old (at disk agenda) → old.is_up ≡ true
-      → (mid new : ClientNode D) (e : JournalFault) → WorksOn st im old.devs mid.devs (Err e) l → Falls state images mid new → IsKept old new → new.is_up ≡ false
+      → (mid new : ClientNode D) (e : JournalFault) → WorksOn st im old.devs mid.devs (Err e) l → KeepsUnset st old.devs mid.devs → Falls state images mid new → IsKept old new → new.is_up ≡ false
       → Works state images (at disk agenda) old new (Err node_faults.Disk)
-  work_failed old l is some disk None t up mid new e k falls kept down = let no = t.at.0 in absurd cc
-  work_failed old [] is some disk (Some tasks) t up mid new e k falls kept down = absurd (some is)
-  work_failed old (w ∷ ws) is some disk (Some []) t up mid new e k falls kept down = absurd (subst (λ (l : List Write). FollowsFor old.number (devs st old.devs) l disk []) is t.at.1.follows).1
-  work_failed old (w ∷ ws) is some disk (Some (task ∷ tasks)) t up mid new e k falls kept down = failed_at old disk task tasks w ws is t mid new falls kept down e k.0
-
-  crash_idle : (old : ClientNode D) (disk : ClientDisk) → IsClient state old (at disk (Some [])) → (mid new : ClientNode D) → mid.devs ≡ old.devs → Falls state images mid new → IsKept old new → new.is_up ≡ false
-      → Crashes state images (at disk (Some [])) old new
-  crash_idle old disk t mid new same falls kept down =
-      let h = t.at.1 in
-      let declared : new.is_declared ≡ true = kept.declared ∙ h.declared in
-      let here = devs st old.devs in
-      let stands = follows_now old.number here (writes_of old.devs) disk [] h.follows in
-      let may : MayHold old.number old.waiting here here disk disk = record { first = stands; second = stands; first_steady = h.steady; second_steady = h.steady } in
-      let run : DevsLeave st im old.devs mid.devs (IsEither here here) = subst (λ (x : Journal (FuseDisk D)). DevsLeave st im old.devs x (IsEither here here)) (sym same)
-      (devs_weaker st im old.devs old.devs (λ d. d ≡ here) (IsEither here here) (rests_leave st im only_now old.devs (writes_of old.devs) h.ready) (λ d is. inl is)) in
-      record {
-        crashed = ⊎_elim
-            (λ before. inl (record { client = before; told = kept.told ∙ sym (append-nil (told_by old)); sent = kept.sent ∙ sym (append-nil (sent_by old)); same = kept.same }))
-            (λ after. inr (record { client = after; told = kept.told ∙ sym (append-nil (told_by old)); sent = kept.sent ∙ sym (append-nil (sent_by old)); same = kept.same }))
-            (fallen state images old mid new kept.same old.waiting kept.waiting declared down falls old.devs here here disk disk may run);
-        any_moment = fallen_leaves state images old mid new kept.same old.waiting kept.waiting declared down falls old.devs here here disk disk may run;
-      }
-
-  pub crash_done : (old : ClientNode D) (l : List Write) → writes_of old.devs ≡ l → (disk : ClientDisk) (agenda : Option (List ClientTask)) → IsClient state old (at disk agenda) → old.is_up ≡ true
-      → (stopped : Journal (FuseDisk D)) (mid new : ClientNode D) (calls pick : ℕ) (r : Result Step JournalFault) → StopsNext state images calls pick l old.devs stopped → devs st stopped ≡ devs st old.devs
-      → WorksOn st im stopped mid.devs r l → Falls state images mid new → IsKept old new → new.is_up ≡ false
-      → Crashes state images (at disk agenda) old new
-  crash_done old l is disk None t up stopped mid new calls pick r stops still k falls kept down = let no = t.at.0 in absurd cc
-  crash_done old [] is disk (Some []) t up stopped mid new calls pick r stops still k falls kept down = crash_idle old disk t mid new (k.1 ∙ stops) falls kept down
-  crash_done old [] is disk (Some (task ∷ tasks)) t up stopped mid new calls pick r stops still k falls kept down = absurd (subst (λ (l : List Write). FollowsFor old.number (devs st old.devs) l disk (task ∷ tasks)) is t.at.1.follows).1
-  crash_done old (w ∷ ws) is disk (Some []) t up stopped mid new calls pick r stops still k falls kept down = absurd (subst (λ (l : List Write). FollowsFor old.number (devs st old.devs) l disk []) is t.at.1.follows).1
-  crash_done old (w ∷ ws) is disk (Some (task ∷ tasks)) t up stopped mid new calls pick r stops still k falls kept down = crashed_at old disk task tasks w ws is t mid new falls kept down stopped calls pick stops still k.0.any_moment
+  work_failed old l is some disk None t up mid new e k keeps falls kept down = let no = t.at.0 in absurd cc
+  work_failed old [] is some disk (Some tasks) t up mid new e k keeps falls kept down = absurd (some is)
+  work_failed old (w ∷ ws) is some disk (Some []) t up mid new e k keeps falls kept down = absurd (subst (λ (l : List Write). FollowsFor old.number (devs st old.devs) l disk []) is t.at.1.follows).1
+  work_failed old (w ∷ ws) is some disk (Some (task ∷ tasks)) t up mid new e k keeps falls kept down = failed_at old disk task tasks w ws is t mid new falls kept down e k.0 keeps

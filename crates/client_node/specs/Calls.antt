@@ -1,5 +1,5 @@
 -- What the calls of a client's node promise, in the moves of the client's step table.
-use Rattle.std.specs.Prelude.{◌≡◌, ◌⊎◌, ℕ, ◌+◌, ◌<◌, ◌++◌, true, false, List, [], ◌∷◌, Option, Some, None, Result}
+use Rattle.std.specs.Prelude.{◌≡◌, ◌⊎◌, ℕ, ◌<◌, ◌≤◌, ◌++◌, true, false, List, [], ◌∷◌, Option, Some, None, Result}
 use Rattle.std.specs.Prelude.{OnOk, OnErr, IfOk, IfErr}
 use Rattle.disk_trait.specs.Calls.{DiskState}
 use Rattle.disk_trait.specs.Fuse.{behind, inner_of}
@@ -9,7 +9,8 @@ use Rattle.stab_base.specs.declared.step.Step.{Step}
 use Rattle.stab_base.specs.declared.step.Step.TheVariants as steps
 use Rattle.client_journal.specs.declared.devs.Journal.{Journal}
 use Rattle.client_journal.specs.Devs.{ClientDevs}
-use Rattle.client_journal.specs.Standing.{devs, writes_of, all_faults, AreUp, AreSound, AreSynced, DevsLeave}
+use Rattle.client_journal.specs.Standing.{devs, writes_of, AreUp, AreSound, AreSynced, DevsLeave}
+use Rattle.client_journal.specs.Unset.{AreFresh}
 use Rattle.step_tables.specs.Messages.{Done, FailedBefore, FailedAfter}
 use Rattle.step_tables.specs.ClientMoves.{ClientTask, Client, ClientStep, ClientMove, Work, Crash, no_shape}
 use Rattle.step_tables.specs.ClientMoves.{client_step}
@@ -17,15 +18,11 @@ use Rattle.step_tables.specs.ClientMoves as moves
 use Rattle.client_node.specs.declared.fault.CallFault.{CallFault}
 use Rattle.client_node.specs.declared.fault.CallFault.TheVariants.{Disk}
 use Rattle.client_node.specs.declared.node.ClientNode.{ClientNode}
-use Rattle.client_node.specs.Node.{IsClient, IsSame, told_by, sent_by, behind_next, LeavesEither}
+use Rattle.client_node.specs.Node.{IsClient, IsSame, told_by, sent_by, own_faults, behind_next, LeavesEither}
 
 -- what a move that begins no plan makes of the node's client
 abbrev pub step_at : {D : Type 0} → ClientNode D → Client → ClientMove → ClientStep
 step_at node s move = client_step node.number no_shape s move
-
--- how often the node's disks have failed, and how often their fuses have stopped a call
-abbrev pub faults_of : {D : Type 0} → (D → DiskState) → ClientNode D → ℕ
-faults_of state node = all_faults (behind state) node.devs
 
 -- The node is where this step leads to, and has gathered what it tells and sends.
 pub record IsBehind {D : Type 0} (state : D → DiskState) (old new : ClientNode D) (step : ClientStep) : Type 0 where
@@ -46,16 +43,22 @@ pub record Works {D : Type 0} (state : D → DiskState) (images : D → ℕ → 
   pub done : IfOk result (λ step. IsBehind state old new (step_at old s (Work Done)) × (step ≡ named s.agenda))
   pub failed : OnErr result (IsBehind state old new (step_at old s (Work FailedBefore))
       ⊎ IsBehind state old new (step_at old s (Work FailedAfter)))
-  pub counted : OnOk result (faults_of state new ≡ faults_of state old)
-  pub cause : OnErr result (faults_of state old < faults_of state new)
+  pub counted : OnOk result (own_faults state new ≡ own_faults state old)
+  pub cause : OnErr result (own_faults state old < own_faults state new)
   pub only : IfErr result (λ e. e ≡ Disk)
   pub any_moment : LeavesEither state images old new s.disk (behind_next s.disk s.agenda)
 
 -- The write at work is undone, or done.
-pub record Crashes {D : Type 0} (state : D → DiskState) (images : D → ℕ → List ℕ → Type 0) (s : Client)
-    (old new : ClientNode D) : Type 0 where
+pub record Crashes {D : Type 0} (state : D → DiskState) (images : D → ℕ → List ℕ → Type 0) (calls : ℕ)
+    (s : Client) (old new : ClientNode D) : Type 0 where
   pub crashed : IsBehind state old new (step_at old s (Crash FailedBefore))
       ⊎ IsBehind state old new (step_at old s (Crash FailedAfter))
+  -- where no disk failed by itself, 0 or 1 passing calls leave the write undone, and 4 leave it done
+  pub undone : own_faults state new ≡ own_faults state old → calls ≤ 1
+      → IsBehind state old new (step_at old s (Crash FailedBefore))
+  pub done : own_faults state new ≡ own_faults state old → 4 ≤ calls
+      → IsBehind state old new (step_at old s (Crash FailedAfter))
+  pub later : own_faults state old ≤ own_faults state new
   pub any_moment : LeavesEither state images old new s.disk (behind_next s.disk s.agenda)
 
 -- Nothing that was to be done is, and the disk is as it was. Of a node that is down nothing changes.
@@ -63,7 +66,7 @@ pub record Halts {D : Type 0} (state : D → DiskState) (images : D → ℕ → 
     (old new : ClientNode D) : Type 0 where
   pub halted : IsBehind state old new (step_at old s (Crash FailedBefore))
   pub declared : new.is_declared ≡ old.is_declared
-  pub counted : faults_of state new ≡ faults_of state old
+  pub counted : own_faults state new ≡ own_faults state old
   pub still : old.is_up ≡ false → new ≡ old
   pub any_moment : old.is_up ≡ true → LeavesEither state images old new s.disk s.disk
 
@@ -75,10 +78,11 @@ pub record Falls {D : Type 0} (state : D → DiskState) (images : D → ℕ → 
       → IsEither a b (devs (behind state) new.devs) × AreSound (behind state) new.devs
       × DevsLeave (behind state) (λ f. images (inner_of f)) start new.devs (IsEither a b)
   pub up : AreUp new.devs
+  pub fresh : AreFresh (behind state) new.devs
   pub synced : AreSynced (behind state) new.devs
   pub idle : writes_of new.devs ≡ []
   pub waiting : new.waiting ≡ old.waiting
-  pub counted : faults_of state new ≡ faults_of state old
+  pub counted : own_faults state new ≡ own_faults state old
 
 -- A disk has failed: the node is down, its disks were restarted, and what it has gathered stays.
 pub record Fell {D : Type 0} (state : D → DiskState) (images : D → ℕ → List ℕ → Type 0)

@@ -12,9 +12,9 @@ use Rattle.step_tables.specs.ClientMoves.{Shape, ClientDisk, Client, ClientStep,
 use Rattle.client_node.specs.declared.fault.CallFault.{CallFault}
 use Rattle.client_node.specs.declared.fault.CallFault.TheVariants as call
 use Rattle.client_node.specs.declared.node.ClientNode.{ClientNode}
-use Rattle.client_node.specs.Node.{LeavesEither}
+use Rattle.client_node.specs.Node.{own_faults, LeavesEither}
 use Rattle.client_node.specs.Linked.{linked_step}
-use Rattle.client_node.specs.Calls.{IsBehind, Stays, faults_of}
+use Rattle.client_node.specs.Calls.{IsBehind, Stays}
 
 -- the refusal of the step table that a fault tells of; a table knows no limit of numbers and no want of memory
 abbrev pub refusal_in : CallFault → Option Refusal
@@ -56,6 +56,6 @@ pub record Does {D T : Type 0} (state : D → DiskState) (images : D → ℕ →
   pub spent : (last : ℕ) → IsErrOf result (call.Spent last) → (last ≡ NUMBER_MAX) × HasNoNumber state old s.disk
   pub kept : (IsErrOf result call.Disk → ⊥) → IfErr result (λ e. Stays state old new s)
   pub fallen : IsErrOf result call.Disk → Stays state old new (record { disk = s.disk; agenda = None })
-  pub counted : (IsErrOf result call.Disk → ⊥) → faults_of state new ≡ faults_of state old
-  pub cause : IsErrOf result call.Disk → faults_of state old < faults_of state new
+  pub counted : (IsErrOf result call.Disk → ⊥) → own_faults state new ≡ own_faults state old
+  pub cause : IsErrOf result call.Disk → own_faults state old < own_faults state new
   pub any_moment : LeavesEither state images old new s.disk s.disk

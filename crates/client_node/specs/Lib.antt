@@ -10,3 +10,9 @@ pub mod Looks
 pub mod Answers
 pub mod Sending
 pub mod Begins
+pub mod Devices
+pub mod Preparing
+pub mod Editing
+pub mod Telling
+pub mod Starts
+pub mod Taking

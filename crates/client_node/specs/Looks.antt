@@ -4,6 +4,7 @@ use Rattle.disk_trait.specs.Calls.{DiskState}
 use Rattle.client_journal.specs.declared.devs.Journal.{Journal}
 use Rattle.client_journal.specs.Standing.{devs, writes_of, all_faults, AreUp, IsReady}
 use Rattle.client_journal.specs.Asking.{AllLeave}
+use Rattle.client_journal.specs.Unset.{KeepsUnset}
 use Rattle.client_node.specs.declared.fault.CallFault.{CallFault}
 use Rattle.client_node.specs.declared.fault.CallFault.TheVariants.{Disk}
 
@@ -21,6 +22,7 @@ pub record Serves {D T : Type 0} (state : D → DiskState) (images : D → ℕ �
   pub counted : IsNotDisk result → all_faults state new ≡ all_faults state old
   pub disk : IsErrOf result Disk → all_faults state old < all_faults state new
   pub leave : AllLeave state images old new
+  pub fuse : KeepsUnset state old new
 
 -- The devices are only read.
 pub record Looks {D T : Type 0} (state : D → DiskState) (images : D → ℕ → List ℕ → Type 0) (old new : Journal D)

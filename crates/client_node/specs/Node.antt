@@ -1,17 +1,33 @@
 -- A client's node on its devices, as the state of the client's step table.
-use Rattle.std.specs.Prelude.{◌≡◌, ◌⊎◌, ℕ, Bool, true, false, List, [], ◌∷◌, length, map, Option, Some, None}
+use Rattle.std.specs.Prelude.{◌≡◌, ◌⊎◌, ℕ, ◌+◌, ◌≤◌, Bool, true, false, List, [], ◌∷◌, length, map, Option, Some, None}
+use Rattle.std.specs.List.{AllByRecursion}
+use Rattle.std.specs.Ordering.{nat_cmp}
+use Rattle.std.specs.BTreeMap.{insert_entry}
+use Rattle.row_value.specs.declared.schema.Schema.{Schema}
+use Rattle.row_value.specs.declared.schema.Scheme.TheVariants.{Eventual}
+use Rattle.value_codec.specs.SchemaSpelling.{HasSchemaSpelling}
+use Rattle.plan_log.specs.Spelling.{IsTable}
+use Rattle.vault.specs.Limit.{payload_most}
+use Rattle.slot_store.specs.Spelling.{record_payload}
 use Rattle.disk_trait.specs.Calls.{DiskState}
 use Rattle.disk_trait.specs.Fuse.{behind, inner_of}
+use Rattle.vault.specs.Standing.{disk_of}
+use Rattle.chunk_store.specs.Standing as chunks
+use Rattle.slot_store.specs.Standing as slots
+use Rattle.plan_log.specs.Standing as journals
 use Rattle.held_value.specs.declared.local_name.LocalName.{LocalName}
-use Rattle.client_journal.specs.Devs.{ClientDevs, Write, changed_by_all}
+use Rattle.client_journal.specs.Devs.{ClientDevs, Write, changed_by, changed_by_all}
 use Rattle.client_journal.specs.NamedSlots.{IsAtRest}
+use Rattle.client_journal.specs.Redone.{redone}
 use Rattle.client_journal.specs.Standing.{devs, writes_of, step_of, AreUp, AreSound, AreSynced, IsReady, DevsLeave}
+use Rattle.client_journal.specs.Unset.{AreFresh}
 use Rattle.step_tables.specs.Facts.{Fact}
 use Rattle.step_tables.specs.Messages.{Send}
-use Rattle.step_tables.specs.ClientMoves.{ClientDisk, ClientTask, Client, changed}
+use Rattle.step_tables.specs.ClientMoves.{TableDisk, ClientDisk, ClientTask, Client, changed}
 use Rattle.step_tables.specs.Travels.{send_of}
 use Rattle.journal_laws.specs.Holds.{Stands, Follows}
-use Rattle.journal_laws.specs.Moves.{nothing_there}
+use Rattle.journal_laws.specs.Moves.{opened_table, opened_record}
+use Rattle.plan_limits.specs.Fit.{AreFitRows}
 use Rattle.gathering.specs.Room.{HasRoom}
 use Rattle.step_tables.specs.Lines.{fact_of}
 use Rattle.client_node.specs.Due.{is_last_of, told_at, left_at, sent_at}
@@ -46,13 +62,41 @@ AreOwed when owed sends ws tasks = ⊥
 
 -- ---- the node
 
--- the devices stand for this disk, whatever the names stand for
-abbrev pub StandsFor : ℕ → ClientDevs → ClientDisk → Type 0
-StandsFor c d disk = (meaning : LocalName → List ℕ) × Stands c meaning d disk
+-- a table that a declaration opens: an eventual one, whose record has a spelling that isn't too long
+pub record IsToOpen (table : ℕ × Schema) : Type 0 where
+  pub numbered : IsTable table.0
+  pub eventual : table.1.scheme ≡ Eventual
+  pub spelled : HasSchemaSpelling table.1
+  pub short : length (record_payload (opened_record table.0 table.1)) ≤ payload_most
 
--- and behind each of these writes, which are those of these tasks
+-- the tables that a declaration opens, without a row
+abbrev pub opened_all : List (ℕ × TableDisk) → List (ℕ × Schema) → List (ℕ × TableDisk)
+opened_all some [] = some
+opened_all some (table ∷ tables) = opened_all (insert_entry nat_cmp some table.0 (opened_table table.1)) tables
+
+abbrev pub to_open : List (ℕ × Schema) → ClientDisk
+to_open tables = record { last = 0; tables = opened_all [] tables; plan = None }
+
+-- the devices stand for this disk, whatever the names stand for, and each row fits its table
+abbrev pub StandsFor : ℕ → ClientDevs → ClientDisk → Type 0
+StandsFor c d disk = (meaning : LocalName → List ℕ) × Stands c meaning d disk × AreFitRows meaning (redone d)
+
+-- each row fits its table now and behind each of these writes
+abbrev pub StayFit : (LocalName → List ℕ) → ClientDevs → List Write → Type 0
+StayFit meaning d [] = AreFitRows meaning (redone d)
+StayFit meaning d (w ∷ ws) = AreFitRows meaning (redone d) × StayFit meaning (changed_by d w) ws
+
+-- the devices stand for this disk now and behind each of these writes, which are those of these tasks
 abbrev pub FollowsFor : ℕ → ClientDevs → List Write → ClientDisk → List ClientTask → Type 0
 FollowsFor c d ws disk tasks = (meaning : LocalName → List ℕ) × Follows c meaning d ws disk tasks
+    × StayFit meaning d ws
+
+-- how often the three disks themselves have failed, the stops of their fuses apart
+abbrev pub own_faults : {D : Type 0} → (D → DiskState) → ClientNode D → ℕ
+own_faults state node =
+    (state (inner_of (disk_of (chunks.vault_of node.devs.chunks)))).faults
+    + ((state (inner_of (disk_of (slots.vault_of node.devs.slots)))).faults
+    + (state (inner_of (disk_of (journals.vault_of node.devs.journal)))).faults)
 
 -- Up: the devices hold this disk, and behind each of their writes what the tasks make of it; behind the last nothing is
 -- at work; and there is room for what the tasks tell and send.
@@ -60,6 +104,7 @@ pub record IsWorking {D : Type 0} (state : D → DiskState) (node : ClientNode D
     (tasks : List ClientTask) : Type 0 where
   pub declared : node.is_declared ≡ true
   pub up : AreUp node.devs
+  pub fresh : AreFresh (behind state) node.devs
   pub ready : IsReady (behind state) node.devs (writes_of node.devs)
   pub follows : FollowsFor node.number (devs (behind state) node.devs) (writes_of node.devs) disk tasks
   pub rests : IsAtRest (changed_by_all (devs (behind state) node.devs) (writes_of node.devs))
@@ -69,14 +114,16 @@ pub record IsWorking {D : Type 0} (state : D → DiskState) (node : ClientNode D
   pub fact_room : HasRoom node.facts (length node.owed.facts.items)
   pub message_room : HasRoom node.messages (length node.owed.messages.items)
 
--- Down: its disks were restarted, and hold this. What wasn't declared holds nothing yet.
+-- Down: its disks were restarted, and hold this. What wasn't declared is to hold its tables.
 pub record IsResting {D : Type 0} (state : D → DiskState) (node : ClientNode D) (disk : ClientDisk) : Type 0 where
   pub up : AreUp node.devs
+  pub fresh : AreFresh (behind state) node.devs
   pub idle : writes_of node.devs ≡ []
   pub synced : node.is_declared ≡ true → AreSynced (behind state) node.devs
   pub sound : node.is_declared ≡ true → AreSound (behind state) node.devs
   pub stands : node.is_declared ≡ true → StandsFor node.number (devs (behind state) node.devs) disk
-  pub nothing : node.is_declared ≡ false → disk ≡ nothing_there
+  pub undeclared : node.is_declared ≡ false → disk ≡ to_open node.tables.items
+  pub opens : node.is_declared ≡ false → AllByRecursion IsToOpen node.tables.items
   pub steady : IsSteady node.waiting disk
 
 abbrev pub IsAt : {D : Type 0} → (D → DiskState) → ClientNode D → ClientDisk → Option (List ClientTask) → Type 0

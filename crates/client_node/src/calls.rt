@@ -1,3 +1,5 @@
 //! The calls of a client.
+mod editing;
 mod pulling;
 mod showing;
+mod writing;

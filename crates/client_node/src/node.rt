@@ -1,4 +1,5 @@
 //! A client on its three devices.
+ghost use Rattle.std.specs.List.{AllByRecursion};
 ghost use Rattle.std.specs.Prelude.{◌≡◌, ◌++◌, ℕ, [], map, true, false, None, OnOk, OnErr, IsErrOf};
 ghost use Rattle.disk_trait.specs.Fuse.{inner_of};
 ghost use Rattle.vault.specs.Standing.{disk_of};
@@ -9,21 +10,23 @@ ghost use Rattle.client_journal.specs.Standing.{writes_of};
 ghost use Rattle.step_tables.specs.ClientMoves.{Client};
 ghost use Rattle.step_tables.specs.Lines.{fact_of};
 ghost use Rattle.step_tables.specs.Travels.{send_of};
-ghost use Rattle.journal_laws.specs.Moves.{nothing_there};
 ghost use Rattle.gathering.specs.Room.{HasRoom};
-ghost use Rattle.client_node.specs.Node.{IsClient, IsNode, IsSame, told_by, sent_by, has_task};
+ghost use Rattle.client_node.specs.Node.{IsToOpen, to_open, IsClient, IsNode, IsSame, told_by, sent_by, has_task};
 ghost use Rattle.client_node.specs.Calls.{Works, Crashes, Falls, Fell, Halts};
+ghost use Rattle.client_node.specs.Starts.{Declares, Starts};
 ghost use Rattle.client_node.specs.declared.fault.CallFault.TheVariants.{Disk};
 
+use crate::devices::make_tables;
 use crate::fault::CallFault;
 use crate::handing::{send, tell};
 use crate::owed::Owed;
+use crate::starting::{recovered, resume};
 use crate::waiting::Waiting;
 use client_journal::Journal;
 use disk_trait::{Disk, FuseDisk};
 use gathering::Gathered;
-use row_value::Sequence;
-use stab_base::{ClientNo, Step};
+use row_value::{Schema, Sequence};
+use stab_base::{ClientNo, Step, TableNo};
 use std::alloc::{AllocError, Global};
 use step_tables::{Addressed, Out};
 use table_model::Fact;
@@ -38,6 +41,8 @@ pub struct ClientNode<D: Disk> {
     pub(crate) is_declared: bool,
     pub(crate) is_up: bool,
     pub(crate) is_linked: bool,
+    /// The tables that its declaration opens, by their numbers. The last one of a number counts.
+    pub(crate) tables: Vec<(TableNo, Schema)>,
     pub(crate) waiting: Waiting,
     pub(crate) devs: Journal<FuseDisk<D>>,
     pub(crate) owed: Owed,
@@ -47,15 +52,18 @@ pub struct ClientNode<D: Disk> {
 }
 
 impl<D: Disk + Drop> ClientNode<D> {
-    /// A client that is down and not declared, and whose link is up. What its disks hold doesn't matter.
+    /// A client that is down and not declared, and whose link is up. Its declaration opens these tables, each of an
+    /// eventual scheme, by their numbers; of two with one number the later one. What its disks hold doesn't matter.
     pub fn new(
         alloc: Global,
         number: ClientNo,
+        tables: Vec<(TableNo, Schema)>,
         journal_disk: D,
         slot_disk: D,
         chunk_disk: D,
     ) -> ClientNode<D>
-        ensures at { IsClient D.state result (record { disk = nothing_there; agenda = None }) }
+        requires { AllByRecursion IsToOpen tables.items }
+        ensures at { IsClient D.state result (record { disk = to_open tables.items; agenda = None }) }
         ensures declared { result.is_declared ≡ false }
         ensures down { result.is_up ≡ false }
         ensures told { told_by result ≡ [] }
@@ -71,6 +79,7 @@ impl<D: Disk + Drop> ClientNode<D> {
             is_declared: false,
             is_up: false,
             is_linked: true,
+            tables,
             waiting: Waiting::new(alloc),
             devs: Journal::new(
                 alloc,
@@ -150,7 +159,7 @@ impl<D: Disk + Drop> ClientNode<D> {
         }
     }
 
-    // Crashes the disks and starts them again. The node is down.
+    // Crashes the disks and starts them again, their fuses as new. The node is down.
     fn fall(&mut self, pick: u64)
         ensures falls { Falls D.state D.images self.old self.new }
         ensures down { self.new.is_up ≡ false }
@@ -158,8 +167,10 @@ impl<D: Disk + Drop> ClientNode<D> {
         ensures same { IsSame self.old self.new }
         ensures facts { self.new.facts ≡ self.old.facts }
         ensures messages { self.new.messages ≡ self.old.messages }
+        ensures tables { self.new.tables ≡ self.old.tables }
     {
         self.devs.restart(pick);
+        self.devs.renew();
         self.is_up = false;
     }
 
@@ -197,6 +208,107 @@ impl<D: Disk + Drop> ClientNode<D> {
         self.owed = Owed::nothing(self.alloc);
         self.messages.put_all(&mut sends);
         Ok(())
+    }
+
+    // Makes the node's disks those of its tables without a row.
+    fn make(&mut self) -> Result<(), CallFault>
+        requires node { IsNode D.state self.old }
+        requires undeclared { self.old.is_declared ≡ false }
+        ensures declares { (s : Client) → IsClient D.state self.old s → Declares D.state s self.old self.new result }
+        ensures facts { self.new.facts ≡ self.old.facts }
+        ensures quiet { OnOk result (self.new.owed.facts.items ≡ []) }
+        ensures kept { OnErr result (self.new.is_declared ≡ self.old.is_declared) }
+        ensures up { OnOk result (self.new.is_up ≡ true) }
+    {
+        match make_tables(&mut self.devs, self.tables.as_slice()) {
+            Ok(()) => {
+                self.owed = Owed::nothing(self.alloc);
+                self.is_declared = true;
+                self.is_up = true;
+                Ok(())
+            }
+            Err(fault) => {
+                self.fall(0);
+                Err(fault)
+            }
+        }
+    }
+
+    /// Makes the node's disks those of the tables that its declaration opens, without a row, whatever they held. The
+    /// node is then up. Where a disk failed or memory was refused it is still down, and not declared.
+    pub fn declare(&mut self) -> Result<(), CallFault>
+        requires node { IsNode D.state self.old }
+        requires undeclared { self.old.is_declared ≡ false }
+        ensures declares { (s : Client) → IsClient D.state self.old s → Declares D.state s self.old self.new result }
+        ensures node { IsNode D.state self.new }
+        ensures kept { OnErr result (self.new.is_declared ≡ self.old.is_declared) }
+        ensures up { OnOk result (self.new.is_up ≡ true) }
+    {
+        self.make()
+    }
+
+    // Takes on the writes of a start of a node that is down.
+    fn recover(&mut self) -> Result<(), CallFault>
+        requires node { IsNode D.state self.old }
+        requires declared { self.old.is_declared ≡ true }
+        requires down { self.old.is_up ≡ false }
+        requires quiet { told_by self.old ≡ [] }
+        ensures starts { (s : Client) → IsClient D.state self.old s
+            → Starts D.state D.images s self.old self.new result }
+        ensures kept { OnErr result (self.new.is_declared ≡ self.old.is_declared) }
+        ensures up { OnOk result (self.new.is_up ≡ true) }
+    {
+        match resume(self.alloc, &mut self.devs, self.number, &mut self.facts) {
+            Ok(owed) => {
+                self.owed = owed;
+                self.is_up = true;
+                Ok(())
+            }
+            Err(fault) => {
+                self.fall(0);
+                Err(fault)
+            }
+        }
+    }
+
+    // Declares a node that was never declared, and tells that it has recovered.
+    fn declare_late(&mut self) -> Result<(), CallFault>
+        requires node { IsNode D.state self.old }
+        requires undeclared { self.old.is_declared ≡ false }
+        ensures starts { (s : Client) → IsClient D.state self.old s
+            → Starts D.state D.images s self.old self.new result }
+        ensures kept { OnErr result (self.new.is_declared ≡ self.old.is_declared) }
+        ensures up { OnOk result (self.new.is_up ≡ true) }
+    {
+        let mut told = recovered(self.alloc, self.number)?;
+        self.facts.reserve(1)?;
+        self.make()?;
+        self.facts.put_all(&mut told);
+        Ok(())
+    }
+
+    /// Starts the node, if it is down: finds what its disks hold, and takes on the writes that end what was cut short.
+    /// What a committed plan told is told again at once, or that a row from the Store is torn; the last of the writes
+    /// tells that the client has recovered. A node that was never declared is declared, and tells at once that it has
+    /// recovered. Where a disk failed or memory was refused the node is still down. What the node had to tell before is
+    /// handed over by then.
+    pub fn start(&mut self) -> Result<(), CallFault>
+        requires node { IsNode D.state self.old }
+        requires quiet { told_by self.old ≡ [] }
+        ensures starts { (s : Client) → IsClient D.state self.old s
+            → Starts D.state D.images s self.old self.new result }
+        ensures node { IsNode D.state self.new }
+        ensures kept { OnErr result (self.new.is_declared ≡ self.old.is_declared) }
+        ensures up { OnOk result (self.new.is_up ≡ true) }
+    {
+        if self.is_up {
+            return Ok(());
+        }
+        if self.is_declared {
+            self.recover()
+        } else {
+            self.declare_late()
+        }
     }
 
     /// Does the next write, if there is one, and gathers what it tells and sends. It takes no memory.
@@ -246,7 +358,7 @@ impl<D: Disk + Drop> ClientNode<D> {
         requires node { IsNode D.state self.old }
         requires up { self.old.is_up ≡ true }
         ensures crashes { (s : Client) → IsClient D.state self.old s
-            → Crashes D.state D.images s self.old self.new }
+            → Crashes D.state D.images calls s self.old self.new }
         ensures node { IsNode D.state self.new }
         ensures declared { self.new.is_declared ≡ self.old.is_declared }
         ensures down { self.new.is_up ≡ false }

@@ -39,7 +39,7 @@ returns-in-Ok-clause-works g c s t =
       message_room = b.room;
     } in
     work_done g.D.Disk.state g.D.Disk.images (λ f image left. g.met.D.Disk.only_now (inner_of f) image left) old (writes_of old.devs) refl c.if-idle.ensures s.disk s.agenda t c.requires.up
-    c.work.new.self c.tell.new.facts c.send.new.messages c.send.new.owed c.in-Ok.step is_last (c.in-Ok.ensures.works up) last gathers
+    c.work.new.self c.tell.new.facts c.send.new.messages c.send.new.owed c.in-Ok.step is_last (c.in-Ok.ensures.works up) c.work.ensures.fuse last gathers
 
 pub returns-in-Err-clause-works : goal.returns-in-Err-clause-works
 returns-in-Err-clause-works g c s t =
@@ -47,7 +47,7 @@ returns-in-Err-clause-works g c s t =
     let up = devices_up g.D.Disk.state old s.disk s.agenda t in
     let f = c.fall.ensures in
     work_failed g.D.Disk.state g.D.Disk.images (λ f image left. g.met.D.Disk.only_now (inner_of f) image left) old (writes_of old.devs) refl c.if-idle.ensures s.disk s.agenda t c.requires.up
-    (record old { devs = c.work.new.self }) c.fall.new.self _ (c.in-Err.ensures.works up) f.falls
+    (record old { devs = c.work.new.self }) c.fall.new.self _ (c.in-Err.ensures.works up) c.work.ensures.fuse f.falls
     (record { told = ap (λ x. map fact_of x.items.items) f.facts; sent = ap (λ x. map send_of x.items.items) f.messages; same = record { number = f.same.number; linked = f.same.linked }; declared = f.declared; waiting = f.falls.waiting }) f.down
 
 pub returns-in-Ok-clause-node : goal.returns-in-Ok-clause-node

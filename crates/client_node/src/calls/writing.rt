@@ -1,0 +1,90 @@
+//! How a client writes a row.
+ghost use Rattle.std.specs.Prelude.{◌≡◌, true, None, IfSome, IfOk};
+ghost use Rattle.disk_trait.specs.Fuse.{behind, inner_of};
+ghost use Rattle.value_codec.specs.SchemaSpelling.{HasSchemaSpelling};
+ghost use Rattle.client_journal.specs.Standing.{devs as held_by, writes_of, AreUp, IsReady};
+ghost use Rattle.step_tables.specs.ClientMoves.{Client, ClientMove, Write};
+ghost use Rattle.step_tables.specs.Facts.{Number};
+ghost use Rattle.client_node.specs.declared.node.ClientNode.{ClientNode as Node};
+ghost use Rattle.client_node.specs.Answers.{record_at};
+ghost use Rattle.client_node.specs.Does.{Does};
+ghost use Rattle.client_node.specs.Looks.{Looks};
+ghost use Rattle.client_node.specs.Node.{IsClient, IsNode};
+ghost use Rattle.client_node.specs.Preparing.{Prepares, MayBegin};
+
+use crate::fault::CallFault;
+use crate::node::ClientNode;
+use crate::planning::begin;
+use crate::preparing::{Prepared, open_row, prepare};
+use client_journal::Journal;
+use disk_trait::Disk;
+use row_value::Content;
+use stab_base::{ClientNo, RowId, TableNo, WriteNo};
+use std::alloc::Global;
+
+// Prepares the write of a row.
+fn prepare_write<D: Disk + Drop>(
+    alloc: Global,
+    client: ClientNo,
+    devs: &mut Journal<D>,
+    table: TableNo,
+    row: RowId,
+    content: Content,
+) -> Result<Prepared, CallFault>
+    requires up { AreUp devs.old }
+    requires ready { IsReady D.state devs.old (writes_of devs.old) }
+    requires spelled { IfSome (record_at (held_by D.state devs.old) table) (λ opened. HasSchemaSpelling opened.schema) }
+    ensures looks { Looks D.state D.images devs.old devs.new result }
+    ensures prepares { Prepares D.state devs.old client (Write table row content) table row result }
+{
+    let at = open_row(devs, table, row)?;
+    prepare(alloc, client, devs, &at, content)
+}
+
+impl<D: Disk + Drop> ClientNode<D> {
+    // Takes a write on that was prepared, or hands over why it wasn't. Its row may then come to wait.
+    pub(crate) fn take_on(
+        &mut self,
+        table: TableNo,
+        row: RowId,
+        found: Result<Prepared, CallFault>,
+    ) -> Result<WriteNo, CallFault>
+        requires { IfOk found (MayBegin (behind D.state) self.old.devs) }
+        ensures does { (old : Node D) (s : Client) (move : ClientMove) → self.old ≡ record old { devs = self.old.devs }
+            → IsClient D.state old s → old.is_up ≡ true
+            → Looks (behind D.state) (λ f. D.images (inner_of f)) old.devs self.old.devs found
+            → Prepares (behind D.state) old.devs old.number move table row found
+            → Does D.state D.images s move (λ number. Number number) old self.new result }
+        ensures declared { self.new.is_declared ≡ self.old.is_declared }
+    {
+        let Prepared { number, planned } = self.settle(found)?;
+        self.waiting.note(table, row)?;
+        self.facts.reserve(planned.facts.len())?;
+        let begun = begin(&mut self.devs, planned);
+        self.owed = self.settle(begun)?;
+        Ok(number)
+    }
+
+    /// Writes a row: its next content is this one, under the client's next number, which is the answer. The writes that
+    /// this takes are then to be done; what was written is shown and told of from their commit on.
+    ///
+    /// # Errors
+    ///
+    /// `NoTable`, then what is wrong with the content, then `Busy`, then `Spent`.
+    pub fn write(
+        &mut self,
+        table: TableNo,
+        row: RowId,
+        content: Content,
+    ) -> Result<WriteNo, CallFault>
+        requires node { IsNode D.state self.old }
+        requires up { self.old.is_up ≡ true }
+        ensures does { (s : Client) → IsClient D.state self.old s
+            → Does D.state D.images s (Write table row content) (λ number. Number number) self.old self.new result }
+        ensures node { IsNode D.state self.new }
+        ensures declared { self.new.is_declared ≡ self.old.is_declared }
+    {
+        let found = prepare_write(self.alloc, self.number, &mut self.devs, table, row, content);
+        self.take_on(table, row, found)
+    }
+}

@@ -1,0 +1,244 @@
+//! How a write of a row is prepared: its content is held by chunks, and its plan is made.
+ghost use Rattle.std.specs.Prelude.{◌≡◌, ◌⊎◌, ◌+◌, ◌<◌, ◌≤◌, ℕ, List, [], ◌∷◌, None, option_map, length, IfOk, IfErr};
+ghost use Rattle.std.specs.List.{AllByRecursion};
+ghost use Rattle.stab_base.specs.declared.limits.TheConstants.{NUMBER_MAX};
+ghost use Rattle.value_codec.specs.SchemaSpelling.{HasSchemaSpelling};
+ghost use Rattle.held_value.specs.declared.local_name.LocalName.{LocalName};
+ghost use Rattle.client_tables.specs.Change.{version_in};
+ghost use Rattle.client_tables.specs.Shown.{shown_content};
+ghost use Rattle.client_journal.specs.Redone.{redone};
+ghost use Rattle.client_journal.specs.Standing.{devs as held_by, writes_of, AreUp, IsReady};
+ghost use Rattle.step_tables.specs.ClientMoves as moves;
+ghost use Rattle.held_contents.specs.Reading.{AreThereIf, chunks_shown};
+ghost use Rattle.held_contents.specs.Holding.{IsFit};
+ghost use Rattle.plan_limits.specs.Fit.{HasWord, HaveWords};
+ghost use Rattle.client_node.specs.Answers.{record_at, IsFault};
+ghost use Rattle.client_node.specs.Looks.{Looks};
+ghost use Rattle.client_node.specs.Preparing.{IsOpenedRow, HoldsNew, plan_for, change_for, wrote, IsWritten, Prepares};
+
+use crate::fault::CallFault;
+use crate::looking::{check_idle, open_table, row_slots};
+use crate::planning::Planned;
+use client_journal::{Journal, Plan};
+use client_tables::{RowPlan, plan_write, shown_content};
+use disk_trait::Disk;
+use held_contents::{HeldNew, hold, read_chunks};
+use held_value::{Shadow, Slots};
+use plan_log::RowChange;
+use row_value::{Cell, Content, fits};
+use slot_store::TableRecord;
+use stab_base::{ClientNo, NUMBER_MAX, RowId, TableNo, Version, WriteNo};
+use std::alloc::{AllocError, Global};
+use table_model::{ClientFact, Fact, Write};
+
+/// A row of an opened table, with the slots that it has now.
+#[derive(Drop)]
+pub(crate) struct OpenedRow {
+    pub(crate) table: TableNo,
+    pub(crate) row: RowId,
+    pub(crate) opened: TableRecord,
+    pub(crate) slots: Slots,
+}
+
+/// A write that is to be taken on: its number, and its plan.
+#[derive(Drop)]
+pub(crate) struct Prepared {
+    pub(crate) number: WriteNo,
+    pub(crate) planned: Planned,
+}
+
+// An id that is known to have sixteen bytes.
+fn of_16_bytes(row: RowId) -> RowId
+    ensures same { result ≡ row }
+    ensures size { length row ≡ 16 }
+{
+    RowId::from_bytes(row.to_bytes())
+}
+
+/// A row of an opened table.
+pub(crate) fn open_row<D: Disk + Drop>(
+    devs: &mut Journal<D>,
+    table: TableNo,
+    row: RowId,
+) -> Result<OpenedRow, CallFault>
+    requires up { AreUp devs.old }
+    requires ready { IsReady D.state devs.old (writes_of devs.old) }
+    ensures looks { Looks D.state D.images devs.old devs.new result }
+    ensures opened { IfOk result (IsOpenedRow (held_by D.state devs.old) table row) }
+    ensures refused { IfErr result (λ e. ((e ≡ CallFault.NoTable) × (record_at (held_by D.state devs.old) table ≡ None))
+        ⊎ IsFault e) }
+{
+    let opened = open_table(devs, table)?;
+    let slots = row_slots(devs, table, &row)?;
+    Ok(OpenedRow {
+        table,
+        row: of_16_bytes(row),
+        opened,
+        slots,
+    })
+}
+
+// The number of the next write.
+fn next_write<D: Disk + Drop>(devs: &mut Journal<D>) -> Result<WriteNo, CallFault>
+    requires up { AreUp devs.old }
+    requires ready { IsReady D.state devs.old (writes_of devs.old) }
+    ensures looks { Looks D.state D.images devs.old devs.new result }
+    ensures next { IfOk result (λ number. number ≡ (redone (held_by D.state devs.old)).last + 1) }
+    ensures few { IfOk result (λ number. number ≤ NUMBER_MAX) }
+    ensures refused { IfErr result (λ e. ((e ≡ CallFault.Spent NUMBER_MAX)
+        × (NUMBER_MAX ≤ (redone (held_by D.state devs.old)).last)) ⊎ IsFault e) }
+{
+    let last = devs.last_number()?;
+    if last < NUMBER_MAX {
+        Ok(last + 1)
+    } else {
+        Err(CallFault::Spent { last: NUMBER_MAX })
+    }
+}
+
+// What holds a new content, against what the row shows.
+fn hold_new<D: Disk + Drop>(
+    alloc: Global,
+    devs: &mut Journal<D>,
+    size: u32,
+    slots: &Slots,
+    content: &Content,
+) -> Result<HeldNew, CallFault>
+    requires up { AreUp devs.old }
+    requires ready { IsReady D.state devs.old (writes_of devs.old) }
+    requires size { 0 < size }
+    requires fit { IsFit size content.now }
+    ensures looks { Looks D.state D.images devs.old devs.new result }
+    ensures holds { IfOk result (λ made. (meaning : LocalName → List ℕ)
+        → AreThereIf meaning (held_by D.state devs.old) (shown_content slots.now)
+        → HoldsNew size (chunks_shown meaning (shown_content slots.now)) content.now made) }
+    ensures refused { IfErr result IsFault }
+{
+    let shown = read_chunks(alloc, devs, shown_content(slots))?;
+    let held = hold(alloc, size, &shown, content)?;
+    Ok(held)
+}
+
+// The version of the row that was read, 0 where there is none.
+fn version_in(shadow: &Option<Shadow>) -> Version
+    ensures { result ≡ version_in shadow.now }
+{
+    match shadow {
+        None => 0,
+        Some(shadow) => shadow.version,
+    }
+}
+
+// A cell whose number is known to have 64 bits.
+fn know_word(cell: &Cell)
+    ensures { HasWord cell.now }
+{
+    match cell {
+        Cell::Int(number) => {
+            let _known: i64 = *number;
+        }
+        Cell::Bool(_) | Cell::Text(_) => {}
+    }
+}
+
+// Cells whose numbers are known to have 64 bits.
+fn know_cells(cells: &[Cell])
+    ensures { AllByRecursion HasWord cells.now }
+{
+    for cell in cells {
+        know_word(cell);
+    }
+}
+
+// A content whose numbers are known to have 64 bits.
+fn know_words(content: &Content)
+    ensures { HaveWords content.now }
+{
+    if let Content::Row { cells, .. } = content {
+        know_cells(cells.as_slice());
+    }
+}
+
+fn change_for(row: RowId, slots: Option<Slots>) -> Option<RowChange>
+    ensures { result ≡ option_map (change_for row) slots }
+{
+    slots.map(|slots| RowChange { row, slots })
+}
+
+// What a row comes to, as a plan of the devices; `last` is the number of the client's last write.
+fn plan_for(table: TableNo, last: WriteNo, row: RowId, made: RowPlan) -> Plan
+    ensures { result ≡ plan_for table last row made }
+{
+    let RowPlan {
+        change,
+        chunks,
+        drops,
+    } = made;
+    Plan {
+        server: false,
+        table,
+        last,
+        row: change_for(row, change.slots),
+        position: None,
+        new_record: None,
+        brought: chunks,
+        drops,
+        tells: change.tells,
+    }
+}
+
+// What is told of a write. Its content isn't copied.
+fn tell_write(alloc: Global, write: Write) -> Result<Vec<Fact>, AllocError>
+    ensures { IfOk result (λ facts. facts.items ≡ wrote write ∷ []) }
+{
+    Ok(vec![in alloc; Fact::Client(ClientFact::Wrote(write))]?)
+}
+
+// The plan of a write over these slots.
+fn plan_new(alloc: Global, slots: &Slots, write: Write, new: HeldNew) -> Result<Planned, AllocError>
+    ensures { IfOk result (IsWritten slots.now write new) }
+{
+    let HeldNew { content, brought } = new;
+    let made = plan_write(alloc, slots, write.number, content, brought)?;
+    let plan = plan_for(write.table, write.number, write.row, made);
+    Ok(Planned {
+        plan,
+        facts: tell_write(alloc, write)?,
+        messages: Vec::new(alloc),
+    })
+}
+
+/// Prepares the write of a content, which moves into what is told.
+///
+/// What doesn't fit, then `Busy`, then `Spent`.
+pub(crate) fn prepare<D: Disk + Drop>(
+    alloc: Global,
+    client: ClientNo,
+    devs: &mut Journal<D>,
+    at: &OpenedRow,
+    content: Content,
+) -> Result<Prepared, CallFault>
+    requires up { AreUp devs.old }
+    requires ready { IsReady D.state devs.old (writes_of devs.old) }
+    requires opened { IsOpenedRow (held_by D.state devs.old) at.now.table at.now.row at.now }
+    requires spelled { HasSchemaSpelling at.now.opened.schema }
+    ensures looks { Looks D.state D.images devs.old devs.new result }
+    ensures prepares { Prepares D.state devs.old client (moves.Write at.now.table at.now.row content)
+        at.now.table at.now.row result }
+{
+    fits(&at.opened.schema, &content)?;
+    check_idle(devs)?;
+    let number = next_write(devs)?;
+    let new = hold_new(alloc, devs, at.opened.schema.chunk, &at.slots, &content)?;
+    know_words(&content);
+    let write = Write {
+        client,
+        number,
+        table: at.table,
+        row: at.row,
+        read: version_in(&at.slots.shadow),
+        content,
+    };
+    let planned = plan_new(alloc, &at.slots, write, new)?;
+    Ok(Prepared { number, planned })
+}

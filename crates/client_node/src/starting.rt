@@ -1,0 +1,82 @@
+//! How a start is taken on.
+ghost use Rattle.std.specs.Prelude.{◌≡◌, ◌∷◌, ℕ, List, [], map, IfOk, OnOk, OnErr};
+ghost use Rattle.held_value.specs.declared.local_name.LocalName.{LocalName};
+ghost use Rattle.client_journal.specs.Recover.{rolled_of};
+ghost use Rattle.client_journal.specs.Standing.{devs as held_by, writes_of, AreUp, AreSynced, AreSound};
+ghost use Rattle.step_tables.specs.ClientMoves.{ClientDisk, told_at_start};
+ghost use Rattle.step_tables.specs.Lines.{fact_of};
+ghost use Rattle.journal_laws.specs.Holds.{Stands};
+ghost use Rattle.gathering.specs.Room.{HasRoom};
+ghost use Rattle.table_model.specs.declared.line.Fact.TheVariants.{ClientRecovered};
+ghost use Rattle.client_node.specs.Devices.{BeginsStart, OwesEnd};
+
+use crate::devices::begin_start;
+use crate::fault::CallFault;
+use crate::owed::{Owed, When};
+use crate::telling::tell_found;
+use client_journal::Journal;
+use disk_trait::Disk;
+use gathering::Gathered;
+use stab_base::ClientNo;
+use std::alloc::{AllocError, Global};
+use table_model::Fact;
+
+/// That a client has recovered.
+pub(crate) fn recovered(alloc: Global, client: ClientNo) -> Result<Vec<Fact>, AllocError>
+    ensures { IfOk result (λ told. told.items ≡ ClientRecovered client ∷ []) }
+{
+    let told = vec![in alloc; Fact::ClientRecovered { client }]?;
+    Ok(told)
+}
+
+// What the writes of a start tell.
+fn owed_by_start(alloc: Global, client: ClientNo) -> Result<Owed, AllocError>
+    ensures { IfOk result (OwesEnd client) }
+{
+    Ok(Owed {
+        when: When::AtEnd,
+        facts: recovered(alloc, client)?,
+        messages: Vec::new(alloc),
+    })
+}
+
+// These facts gathered, with room for one more.
+fn gather(alloc: Global, mut told: Vec<Fact>) -> Result<Gathered<Fact>, AllocError>
+    ensures told { IfOk result (λ made. made.items.items ≡ told.items) }
+    ensures room { IfOk result (λ made. HasRoom made 1) }
+{
+    let mut made = Gathered::new(alloc);
+    made.reserve(told.len())?;
+    made.put_all(&mut told);
+    made.reserve(1)?;
+    Ok(made)
+}
+
+/// Takes on the writes of a start, and gathers what it tells at once, where nothing is gathered. What the writes tell
+/// is for the caller to owe.
+pub(crate) fn resume<D: Disk + Drop>(
+    alloc: Global,
+    devs: &mut Journal<D>,
+    client: ClientNo,
+    facts: &mut Gathered<Fact>,
+) -> Result<Owed, CallFault>
+    requires up { AreUp devs.old }
+    requires synced { AreSynced D.state devs.old }
+    requires sound { AreSound D.state devs.old }
+    requires idle { writes_of devs.old ≡ [] }
+    requires quiet { map fact_of facts.old.items.items ≡ [] }
+    ensures begins { BeginsStart D.state D.images devs.old devs.new result }
+    ensures told { OnOk result ((meaning : LocalName → List ℕ) (disk : ClientDisk)
+        → Stands client meaning (held_by D.state devs.old) disk → map fact_of facts.new.items.items
+        ≡ told_at_start client (rolled_of (held_by D.state devs.old).journal.at_work).torn disk.plan) }
+    ensures kept { OnErr result (facts.new.items.items ≡ facts.old.items.items) }
+    ensures room { OnOk result (HasRoom facts.new 1) }
+    ensures owes { IfOk result (OwesEnd client) }
+{
+    let rolled = begin_start(devs)?;
+    let told = tell_found(alloc, devs, client, &rolled)?;
+    let owed = owed_by_start(alloc, client)?;
+    let made = gather(alloc, told)?;
+    *facts = made;
+    Ok(owed)
+}

@@ -36,3 +36,17 @@ pub mod WriteRefusals
 pub mod Looked
 pub mod Edits
 pub mod TakenOn
+pub mod RowReady
+pub mod TakenPlans
+pub mod Delivered
+pub mod Ignored
+pub mod Responded
+pub mod Walks
+pub mod NotedIds
+pub mod Synced
+pub mod SendPlans
+pub mod Syncs
+pub mod SyncDone
+pub mod Pulled
+pub mod AskedAgain
+pub mod CarriedOut

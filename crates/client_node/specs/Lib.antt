@@ -16,3 +16,11 @@ pub mod Editing
 pub mod Telling
 pub mod Starts
 pub mod Taking
+pub mod Answering
+pub mod Tells
+pub mod Readied
+pub mod Placing
+pub mod NotedRows
+pub mod Requesting
+pub mod Carrying
+pub mod Syncing

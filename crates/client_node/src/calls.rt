@@ -1,5 +1,7 @@
 //! The calls of a client.
 mod editing;
-mod pulling;
+pub(crate) mod pulling;
+mod sending;
 mod showing;
+mod taking;
 mod writing;

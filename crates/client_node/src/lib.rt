@@ -2,17 +2,24 @@
 #![tactic(auto)]
 
 mod calls;
+mod carrying;
 mod devices;
 mod fault;
 mod handing;
 mod looking;
 mod node;
+mod noted;
 mod owed;
+mod placing;
 mod planning;
 mod preparing;
 mod reading;
+mod requesting;
+mod responding;
+mod row_plan;
 mod starting;
 mod telling;
+mod tells;
 mod waiting;
 
 pub use fault::CallFault;

@@ -7,3 +7,8 @@ use Rattle.gathering.specs.declared.gathered.Gathered.{Gathered}
 pub record HasRoom {T : Type 0} (gathered : Gathered T) (n : ℕ) : Type 0 where
   pub now : vec_len gathered.items + n ≤ vec_capacity gathered.items
   pub later : (n ≡ 0) ⊎ ((n ≤ vec_capacity gathered.spare) ⊎ (gathered.items.items ≡ []))
+
+-- There is, and so it is in what takes its place at a hand-over.
+pub record HasSpare {T : Type 0} (gathered : Gathered T) (n : ℕ) : Type 0 where
+  pub now : vec_len gathered.items + n ≤ vec_capacity gathered.items
+  pub later : n ≤ vec_capacity gathered.spare

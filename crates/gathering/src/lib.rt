@@ -3,7 +3,7 @@
 
 ghost use Rattle.std.specs.Prelude.{◌≡◌, ℕ, ◌+◌, ◌≤◌, [], ◌++◌, OnOk};
 ghost use Rattle.std.specs.Vec.{vec_capacity, vec_len};
-ghost use Rattle.gathering.specs.Room.{HasRoom};
+ghost use Rattle.gathering.specs.Room.{HasRoom, HasSpare};
 
 mod gathered;
 
@@ -27,17 +27,19 @@ impl<T: Drop> Gathered<T> {
     pub fn reserve(&mut self, count: usize) -> Result<(), AllocError>
         ensures same { self.new.items.items ≡ self.old.items.items }
         ensures room { OnOk result (HasRoom self.new count) }
+        ensures spare { OnOk result (HasSpare self.new count) }
         ensures kept { (n : ℕ) → HasRoom self.old n → HasRoom self.new n }
     {
         self.items.reserve(count)?;
         self.spare.reserve(count)
     }
 
-    /// Adds values for which room was made. It takes no memory.
+    /// Adds values for which room was made. It takes no memory, and what more room there was stays.
     pub fn put_all(&mut self, more: &mut Vec<T>)
         requires { vec_len self.old.items + vec_len more.old ≤ vec_capacity self.old.items }
         ensures added { self.new.items.items ≡ self.old.items.items ++ more.old.items }
         ensures emptied { more.new.items ≡ [] }
+        ensures room { (n : ℕ) → HasSpare self.old (vec_len more.old + n) → HasRoom self.new n }
     {
         self.items.append(more).unwrap();
     }

@@ -1,0 +1,253 @@
+-- The plan of a row's sending is one of the step table.
+use Rattle.std.proofs.Common.{◌≡◌, ◌⊎◌, ℕ, ◌+◌, ◌<◌, ◌≤◌, Bool, true, false, List, [], ◌∷◌, ◌++◌, length, map, Option, Some, None, refl, sym, ◌∙◌, ap, subst, arith}
+use Rattle.std.specs.Prelude.{◌^◌, ◌&&◌, is_some, is_none, IfSome, IsSome, option_map, unwrap_or}
+use Rattle.std.specs.List.{AllByRecursion}
+use Rattle.field_codec.specs.Forms.{AreEach}
+use Rattle.row_value.specs.declared.content.Content.{Content}
+use Rattle.row_value.specs.declared.pieces.Piece.{Piece}
+use Rattle.row_value.specs.declared.schema.Scheme.{Scheme}
+use Rattle.row_value.specs.declared.schema.Scheme.TheVariants.{Eventual}
+use Rattle.value_codec.specs.Spelling.{HasPieceSpelling}
+use Rattle.value_codec.specs.SchemaSpelling.{HasSchemaSpelling}
+use Rattle.held_value.specs.declared.local_name.LocalName.{LocalName}
+use Rattle.held_value.specs.declared.content.HeldContent.{HeldContent}
+use Rattle.held_value.specs.declared.slots.Main.{Main as HeldMain}
+use Rattle.held_value.specs.declared.slots.Out.{Out as HeldOut}
+use Rattle.held_value.specs.declared.slots.Shadow.{Shadow as HeldShadow}
+use Rattle.held_value.specs.declared.slots.Slots.{Slots as HeldSlots}
+use Rattle.slot_store.specs.declared.held.TableRecord.{TableRecord}
+use Rattle.client_tables.specs.declared.change.Change.{Change}
+use Rattle.client_tables.specs.declared.plan.RowPlan.{RowPlan}
+use Rattle.client_tables.specs.Change.{after, version_in as held_version}
+use Rattle.client_tables.specs.Drops.{names_in as tree_names}
+use Rattle.client_tables.specs.Kept.{Send as SendEvent, SlotEvent, slots_behind}
+use Rattle.client_tables.specs.Plan.{IsPlan as IsRowPlanOf, AreKnown, names_with}
+use Rattle.client_tables.specs.Shown.{shown_content, content_by}
+use Rattle.client_tables.specs.Transitions.{can_send, sent, sent_main}
+use Rattle.client_journal.specs.declared.plan.Plan.{Plan as Begun}
+use Rattle.client_journal.specs.Devs.{ClientDevs}
+use Rattle.client_journal.specs.Names.{Has, is_among, names_of, names_of_main, names_of_shadow, names_of_out, names_in}
+use Rattle.client_journal.specs.NamedSlots.{AreDifferent}
+use Rattle.client_journal.specs.Plan.{no_id}
+use Rattle.client_journal.specs.Redone.{redone}
+use Rattle.client_journal.specs.There.{repeats}
+use Rattle.client_journal.proofs.Wholes.{has_left}
+use Rattle.step_tables.specs.declared.slots.InFlight.{InFlight}
+use Rattle.step_tables.specs.declared.slots.Main.{Main}
+use Rattle.step_tables.specs.declared.slots.Shadow.{Shadow}
+use Rattle.step_tables.specs.Client.{version_in}
+use Rattle.step_tables.specs.Messages.{Send}
+use Rattle.step_tables.specs.ClientMoves.{Slots, RowOut, TableDisk, Plan, ClientDisk, table_at, slots_in, slots_at, to_send, send_plan, request_for, out_of}
+use Rattle.journal_laws.specs.Holds.{empty}
+use Rattle.journal_laws.specs.Moves.{PlansChange, plan_meaning}
+use Rattle.journal_laws.specs.Whole.{whole, whole_main, whole_shadow, whole_slots}
+use Rattle.journal_laws.proofs.Transitions.{send_plans}
+use Rattle.held_contents.specs.Holding.{names_shown}
+use Rattle.held_contents.specs.Reading.{AreThere, AreThereIf, chunks_in}
+use Rattle.held_contents.proofs.Pieces.{AreOnce, repeats_once}
+use Rattle.plan_limits.specs.Fit.{IsFitRow, IsFitContent, AreFitPieces}
+use Rattle.plan_limits.specs.Short.{IsRowPlan}
+use Rattle.plan_limits.proofs.Commits.{row_short}
+use Rattle.plan_limits.proofs.New.{names_are_shown, shown_once}
+use Rattle.plan_limits.proofs.Rows.{AreFit, each_fit}
+use Rattle.client_node.specs.declared.planning.Planned.{Planned}
+use Rattle.client_node.specs.declared.waiting.Waiting.{Waiting}
+use Rattle.client_node.specs.Answers.{record_at, held_at}
+use Rattle.client_node.specs.Readied.{IsOfRow, IsReadied, IsIdleAt, IsIdle}
+use Rattle.client_node.specs.Requesting.{request_with}
+use Rattle.client_node.specs.Syncing.{IsSendOf}
+use Rattle.client_node.proofs.RowReady.{IsPlain, opened_now, whole_now, whole_here, last_is, fit_here, steady_here, schema_spelled, row_readied}
+use Rattle.client_node.proofs.Shown.{there_shown}
+
+-- ---- a content has few chunks
+
+not_among : (names : List LocalName) (q : LocalName) → (Has names q → ⊥) → is_among names q ≡ false
+not_among names q apart = pick (is_among names q) refl
+  where
+    pick : (b : Bool) → is_among names q ≡ b → is_among names q ≡ false
+    pick true is = absurd (apart is)
+    pick false is = is
+
+once_different : (names : List LocalName) → AreOnce names → AreDifferent names
+once_different [] once = tt
+once_different (n ∷ names) once = (not_among names n once.0, once_different names once.1)
+
+-- of a content in a slot
+module _ (meaning : LocalName → List ℕ) (table : TableRecord) (schema : HasSchemaSpelling table.schema) (m : HeldMain) (s : Option HeldShadow) (o : Option HeldOut) (k : Option HeldShadow) where
+  abbrev with_main : HeldSlots
+  with_main = record { main = Some m; shadow = s; out = o; conflict = k }
+
+  -- a plan that drops all of them
+  abbrev dropping : Begun
+  dropping = record {
+    server = false;
+    table = 1;
+    last = 0;
+    row = Some (record { row = no_id; slots = empty });
+    position = None;
+    new_record = None;
+    brought = [];
+    drops = names_of m.content;
+    tells = [];
+  }
+
+  fit_empty : IsFitRow meaning (Some table) empty
+  fit_empty = record { whole = record { right = refl }; spelled = (tt, (tt, (tt, tt))); pieces = tt }
+
+  pub few_names : IsFitRow meaning (Some table) with_main → length (names_of m.content) < 2 ^ 32
+  few_names fit =
+      let content : IsFitContent meaning (Some table) m.content = (each_fit meaning (Some table) with_main fit).main.2 in
+      let once : repeats [] (names_shown (chunks_in meaning m.content)) ≡ false = shown_once meaning (Some table) m.content content in
+      let apart : repeats [] (names_of m.content) ≡ false = subst (λ (l : List LocalName). repeats [] l ≡ false) (names_are_shown meaning m.content) once in
+      let made : IsRowPlan no_id with_main empty dropping = record {
+        table = record { least = omega arith; most = omega arith };
+        last = omega arith;
+        id = refl;
+        row = refl;
+        position = tt;
+        new_record = refl;
+        brought = λ ordinal less. absurd (omega (arith, less));
+        drops = λ name has. has_left (names_of m.content) (names_of_shadow s ++ (names_of_out o ++ names_of_shadow k)) name has;
+        different = once_different (names_of m.content) (repeats_once [] (names_of m.content) apart).0;
+        tells = record { few = omega arith; spelled = tt };
+      } in
+      let few = (row_short meaning meaning table no_id with_main empty dropping schema fit fit_empty made).few in
+      omega (arith, few)
+
+-- ---- the plan
+
+plain_sent : (slots : HeldSlots) (pieces : List Piece) (o : Option HeldMain) → AllByRecursion IsPlain (sent_main slots pieces o).tells
+plain_sent slots pieces None = tt
+plain_sent slots pieces (Some main) = tt
+
+calm_sent : (slots : HeldSlots) (pieces : List Piece) (o : Option HeldMain) → slots.conflict ≡ None → (after slots (sent_main slots pieces o)).conflict ≡ None
+calm_sent slots pieces None calm = calm
+calm_sent slots pieces (Some main) calm = calm
+
+none_mapped : {X Y : Type 0} (o : Option X) (f : X → Y) → option_map f o ≡ None → o ≡ None
+none_mapped None f is = refl
+none_mapped (Some x) f is = absurd cc
+
+some_is : {X : Type 0} (x y : X) → Some x ≡ Some y → x ≡ y
+some_is x y is = cc
+
+-- the request of Main is that of what is sent
+main_request : (meaning : LocalName → List ℕ) (c table : ℕ) (row : List ℕ) (m : HeldMain) (s : Option HeldShadow) (o : Option HeldOut) (k : Option HeldShadow) (out : InFlight)
+    → (let w = whole_slots meaning (record { main = Some m; shadow = s; out = o; conflict = k }) in to_send w w.out w.main w.conflict ≡ Some out)
+    → request_with c table row m.number (held_version s) (whole meaning m.content) ≡ request_for c table row out
+main_request meaning c table row m s (Some waits) k out is = absurd cc
+main_request meaning c table row m s None (Some x) out is = absurd cc
+main_request meaning c table row m None None None out is = ap (request_for c table row) (some_is (out_of (whole_main meaning m) 0) out is)
+main_request meaning c table row m (Some shadow) None None out is = ap (request_for c table row) (some_is (out_of (whole_main meaning m) shadow.version) out is)
+
+module _ (d : ClientDevs) (c table : ℕ) (row : List ℕ) (found : TableRecord) (opened : record_at d table ≡ Some found) (main : HeldMain) (main_is : (held_at d table row).main ≡ Some main) where
+  abbrev now : HeldSlots
+  now = held_at d table row
+
+  -- ---- what is asked of Main
+
+  pub main_there : (w : Waiting) (disk : ClientDisk) (idle : IsIdleAt d c w disk) → AreThere idle.stands.0 d main.content
+  main_there w disk idle = subst (λ (o : Option HeldContent). AreThereIf idle.stands.0 d o) (ap (λ (o : Option HeldMain). content_by o now.shadow) main_is) (there_shown idle.stands.0 d idle.stands.1.named table row now refl)
+
+  pub main_few : (w : Waiting) (disk : ClientDisk) → IsIdleAt d c w disk → length (names_of main.content) < 2 ^ 32
+  main_few w disk idle =
+      few_names idle.stands.0 found (schema_spelled c d disk idle.stands idle.rests table row found opened w idle.steady) main now.shadow now.out now.conflict
+      (subst (λ (o : Option HeldMain). IsFitRow idle.stands.0 (Some found) (record { main = o; shadow = now.shadow; out = now.out; conflict = now.conflict })) main_is (fit_here c d disk idle.stands idle.rests table row found opened))
+
+  module _ (last : ℕ) (number_is : last ≡ (redone d).last) (pieces : List Piece) (pieces_fit : AreFitPieces main.content pieces) (made : RowPlan) (is : IsRowPlanOf now (sent now pieces) [] made) (len : length row ≡ 16)
+      (known : (scheme : Scheme) (slots : HeldSlots) (event : SlotEvent) (count : ℕ) → AreKnown slots count (names_with event) → AreKnown slots count (tree_names (slots_behind scheme slots event))) (request : Send)
+      (request_is : (meaning : LocalName → List ℕ) → AreThere meaning d main.content → request ≡ request_with c table row main.number (held_version now.shadow) (whole meaning main.content)) (planned : Planned) (o : IsOfRow c table row last None made (request ∷ []) planned) where
+    module _ (w : Waiting) (disk : ClientDisk) (idle : IsIdleAt d c w disk) where
+      abbrev means : LocalName → List ℕ
+      means = plan_meaning idle.stands.0 (d.journal.greatest + 1) []
+
+      whole_is : whole_slots means now ≡ slots_in (table_at disk table) row
+      whole_is = whole_now c d disk idle.stands idle.rests table row []
+
+      calm_now : now.conflict ≡ None
+      calm_now =
+          let t = opened_now c d disk idle.stands idle.rests table found opened in
+          let steady = steady_here c d disk idle.stands idle.rests table row found opened w idle.steady in
+          none_mapped now.conflict (whole_shadow means) (ap (λ (s : Slots). s.conflict) (whole_is ∙ ap (λ (x : Option TableDisk). slots_in x row) t.1) ∙ (steady.noted row).calm)
+
+      behind_calm : (whole_slots means o.behind).conflict ≡ None
+      behind_calm =
+          let some : (sent now pieces).slots ≡ Some o.behind = ap (λ (x : Change). x.slots) (sym is.change) ∙ o.changes in
+          let calm : o.behind.conflict ≡ None = subst (λ (x : HeldSlots). x.conflict ≡ None) (ap (λ (x : Option HeldSlots). unwrap_or x now) some) (calm_sent now pieces now.main calm_now) in
+          ap (option_map (whole_shadow means)) calm
+
+      event_fits : IfSome now.main (λ main. AreFitPieces main.content pieces)
+      event_fits = subst (λ (o : Option HeldMain). IfSome o (λ main. AreFitPieces main.content pieces)) (sym main_is) pieces_fit
+
+      event_holds : IfSome now.main (λ main. length pieces ≡ length (names_of main.content))
+      event_holds = subst (λ (o : Option HeldMain). IfSome o (λ main. length pieces ≡ length (names_of main.content))) (sym main_is) pieces_fit.count
+
+      -- where this is to be sent
+      readied_here : (out : InFlight) → to_send (whole_slots means now) (whole_slots means now).out (whole_slots means now).main (whole_slots means now).conflict ≡ Some out
+          → IsReadied d c idle.stands.0 disk planned (send_plan disk table (record { row = row; slots = whole_slots means now; out = out })) (request ∷ [])
+      readied_here out sends =
+          let last_now : last ≡ disk.last = number_is ∙ last_is c d disk idle.stands idle.rests in
+          let made_of : IsOfRow c table row disk.last None made (request ∷ []) planned = subst (λ (n : ℕ). IsOfRow c table row n None made (request ∷ []) planned) last_now o in
+          row_readied c d disk idle.stands idle.rests table row found opened w idle.steady Eventual (SendEvent pieces) [] event_fits event_holds (known Eventual now (SendEvent pieces) 0 (λ name has. absurd cc)) made is None tt (request ∷ []) planned made_of len
+          (λ ordinal less. absurd (omega (arith, less))) tt (send_plan disk table (record { row = row; slots = whole_slots means now; out = out })) refl refl refl (plain_sent now pieces now.main)
+          (behind_of made_of) (send_plans c means disk table row now.main now.shadow now.out now.conflict pieces out sends)
+        where
+          behind_of : (m : IsOfRow c table row disk.last None made (request ∷ []) planned) → (whole_slots means m.behind).conflict ≡ None
+          behind_of m =
+              let same : Some o.behind ≡ Some m.behind = sym o.changes ∙ m.changes in
+              subst (λ (x : HeldSlots). (whole_slots means x).conflict ≡ None) (some_is o.behind m.behind same) behind_calm
+
+      request_now : (out : InFlight) → to_send (whole_slots means now) (whole_slots means now).out (whole_slots means now).main (whole_slots means now).conflict ≡ Some out → request ≡ request_for c table row out
+      request_now out sends =
+          let wholes : whole_slots means now ≡ whole_slots idle.stands.0 now = whole_is ∙ sym (whole_here c d disk idle.stands idle.rests table row) in
+          let there : request ≡ request_with c table row main.number (held_version now.shadow) (whole idle.stands.0 main.content) = request_is idle.stands.0 (main_there w disk idle) in
+          let sends_here : to_send (whole_slots idle.stands.0 now) (whole_slots idle.stands.0 now).out (whole_slots idle.stands.0 now).main (whole_slots idle.stands.0 now).conflict ≡ Some out =
+          subst (λ (s : Slots). to_send s s.out s.main s.conflict ≡ Some out) wholes sends in
+          let split : (let x = whole_slots idle.stands.0 (record { main = Some main; shadow = now.shadow; out = now.out; conflict = now.conflict }) in to_send x x.out x.main x.conflict ≡ Some out) =
+          subst (λ (m : Option HeldMain). let x = whole_slots idle.stands.0 (record { main = m; shadow = now.shadow; out = now.out; conflict = now.conflict }) in to_send x x.out x.main x.conflict ≡ Some out) main_is sends_here in
+          there ∙ main_request idle.stands.0 c table row main now.shadow now.out now.conflict out split
+
+    pub is_send : IsSendOf d c table row (Some planned)
+    is_send = record {
+      some = λ none. cc;
+      plan = λ w disk idle x row_is slots_is sends.
+          let wholes : whole_slots (means w disk idle) now ≡ x.slots = whole_is w disk idle ∙ sym slots_is in
+          let here : to_send (whole_slots (means w disk idle) now) (whole_slots (means w disk idle) now).out (whole_slots (means w disk idle) now).main (whole_slots (means w disk idle) now).conflict ≡ Some x.out =
+          subst (λ (s : Slots). to_send s s.out s.main s.conflict ≡ Some x.out) (sym wholes) sends in
+          subst (λ (l : List Send). IsReadied d c idle.stands.0 disk planned (send_plan disk table x) l) (ap (λ (q : Send). q ∷ []) (request_now w disk idle x.out here))
+          (subst (λ (r : List ℕ). IsReadied d c idle.stands.0 disk planned (send_plan disk table (record { row = r; slots = x.slots; out = x.out })) (request ∷ [])) (sym row_is)
+          (subst (λ (s : Slots). IsReadied d c idle.stands.0 disk planned (send_plan disk table (record { row = row; slots = s; out = x.out })) (request ∷ [])) wholes (readied_here w disk idle x.out here)));
+    }
+
+-- ---- of what is found
+
+some_there : {X : Type 0} (o : Option X) → IsSome o → (x : X) × (o ≡ Some x)
+some_there None is = absurd cc
+some_there (Some x) is = (x, refl)
+
+module _ (d : ClientDevs) (c table : ℕ) (row : List ℕ) (opened : IsSome (record_at d table)) (slots : HeldSlots) (here : slots ≡ held_at d table row) (main : HeldMain) (main_is : slots.main ≡ Some main) where
+  main_now : (held_at d table row).main ≡ Some main
+  main_now = ap (λ (s : HeldSlots). s.main) (sym here) ∙ main_is
+
+  pub few_chunks : IsIdle d c → length (names_of main.content) < 2 ^ 32
+  few_chunks idle = let f = some_there (record_at d table) opened in main_few d c table row f.0 f.1 main main_now idle.waiting idle.disk idle.at
+
+  changes_some : (pieces : List Piece) → IsSome (sent slots pieces).slots
+  changes_some pieces = subst (λ (o : Option HeldMain). IsSome (sent_main slots pieces o).slots) (sym main_is) refl
+
+  pub sending_is : (last : ℕ) → last ≡ (redone d).last → (pieces : List Piece) → length pieces ≡ length (names_of main.content) → AreEach HasPieceSpelling pieces → (made : RowPlan) → IsRowPlanOf slots (sent slots pieces) [] made → length row ≡ 16
+      → ((scheme : Scheme) (slots : HeldSlots) (event : SlotEvent) (count : ℕ) → AreKnown slots count (names_with event) → AreKnown slots count (tree_names (slots_behind scheme slots event))) → (request : Send)
+      → ((meaning : LocalName → List ℕ) → AreThere meaning d main.content → request ≡ request_with c table row main.number (held_version slots.shadow) (whole meaning main.content)) → (sends : List Send) → sends ≡ request ∷ [] → (o : Option Planned) → (o ≡ None → made.change.slots ≡ None)
+      → IfSome o (IsOfRow c table row last None made sends) → IsSendOf d c table row o
+  sending_is last number_is pieces count spelled made is len known request request_is sends sends_are None none some =
+      let no : (sent slots pieces).slots ≡ None = ap (λ (x : Change). x.slots) (sym is.change) ∙ none refl in
+      let wrong : IsSome {T = HeldSlots} None = subst (λ (o : Option HeldSlots). IsSome o) no (changes_some pieces) in
+      absurd cc
+  sending_is last number_is pieces count spelled made is len known request request_is sends sends_are (Some planned) none some =
+      let f = some_there (record_at d table) opened in
+      is_send d c table row f.0 f.1 main main_now last number_is pieces (record { count = count; spelled = spelled }) made (subst (λ (s : HeldSlots). IsRowPlanOf s (sent s pieces) [] made) here is) len known request
+      (λ meaning there. request_is meaning there ∙ ap (λ (s : HeldSlots). request_with c table row main.number (held_version s.shadow) (whole meaning main.content)) here) planned (subst (λ (l : List Send). IsOfRow c table row last None made l planned) sends_are some)
+
+-- a row without a write has nothing to send
+pub cannot_send : (slots : HeldSlots) {P : Type 0} → slots.main ≡ None → can_send slots ≡ true → P
+cannot_send slots none can = absurd (let wrong : false ≡ true = sym (ap (λ (o : Option HeldMain). is_some o && is_none slots.out && is_none slots.conflict) none) ∙ can in cc)

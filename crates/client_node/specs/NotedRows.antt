@@ -1,0 +1,14 @@
+-- The rows of a table that are noted in a set.
+use Rattle.std.specs.Prelude.{◌≡◌, ℕ, true, List, length}
+use Rattle.std.specs.List.{list_any}
+use Rattle.std.specs.List.Sorted.{IsStrictlySortedBy}
+use Rattle.std.specs.BTreeMap.{is_at}
+use Rattle.std.specs.BTreeSet.{BTreeSet, contains}
+use Rattle.slot_store.specs.declared.held.RowKey.{RowKey}
+use Rattle.slot_store.specs.Data.{id_cmp, key_cmp, key_at}
+
+-- the ids of a table's rows that are in a set, in rising order
+pub record AreNotedRows (set : BTreeSet RowKey) (table : ℕ) (rows : List (List ℕ)) : Type 0 where
+  pub rising : IsStrictlySortedBy id_cmp rows
+  pub all : (row : List ℕ) → length row ≡ 16 → contains key_cmp set (key_at table row) ≡ true
+      → list_any (is_at (id_cmp row)) rows ≡ true

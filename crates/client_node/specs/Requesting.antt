@@ -1,0 +1,39 @@
+-- The requests of rows that wait, by the slots that the devices hold.
+use Rattle.std.specs.Prelude.{◌≡◌, ℕ, ◌+◌, ◌<◌, ◌==◌, ◌++◌, true, List, [], ◌∷◌, length, Option, Some, None, option_map}
+use Rattle.std.specs.Prelude.{option_to_list, if◌then◌else◌}
+use Rattle.std.specs.List.{Contains}
+use Rattle.std.specs.List.Sorted.{IsStrictlySortedBy}
+use Rattle.std.specs.BTreeSet.{BTreeSet, contains}
+use Rattle.row_value.specs.declared.content.Content.{Content}
+use Rattle.held_value.specs.declared.local_name.LocalName.{LocalName}
+use Rattle.held_value.specs.declared.slots.Slots.{Slots as HeldSlots}
+use Rattle.slot_store.specs.declared.held.RowKey.{RowKey}
+use Rattle.slot_store.specs.Data.{id_cmp, key_cmp, key_at}
+use Rattle.client_tables.specs.Transitions.{can_send}
+use Rattle.client_journal.specs.Devs.{ClientDevs}
+use Rattle.step_tables.specs.Messages.{Send}
+use Rattle.step_tables.specs.ClientMoves.{request_for}
+use Rattle.journal_laws.specs.Whole.{whole_out}
+use Rattle.client_node.specs.Answers.{held_at}
+
+-- the request of a write with this number, base and content
+abbrev pub request_with : ℕ → ℕ → List ℕ → ℕ → ℕ → Content → Send
+request_with c table row number base content =
+    request_for c table row (record { number = number; read = 0; base = base; content = content })
+
+-- the request of a row whose write waits for its answer
+abbrev pub asked_again : (LocalName → List ℕ) → ℕ → ClientDevs → ℕ → List ℕ → List Send
+asked_again meaning c d table row =
+    option_to_list (option_map (λ out. request_for c table row (whole_out meaning out)) (held_at d table row).out)
+
+-- the requests of these rows
+abbrev pub all_asked_again : (LocalName → List ℕ) → ℕ → ClientDevs → ℕ → List (List ℕ) → List Send
+all_asked_again meaning c d table [] = []
+all_asked_again meaning c d table (row ∷ rows) =
+    asked_again meaning c d table row ++ all_asked_again meaning c d table rows
+
+-- the first of these rows that has something to send, with its slots
+abbrev pub first_ready : ClientDevs → ℕ → List (List ℕ) → Option (List ℕ × HeldSlots)
+first_ready d table [] = None
+first_ready d table (row ∷ rows) =
+    if can_send (held_at d table row) then Some (row, held_at d table row) else first_ready d table rows

@@ -1,0 +1,221 @@
+//! How a client sends its writes.
+ghost use Rattle.std.specs.Prelude.{◌≡◌, true, [], Some, IfOk, IfErr, OnOk, IsSome};
+ghost use Rattle.client_tables.specs.Transitions.{can_send};
+ghost use Rattle.client_tables.specs.Change.{version_in};
+ghost use Rattle.client_journal.specs.Standing.{devs as held_by, writes_of, AreUp, IsReady};
+ghost use Rattle.step_tables.specs.ClientMoves.{Client, Sync};
+ghost use Rattle.step_tables.specs.Facts.{Number};
+ghost use Rattle.client_node.specs.Answers.{record_at, held_at, IsFault};
+ghost use Rattle.client_node.specs.Does.{Does};
+ghost use Rattle.client_node.specs.Looks.{Looks};
+ghost use Rattle.client_node.specs.Node.{IsClient, IsNode};
+ghost use Rattle.client_node.specs.Readied.{IsIdle};
+ghost use Rattle.client_node.specs.Requesting.{first_ready};
+ghost use Rattle.client_node.specs.Syncing.{Syncs, IsSendOf, IsNextOf, SendsAgain};
+
+use crate::calls::pulling::check_link;
+use crate::fault::CallFault;
+use crate::looking::{check_idle, open_table};
+use crate::node::ClientNode;
+use crate::noted::rows_in;
+use crate::planning::Planned;
+use crate::requesting::{first_ready, request_of, requests};
+use crate::row_plan::{last_write, plan_of_row};
+use crate::waiting::Waiting;
+use client_journal::Journal;
+use client_tables::plan_send;
+use disk_trait::Disk;
+use held_contents::pieces_of;
+use held_value::{Main, Shadow, Slots};
+use stab_base::{ClientNo, RowId, TableNo, Version};
+use std::alloc::Global;
+use step_tables::Addressed;
+
+/// What a synchronization sends: requests that are sent again at once, and the plan of the next, if there is one.
+#[derive(Drop)]
+pub(crate) struct Synced {
+    pub(crate) again: Vec<Addressed>,
+    pub(crate) next: Option<Planned>,
+}
+
+fn version_in(shadow: &Option<Shadow>) -> Version
+    ensures { result ≡ version_in shadow.now }
+{
+    match shadow {
+        None => 0,
+        Some(row) => row.version,
+    }
+}
+
+// The plan of the sending of a row's last write, whose own last write sends the request.
+fn plan_of_main<D: Disk + Drop>(
+    alloc: Global,
+    client: ClientNo,
+    devs: &mut Journal<D>,
+    table: TableNo,
+    row: &RowId,
+    slots: &Slots,
+    main: &Main,
+) -> Result<Option<Planned>, CallFault>
+    requires up { AreUp devs.old }
+    requires ready { IsReady D.state devs.old (writes_of devs.old) }
+    requires idle { IsIdle (held_by D.state devs.old) client }
+    requires sends { can_send slots.now ≡ true }
+    requires held { slots.now ≡ held_at (held_by D.state devs.old) table row.now }
+    requires main { slots.now.main ≡ Some main.now }
+    requires opened { IsSome (record_at (held_by D.state devs.old) table) }
+    ensures looks { Looks D.state D.images devs.old devs.new result }
+    ensures plan { IfOk result (IsSendOf (held_by D.state devs.old) client table row.now) }
+    ensures refused { IfErr result IsFault }
+{
+    let last = last_write(devs)?;
+    let base = version_in(&slots.shadow);
+    let request = request_of(
+        alloc,
+        client,
+        devs,
+        table,
+        row,
+        main.number,
+        base,
+        &main.content,
+    )?;
+    let pieces = pieces_of(alloc, &main.content)?;
+    let made = plan_send(alloc, slots, pieces)?;
+    let messages = vec![in alloc; request]?;
+    let found = plan_of_row(alloc, client, table, row, last, None, made, messages)?;
+    Ok(found)
+}
+
+// The plan of a row's sending.
+fn plan_of_send<D: Disk + Drop>(
+    alloc: Global,
+    client: ClientNo,
+    devs: &mut Journal<D>,
+    table: TableNo,
+    row: &RowId,
+    slots: &Slots,
+) -> Result<Option<Planned>, CallFault>
+    requires up { AreUp devs.old }
+    requires ready { IsReady D.state devs.old (writes_of devs.old) }
+    requires idle { IsIdle (held_by D.state devs.old) client }
+    requires sends { can_send slots.now ≡ true }
+    requires held { slots.now ≡ held_at (held_by D.state devs.old) table row.now }
+    requires opened { IsSome (record_at (held_by D.state devs.old) table) }
+    ensures looks { Looks D.state D.images devs.old devs.new result }
+    ensures plan { IfOk result (IsSendOf (held_by D.state devs.old) client table row.now) }
+    ensures refused { IfErr result IsFault }
+{
+    match &slots.main {
+        None => Ok(None),
+        Some(main) => plan_of_main(alloc, client, devs, table, row, slots, main),
+    }
+}
+
+// The plan of the first of these rows that has something to send, if one has.
+fn next_plan<D: Disk + Drop>(
+    alloc: Global,
+    client: ClientNo,
+    devs: &mut Journal<D>,
+    table: TableNo,
+    rows: &[RowId],
+) -> Result<Option<Planned>, CallFault>
+    requires up { AreUp devs.old }
+    requires ready { IsReady D.state devs.old (writes_of devs.old) }
+    requires idle { IsIdle (held_by D.state devs.old) client }
+    requires opened { IsSome (record_at (held_by D.state devs.old) table) }
+    ensures looks { Looks D.state D.images devs.old devs.new result }
+    ensures next { IfOk result (IsNextOf (held_by D.state devs.old) client table
+        (first_ready (held_by D.state devs.old) table rows.now)) }
+    ensures refused { IfErr result IsFault }
+{
+    let first = first_ready(devs, table, rows)?;
+    match &first {
+        None => Ok(None),
+        Some((row, slots)) => plan_of_send(alloc, client, devs, table, row, slots),
+    }
+}
+
+// What a synchronization of an opened table sends.
+fn sync_opened<D: Disk + Drop>(
+    alloc: Global,
+    client: ClientNo,
+    devs: &mut Journal<D>,
+    waiting: &Waiting,
+    table: TableNo,
+) -> Result<Synced, CallFault>
+    requires up { AreUp devs.old }
+    requires ready { IsReady D.state devs.old (writes_of devs.old) }
+    requires idle { IsIdle (held_by D.state devs.old) client }
+    requires opened { IsSome (record_at (held_by D.state devs.old) table) }
+    ensures looks { Looks D.state D.images devs.old devs.new result }
+    ensures syncs { IfOk result (Syncs (held_by D.state devs.old) client table waiting.now) }
+    ensures refused { IfErr result IsFault }
+{
+    let outs = rows_in(alloc, &waiting.outs, table)?;
+    let again = requests(alloc, client, devs, table, outs.as_slice())?;
+    let ready = rows_in(alloc, &waiting.ready, table)?;
+    let next = next_plan(alloc, client, devs, table, ready.as_slice())?;
+    Ok(Synced { again, next })
+}
+
+// What a synchronization sends.
+fn sync<D: Disk + Drop>(
+    alloc: Global,
+    client: ClientNo,
+    is_linked: bool,
+    devs: &mut Journal<D>,
+    waiting: &Waiting,
+    table: TableNo,
+) -> Result<Synced, CallFault>
+    requires up { AreUp devs.old }
+    requires ready { IsReady D.state devs.old (writes_of devs.old) }
+    requires idle { writes_of devs.old ≡ [] → IsIdle (held_by D.state devs.old) client }
+    ensures looks { Looks D.state D.images devs.old devs.new result }
+    ensures sends { SendsAgain D.state devs.old is_linked client table waiting.now result }
+    ensures idle { OnOk result (writes_of devs.old ≡ []) }
+{
+    let _opened = open_table(devs, table)?;
+    check_idle(devs)?;
+    check_link(is_linked)?;
+    sync_opened(alloc, client, devs, waiting, table)
+}
+
+impl<D: Disk + Drop> ClientNode<D> {
+    /// Sends the table's requests that wait for their answers again, by rising row, and begins the plan that sends the
+    /// next row that has something to send. The number is how many requests these are.
+    ///
+    /// # Errors
+    ///
+    /// `NoTable`, then `Busy`, then `Offline`.
+    pub fn sync_now(&mut self, table: TableNo) -> Result<u64, CallFault>
+        requires node { IsNode D.state self.old }
+        requires up { self.old.is_up ≡ true }
+        ensures does { (s : Client) → IsClient D.state self.old s
+            → Does D.state D.images s (Sync table) (λ count. Number count) self.old self.new result }
+        ensures node { IsNode D.state self.new }
+        ensures declared { self.new.is_declared ≡ self.old.is_declared }
+    {
+        let found = sync(
+            self.alloc,
+            self.number,
+            self.is_linked,
+            &mut self.devs,
+            &self.waiting,
+            table,
+        );
+        let synced = self.settle(found)?;
+        let Synced { again, next } = synced;
+        let count = again.len() as u64;
+        match next {
+            None => {
+                self.send(again)?;
+                Ok(count)
+            }
+            Some(planned) => {
+                self.carry_out(planned, again)?;
+                Ok(count + 1)
+            }
+        }
+    }
+}

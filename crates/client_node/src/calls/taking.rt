@@ -1,0 +1,71 @@
+//! How a client takes messages.
+ghost use Rattle.std.specs.Prelude.{◌≡◌, true, IfOk, IfErr};
+ghost use Rattle.client_journal.specs.Standing.{devs as held_by, writes_of, AreUp, IsReady};
+ghost use Rattle.step_tables.specs.ClientMoves.{Client};
+ghost use Rattle.step_tables.specs.Travels.{message_of};
+ghost use Rattle.client_node.specs.Answers.{IsFault};
+ghost use Rattle.client_node.specs.Looks.{Looks};
+ghost use Rattle.client_node.specs.Node.{IsClient, IsNode};
+ghost use Rattle.client_node.specs.Readied.{IsIdle, Readies};
+ghost use Rattle.client_node.specs.Taking.{Takes};
+
+use crate::calls::pulling::check_link;
+use crate::fault::CallFault;
+use crate::looking::check_idle;
+use crate::node::ClientNode;
+use crate::placing::place;
+use crate::planning::Planned;
+use crate::responding::answer;
+use client_journal::Journal;
+use disk_trait::Disk;
+use stab_base::ClientNo;
+use std::alloc::Global;
+use step_tables::Message;
+
+// The plan that a message begins, if it begins one.
+fn prepare<D: Disk + Drop>(
+    alloc: Global,
+    client: ClientNo,
+    devs: &mut Journal<D>,
+    message: &Message,
+) -> Result<Option<Planned>, CallFault>
+    requires up { AreUp devs.old }
+    requires ready { IsReady D.state devs.old (writes_of devs.old) }
+    requires idle { IsIdle (held_by D.state devs.old) client }
+    ensures looks { Looks D.state D.images devs.old devs.new result }
+    ensures readies { IfOk result (Readies (held_by D.state devs.old) client message.now) }
+    ensures refused { IfErr result IsFault }
+{
+    match message {
+        Message::SyncResponse(response) => answer(alloc, client, devs, response),
+        Message::PullResponse(pulled) => place(alloc, client, devs, pulled),
+        Message::SyncRequest(_) | Message::PullRequest(_) => Ok(None),
+    }
+}
+
+impl<D: Disk + Drop> ClientNode<D> {
+    /// Takes a message: the Store's answer to a request, or a row for the position that the client pulled from. Every
+    /// other message is ignored, and a row that doesn't fit its table is dropped.
+    ///
+    /// # Errors
+    ///
+    /// `Offline`, then `Busy`.
+    pub fn deliver(&mut self, message: Message) -> Result<(), CallFault>
+        requires node { IsNode D.state self.old }
+        requires up { self.old.is_up ≡ true }
+        ensures takes { (s : Client) → IsClient D.state self.old s
+            → Takes D.state D.images s (message_of message) self.old self.new result }
+        ensures node { IsNode D.state self.new }
+        ensures declared { self.new.is_declared ≡ self.old.is_declared }
+    {
+        check_link(self.is_linked)?;
+        check_idle(&self.devs)?;
+        let found = prepare(self.alloc, self.number, &mut self.devs, &message);
+        let next = self.settle(found)?;
+        let none = Vec::new(self.alloc);
+        match next {
+            None => Ok(()),
+            Some(planned) => self.carry_out(planned, none),
+        }
+    }
+}

@@ -1,0 +1,353 @@
+//! What a client makes of a row from the Store.
+ghost use Rattle.std.specs.Prelude.{◌≡◌, ◌<◌, ◌^◌, ℕ, List, map, nat_le, true, false, Some, None, Ok, IfOk, IfErr, OnOk};
+ghost use Rattle.std.specs.Prelude.{IfSome};
+ghost use Rattle.std.specs.List.{AllByRecursion};
+ghost use Rattle.row_value.specs.Fit.{fit_of};
+ghost use Rattle.held_value.specs.declared.local_name.LocalName.{LocalName};
+ghost use Rattle.client_tables.specs.Change.{seen_in};
+ghost use Rattle.client_tables.specs.Shown.{shown_content};
+ghost use Rattle.client_journal.specs.Redone.{redone};
+ghost use Rattle.client_journal.specs.Standing.{devs as held_by, writes_of, AreUp, IsReady};
+ghost use Rattle.step_tables.specs.ClientMoves.{next_pull};
+ghost use Rattle.step_tables.specs.declared.message.Message.TheVariants.{PullResponse as ResponseMessage};
+ghost use Rattle.step_tables.specs.Travels.{pulled_of, send_of};
+ghost use Rattle.plan_limits.specs.Fit.{HasWord, HaveWords};
+ghost use Rattle.client_node.specs.Answering.{yours_in};
+ghost use Rattle.held_contents.specs.Holding.{IsFit};
+ghost use Rattle.held_contents.specs.Reading.{AreThereIf, chunks_shown};
+ghost use Rattle.client_node.specs.Answers.{record_at, held_at, IsFault};
+ghost use Rattle.client_node.specs.Looks.{Looks};
+ghost use Rattle.client_node.specs.Placing.{IsOfPosition, HoldsRow};
+ghost use Rattle.client_node.specs.Readied.{IsIdle, Readies};
+
+use crate::calls::pulling::request_from;
+use crate::fault::CallFault;
+use crate::looking::row_slots;
+use crate::planning::Planned;
+use crate::row_plan::{find_table, last_write, plan_of_row};
+use client_journal::{Journal, Plan};
+use client_tables::{plan_header, shown_content};
+use disk_trait::Disk;
+use held_contents::{HeldNew, hold, read_chunks};
+use held_value::{Shadow, Slots, Tell};
+use row_value::{Cell, Content, fits};
+use slot_store::TableRecord;
+use stab_base::{ClientNo, Sequence, TableNo, Version, WriteNo};
+use std::alloc::{AllocError, Global};
+use step_tables::{Addressed, PullResponse, RowHeader};
+use table_model::{ClientFact, Fact, Yours};
+
+// The version of the row that the client has read.
+fn version_read(slots: &Slots) -> Version
+    ensures { result ≡ seen_in slots.now.conflict slots.now.shadow }
+{
+    match (&slots.conflict, &slots.shadow) {
+        (Some(row), _) => row.version,
+        (None, Some(row)) => row.version,
+        (None, None) => 0,
+    }
+}
+
+// Whether a row of this version isn't newer than the one that the client has read.
+fn is_old(version: Version, slots: &Slots) -> bool
+    ensures { result ≡ nat_le version (seen_in slots.now.conflict slots.now.shadow) }
+{
+    version <= version_read(slots)
+}
+
+// The request for the next change, where there is one behind this.
+fn next_request(
+    alloc: Global,
+    client: ClientNo,
+    pulled: &PullResponse,
+) -> Result<Vec<Addressed>, AllocError>
+    ensures { IfOk result (λ sends. map send_of sends.items
+        ≡ next_pull client pulled.now.table (pulled_of pulled.now)) }
+{
+    if pulled.to < pulled.latest {
+        request_from(alloc, client, pulled.table, pulled.to)
+    } else {
+        Ok(Vec::new(alloc))
+    }
+}
+
+// The plan that moves the position of a table alone.
+fn plan_of_position(
+    alloc: Global,
+    client: ClientNo,
+    table: TableNo,
+    last: WriteNo,
+    position: Version,
+    messages: Vec<Addressed>,
+) -> Result<Planned, AllocError>
+    ensures { IfOk result (IsOfPosition client table last position (map send_of messages.items)) }
+{
+    let mut tells = Sequence::new(alloc);
+    tells.push(Tell::Position { position })?;
+    let fact = Fact::Client(ClientFact::Position {
+        client,
+        table,
+        position,
+    });
+    Ok(Planned {
+        plan: Plan {
+            server: true,
+            table,
+            last,
+            row: None,
+            position: Some(position),
+            new_record: None,
+            brought: Sequence::new(alloc),
+            drops: Sequence::new(alloc),
+            tells,
+        },
+        facts: vec![in alloc; fact]?,
+        messages,
+    })
+}
+
+// A version as one of 64 bits.
+fn of_64_bits(version: Version) -> Version
+    ensures same { result ≡ version }
+    ensures few { version < 2 ^ 64 }
+{
+    version
+}
+
+// The client's last accepted write on a row, as it comes to the row's slots.
+fn yours_in(yours: step_tables::Yours) -> Yours
+    ensures same { result ≡ yours_in yours }
+    ensures few { result.version < 2 ^ 64 }
+{
+    Yours {
+        number: yours.number,
+        version: of_64_bits(yours.version),
+    }
+}
+
+// The plan of a row that isn't newer than the one that was read.
+fn move_position<D: Disk + Drop>(
+    alloc: Global,
+    client: ClientNo,
+    devs: &mut Journal<D>,
+    pulled: &PullResponse,
+) -> Result<Option<Planned>, CallFault>
+    requires up { AreUp devs.old }
+    requires ready { IsReady D.state devs.old (writes_of devs.old) }
+    ensures looks { Looks D.state D.images devs.old devs.new result }
+    ensures moves { IfOk result (λ found. IfSome found (IsOfPosition client pulled.now.table
+        (redone (held_by D.state devs.old)).last pulled.now.to
+        (next_pull client pulled.now.table (pulled_of pulled.now)))) }
+    ensures some { IfOk result (λ found. found ≡ None → ⊥) }
+    ensures few { OnOk result (pulled.now.to < 2 ^ 64) }
+    ensures refused { IfErr result IsFault }
+{
+    let last = last_write(devs)?;
+    let next = next_request(alloc, client, pulled)?;
+    let position = of_64_bits(pulled.to);
+    let planned = plan_of_position(alloc, client, pulled.table, last, position, next)?;
+    Ok(Some(planned))
+}
+
+// A cell whose number is known to have 64 bits.
+fn know_word(cell: &Cell)
+    ensures { HasWord cell.now }
+{
+    match cell {
+        Cell::Int(number) => {
+            let _known: i64 = *number;
+        }
+        Cell::Bool(_) | Cell::Text(_) => {}
+    }
+}
+
+fn know_cells(cells: &[Cell])
+    ensures { AllByRecursion HasWord cells.now }
+{
+    for cell in cells {
+        know_word(cell);
+    }
+}
+
+// A content whose numbers are known to have 64 bits.
+fn know_words(content: &Content)
+    ensures { HaveWords content.now }
+{
+    if let Content::Row { cells, .. } = content {
+        know_cells(cells.as_slice());
+    }
+}
+
+// Whether a row is one that comes next, and fits the table.
+fn comes_next(opened: &TableRecord, from: Version, content: &Content) -> bool
+    ensures next { result ≡ true → (from ≡ opened.now.position) × (fit_of opened.now.schema content.now ≡ Ok tt) }
+    ensures other { result ≡ false → from ≡ opened.now.position → fit_of opened.now.schema content.now ≡ Ok tt → ⊥ }
+{
+    from == opened.position && fits(&opened.schema, content).is_ok()
+}
+
+// What holds the content of a row, against what the client shows of it.
+fn hold_row<D: Disk + Drop>(
+    alloc: Global,
+    devs: &mut Journal<D>,
+    size: u32,
+    slots: &Slots,
+    content: &Content,
+) -> Result<HeldNew, CallFault>
+    requires up { AreUp devs.old }
+    requires ready { IsReady D.state devs.old (writes_of devs.old) }
+    requires size { 0 < size }
+    requires fit { IsFit size content.now }
+    ensures looks { Looks D.state D.images devs.old devs.new result }
+    ensures holds { IfOk result (λ made. (meaning : LocalName → List ℕ)
+        → AreThereIf meaning (held_by D.state devs.old) (shown_content slots.now)
+        → HoldsRow size (chunks_shown meaning (shown_content slots.now)) content.now made) }
+    ensures words { OnOk result (HaveWords content.now) }
+    ensures refused { IfErr result IsFault }
+{
+    know_words(content);
+    let shown = read_chunks(alloc, devs, shown_content(slots))?;
+    let held = hold(alloc, size, &shown, content)?;
+    Ok(held)
+}
+
+// The plan of a row that is newer than the one that was read, with the chunks that it brings.
+fn put_row<D: Disk + Drop>(
+    alloc: Global,
+    client: ClientNo,
+    devs: &mut Journal<D>,
+    opened: &TableRecord,
+    slots: &Slots,
+    pulled: &PullResponse,
+    header: &RowHeader,
+) -> Result<Option<Planned>, CallFault>
+    requires up { AreUp devs.old }
+    requires ready { IsReady D.state devs.old (writes_of devs.old) }
+    requires idle { IsIdle (held_by D.state devs.old) client }
+    requires opened { record_at (held_by D.state devs.old) pulled.now.table ≡ Some opened.now }
+    requires held { slots.now ≡ held_at (held_by D.state devs.old) pulled.now.table header.now.row }
+    requires header { pulled.now.header ≡ Some header.now }
+    requires next { (pulled.now.from ≡ opened.now.position)
+        × (fit_of opened.now.schema header.now.content ≡ Ok tt) }
+    requires newer { nat_le header.now.version (seen_in slots.now.conflict slots.now.shadow) ≡ false }
+    ensures looks { Looks D.state D.images devs.old devs.new result }
+    ensures readies { IfOk result (Readies (held_by D.state devs.old) client (ResponseMessage pulled.now)) }
+    ensures refused { IfErr result IsFault }
+{
+    let last = last_write(devs)?;
+    let held = hold_row(alloc, devs, opened.schema.chunk, slots, &header.content)?;
+    let version = of_64_bits(header.version);
+    let row = Shadow {
+        version,
+        content: held.content,
+    };
+    let yours = yours_in(header.yours);
+    let made = plan_header(alloc, opened.schema.scheme, slots, yours, row, held.brought)?;
+    let next = next_request(alloc, client, pulled)?;
+    let position = of_64_bits(pulled.to);
+    let found = plan_of_row(
+        alloc,
+        client,
+        pulled.table,
+        &header.row,
+        last,
+        Some(position),
+        made,
+        next,
+    )?;
+    Ok(found)
+}
+
+// The plan of a row for the client's position.
+fn place_row<D: Disk + Drop>(
+    alloc: Global,
+    client: ClientNo,
+    devs: &mut Journal<D>,
+    opened: &TableRecord,
+    pulled: &PullResponse,
+    header: &RowHeader,
+) -> Result<Option<Planned>, CallFault>
+    requires up { AreUp devs.old }
+    requires ready { IsReady D.state devs.old (writes_of devs.old) }
+    requires idle { IsIdle (held_by D.state devs.old) client }
+    requires opened { record_at (held_by D.state devs.old) pulled.now.table ≡ Some opened.now }
+    requires header { pulled.now.header ≡ Some header.now }
+    requires next { (pulled.now.from ≡ opened.now.position)
+        × (fit_of opened.now.schema header.now.content ≡ Ok tt) }
+    ensures looks { Looks D.state D.images devs.old devs.new result }
+    ensures readies { IfOk result (Readies (held_by D.state devs.old) client (ResponseMessage pulled.now)) }
+    ensures refused { IfErr result IsFault }
+{
+    let slots = row_slots(devs, pulled.table, &header.row)?;
+    if is_old(header.version, &slots) {
+        return move_position(alloc, client, devs, pulled);
+    }
+    put_row(alloc, client, devs, opened, &slots, pulled, header)
+}
+
+// The plan of a row for an opened table, where it comes next and fits.
+fn place_next<D: Disk + Drop>(
+    alloc: Global,
+    client: ClientNo,
+    devs: &mut Journal<D>,
+    opened: &TableRecord,
+    pulled: &PullResponse,
+    header: &RowHeader,
+) -> Result<Option<Planned>, CallFault>
+    requires up { AreUp devs.old }
+    requires ready { IsReady D.state devs.old (writes_of devs.old) }
+    requires idle { IsIdle (held_by D.state devs.old) client }
+    requires opened { record_at (held_by D.state devs.old) pulled.now.table ≡ Some opened.now }
+    requires header { pulled.now.header ≡ Some header.now }
+    ensures looks { Looks D.state D.images devs.old devs.new result }
+    ensures readies { IfOk result (Readies (held_by D.state devs.old) client (ResponseMessage pulled.now)) }
+    ensures refused { IfErr result IsFault }
+{
+    if !comes_next(opened, pulled.from, &header.content) {
+        return Ok(None);
+    }
+    place_row(alloc, client, devs, opened, pulled, header)
+}
+
+// The plan of what came for an opened table.
+fn place_header<D: Disk + Drop>(
+    alloc: Global,
+    client: ClientNo,
+    devs: &mut Journal<D>,
+    opened: &TableRecord,
+    pulled: &PullResponse,
+) -> Result<Option<Planned>, CallFault>
+    requires up { AreUp devs.old }
+    requires ready { IsReady D.state devs.old (writes_of devs.old) }
+    requires idle { IsIdle (held_by D.state devs.old) client }
+    requires opened { record_at (held_by D.state devs.old) pulled.now.table ≡ Some opened.now }
+    ensures looks { Looks D.state D.images devs.old devs.new result }
+    ensures readies { IfOk result (Readies (held_by D.state devs.old) client (ResponseMessage pulled.now)) }
+    ensures refused { IfErr result IsFault }
+{
+    match &pulled.header {
+        None => Ok(None),
+        Some(header) => place_next(alloc, client, devs, opened, pulled, header),
+    }
+}
+
+/// The plan that a row from the Store begins, if it begins one.
+pub(crate) fn place<D: Disk + Drop>(
+    alloc: Global,
+    client: ClientNo,
+    devs: &mut Journal<D>,
+    pulled: &PullResponse,
+) -> Result<Option<Planned>, CallFault>
+    requires up { AreUp devs.old }
+    requires ready { IsReady D.state devs.old (writes_of devs.old) }
+    requires idle { IsIdle (held_by D.state devs.old) client }
+    ensures looks { Looks D.state D.images devs.old devs.new result }
+    ensures readies { IfOk result (Readies (held_by D.state devs.old) client (ResponseMessage pulled.now)) }
+    ensures refused { IfErr result IsFault }
+{
+    let found = find_table(devs, pulled.table)?;
+    match &found {
+        None => Ok(None),
+        Some(opened) => place_header(alloc, client, devs, opened, pulled),
+    }
+}

@@ -1,0 +1,156 @@
+//! The rows that wait for an answer, and those that have one to send.
+ghost use Rattle.std.specs.Prelude.{◌≡◌, ◌++◌, ◌∷◌, [], ℕ, List, map, IfOk, IfErr, OnOk};
+ghost use Rattle.held_value.specs.declared.local_name.LocalName.{LocalName};
+ghost use Rattle.client_journal.specs.NamedSlots.{NamedSlots};
+ghost use Rattle.client_journal.specs.Standing.{devs as held_by, writes_of, AreUp, IsReady};
+ghost use Rattle.step_tables.specs.Travels.{send_of};
+ghost use Rattle.journal_laws.specs.Whole.{whole};
+ghost use Rattle.held_contents.specs.Reading.{AreThere};
+ghost use Rattle.client_node.specs.Answers.{IsFault};
+ghost use Rattle.client_node.specs.Looks.{Looks};
+ghost use Rattle.client_node.specs.Requesting.{request_with, asked_again, all_asked_again};
+ghost use Rattle.client_node.specs.Requesting.{first_ready};
+
+use crate::fault::CallFault;
+use crate::looking::row_slots;
+use client_journal::Journal;
+use client_tables::can_send;
+use disk_trait::Disk;
+use held_contents::read_whole;
+use held_value::{HeldContent, Out, Slots};
+use stab_base::{ClientNo, RowId, TableNo, Version, WriteNo};
+use std::alloc::Global;
+use step_tables::{Addressed, Message, SyncRequest};
+
+/// The request of a write of a row, its content whole.
+pub(crate) fn request_of<D: Disk + Drop>(
+    alloc: Global,
+    client: ClientNo,
+    devs: &mut Journal<D>,
+    table: TableNo,
+    row: &RowId,
+    number: WriteNo,
+    base: Version,
+    content: &HeldContent,
+) -> Result<Addressed, CallFault>
+    requires up { AreUp devs.old }
+    requires ready { IsReady D.state devs.old (writes_of devs.old) }
+    ensures looks { Looks D.state D.images devs.old devs.new result }
+    ensures request { IfOk result (λ sent. (meaning : LocalName → List ℕ)
+        → AreThere meaning (held_by D.state devs.old) content.now
+        → send_of sent ≡ request_with client table row.now number base (whole meaning content.now)) }
+    ensures refused { IfErr result IsFault }
+{
+    let content = read_whole(alloc, devs, content)?;
+    let request = SyncRequest {
+        client,
+        token: 0,
+        table,
+        row: *row,
+        number,
+        base,
+        content,
+    };
+    Ok((None, Message::SyncRequest(request)))
+}
+
+// Adds the request of a write that waits for its answer.
+fn ask_again<D: Disk + Drop>(
+    alloc: Global,
+    client: ClientNo,
+    devs: &mut Journal<D>,
+    table: TableNo,
+    row: &RowId,
+    out: &Out,
+    sends: &mut Vec<Addressed>,
+) -> Result<(), CallFault>
+    requires up { AreUp devs.old }
+    requires ready { IsReady D.state devs.old (writes_of devs.old) }
+    ensures looks { Looks D.state D.images devs.old devs.new result }
+    ensures adds { OnOk result ((meaning : LocalName → List ℕ)
+        → AreThere meaning (held_by D.state devs.old) out.now.content
+        → map send_of sends.new.items ≡ map send_of sends.old.items
+        ++ request_with client table row.now out.now.number out.now.base (whole meaning out.now.content) ∷ []) }
+    ensures refused { IfErr result IsFault }
+{
+    let request = request_of(
+        alloc,
+        client,
+        devs,
+        table,
+        row,
+        out.number,
+        out.base,
+        &out.content,
+    )?;
+    sends.push(request)?;
+    Ok(())
+}
+
+// Adds the request of a row whose write waits for its answer, if one does.
+fn add_request<D: Disk + Drop>(
+    alloc: Global,
+    client: ClientNo,
+    devs: &mut Journal<D>,
+    table: TableNo,
+    row: &RowId,
+    sends: &mut Vec<Addressed>,
+) -> Result<(), CallFault>
+    requires up { AreUp devs.old }
+    requires ready { IsReady D.state devs.old (writes_of devs.old) }
+    ensures looks { Looks D.state D.images devs.old devs.new result }
+    ensures adds { OnOk result ((meaning : LocalName → List ℕ) → NamedSlots meaning (held_by D.state devs.old)
+        → map send_of sends.new.items
+        ≡ map send_of sends.old.items ++ asked_again meaning client (held_by D.state devs.old) table row.now) }
+    ensures refused { IfErr result IsFault }
+{
+    let slots = row_slots(devs, table, row)?;
+    match &slots.out {
+        None => Ok(()),
+        Some(out) => ask_again(alloc, client, devs, table, row, out, sends),
+    }
+}
+
+/// The requests of those of these rows that wait for their answers.
+pub(crate) fn requests<D: Disk + Drop>(
+    alloc: Global,
+    client: ClientNo,
+    devs: &mut Journal<D>,
+    table: TableNo,
+    rows: &[RowId],
+) -> Result<Vec<Addressed>, CallFault>
+    requires up { AreUp devs.old }
+    requires ready { IsReady D.state devs.old (writes_of devs.old) }
+    ensures looks { Looks D.state D.images devs.old devs.new result }
+    ensures sends { IfOk result (λ sends. (meaning : LocalName → List ℕ)
+        → NamedSlots meaning (held_by D.state devs.old)
+        → map send_of sends.items ≡ all_asked_again meaning client (held_by D.state devs.old) table rows.now) }
+    ensures refused { IfErr result IsFault }
+{
+    let mut sends = Vec::new(alloc);
+    for row in rows {
+        add_request(alloc, client, devs, table, row, &mut sends)?;
+    }
+    Ok(sends)
+}
+
+/// The first of these rows that has something to send, with its slots.
+pub(crate) fn first_ready<D: Disk + Drop>(
+    devs: &mut Journal<D>,
+    table: TableNo,
+    rows: &[RowId],
+) -> Result<Option<(RowId, Slots)>, CallFault>
+    requires up { AreUp devs.old }
+    requires ready { IsReady D.state devs.old (writes_of devs.old) }
+    ensures looks { Looks D.state D.images devs.old devs.new result }
+    ensures found { IfOk result (λ found. found ≡ first_ready (held_by D.state devs.old) table rows.now) }
+    ensures refused { IfErr result IsFault }
+{
+    for row in rows {
+        let slots = row_slots(devs, table, row)?;
+        if can_send(&slots) {
+            return Ok(Some((*row, slots)));
+        }
+    }
+    Ok(None)
+}

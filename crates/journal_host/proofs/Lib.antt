@@ -1,0 +1,10 @@
+pub mod Lists
+pub mod Alone
+pub mod Refusals
+pub mod Replying
+pub mod Hosting
+pub mod Crashed
+pub mod Clients
+pub mod Cuts
+pub mod Draining
+pub mod Ends

@@ -1,0 +1,178 @@
+-- Where a client refuses what it is asked for, it does nothing else.
+use Rattle.std.proofs.Common.{◌≡◌, ℕ, Bool, true, false, List, [], ◌∷◌, Option, Some, None, Result, Ok, Err, refl, ap, ◌∙◌}
+use Rattle.std.specs.Prelude.{◌≢◌, ◌==◌, nat_le, if◌then◌else◌}
+use Rattle.row_value.specs.declared.content.Content.{Content}
+use Rattle.row_value.specs.declared.content.Content.TheVariants.{Gone, Row}
+use Rattle.row_value.specs.declared.fit.FitFault.{FitFault}
+use Rattle.row_value.specs.declared.schema.Scheme.{Scheme}
+use Rattle.row_value.specs.declared.schema.Scheme.TheVariants.{Strong, Causal, Eventual}
+use Rattle.row_value.specs.Fit.{fit_of}
+use Rattle.row_edits.specs.declared.change.Edit.{Edit}
+use Rattle.row_edits.specs.Edit.{edited_to}
+use Rattle.step_tables.specs.declared.slots.InFlight.{InFlight}
+use Rattle.step_tables.specs.declared.slots.Shadow.{Shadow}
+use Rattle.step_tables.specs.Facts.{Answer, Refusal, Shown, ShownSum}
+use Rattle.step_tables.specs.Facts as facts
+use Rattle.step_tables.specs.Messages.{Header, Message, Outcome, Pulled, Response, Send, SyncRequest, SyncResponse, PullRequest, PullResponse}
+use Rattle.step_tables.specs.Messages as messages
+use Rattle.step_tables.specs.Sums.{by_digests, or_whole, sum_of}
+use Rattle.step_tables.specs.ClientMoves.{Slots, TableDisk, ClientDisk, ClientTask, ClientStep, Shape, RowOut, quiet, table_at, seen, slots_at, shown_in, show_answer, show_in, content_of, first_out, first_to_send, resent, top}
+use Rattle.step_tables.specs.ClientMoves.{write_strong, write_by, write_free, write_idle, write_fitting, write_to, edit_made, edit_over, edit_in, sync_first, sync_in, next_in, outcome_taken, response_taken, response_in, row_taken, pulled_taken, pulled_in, take_step}
+use Rattle.step_tables.specs.ClientMoves as moves
+
+-- a step that answers by a refusal does nothing, and the refusal isn't that a device failed
+abbrev pub RefusesOnly : ClientDisk → List ClientTask → ClientStep → Type 0
+RefusesOnly d tasks step = (r : Refusal) → step.answer ≡ facts.Refuses r → (step ≡ quiet d (Some tasks) (facts.Refuses r)) × (r ≢ facts.NoDevice)
+
+-- it answers so, and no more
+only_answers : (d : ClientDisk) (tasks : List ClientTask) (a : Answer) → a ≢ facts.Refuses facts.NoDevice → RefusesOnly d tasks (quiet d (Some tasks) a)
+only_answers d tasks a other r is = (ap (λ (x : Answer). quiet d (Some tasks) x) is, λ bad. other (is ∙ ap (λ (x : Refusal). facts.Refuses x) bad))
+
+only_done : (d : ClientDisk) (tasks : List ClientTask) (step : ClientStep) → step.answer ≡ facts.Done → RefusesOnly d tasks step
+only_done d tasks step done r is = absurd cc
+
+-- ---- a write
+
+write_by_only : (g : Scheme) (c : ℕ) (shape : Shape) (d : ClientDisk) (table : ℕ) (row : List ℕ) (opened : TableDisk) (slots : Slots) (content : Content)
+    → RefusesOnly d [] (write_by g c shape d table row opened slots content)
+write_by_only Strong c shape d table row opened slots content = strong (first_out opened.rows)
+  where
+    strong : (o : Option InFlight) → RefusesOnly d [] (write_strong c shape d table row slots content o)
+    strong None = λ r is. absurd cc
+    strong (Some out) = only_answers d [] (facts.Refuses (facts.Outstanding out.number)) (λ bad. absurd cc)
+write_by_only Causal c shape d table row opened slots content = λ r is. absurd cc
+write_by_only Eventual c shape d table row opened slots content = λ r is. absurd cc
+
+write_free_only : (g : Scheme) (c : ℕ) (shape : Shape) (d : ClientDisk) (table : ℕ) (row : List ℕ) (opened : TableDisk) (slots : Slots) (content : Content) (o : Option Shadow)
+    → RefusesOnly d [] (write_free g c shape d table row opened slots content o)
+write_free_only g c shape d table row opened slots content None = write_by_only g c shape d table row opened slots content
+write_free_only g c shape d table row opened slots content (Some x) = only_answers d [] (facts.Refuses (facts.Conflicted x.version)) (λ bad. absurd cc)
+
+write_idle_only : (g : Scheme) (c : ℕ) (shape : Shape) (d : ClientDisk) (tasks : List ClientTask) (table : ℕ) (row : List ℕ) (opened : TableDisk) (content : Content)
+    → RefusesOnly d tasks (write_idle g c shape d tasks table row opened content)
+write_idle_only g c shape d (task ∷ more) table row opened content = only_answers d (task ∷ more) (facts.Refuses (facts.Busy shape.plan)) (λ bad. absurd cc)
+write_idle_only g c shape d [] table row opened content = write_free_only g c shape d table row opened (slots_at opened row) content (slots_at opened row).conflict
+
+pub write_only : (c : ℕ) (shape : Shape) (d : ClientDisk) (tasks : List ClientTask) (table : ℕ) (row : List ℕ) (content : Content) (o : Option TableDisk)
+    → RefusesOnly d tasks (write_to c shape d tasks table row content o)
+write_only c shape d tasks table row content None = only_answers d tasks (facts.Refuses facts.NoTable) (λ bad. absurd cc)
+write_only c shape d tasks table row content (Some opened) = fitting (fit_of opened.schema content)
+  where
+    fitting : (fit : Result (Unit {0}) FitFault) → RefusesOnly d tasks (write_fitting opened.schema.scheme c shape d tasks table row opened content fit)
+    fitting (Ok fits) = write_idle_only opened.schema.scheme c shape d tasks table row opened content
+    fitting (Err fault) = only_answers d tasks (facts.Refuses (facts.Unfit fault)) (λ bad. absurd cc)
+
+-- ---- an edit
+
+edit_over_only : (c : ℕ) (shape : Shape) (d : ClientDisk) (tasks : List ClientTask) (table : ℕ) (row : List ℕ) (opened : TableDisk) (edit : Edit) (o : Option Content)
+    → RefusesOnly d tasks (edit_over c shape d tasks table row opened edit o)
+edit_over_only c shape d tasks table row opened edit None = only_answers d tasks (facts.Refuses facts.NoRow) (λ bad. absurd cc)
+edit_over_only c shape d tasks table row opened edit (Some Gone) = only_answers d tasks (facts.Refuses facts.NoRow) (λ bad. absurd cc)
+edit_over_only c shape d tasks table row opened edit (Some (Row some objects)) = made (edited_to opened.schema some objects edit)
+  where
+    made : (edited : Result Content FitFault) → RefusesOnly d tasks (edit_made c shape d tasks table row opened edited)
+    made (Ok content) = write_only c shape d tasks table row content (Some opened)
+    made (Err fault) = only_answers d tasks (facts.Refuses (facts.Unfit fault)) (λ bad. absurd cc)
+
+pub edit_only : (c : ℕ) (shape : Shape) (d : ClientDisk) (tasks : List ClientTask) (table : ℕ) (row : List ℕ) (edit : Edit) (o : Option TableDisk)
+    → RefusesOnly d tasks (edit_in c shape d tasks table row edit o)
+edit_only c shape d tasks table row edit None = only_answers d tasks (facts.Refuses facts.NoTable) (λ bad. absurd cc)
+edit_only c shape d tasks table row edit (Some opened) = edit_over_only c shape d tasks table row opened edit _
+
+-- ---- what is shown
+
+show_answers : (o : Option Shown) → show_answer o ≢ facts.Refuses facts.NoDevice
+show_answers None = λ is. absurd cc
+show_answers (Some what) = λ is. absurd cc
+
+show_in_answers : (row : List ℕ) (o : Option TableDisk) → show_in row o ≢ facts.Refuses facts.NoDevice
+show_in_answers row None = λ is. absurd cc
+show_in_answers row (Some table) = let slots : Slots = slots_at table row in show_answers (shown_in slots.main slots.conflict slots.shadow)
+
+whole_answers : (what : Shown) (o : Option ShownSum) → or_whole what o ≢ facts.Refuses facts.NoDevice
+whole_answers what None = λ is. absurd cc
+whole_answers what (Some sum) = λ is. absurd cc
+
+digests_answer : (a : Answer) → a ≢ facts.Refuses facts.NoDevice → by_digests a ≢ facts.Refuses facts.NoDevice
+digests_answer facts.Done other = λ is. absurd cc
+digests_answer (facts.Number n) other = λ is. absurd cc
+digests_answer (facts.Shows what) other = whole_answers what (sum_of what)
+digests_answer (facts.Sums sum) other = λ is. absurd cc
+digests_answer (facts.Stores version content) other = λ is. absurd cc
+digests_answer (facts.Did step) other = λ is. absurd cc
+digests_answer (facts.Names names) other = λ is. absurd cc
+digests_answer (facts.Refuses r) other = other
+
+pub show_only : (d : ClientDisk) (tasks : List ClientTask) (row : List ℕ) (o : Option TableDisk) → RefusesOnly d tasks (quiet d (Some tasks) (show_in row o))
+show_only d tasks row o = only_answers d tasks (show_in row o) (show_in_answers row o)
+
+pub sum_only : (d : ClientDisk) (tasks : List ClientTask) (row : List ℕ) (o : Option TableDisk) → RefusesOnly d tasks (quiet d (Some tasks) (by_digests (show_in row o)))
+sum_only d tasks row o = only_answers d tasks (by_digests (show_in row o)) (digests_answer (show_in row o) (show_in_answers row o))
+
+-- ---- sync, and the next change
+
+pub sync_only : (c : ℕ) (shape : Shape) (d : ClientDisk) (tasks : List ClientTask) (table : ℕ) (o : Option TableDisk) → RefusesOnly d tasks (sync_in c shape d tasks table o)
+sync_only c shape d tasks table None = only_answers d tasks (facts.Refuses facts.NoTable) (λ bad. absurd cc)
+sync_only c shape d (task ∷ more) table (Some opened) = only_answers d (task ∷ more) (facts.Refuses (facts.Busy shape.plan)) (λ bad. absurd cc)
+sync_only c shape d [] table (Some opened) = first (resent c table opened.rows) (first_to_send opened.rows)
+  where
+    first : (again : List Send) (o : Option RowOut) → RefusesOnly d [] (sync_first c shape d table again o)
+    first again None = λ r is. absurd cc
+    first again (Some x) = λ r is. absurd cc
+
+pub next_only : (c : ℕ) (shape : Shape) (d : ClientDisk) (tasks : List ClientTask) (table : ℕ) (o : Option TableDisk) → RefusesOnly d tasks (next_in c shape d tasks table o)
+next_only c shape d tasks table None = only_answers d tasks (facts.Refuses facts.NoTable) (λ bad. absurd cc)
+next_only c shape d (task ∷ more) table (Some opened) = only_answers d (task ∷ more) (facts.Refuses (facts.Busy shape.plan)) (λ bad. absurd cc)
+next_only c shape d [] table (Some opened) = λ r is. absurd cc
+
+-- ---- a message
+
+response_done : (c : ℕ) (shape : Shape) (d : ClientDisk) (response : Response) (o : Option TableDisk) → (response_in c shape d response o).answer ≡ facts.Done
+response_done c shape d response None = refl
+response_done c shape d response (Some opened) = waits (slots_at opened response.row).out
+  where
+    outcome : (out : InFlight) (x : Outcome) → (outcome_taken c shape d response.table response.row opened (slots_at opened response.row) out x).answer ≡ facts.Done
+    outcome out (messages.Accepted version) = refl
+    outcome out (messages.Again version) = refl
+    outcome out (messages.Late last) = refl
+    outcome out (messages.Stale latest) = refl
+    outcome out (messages.Conflict latest) = refl
+
+    either : (out : InFlight) (b : Bool)
+        → (if b then outcome_taken c shape d response.table response.row opened (slots_at opened response.row) out response.outcome else moves.ignored d).answer ≡ facts.Done
+    either out true = outcome out response.outcome
+    either out false = refl
+
+    waits : (o : Option InFlight) → (response_taken c shape d response opened o).answer ≡ facts.Done
+    waits None = refl
+    waits (Some out) = either out (out.number == response.number)
+
+pulled_done : (c : ℕ) (shape : Shape) (d : ClientDisk) (pulled : Pulled) (o : Option TableDisk) → (pulled_in c shape d pulled o).answer ≡ facts.Done
+pulled_done c shape d pulled None = refl
+pulled_done c shape d pulled (Some opened) = brings pulled.header
+  where
+    row : (header : Header) → (row_taken c shape d pulled opened header (slots_at opened header.row)).answer ≡ facts.Done
+    row header = go (nat_le header.version (top (slots_at opened header.row).conflict (slots_at opened header.row).shadow))
+      where
+        go : (b : Bool) → (if b then moves.begun shape d facts.Done (moves.position_plan c d pulled.table pulled.to) (moves.next_pull c pulled.table pulled)
+            else moves.begun shape d facts.Done (moves.row_plan c d pulled.table header.row pulled.to
+            (moves.row_placed opened.schema.scheme c pulled.table header (slots_at opened header.row) (slots_at opened header.row).out)) (moves.next_pull c pulled.table pulled)).answer ≡ facts.Done
+        go true = refl
+        go false = refl
+
+    brings : (o : Option Header) → (pulled_taken c shape d pulled opened o).answer ≡ facts.Done
+    brings None = refl
+    brings (Some header) = either (pulled.from == opened.position)
+      where
+        either : (b : Bool) → (if b then row_taken c shape d pulled opened header (slots_at opened header.row) else moves.ignored d).answer ≡ facts.Done
+        either true = row header
+        either false = refl
+
+pub take_only : (c : ℕ) (shape : Shape) (d : ClientDisk) (tasks : List ClientTask) (message : Message) → RefusesOnly d tasks (take_step c shape d (Some tasks) message)
+take_only c shape d (task ∷ more) message = only_answers d (task ∷ more) (facts.Refuses (facts.Busy shape.plan)) (λ bad. absurd cc)
+take_only c shape d [] (SyncRequest request) = only_done d [] (moves.ignored d) refl
+take_only c shape d [] (PullRequest pull) = only_done d [] (moves.ignored d) refl
+take_only c shape d [] (SyncResponse response) =
+    only_done d [] (response_in c shape d response (table_at (seen d) response.table)) (response_done c shape d response (table_at (seen d) response.table))
+take_only c shape d [] (PullResponse pulled) =
+    only_done d [] (pulled_in c shape d pulled (table_at (seen d) pulled.table)) (pulled_done c shape d pulled (table_at (seen d) pulled.table))

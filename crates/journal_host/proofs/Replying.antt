@@ -1,0 +1,116 @@
+-- What a node makes of what it is asked for, from what its calls promise.
+use Rattle.std.proofs.Common.{◌≡◌, ◌⊎◌, inl, inr, ℕ, List, Option, Some, None, Result, Ok, Err, refl, sym, ap, ◌∙◌, subst}
+use Rattle.std.specs.Prelude.{IsErrOf}
+use Rattle.disk_trait.specs.Calls.{DiskState}
+use Rattle.row_value.specs.declared.fit.FitFault.{FitFault}
+use Rattle.row_value.specs.Fit.{fit_of}
+use Rattle.table_model.specs.declared.line.Answer.{Answer}
+use Rattle.table_model.specs.declared.line.Answer.TheVariants as answers
+use Rattle.step_tables.specs.Facts as facts
+use Rattle.step_tables.specs.Lines.{answer_of}
+use Rattle.step_tables.specs.Messages.{Header, Message, SyncRequest, SyncResponse, PullRequest, PullResponse}
+use Rattle.step_tables.specs.Travels.{message_of}
+use Rattle.step_tables.specs.ClientMoves.{ClientDisk, TableDisk, Client, ClientMove, Take, table_at, seen}
+use Rattle.client_node.specs.declared.fault.CallFault.{CallFault}
+use Rattle.client_node.specs.declared.fault.CallFault.TheVariants.{Disk, Spent}
+use Rattle.client_node.specs.declared.node.ClientNode.{ClientNode}
+use Rattle.client_node.specs.Does.{Does, HasNoNumber}
+use Rattle.client_node.specs.Taking.{FitsTable, FitsClient, Drops}
+use Rattle.journal_host.specs.declared.asking.Ask.{Ask}
+use Rattle.journal_host.specs.declared.asking.Ask.TheVariants as asks
+use Rattle.journal_host.specs.Asks.{FitsDisk, as_answer}
+use Rattle.journal_host.specs.Steps.{HasMade, HasDropped, Replies}
+
+-- the same fault of another call
+pub same_err : {S T : Type 0} (e f : CallFault) → IsErrOf {T = S} (Err e) f → IsErrOf {T = T} (Err e) f
+same_err e f is = let same : e ≡ f = cc in ap (λ (x : CallFault). Err x) same
+
+pub itself : (r : Result Answer CallFault) → r ≡ as_answer (λ x. x) r
+itself (Ok x) = refl
+itself (Err e) = refl
+
+module _ {D : Type 0} (state : D → DiskState) (images : D → ℕ → List ℕ → Type 0) (s : Client) (old new : ClientNode D) where
+  module _ {T : Type 0} (move : ClientMove) (said : T → facts.Answer) (gives : T → Answer) (same : (x : T) → said x ≡ answer_of (gives x)) where
+    replies_as : (r : Result T CallFault) → Does state images s move said old new r → Replies state images s move old new (HasMade state s move old new) (as_answer gives r)
+    replies_as (Ok x) k = record {
+      done = let d = k.done in (d.0, d.1, d.2, d.3 ∙ same x);
+      refused = tt;
+      kept = λ is. tt;
+      fallen = λ bad. absurd cc;
+      counted = λ is. k.counted (λ bad. absurd cc);
+      cause = λ bad. absurd cc;
+      any_moment = k.any_moment;
+    }
+    replies_as (Err e) k = record {
+      done = tt;
+      refused = k.refused;
+      kept = λ is. k.kept (λ bad. is (same_err e Disk bad));
+      fallen = λ is. k.fallen (same_err e Disk is);
+      counted = λ is. k.counted (λ bad. is (same_err e Disk bad));
+      cause = λ is. k.cause (same_err e Disk is);
+      any_moment = k.any_moment;
+    }
+
+    pub replies : (r : Result T CallFault) (a : Result Answer CallFault) → a ≡ as_answer gives r → Does state images s move said old new r
+        → Replies state images s move old new (HasMade state s move old new) a
+    replies r a is k = subst (λ (x : Result Answer CallFault). Replies state images s move old new (HasMade state s move old new) x) (sym is) (replies_as r k)
+
+    spent_as : (r : Result T CallFault) → Does state images s move said old new r → (last : ℕ) → IsErrOf (as_answer gives r) (Spent last) → HasNoNumber state old s.disk
+    spent_as (Ok x) k last is = absurd cc
+    spent_as (Err e) k last is = (k.spent last (same_err e (Spent last) is)).1
+
+    pub spent : (r : Result T CallFault) (a : Result Answer CallFault) → a ≡ as_answer gives r → Does state images s move said old new r → (last : ℕ) → IsErrOf a (Spent last)
+        → HasNoNumber state old s.disk
+    spent r a is k last err = spent_as r k last (sym is ∙ err)
+
+  module _ (message : Message) where
+    drops_as : (r : Result (Unit {0}) CallFault) → Drops state images s message old new r
+        → Replies state images s (Take message) old new (HasDropped state s old new) (as_answer (λ x. answers.Done) r)
+    drops_as (Ok x) k = record {
+      done = (refl, k.dropped);
+      refused = tt;
+      kept = λ is. tt;
+      fallen = λ bad. absurd cc;
+      counted = λ is. k.counted (λ bad. absurd cc);
+      cause = λ bad. absurd cc;
+      any_moment = k.any_moment;
+    }
+    drops_as (Err e) k = record {
+      done = tt;
+      refused = k.refused;
+      kept = λ is. k.kept (λ bad. is (same_err e Disk bad));
+      fallen = λ is. k.fallen (same_err e Disk is);
+      counted = λ is. k.counted (λ bad. is (same_err e Disk bad));
+      cause = λ is. k.cause (same_err e Disk is);
+      any_moment = k.any_moment;
+    }
+
+    pub drops : (r : Result (Unit {0}) CallFault) (a : Result Answer CallFault) → a ≡ as_answer (λ x. answers.Done) r → Drops state images s message old new r
+        → Replies state images s (Take message) old new (HasDropped state s old new) a
+    drops r a is k = subst (λ (x : Result Answer CallFault). Replies state images s (Take message) old new (HasDropped state s old new) x) (sym is) (drops_as r k)
+
+-- ---- a message fits, or doesn't
+
+fits_table : (o : Option TableDisk) (h : Option Header) → FitsTable o h ⊎ (FitsTable o h → ⊥)
+fits_table None h = inl tt
+fits_table (Some table) None = inl tt
+fits_table (Some table) (Some header) = go (fit_of table.schema header.content)
+  where
+    go : (r : Result (Unit {0}) FitFault) → (r ≡ Ok tt) ⊎ ((r ≡ Ok tt) → ⊥)
+    go (Ok u) = inl refl
+    go (Err e) = inr (λ is. absurd cc)
+
+fits_client : (d : ClientDisk) (message : Message) → FitsClient d message ⊎ (FitsClient d message → ⊥)
+fits_client d (PullResponse pulled) = fits_table (table_at (seen d) pulled.table) pulled.header
+fits_client d (SyncRequest request) = inl tt
+fits_client d (SyncResponse response) = inl tt
+fits_client d (PullRequest pull) = inl tt
+
+pub fits_or : (d : ClientDisk) (ask : Ask) → FitsDisk d ask ⊎ (FitsDisk d ask → ⊥)
+fits_or d (asks.Write table row content) = inl tt
+fits_or d (asks.Edit table row edit) = inl tt
+fits_or d (asks.Show table row) = inl tt
+fits_or d (asks.Sum table row) = inl tt
+fits_or d (asks.Sync table) = inl tt
+fits_or d (asks.Pull table) = inl tt
+fits_or d (asks.Deliver message) = fits_client d (message_of message)

@@ -1,0 +1,16 @@
+use Rattle.world_tables.specs.World.{client_at}
+use Rattle.journal_host.specs.declared.asking.Ask.TheVariants as asks
+use Rattle.journal_host.proofs.Clients.{fits_at}
+use Rattle.journal_host.proofs.host.ClientHost.sync.Goals as goal
+
+pub returns-clause-called : goal.returns-clause-called
+returns-clause-called g c w h = c.call.ensures.called w h (fits_at (client_at w c.args.client) (asks.Sync c.args.table) (λ d. tt))
+
+pub returns-clause-spent : goal.returns-clause-spent
+returns-clause-spent g c w h = c.call.ensures.spent w h (fits_at (client_at w c.args.client) (asks.Sync c.args.table) (λ d. tt))
+
+pub returns-clause-kept : goal.returns-clause-kept
+returns-clause-kept g c w h = c.call.ensures.kept w h
+
+pub returns-clause-cause : goal.returns-clause-cause
+returns-clause-cause g c = c.call.ensures.cause

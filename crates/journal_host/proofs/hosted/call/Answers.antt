@@ -1,0 +1,41 @@
+use Rattle.std.proofs.Common.{refl, sym, ◌∙◌}
+use Rattle.journal_host.proofs.hosted.call.Goals as goal
+
+pub call_up-requires : goal.call_up-requires
+call_up-requires g c = record { node = c.requires; up = sym c.is_up.ensures ∙ c.if-is_up.true }
+
+pub returns-then-is_up-clause-made : goal.returns-then-is_up-clause-made
+returns-then-is_up-clause-made g c cut s h fits up = c.call_up.ensures.made cut s h fits
+
+pub returns-then-is_up-clause-dropped : goal.returns-then-is_up-clause-dropped
+returns-then-is_up-clause-dropped g c cut s h unfit up = c.call_up.ensures.dropped cut s h unfit
+
+pub returns-then-is_up-clause-spent : goal.returns-then-is_up-clause-spent
+returns-then-is_up-clause-spent g c cut s h fits = c.call_up.ensures.spent cut s h fits
+
+pub returns-then-is_up-clause-kept : goal.returns-then-is_up-clause-kept
+returns-then-is_up-clause-kept g c cut s h = c.call_up.ensures.kept cut s h
+
+pub returns-then-is_up-clause-cause : goal.returns-then-is_up-clause-cause
+returns-then-is_up-clause-cause g c = c.call_up.ensures.cause
+
+pub returns-then-is_up-clause-down : goal.returns-then-is_up-clause-down
+returns-then-is_up-clause-down g c down = let up = sym c.is_up.ensures ∙ c.if-is_up.true in absurd cc
+
+pub returns-clause-made : goal.returns-clause-made
+returns-clause-made g c cut s h fits up = let down = sym c.is_up.ensures ∙ c.if-is_up.false in absurd cc
+
+pub returns-clause-dropped : goal.returns-clause-dropped
+returns-clause-dropped g c cut s h unfit up = let down = sym c.is_up.ensures ∙ c.if-is_up.false in absurd cc
+
+pub returns-clause-down : goal.returns-clause-down
+returns-clause-down g c down = (refl, refl, refl)
+
+pub returns-clause-spent : goal.returns-clause-spent
+returns-clause-spent g c cut s h fits = tt
+
+pub returns-clause-kept : goal.returns-clause-kept
+returns-clause-kept g c cut s h = tt
+
+pub returns-clause-cause : goal.returns-clause-cause
+returns-clause-cause g c = record { counted = λ is. refl; cause = λ bad. absurd cc }

@@ -1,0 +1,50 @@
+use Rattle.std.proofs.Common.{List, ap, subst}
+use Rattle.std.proofs.lemmas.Result.{err_from_is_err_and}
+use Rattle.journal_host.specs.declared.out.ClientOut.{ClientOut}
+use Rattle.client_node.specs.Does.{HasNoNumber}
+use Rattle.journal_host.specs.Holds.{outs_in}
+use Rattle.journal_host.specs.Steps.{HasTold}
+use Rattle.journal_host.proofs.Replying.{fits_or}
+use Rattle.journal_host.proofs.Hosting.{call_made, call_dropped, call_kept, call_cause, spent_so, either_way}
+use Rattle.journal_host.proofs.hosted.call_up.Goals as goal
+
+pub returns-in_err-reserve-clause-kept : goal.returns-in_err-reserve-clause-kept
+returns-in_err-reserve-clause-kept g c cut s h =
+    let p = err_from_is_err_and c.from_residual.result c.from_residual.ensures.1 in
+    rw p.1 (h, ap outs_in c.reserve.ensures.items)
+
+pub returns-clause-made : goal.returns-clause-made
+returns-clause-made g c cut s h fits =
+    rw c.answered.ensures (call_made g.D.Disk.state g.D.Disk.images cut c.args.client c.args.ask c.args.node.now c.reply-found.new.node c.tell.new.node c.args.outs.now.items c.tell.new.outs.items
+    (λ step t. subst (λ (l : List ClientOut). HasTold g.D.Disk.state cut c.args.client step c.tell.new.node l c.tell.new.outs.items) c.reserve.ensures.items (c.tell.ensures.told cut step t))
+    c.reply-found.result
+    s.disk s.agenda h c.requires.up (c.reply-found.ensures.made s h.client fits))
+
+pub returns-clause-dropped : goal.returns-clause-dropped
+returns-clause-dropped g c cut s h unfit =
+    rw c.answered.ensures (call_dropped g.D.Disk.state g.D.Disk.images cut c.args.client c.args.ask c.args.node.now c.reply-found.new.node c.tell.new.node c.args.outs.now.items c.tell.new.outs.items
+    (λ step t. subst (λ (l : List ClientOut). HasTold g.D.Disk.state cut c.args.client step c.tell.new.node l c.tell.new.outs.items) c.reserve.ensures.items (c.tell.ensures.told cut step t))
+    c.reply-found.result
+    s.disk s.agenda h c.requires.up (c.reply-found.ensures.dropped s h.client unfit))
+
+pub returns-clause-kept : goal.returns-clause-kept
+returns-clause-kept g c cut s h =
+    rw c.answered.ensures (call_kept g.D.Disk.state g.D.Disk.images cut c.args.client c.args.ask c.args.node.now c.reply-found.new.node c.tell.new.node c.args.outs.now.items c.tell.new.outs.items
+    (λ step t. subst (λ (l : List ClientOut). HasTold g.D.Disk.state cut c.args.client step c.tell.new.node l c.tell.new.outs.items) c.reserve.ensures.items (c.tell.ensures.told cut step t))
+    c.reply-found.result
+    s.disk s.agenda h c.requires.up
+    (either_way g.D.Disk.state g.D.Disk.images c.args.ask s c.args.node.now c.reply-found.new.node c.reply-found.result (fits_or s.disk c.args.ask)
+    (λ fits. c.reply-found.ensures.made s h.client fits)
+    (λ unfit. c.reply-found.ensures.dropped s h.client unfit)))
+
+pub returns-clause-spent : goal.returns-clause-spent
+returns-clause-spent g c cut s h fits = rw c.answered.ensures (spent_so (HasNoNumber g.D.Disk.state c.args.node.now s.disk) c.reply-found.result (c.reply-found.ensures.spent s h.client fits))
+
+pub returns-clause-cause : goal.returns-clause-cause
+returns-clause-cause g c =
+    let n = c.requires.node in
+    rw c.answered.ensures (call_cause g.D.Disk.state g.D.Disk.images c.args.ask c.args.node.now c.reply-found.new.node c.tell.new.node c.tell.ensures.devs n.0.disk n.0.agenda n.1 c.requires.up
+    c.reply-found.result
+    (either_way g.D.Disk.state g.D.Disk.images c.args.ask n.0 c.args.node.now c.reply-found.new.node c.reply-found.result (fits_or n.0.disk c.args.ask)
+    (λ fits. c.reply-found.ensures.made n.0 n.1 fits)
+    (λ unfit. c.reply-found.ensures.dropped n.0 n.1 unfit)))

@@ -1,0 +1,61 @@
+-- What a client is asked for, as the moves of its step table.
+use Rattle.std.specs.Prelude.{ℕ, Option, Some, None, Result, Ok, Err}
+use Rattle.table_model.specs.declared.line.Answer.{Answer}
+use Rattle.table_model.specs.declared.line.Answer.TheVariants as answers
+use Rattle.table_model.specs.declared.line.Refusal.TheVariants as refusals
+use Rattle.step_tables.specs.ClientMoves.{Client, ClientDisk, ClientMove, Write, Change, Show, Sum, Sync, Next, Take}
+use Rattle.step_tables.specs.Travels.{message_of}
+use Rattle.client_node.specs.declared.fault.CallFault.{CallFault}
+use Rattle.client_node.specs.declared.fault.CallFault.TheVariants as call
+use Rattle.client_node.specs.Taking.{FitsClient}
+use Rattle.world_tables.specs.World.{World, client_at}
+use Rattle.journal_host.specs.declared.asking.Ask.{Ask}
+use Rattle.journal_host.specs.declared.asking.Ask.TheVariants as asks
+use Rattle.journal_host.specs.declared.fault.ClientFault.{ClientFault}
+use Rattle.journal_host.specs.declared.fault.ClientFault.TheVariants.{Spent, Memory}
+
+abbrev pub move_of : Ask → ClientMove
+move_of (asks.Write table row content) = Write table row content
+move_of (asks.Edit table row edit) = Change table row edit
+move_of (asks.Show table row) = Show table row
+move_of (asks.Sum table row) = Sum table row
+move_of (asks.Sync table) = Sync table
+move_of (asks.Pull table) = Next table
+move_of (asks.Deliver message) = Take (message_of message)
+
+-- the row that a message brings fits its table; all else is fit
+abbrev pub FitsDisk : ClientDisk → Ask → Type 0
+FitsDisk disk (asks.Deliver message) = FitsClient disk (message_of message)
+FitsDisk disk other = Unit {0}
+
+abbrev pub FitsAt : Option Client → Ask → Type 0
+FitsAt None ask = Unit {0}
+FitsAt (Some s) ask = FitsDisk s.disk ask
+
+-- where the client is there
+abbrev pub FitsIn : World → ℕ → Ask → Type 0
+FitsIn w c ask = FitsAt (client_at w c) ask
+
+-- ---- answers
+
+abbrev pub as_answer : {T : Type 0} → (T → Answer) → Result T CallFault → Result Answer CallFault
+as_answer said (Ok value) = Ok (said value)
+as_answer said (Err e) = Err e
+
+-- the refusal that a node's fault is answered by, or the fault that it is
+abbrev pub refused_as : CallFault → Result Answer ClientFault
+refused_as call.NoTable = Ok (answers.Refused refusals.NoTable)
+refused_as (call.BadCell column) = Ok (answers.Refused (refusals.BadCell column))
+refused_as (call.BadObject column len) = Ok (answers.Refused (refusals.BadObject column len))
+refused_as (call.RowTooLarge len) = Ok (answers.Refused (refusals.RowTooLarge len))
+refused_as (call.TooManyChunks count) = Ok (answers.Refused (refusals.TooManyChunks count))
+refused_as call.NoRow = Ok (answers.Refused refusals.NoRow)
+refused_as (call.Busy with) = Ok (answers.Refused (refusals.Busy with))
+refused_as call.Offline = Ok (answers.Refused refusals.Offline)
+refused_as (call.Spent last) = Err Spent
+refused_as call.Disk = Ok (answers.Refused refusals.NoDevice)
+refused_as call.Memory = Err Memory
+
+abbrev pub answered_as : Result Answer CallFault → Result Answer ClientFault
+answered_as (Ok answer) = Ok answer
+answered_as (Err e) = refused_as e

@@ -1,0 +1,77 @@
+-- What the calls of clients on their devices promise, in the moves of the world.
+use Rattle.std.specs.Prelude.{◌≡◌, ◌⊎◌, ℕ, ◌++◌, List, Option, Some, None, Result, IfOk, IfErr, IsErrOf}
+use Rattle.std.specs.Ordering.{nat_cmp}
+use Rattle.std.specs.BTreeMap as tree
+use Rattle.disk_trait.specs.Calls.{DiskState}
+use Rattle.table_model.specs.declared.line.Answer.{Answer}
+use Rattle.step_tables.specs.Lines.{answer_of}
+use Rattle.step_tables.specs.Messages.{Luck, Done}
+use Rattle.step_tables.specs.ClientMoves.{Shape, Client}
+use Rattle.client_node.specs.declared.fault.CallFault.{CallFault}
+use Rattle.client_node.specs.declared.fault.CallFault.TheVariants.{Disk, Memory}
+use Rattle.client_node.specs.declared.node.ClientNode.{ClientNode}
+use Rattle.client_node.specs.Does.{HasNoNumber}
+use Rattle.world_tables.specs.World.{World, WorldStep, Moved, client_at, first_luck}
+use Rattle.journal_host.specs.declared.fault.ClientFault.{ClientFault}
+use Rattle.journal_host.specs.declared.fault.ClientFault.TheVariants as fault
+use Rattle.journal_host.specs.declared.host.ClientHost.{ClientHost}
+use Rattle.journal_host.specs.Holds.{HoldsClients, outs_of, said, SameFaults, RisenFaults}
+use Rattle.journal_host.specs.Steps.{IsDeviceFault}
+
+-- ---- what a call makes of the clients
+
+-- The clients are where these moves lead to from this world, and what the moves told and sent was put behind what was.
+pub record IsMoved {D : Type 0} (state : D → DiskState) (old new : ClientHost D) (m : Moved) : Type 0 where
+  pub held : HoldsClients state m.world new
+  pub outs : outs_of new ≡ outs_of old ++ said m.outs
+
+-- The clients are where this event leads to, with this answer.
+pub record IsCalled {D : Type 0} (state : D → DiskState) (old new : ClientHost D) (s : WorldStep) (answer : Answer)
+    : Type 0 where
+  pub answer_is : s.answer ≡ Some (answer_of answer)
+  pub held : HoldsClients state s.world new
+  pub outs : outs_of new ≡ outs_of old ++ said s.outs
+
+-- the same with some shape of a plan's writes and some lucks of the device calls
+abbrev pub Comes : {D : Type 0} → (D → DiskState) → (old new : ClientHost D) → (Shape → List Luck → WorldStep)
+    → Result Answer ClientFault → Type 0
+Comes state old new f result =
+    IfOk result (λ answer. (shape : Shape) × (lucks : List Luck) × IsCalled state old new (f shape lucks) answer)
+
+-- Nothing has changed.
+pub record Stays {D : Type 0} (state : D → DiskState) (w : World) (old new : ClientHost D) : Type 0 where
+  pub held : HoldsClients state w new
+  pub outs : outs_of new ≡ outs_of old
+
+-- ---- causes
+
+-- Which disks failed in a call: some of this client, where a device fault is answered, and else none.
+pub record HasCause {D : Type 0} (state : D → DiskState) (c : ℕ) (old new : tree.BTreeMap ℕ (ClientNode D))
+    (result : Result Answer ClientFault) : Type 0 where
+  pub counted : (IsDeviceFault result → ⊥) → SameFaults state old new
+  pub cause : IsDeviceFault result → RisenFaults state c old new
+
+-- Why moves failed, and which disks failed in them: some of this client, where it says so, and else none.
+pub record HasMoveCause {D T : Type 0} (state : D → DiskState) (c : ℕ) (old new : tree.BTreeMap ℕ (ClientNode D))
+    (result : Result T CallFault) : Type 0 where
+  pub counted : (IsErrOf result Disk → ⊥) → SameFaults state old new
+  pub cause : IsErrOf result Disk → RisenFaults state c old new
+  pub only : IfErr result (λ e. (e ≡ Disk) ⊎ (e ≡ Memory))
+
+-- What the first luck of a crash says of the disks: where it is that no device call fails, none has failed by itself;
+-- else one of this client has.
+pub record HasLuck {D : Type 0} (state : D → DiskState) (c : ℕ) (old new : tree.BTreeMap ℕ (ClientNode D))
+    (lucks : List Luck) : Type 0 where
+  pub done : SameFaults state old new → first_luck lucks ≡ Done
+  pub counted : first_luck lucks ≡ Done → SameFaults state old new
+  pub cause : (first_luck lucks ≡ Done → ⊥) → RisenFaults state c old new
+
+-- the client's last number of a write or of a plan is given
+abbrev pub SpendsNumber : {D : Type 0} → (D → DiskState) → Option Client → Option (ClientNode D) → Type 0
+SpendsNumber state (Some s) (Some node) = HasNoNumber state node s.disk
+SpendsNumber state (Some s) None = ⊥
+SpendsNumber state None it = ⊥
+
+abbrev pub IsNumberCause : {D : Type 0} → (D → DiskState) → World → ℕ → ClientHost D → ClientFault → Type 0
+IsNumberCause state w c host fault.Spent = SpendsNumber state (client_at w c) (tree.get nat_cmp host.clients c)
+IsNumberCause state w c host fault.Memory = Unit {0}

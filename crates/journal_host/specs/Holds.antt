@@ -1,0 +1,133 @@
+-- What the clients on their devices hold of the world of the laws: its clients, and whose link is down. Tables,
+-- packets, holds, and the Stores that are down are whoever's.
+use Rattle.std.specs.Prelude.{◌≡◌, ◌≢◌, ℕ, ◌<◌, Bool, true, false, not, ◌&&◌, List, [], ◌∷◌, map}
+use Rattle.std.specs.Prelude.{filter, Option, Some, None}
+use Rattle.std.specs.Ordering.{nat_cmp}
+use Rattle.std.specs.BTreeMap as tree
+use Rattle.disk_trait.specs.Calls.{DiskState}
+use Rattle.disk_trait.specs.Fuse.{inner_of}
+use Rattle.vault.specs.Standing.{disk_of}
+use Rattle.chunk_store.specs.Standing as chunks
+use Rattle.slot_store.specs.Standing as slots
+use Rattle.plan_log.specs.Standing as journals
+use Rattle.stab_base.specs.declared.node.Node.TheVariants as nodes
+use Rattle.row_value.specs.declared.schema.Schema.{Schema}
+use Rattle.step_tables.specs.ClientMoves.{Client}
+use Rattle.step_tables.specs.Lines.{fact_of}
+use Rattle.step_tables.specs.Travels.{send_of}
+use Rattle.client_node.specs.declared.node.ClientNode.{ClientNode}
+use Rattle.client_node.specs.Node.{IsClient, IsToOpen, told_by, sent_by, own_faults}
+use Rattle.world_tables.specs.World.{World, Outbox, schema_at, client_at, is_cut, packets_from}
+use Rattle.journal_host.specs.declared.out.ClientOut.{ClientOut}
+use Rattle.journal_host.specs.declared.host.ClientHost.{ClientHost}
+
+-- ---- a client
+
+-- It is the world's client of this number, whose link is down or not, with nothing left to tell or to send.
+pub record IsHosted {D : Type 0} (state : D → DiskState) (cut : Bool) (c : ℕ) (s : Client) (node : ClientNode D)
+    : Type 0 where
+  pub client : IsClient state node s
+  pub number : node.number ≡ c
+  pub linked : node.is_linked ≡ not cut
+  pub told : told_by node ≡ []
+  pub sent : sent_by node ≡ []
+
+-- the client of this number is in both, or in neither; the link of one that isn't there isn't down
+abbrev pub ClientThere : {D : Type 0} → (D → DiskState) → Bool → ℕ → Option Client → Option (ClientNode D) → Type 0
+ClientThere state cut c None None = cut ≡ false
+ClientThere state cut c None (Some node) = ⊥
+ClientThere state cut c (Some s) None = ⊥
+ClientThere state cut c (Some s) (Some node) = IsHosted state cut c s node
+
+-- ---- all clients
+
+abbrev pub HasClients : {D : Type 0} → (D → DiskState) → World → tree.BTreeMap ℕ (ClientNode D) → Type 0
+HasClients state w clients =
+    (c : ℕ) → ClientThere state (is_cut w c) c (client_at w c) (tree.get nat_cmp clients c)
+
+-- The host's clients are the world's.
+pub record HoldsClients {D : Type 0} (state : D → DiskState) (w : World) (host : ClientHost D) : Type 0 where
+  pub there : HasClients state w host.clients
+
+-- it holds some world
+abbrev pub AreClients : {D : Type 0} → (D → DiskState) → ClientHost D → Type 0
+AreClients state host = (w : World) × HoldsClients state w host
+
+-- ---- what stays of a world
+
+-- the world has the clients of another, and the same links are down
+pub record KeepsClients (before after : World) : Type 0 where
+  pub clients : after.clients ≡ before.clients
+  pub cuts : after.cuts ≡ before.cuts
+
+-- ---- the declared tables
+
+-- These are the declared tables with their schemas.
+pub record HasSchemas (w : World) (schemas : tree.BTreeMap ℕ Schema) : Type 0 where
+  pub there : (table : ℕ) → tree.get nat_cmp schemas table ≡ schema_at w table
+
+-- each of them can be opened
+abbrev pub AreToOpen : tree.BTreeMap ℕ Schema → Type 0
+AreToOpen schemas = (table : ℕ) (schema : Schema) → tree.get nat_cmp schemas table ≡ Some schema
+    → IsToOpen (table, schema)
+
+-- ---- what was told and sent
+
+abbrev pub outbox_of : ClientOut → Outbox
+outbox_of it = record {
+  facts = map fact_of it.out.facts;
+  packets = packets_from (nodes.Client it.client) (map send_of it.out.messages);
+}
+
+abbrev pub outs_in : List ClientOut → List Outbox
+outs_in outs = map outbox_of outs
+
+abbrev pub outs_of : {D : Type 0} → ClientHost D → List Outbox
+outs_of host = outs_in host.outs.items
+
+abbrev pub is_empty : {X : Type 0} → List X → Bool
+is_empty [] = true
+is_empty (x ∷ xs) = false
+
+-- some fact, or some packet
+abbrev pub says_something : Outbox → Bool
+says_something out = not (is_empty out.facts && is_empty out.packets)
+
+-- those of some moves that told or sent something
+abbrev pub said : List Outbox → List Outbox
+said outs = filter says_something outs
+
+-- ---- faults of disks
+
+-- how often the disks of a client have failed, the stops of their fuses apart
+abbrev pub node_faults : {D : Type 0} → (D → DiskState) → ClientNode D → ℕ
+node_faults state node = own_faults state node
+
+abbrev pub faults_in : {D : Type 0} → (D → DiskState) → Option (ClientNode D) → ℕ
+faults_in state None = 0
+faults_in state (Some node) = node_faults state node
+
+abbrev pub faults_at : {D : Type 0} → (D → DiskState) → tree.BTreeMap ℕ (ClientNode D) → ℕ → ℕ
+faults_at state clients c = faults_in state (tree.get nat_cmp clients c)
+
+abbrev pub SameFaults : {D : Type 0} → (D → DiskState) → (old new : tree.BTreeMap ℕ (ClientNode D)) → Type 0
+SameFaults state old new = (c : ℕ) → faults_at state new c ≡ faults_at state old c
+
+-- the disks of this client have failed more often, and no other's
+pub record RisenFaults {D : Type 0} (state : D → DiskState) (c : ℕ) (old new : tree.BTreeMap ℕ (ClientNode D))
+    : Type 0 where
+  pub one : faults_at state old c < faults_at state new c
+  pub others : (q : ℕ) → q ≢ c → faults_at state new q ≡ faults_at state old q
+
+-- ---- disks
+
+-- a client's number, with its disks of the journal, the slots and the chunks
+abbrev pub disks_at : {D : Type 0} → ℕ × ClientNode D → ℕ × (D × D × D)
+disks_at e = (
+  e.0,
+  (
+    inner_of (disk_of (journals.vault_of e.1.devs.journal)),
+    inner_of (disk_of (slots.vault_of e.1.devs.slots)),
+    inner_of (disk_of (chunks.vault_of e.1.devs.chunks)),
+  ),
+)

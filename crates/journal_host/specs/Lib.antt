@@ -1,0 +1,6 @@
+pub mod Holds
+pub mod Moves
+pub mod Asks
+pub mod Opening
+pub mod Steps
+pub mod Calls

@@ -1,0 +1,460 @@
+//! The clients of a world.
+ghost use Rattle.std.specs.Prelude.{◌≡◌, ◌≢◌, ◌⊎◌, ℕ, [], List, Option, Some, None, is_some, false, true, map};
+ghost use Rattle.std.specs.Prelude.{IfOk, IfErr, OnOk, OnErr, IsErrOf, option_map, slice_get, drop, length};
+ghost use Rattle.std.specs.Ordering.{nat_cmp};
+ghost use Rattle.std.specs.BTreeMap as tree;
+ghost use Rattle.stab_base.specs.declared.node.Node.TheVariants as nodes;
+ghost use Rattle.step_tables.specs.ClientMoves as moves;
+ghost use Rattle.step_tables.specs.Messages.{Luck};
+ghost use Rattle.step_tables.specs.Messages as lucks;
+ghost use Rattle.step_tables.specs.Travels.{message_of};
+ghost use Rattle.client_node.specs.declared.fault.CallFault.TheVariants.{Disk as DiskFailed};
+ghost use Rattle.world_tables.specs.World.{World as AWorld, client_at, client_tasks, is_down, joined, linked};
+ghost use Rattle.world_tables.specs.World.{worked, all_worked, client_crashes, client_writes, client_until_idle};
+ghost use Rattle.world_tables.specs.World.{next_write};
+ghost use Rattle.journal_host.specs.declared.asking.Ask.TheVariants as asks;
+ghost use Rattle.journal_host.specs.declared.fault.ClientFault.TheVariants.{Memory};
+ghost use Rattle.journal_host.specs.Asks.{move_of, FitsIn};
+ghost use Rattle.journal_host.specs.Calls.{IsMoved, IsCalled, Comes, Stays, HasCause, HasMoveCause, HasLuck};
+ghost use Rattle.journal_host.specs.Calls.{IsNumberCause};
+ghost use Rattle.journal_host.specs.Holds.{HoldsClients, AreClients, HasSchemas, AreToOpen, SameFaults, disks_at};
+ghost use Rattle.journal_host.specs.Holds.{outs_of, outs_in, faults_at};
+ghost use Rattle.journal_host.specs.Opening.{HasJoinLuck};
+ghost use Rattle.journal_host.specs.Moves.{call_alone, take_alone, start_alone, has_work};
+
+use crate::asking::{Ask, did, numbered};
+use crate::fault::ClientFault;
+use crate::hosted::{answered, call, crash, link, start, work};
+use crate::opening::joining;
+use crate::out::ClientOut;
+use client_node::{CallFault, ClientNode};
+use disk_trait::Disk;
+use row_edits::Edit;
+use row_value::{Content, Schema};
+use stab_base::{ClientNo, RowId, Sequence, Step, TableNo};
+use std::alloc::Global;
+use std::collections::BTreeMap;
+use step_tables::Message;
+use table_model::{Answer, Refusal};
+
+/// The clients of a world, by their numbers, each on its three disks.
+///
+/// A call is one move of a client: what it tells and sends is put behind what was told, and the writes that it begins
+/// are still to be done. A device fault is answered as the refusal `NoDevice`, and the client is then down. A call that
+/// answers a fault leaves the clients as they were.
+#[derive(Drop)]
+pub struct ClientHost<D: Disk> {
+    pub(crate) clients: BTreeMap<ClientNo, ClientNode<D>>,
+    pub(crate) outs: Vec<ClientOut>,
+    pub(crate) alloc: Global,
+}
+
+impl<D: Disk + Drop> ClientHost<D> {
+    /// No clients.
+    pub fn new(alloc: Global) -> ClientHost<D>
+        ensures held { (w : AWorld) → w.clients ≡ [] → w.cuts ≡ [] → HoldsClients D.state w result }
+        ensures told { outs_of result ≡ [] }
+    {
+        ClientHost {
+            clients: BTreeMap::new(alloc),
+            outs: Vec::new(alloc),
+            alloc,
+        }
+    }
+
+    /// Whether the client has joined.
+    pub fn has(&self, client: ClientNo) -> bool
+        ensures there { result ≡ is_some (tree.get nat_cmp self.now.clients client) }
+        ensures held { (w : AWorld) → HoldsClients D.state w self.now → result ≡ is_some (client_at w client) }
+    {
+        self.clients.contains_key(&client)
+    }
+
+    /// Whether the client is there, and down.
+    pub fn is_down(&self, client: ClientNo) -> bool
+        ensures { (w : AWorld) → HoldsClients D.state w self.now → result ≡ is_down w (nodes.Client client) }
+    {
+        match self.clients.get(&client) {
+            Some(node) => !node.is_up(),
+            None => false,
+        }
+    }
+
+    /// Whether the client has writes to do.
+    pub fn is_busy(&self, client: ClientNo) -> bool
+        ensures { (w : AWorld) → HoldsClients D.state w self.now
+            → result ≡ has_work (client_tasks (client_at w client)) }
+    {
+        match self.clients.get(&client) {
+            Some(node) => node.is_busy(),
+            None => false,
+        }
+    }
+
+    /// Hands over what the moves so far told and sent, those that did neither left out. It takes no memory.
+    pub fn take_outs(&mut self) -> Sequence<ClientOut>
+        ensures outs { outs_in result ≡ outs_of self.old }
+        ensures none { outs_of self.new ≡ [] }
+        ensures held { (w : AWorld) → HoldsClients D.state w self.old → HoldsClients D.state w self.new }
+        ensures clients { self.new.clients ≡ self.old.clients }
+    {
+        Sequence::from_vec(std::mem::replace(&mut self.outs, Vec::new(self.alloc)))
+    }
+
+    /// Adds a client on its disks for the journal, the slots and the chunks, whatever they hold, and declares it with
+    /// these tables opened, as far as they are declared, each at position 0 and without rows. `schemas` has the
+    /// declared tables. Where a disk fails the client is there and down, and its next start declares it.
+    ///
+    /// # Errors
+    ///
+    /// `Memory` alone; the client hasn't joined then, and its disks are lost.
+    pub fn join(
+        &mut self,
+        client: ClientNo,
+        tables: &[TableNo],
+        schemas: &BTreeMap<TableNo, Schema>,
+        disks: (D, D, D),
+    ) -> Result<(), ClientFault>
+        requires absent { tree.get nat_cmp self.old.clients client ≡ None }
+        requires made { AreToOpen schemas.now }
+        ensures joined { (w : AWorld) → HoldsClients D.state w self.old → HasSchemas w schemas.now
+            → OnOk result ((luck : Luck)
+            × HoldsClients D.state (joined w client tables.now luck (client_at w client)) self.new
+            × HasJoinLuck D.state disks luck (faults_at D.state self.new.clients client)) }
+        ensures kept { (w : AWorld) → HoldsClients D.state w self.old → OnErr result (HoldsClients D.state w self.new) }
+        ensures others { (q : ℕ) → q ≢ client
+            → faults_at D.state self.new.clients q ≡ faults_at D.state self.old.clients q }
+        ensures outs { outs_of self.new ≡ outs_of self.old }
+        ensures memory { IfErr result (λ e. e ≡ Memory) }
+    {
+        let node = joining(self.alloc, client, tables, schemas, disks)?;
+        self.clients.insert(client, node)?;
+        Ok(())
+    }
+
+    /// Takes the client's link up or down. A client that is down refuses.
+    pub fn link(&mut self, client: ClientNo, up: bool) -> Answer
+        ensures called { (w : AWorld) → HoldsClients D.state w self.old
+            → IsCalled D.state self.old self.new (linked w client up (client_at w client)) result }
+        ensures counted { SameFaults D.state self.old.clients self.new.clients }
+    {
+        match self.clients.get_mut(&client) {
+            Some(node) => link(node, client, up),
+            None => Answer::Done,
+        }
+    }
+
+    // Asks a client. One that hasn't joined refuses, as one that hasn't opened the table does.
+    fn call(&mut self, client: ClientNo, ask: Ask) -> Result<Answer, ClientFault>
+        requires { AreClients D.state self.old }
+        ensures called { (w : AWorld) → HoldsClients D.state w self.old → FitsIn w client ask
+            → Comes D.state self.old self.new (call_alone w client (move_of ask)) result }
+        ensures dropped { (w : AWorld) → HoldsClients D.state w self.old → (FitsIn w client ask → ⊥)
+            → IfOk result (λ answer. ((answer ≡ Answer.Done) × Stays D.state w self.old self.new)
+            ⊎ Comes D.state self.old self.new (call_alone w client (move_of ask)) (Ok answer)) }
+        ensures spent { (w : AWorld) → HoldsClients D.state w self.old → FitsIn w client ask
+            → IfErr result (IsNumberCause D.state w client self.old) }
+        ensures kept { (w : AWorld) → HoldsClients D.state w self.old
+            → OnErr result (Stays D.state w self.old self.new) }
+        ensures cause { HasCause D.state client self.old.clients self.new.clients result }
+    {
+        match self.clients.get_mut(&client) {
+            Some(node) => call(node, &mut self.outs, client, ask),
+            None => Ok(Answer::Refused(Refusal::NoTable)),
+        }
+    }
+
+    /// Writes a row whole: the number of the write that was begun.
+    ///
+    /// # Errors
+    ///
+    /// `Spent` where no number of a write or of a plan is left, and `Memory`.
+    pub fn write(
+        &mut self,
+        client: ClientNo,
+        table: TableNo,
+        row: RowId,
+        content: Content,
+    ) -> Result<Answer, ClientFault>
+        requires { AreClients D.state self.old }
+        ensures called { (w : AWorld) → HoldsClients D.state w self.old
+            → Comes D.state self.old self.new (call_alone w client (moves.Write table row content)) result }
+        ensures spent { (w : AWorld) → HoldsClients D.state w self.old
+            → IfErr result (IsNumberCause D.state w client self.old) }
+        ensures kept { (w : AWorld) → HoldsClients D.state w self.old
+            → OnErr result (Stays D.state w self.old self.new) }
+        ensures cause { HasCause D.state client self.old.clients self.new.clients result }
+    {
+        self.call(
+            client,
+            Ask::Write {
+                table,
+                row,
+                content,
+            },
+        )
+    }
+
+    /// Writes what an edit makes of the content that is shown: the number of the write that was begun.
+    ///
+    /// # Errors
+    ///
+    /// Those of `write`.
+    pub fn edit(
+        &mut self,
+        client: ClientNo,
+        table: TableNo,
+        row: RowId,
+        edit: Edit,
+    ) -> Result<Answer, ClientFault>
+        requires { AreClients D.state self.old }
+        ensures called { (w : AWorld) → HoldsClients D.state w self.old
+            → Comes D.state self.old self.new (call_alone w client (moves.Change table row edit)) result }
+        ensures spent { (w : AWorld) → HoldsClients D.state w self.old
+            → IfErr result (IsNumberCause D.state w client self.old) }
+        ensures kept { (w : AWorld) → HoldsClients D.state w self.old
+            → OnErr result (Stays D.state w self.old self.new) }
+        ensures cause { HasCause D.state client self.old.clients self.new.clients result }
+    {
+        self.call(client, Ask::Edit { table, row, edit })
+    }
+
+    /// What the client shows of a row, whatever is still to be done.
+    ///
+    /// # Errors
+    ///
+    /// Those of `write`.
+    pub fn show(
+        &mut self,
+        client: ClientNo,
+        table: TableNo,
+        row: RowId,
+    ) -> Result<Answer, ClientFault>
+        requires { AreClients D.state self.old }
+        ensures called { (w : AWorld) → HoldsClients D.state w self.old
+            → Comes D.state self.old self.new (call_alone w client (moves.Show table row)) result }
+        ensures spent { (w : AWorld) → HoldsClients D.state w self.old
+            → IfErr result (IsNumberCause D.state w client self.old) }
+        ensures kept { (w : AWorld) → HoldsClients D.state w self.old
+            → OnErr result (Stays D.state w self.old self.new) }
+        ensures cause { HasCause D.state client self.old.clients self.new.clients result }
+    {
+        self.call(client, Ask::Show { table, row })
+    }
+
+    /// What the client shows of a row, its objects by their digests.
+    ///
+    /// # Errors
+    ///
+    /// Those of `write`.
+    pub fn sum(
+        &mut self,
+        client: ClientNo,
+        table: TableNo,
+        row: RowId,
+    ) -> Result<Answer, ClientFault>
+        requires { AreClients D.state self.old }
+        ensures called { (w : AWorld) → HoldsClients D.state w self.old
+            → Comes D.state self.old self.new (call_alone w client (moves.Sum table row)) result }
+        ensures spent { (w : AWorld) → HoldsClients D.state w self.old
+            → IfErr result (IsNumberCause D.state w client self.old) }
+        ensures kept { (w : AWorld) → HoldsClients D.state w self.old
+            → OnErr result (Stays D.state w self.old self.new) }
+        ensures cause { HasCause D.state client self.old.clients self.new.clients result }
+    {
+        self.call(client, Ask::Sum { table, row })
+    }
+
+    /// Sends a table's writes: how many requests that are.
+    ///
+    /// # Errors
+    ///
+    /// Those of `write`.
+    pub fn sync(&mut self, client: ClientNo, table: TableNo) -> Result<Answer, ClientFault>
+        requires { AreClients D.state self.old }
+        ensures called { (w : AWorld) → HoldsClients D.state w self.old
+            → Comes D.state self.old self.new (call_alone w client (moves.Sync table)) result }
+        ensures spent { (w : AWorld) → HoldsClients D.state w self.old
+            → IfErr result (IsNumberCause D.state w client self.old) }
+        ensures kept { (w : AWorld) → HoldsClients D.state w self.old
+            → OnErr result (Stays D.state w self.old self.new) }
+        ensures cause { HasCause D.state client self.old.clients self.new.clients result }
+    {
+        self.call(client, Ask::Sync { table })
+    }
+
+    /// Asks for a table's next change.
+    ///
+    /// # Errors
+    ///
+    /// Those of `write`.
+    pub fn pull(&mut self, client: ClientNo, table: TableNo) -> Result<Answer, ClientFault>
+        requires { AreClients D.state self.old }
+        ensures called { (w : AWorld) → HoldsClients D.state w self.old
+            → Comes D.state self.old self.new (call_alone w client (moves.Next table)) result }
+        ensures spent { (w : AWorld) → HoldsClients D.state w self.old
+            → IfErr result (IsNumberCause D.state w client self.old) }
+        ensures kept { (w : AWorld) → HoldsClients D.state w self.old
+            → OnErr result (Stays D.state w self.old self.new) }
+        ensures cause { HasCause D.state client self.old.clients self.new.clients result }
+    {
+        self.call(client, Ask::Pull { table })
+    }
+
+    /// Takes a message; one for a client that hasn't joined is lost, and so is a row that doesn't fit its table.
+    ///
+    /// # Errors
+    ///
+    /// Those of `write`.
+    pub fn deliver(&mut self, client: ClientNo, message: Message) -> Result<Answer, ClientFault>
+        requires { AreClients D.state self.old }
+        ensures called { (w : AWorld) → HoldsClients D.state w self.old → FitsIn w client (asks.Deliver message)
+            → Comes D.state self.old self.new (take_alone w client (message_of message)) result }
+        ensures dropped { (w : AWorld) → HoldsClients D.state w self.old
+            → (FitsIn w client (asks.Deliver message) → ⊥)
+            → IfOk result (λ answer. ((answer ≡ Answer.Done) × Stays D.state w self.old self.new)
+            ⊎ Comes D.state self.old self.new (take_alone w client (message_of message)) (Ok answer)) }
+        ensures spent { (w : AWorld) → HoldsClients D.state w self.old → FitsIn w client (asks.Deliver message)
+            → IfErr result (IsNumberCause D.state w client self.old) }
+        ensures kept { (w : AWorld) → HoldsClients D.state w self.old
+            → OnErr result (Stays D.state w self.old self.new) }
+        ensures cause { HasCause D.state client self.old.clients self.new.clients result }
+    {
+        if self.clients.contains_key(&client) {
+            return self.call(client, Ask::Deliver { message });
+        }
+        Ok(Answer::Done)
+    }
+
+    // Does the client's next write.
+    fn work_once(&mut self, client: ClientNo) -> Result<Step, CallFault>
+        requires { AreClients D.state self.old }
+        ensures done { (w : AWorld) → HoldsClients D.state w self.old → IfOk result (λ step.
+            IsMoved D.state self.old self.new (client_writes client lucks.Done (client_tasks (client_at w client)) w)
+            × (step ≡ next_write (client_tasks (client_at w client)))) }
+        ensures failed { (w : AWorld) → HoldsClients D.state w self.old → IsErrOf result DiskFailed → (luck : Luck)
+            × ((client_writes client luck (client_tasks (client_at w client)) w).failed ≡ true)
+            × IsMoved D.state self.old self.new (client_writes client luck (client_tasks (client_at w client)) w) }
+        ensures cause { HasMoveCause D.state client self.old.clients self.new.clients result }
+    {
+        match self.clients.get_mut(&client) {
+            Some(node) => work(node, &mut self.outs, client),
+            None => Ok(Step::Idle),
+        }
+    }
+
+    // Does the client's writes, one after the other, until there are none: how many they were.
+    fn work_on(&mut self, client: ClientNo) -> Result<u64, CallFault>
+        requires { AreClients D.state self.old }
+        ensures done { (w : AWorld) → HoldsClients D.state w self.old → IfOk result (λ count.
+            (count ≡ length (client_tasks (client_at w client)))
+            × (lucks : List Luck) × ((client_until_idle client lucks w).failed ≡ false)
+            × IsMoved D.state self.old self.new (client_until_idle client lucks w)) }
+        ensures failed { (w : AWorld) → HoldsClients D.state w self.old → IsErrOf result DiskFailed
+            → (lucks : List Luck) × ((client_until_idle client lucks w).failed ≡ true)
+            × IsMoved D.state self.old self.new (client_until_idle client lucks w) }
+        ensures cause { HasMoveCause D.state client self.old.clients self.new.clients result }
+    {
+        for count in 0..u64::MAX {
+            if !self.is_busy(client) {
+                return Ok(count);
+            }
+            self.work_once(client)?;
+        }
+        Err(CallFault::Memory)
+    }
+
+    /// Does the client's next write, if there is one: what it is called.
+    ///
+    /// # Errors
+    ///
+    /// `Memory` alone.
+    pub fn work(&mut self, client: ClientNo) -> Result<Answer, ClientFault>
+        requires { AreClients D.state self.old }
+        ensures called { (w : AWorld) → HoldsClients D.state w self.old → IfOk result (λ answer. (lucks : List Luck)
+            × IsCalled D.state self.old self.new (worked w lucks (nodes.Client client)) answer) }
+        ensures cause { HasCause D.state client self.old.clients self.new.clients result }
+        ensures memory { IfErr result (λ e. e ≡ Memory) }
+    {
+        let done = self.work_once(client);
+        answered(did(done))
+    }
+
+    /// Does all the client's writes, one after the other, until there are none: how many they were.
+    ///
+    /// # Errors
+    ///
+    /// `Memory` alone; some of the writes are done then.
+    pub fn work_all(&mut self, client: ClientNo) -> Result<Answer, ClientFault>
+        requires { AreClients D.state self.old }
+        ensures called { (w : AWorld) → HoldsClients D.state w self.old → IfOk result (λ answer. (lucks : List Luck)
+            × IsCalled D.state self.old self.new (all_worked w lucks (nodes.Client client)) answer) }
+        ensures cause { HasCause D.state client self.old.clients self.new.clients result }
+        ensures memory { IfErr result (λ e. e ≡ Memory) }
+    {
+        let done = self.work_on(client);
+        answered(numbered(done))
+    }
+
+    /// Crashes the client: of the disk of its next write the first `calls` calls pass, and a write that follows lands
+    /// its first `pick` bytes. The client is then down. It takes no memory, and tells nothing. Unless a disk fails by
+    /// itself, the write is undone where `calls` is 0 or 1, and done where it is 4 or more.
+    pub fn crash(&mut self, client: ClientNo, calls: u32, pick: u64)
+        requires { AreClients D.state self.old }
+        ensures crashed { (w : AWorld) → HoldsClients D.state w self.old → (lucks : List Luck)
+            × IsMoved D.state self.old self.new (client_crashes client calls lucks w)
+            × HasLuck D.state client self.old.clients self.new.clients lucks }
+        ensures outs { outs_of self.new ≡ outs_of self.old }
+        ensures others { (q : ℕ) → q ≢ client
+            → faults_at D.state self.new.clients q ≡ faults_at D.state self.old.clients q }
+    {
+        if let Some(node) = self.clients.get_mut(&client) {
+            crash(node, calls, pick);
+        }
+    }
+
+    /// Starts the client; one that is up goes on. One whose declaration failed is declared.
+    ///
+    /// # Errors
+    ///
+    /// `Memory` alone; the client is as it was.
+    pub fn start(&mut self, client: ClientNo) -> Result<Answer, ClientFault>
+        requires { AreClients D.state self.old }
+        ensures called { (w : AWorld) → HoldsClients D.state w self.old
+            → Comes D.state self.old self.new (start_alone w client) result }
+        ensures kept { (w : AWorld) → HoldsClients D.state w self.old
+            → OnErr result (Stays D.state w self.old self.new) }
+        ensures cause { HasCause D.state client self.old.clients self.new.clients result }
+        ensures memory { IfErr result (λ e. e ≡ Memory) }
+    {
+        match self.clients.get_mut(&client) {
+            Some(node) => start(node, &mut self.outs, client),
+            None => Ok(Answer::Done),
+        }
+    }
+
+    /// Takes away the client of least number, if there is one, and gives back its disks: those of the journal, the
+    /// slots and the chunks. It takes no memory.
+    pub fn take_disks(&mut self) -> Option<(ClientNo, (D, D, D))>
+        ensures disks { result ≡ option_map disks_at (slice_get self.old.clients.entries 0) }
+        ensures others { self.new.clients.entries ≡ drop 1 self.old.clients.entries }
+    {
+        match self.clients.pop_first() {
+            Some((client, node)) => Some((client, node.into_disks())),
+            None => None,
+        }
+    }
+
+    /// Gives back the disks of each client, by rising number: those of the journal, the slots and the chunks.
+    pub fn into_disks(self) -> Result<Sequence<(ClientNo, (D, D, D))>, ClientFault>
+        ensures disks { IfOk result (λ disks. disks ≡ map disks_at self.clients.entries) }
+        ensures memory { IfErr result (λ e. e ≡ Memory) }
+    {
+        let ClientHost { clients, alloc, .. } = self;
+        let mut disks = Sequence::new(alloc);
+        for (client, node) in clients {
+            disks.push((client, node.into_disks()))?;
+        }
+        Ok(disks)
+    }
+}

@@ -1,0 +1,263 @@
+//! Calls of one client's node, what it tells put behind what was told.
+ghost use Rattle.std.specs.Prelude.{◌≡◌, ◌⊎◌, ◌∷◌, ◌<◌, ◌++◌, ℕ, Bool, [], true, false, not, IfOk, IfErr, OnErr};
+ghost use Rattle.std.specs.Prelude.{IsErrOf};
+ghost use Rattle.std.specs.Vec.{vec_capacity, vec_len};
+ghost use Rattle.stab_base.specs.declared.node.Node.TheVariants as nodes;
+ghost use Rattle.table_model.specs.declared.line.Answer.TheVariants as answers;
+ghost use Rattle.table_model.specs.declared.line.Refusal.TheVariants as refusals;
+ghost use Rattle.step_tables.specs.ClientMoves.{Client, ClientStep, Work, client_step, no_shape};
+ghost use Rattle.step_tables.specs.Messages as lucks;
+ghost use Rattle.client_node.specs.declared.fault.CallFault.TheVariants.{Disk as DiskFailed};
+ghost use Rattle.client_node.specs.Does.{HasNoNumber};
+ghost use Rattle.client_node.specs.Node.{IsClient, IsNode, told_by, has_task};
+ghost use Rattle.world_tables.specs.World.{next_write, tasks_in};
+ghost use Rattle.journal_host.specs.declared.fault.ClientFault.TheVariants as faults;
+ghost use Rattle.journal_host.specs.Asks.{move_of, FitsDisk, answered_as};
+ghost use Rattle.journal_host.specs.Holds.{IsHosted, outs_in, outbox_of, says_something, said, node_faults};
+ghost use Rattle.journal_host.specs.Steps.{IsTelling, HasTold, IsMade, IsFallen, IsDropped, HasNodeCause};
+ghost use Rattle.journal_host.specs.Steps.{HasAnswerCause, HasCrashed, IsStarted, IsNotStarted};
+
+use crate::asking::{Ask, done, reply};
+use crate::fault::ClientFault;
+use crate::out::ClientOut;
+use client_node::{CallFault, ClientNode};
+use disk_trait::Disk;
+use stab_base::{ClientNo, Node, Step};
+use step_tables::Out;
+use table_model::{Answer, Refusal};
+
+/// What a node's fault is answered by. It tells the refusals of the client from the faults of the call.
+pub(crate) fn answered(found: Result<Answer, CallFault>) -> Result<Answer, ClientFault>
+    ensures { result ≡ answered_as found }
+{
+    let refusal = match found {
+        Ok(answer) => return Ok(answer),
+        Err(CallFault::NoTable) => Refusal::NoTable,
+        Err(CallFault::BadCell { column }) => Refusal::BadCell { column },
+        Err(CallFault::BadObject { column, len }) => Refusal::BadObject { column, len },
+        Err(CallFault::RowTooLarge { len }) => Refusal::RowTooLarge { len },
+        Err(CallFault::TooManyChunks { count }) => Refusal::TooManyChunks { count },
+        Err(CallFault::NoRow) => Refusal::NoRow,
+        Err(CallFault::Busy { with }) => Refusal::Busy { with },
+        Err(CallFault::Offline) => Refusal::Offline,
+        Err(CallFault::Disk) => Refusal::NoDevice,
+        Err(CallFault::Spent { .. }) => return Err(ClientFault::Spent),
+        Err(CallFault::Memory) => return Err(ClientFault::Memory),
+    };
+    Ok(Answer::Refused(refusal))
+}
+
+// Whether there is a fact or a message.
+fn says_something(it: &ClientOut) -> bool
+    ensures { result ≡ says_something (outbox_of it.now) }
+{
+    if it.out.facts.len() != 0 {
+        return true;
+    }
+    it.out.messages.len() != 0
+}
+
+// Adds what a client told and sent where there is room for it, unless it is nothing.
+fn put(outs: &mut Vec<ClientOut>, it: ClientOut)
+    requires { vec_len outs.old < vec_capacity outs.old }
+    ensures { outs_in outs.new.items ≡ outs_in outs.old.items ++ said (outbox_of it ∷ []) }
+{
+    if says_something(&it) {
+        outs.push(it).unwrap();
+    }
+}
+
+// Puts what the node tells and sends behind what was told. It takes no memory.
+fn tell<D: Disk + Drop>(node: &mut ClientNode<D>, outs: &mut Vec<ClientOut>, client: ClientNo)
+    requires { vec_len outs.old < vec_capacity outs.old }
+    ensures told { (cut : Bool) (s : ClientStep) → IsTelling D.state cut client s node.old
+        → HasTold D.state cut client s node.new outs.old.items outs.new.items }
+    ensures devs { node.new.devs ≡ node.old.devs }
+    ensures up { node.new.is_up ≡ node.old.is_up }
+    ensures declared { node.new.is_declared ≡ node.old.is_declared }
+{
+    let out = node.take_out();
+    put(outs, ClientOut { client, out });
+}
+
+// Asks a node that is up.
+fn call_up<D: Disk + Drop>(
+    node: &mut ClientNode<D>,
+    outs: &mut Vec<ClientOut>,
+    client: ClientNo,
+    ask: Ask,
+) -> Result<Answer, ClientFault>
+    requires node { IsNode D.state node.old }
+    requires up { node.old.is_up ≡ true }
+    ensures made { (cut : Bool) (s : Client) → IsHosted D.state cut client s node.old → FitsDisk s.disk ask
+        → IfOk result (λ answer. IsMade D.state cut client s (move_of ask) node.new outs.old.items outs.new.items answer
+        ⊎ IsFallen D.state cut client s node.new outs.old.items outs.new.items answer) }
+    ensures dropped { (cut : Bool) (s : Client) → IsHosted D.state cut client s node.old → (FitsDisk s.disk ask → ⊥)
+        → IfOk result (λ answer. IsDropped D.state cut client s node.new outs.old.items outs.new.items answer
+        ⊎ (IsMade D.state cut client s (move_of ask) node.new outs.old.items outs.new.items answer
+        ⊎ IsFallen D.state cut client s node.new outs.old.items outs.new.items answer)) }
+    ensures spent { (cut : Bool) (s : Client) → IsHosted D.state cut client s node.old → FitsDisk s.disk ask
+        → IfErr result (λ e. e ≡ faults.Spent → HasNoNumber D.state node.old s.disk) }
+    ensures kept { (cut : Bool) (s : Client) → IsHosted D.state cut client s node.old
+        → OnErr result (IsHosted D.state cut client s node.new × (outs_in outs.new.items ≡ outs_in outs.old.items)) }
+    ensures cause { HasAnswerCause D.state node.old node.new result }
+{
+    outs.reserve(1)?;
+    let found = reply(node, ask);
+    tell(node, outs, client);
+    answered(found)
+}
+
+/// Asks a node. One that is down refuses.
+pub(crate) fn call<D: Disk + Drop>(
+    node: &mut ClientNode<D>,
+    outs: &mut Vec<ClientOut>,
+    client: ClientNo,
+    ask: Ask,
+) -> Result<Answer, ClientFault>
+    requires { IsNode D.state node.old }
+    ensures made { (cut : Bool) (s : Client) → IsHosted D.state cut client s node.old → FitsDisk s.disk ask
+        → node.old.is_up ≡ true
+        → IfOk result (λ answer. IsMade D.state cut client s (move_of ask) node.new outs.old.items outs.new.items answer
+        ⊎ IsFallen D.state cut client s node.new outs.old.items outs.new.items answer) }
+    ensures dropped { (cut : Bool) (s : Client) → IsHosted D.state cut client s node.old → (FitsDisk s.disk ask → ⊥)
+        → node.old.is_up ≡ true
+        → IfOk result (λ answer. IsDropped D.state cut client s node.new outs.old.items outs.new.items answer
+        ⊎ (IsMade D.state cut client s (move_of ask) node.new outs.old.items outs.new.items answer
+        ⊎ IsFallen D.state cut client s node.new outs.old.items outs.new.items answer)) }
+    ensures down { node.old.is_up ≡ false → (node.new ≡ node.old) × (outs.new.items ≡ outs.old.items)
+        × IfOk result (λ answer. answer ≡ answers.Refused (refusals.Down (nodes.Client client))) }
+    ensures spent { (cut : Bool) (s : Client) → IsHosted D.state cut client s node.old → FitsDisk s.disk ask
+        → IfErr result (λ e. e ≡ faults.Spent → HasNoNumber D.state node.old s.disk) }
+    ensures kept { (cut : Bool) (s : Client) → IsHosted D.state cut client s node.old
+        → OnErr result (IsHosted D.state cut client s node.new × (outs_in outs.new.items ≡ outs_in outs.old.items)) }
+    ensures cause { HasAnswerCause D.state node.old node.new result }
+{
+    if node.is_up() {
+        return call_up(node, outs, client, ask);
+    }
+    Ok(Answer::Refused(Refusal::Down {
+        node: Node::Client(client),
+    }))
+}
+
+/// Takes the link of a node up or down. One that is down refuses.
+pub(crate) fn link<D: Disk + Drop>(node: &mut ClientNode<D>, client: ClientNo, up: bool) -> Answer
+    ensures linked { (cut : Bool) (s : Client) → IsHosted D.state cut client s node.old → node.old.is_up ≡ true
+        → IsHosted D.state (not up) client s node.new × (result ≡ answers.Done) }
+    ensures down { node.old.is_up ≡ false → (node.new ≡ node.old)
+        × (result ≡ answers.Refused (refusals.Down (nodes.Client client))) }
+    ensures counted { node_faults D.state node.new ≡ node_faults D.state node.old }
+{
+    if node.is_up() {
+        node.link(up);
+        return Answer::Done;
+    }
+    Answer::Refused(Refusal::Down {
+        node: Node::Client(client),
+    })
+}
+
+// Does the next write of a node that is up.
+fn work_up<D: Disk + Drop>(
+    node: &mut ClientNode<D>,
+    outs: &mut Vec<ClientOut>,
+    client: ClientNo,
+) -> Result<Step, CallFault>
+    requires node { IsNode D.state node.old }
+    requires up { node.old.is_up ≡ true }
+    ensures done { (cut : Bool) (s : Client) → IsHosted D.state cut client s node.old → IfOk result (λ step.
+        HasTold D.state cut client (client_step client no_shape s (Work lucks.Done)) node.new outs.old.items
+        outs.new.items × (step ≡ next_write (tasks_in s.agenda))) }
+    ensures failed { (cut : Bool) (s : Client) → IsHosted D.state cut client s node.old → IsErrOf result DiskFailed
+        → HasTold D.state cut client (client_step client no_shape s (Work lucks.FailedBefore)) node.new outs.old.items
+        outs.new.items
+        ⊎ HasTold D.state cut client (client_step client no_shape s (Work lucks.FailedAfter)) node.new outs.old.items
+        outs.new.items }
+    ensures cause { HasNodeCause D.state node.old node.new result }
+{
+    outs.reserve(1)?;
+    let done = node.work();
+    tell(node, outs, client);
+    done
+}
+
+/// Does a node's next write, if there is one, and puts what it tells and sends behind what was told.
+pub(crate) fn work<D: Disk + Drop>(
+    node: &mut ClientNode<D>,
+    outs: &mut Vec<ClientOut>,
+    client: ClientNo,
+) -> Result<Step, CallFault>
+    requires { IsNode D.state node.old }
+    ensures done { (cut : Bool) (s : Client) → IsHosted D.state cut client s node.old → IfOk result (λ step.
+        HasTold D.state cut client (client_step client no_shape s (Work lucks.Done)) node.new outs.old.items
+        outs.new.items × (step ≡ next_write (tasks_in s.agenda))) }
+    ensures failed { (cut : Bool) (s : Client) → IsHosted D.state cut client s node.old → IsErrOf result DiskFailed
+        → HasTold D.state cut client (client_step client no_shape s (Work lucks.FailedBefore)) node.new outs.old.items
+        outs.new.items
+        ⊎ HasTold D.state cut client (client_step client no_shape s (Work lucks.FailedAfter)) node.new outs.old.items
+        outs.new.items }
+    ensures busy { (s : Client) → IsClient D.state node.old s → IsErrOf result DiskFailed → has_task s.agenda ≡ true }
+    ensures cause { HasNodeCause D.state node.old node.new result }
+{
+    if node.is_busy() {
+        return work_up(node, outs, client);
+    }
+    Ok(Step::Idle)
+}
+
+/// Crashes the node inside its next write, if it is up. It takes no memory.
+pub(crate) fn crash<D: Disk + Drop>(node: &mut ClientNode<D>, calls: u32, pick: u64)
+    requires { IsNode D.state node.old }
+    ensures crashed { (cut : Bool) (c : ℕ) (s : Client) → IsHosted D.state cut c s node.old
+        → HasCrashed D.state cut c calls s node.old node.new }
+{
+    if node.is_up() {
+        node.crash(calls, pick);
+    }
+}
+
+// Starts a node that is down.
+fn start_down<D: Disk + Drop>(
+    node: &mut ClientNode<D>,
+    outs: &mut Vec<ClientOut>,
+    client: ClientNo,
+) -> Result<Answer, ClientFault>
+    requires node { IsNode D.state node.old }
+    requires down { node.old.is_up ≡ false }
+    requires quiet { told_by node.old ≡ [] }
+    ensures started { (cut : Bool) (s : Client) → IsHosted D.state cut client s node.old → IfOk result (λ answer.
+        IsStarted D.state cut client s node.new outs.old.items outs.new.items answer
+        ⊎ IsNotStarted D.state cut client s node.new outs.old.items outs.new.items answer) }
+    ensures kept { (cut : Bool) (s : Client) → IsHosted D.state cut client s node.old
+        → OnErr result (IsHosted D.state cut client s node.new × (outs_in outs.new.items ≡ outs_in outs.old.items)) }
+    ensures cause { HasAnswerCause D.state node.old node.new result }
+    ensures memory { IfErr result (λ e. e ≡ faults.Memory) }
+{
+    outs.reserve(1)?;
+    let started = node.start();
+    tell(node, outs, client);
+    answered(done(started))
+}
+
+/// Starts the node, unless it is up, and puts what it tells behind what was told.
+pub(crate) fn start<D: Disk + Drop>(
+    node: &mut ClientNode<D>,
+    outs: &mut Vec<ClientOut>,
+    client: ClientNo,
+) -> Result<Answer, ClientFault>
+    requires node { IsNode D.state node.old }
+    requires quiet { told_by node.old ≡ [] }
+    ensures started { (cut : Bool) (s : Client) → IsHosted D.state cut client s node.old → IfOk result (λ answer.
+        IsStarted D.state cut client s node.new outs.old.items outs.new.items answer
+        ⊎ IsNotStarted D.state cut client s node.new outs.old.items outs.new.items answer) }
+    ensures kept { (cut : Bool) (s : Client) → IsHosted D.state cut client s node.old
+        → OnErr result (IsHosted D.state cut client s node.new × (outs_in outs.new.items ≡ outs_in outs.old.items)) }
+    ensures cause { HasAnswerCause D.state node.old node.new result }
+    ensures memory { IfErr result (λ e. e ≡ faults.Memory) }
+{
+    if node.is_up() {
+        return Ok(Answer::Done);
+    }
+    start_down(node, outs, client)
+}

@@ -1,5 +1,5 @@
 -- What a call promises, from what was done to the node's devices.
-use Rattle.std.proofs.Common.{◌≡◌, ◌⊎◌, inl, inr, ℕ, ◌<◌, ◌++◌, true, List, [], ◌∷◌, Option, Some, None, Result, Ok, Err, refl, sym, ◌∙◌, ap, subst, append-nil}
+use Rattle.std.proofs.Common.{◌≡◌, ◌⊎◌, inl, inr, ℕ, suc, ◌<◌, ◌++◌, true, List, [], ◌∷◌, Option, Some, None, Result, Ok, Err, refl, sym, ◌∙◌, ap, subst, append-nil}
 use Rattle.std.specs.Prelude.{IsErrOf}
 use Rattle.disk_trait.specs.Image.{IsImage}
 use Rattle.disk_trait.specs.Calls.{DiskState}
@@ -15,13 +15,13 @@ use Rattle.step_tables.specs.ClientMoves.{ClientDisk, ClientTask, Client, Client
 use Rattle.client_node.specs.declared.fault.CallFault.{CallFault}
 use Rattle.client_node.specs.declared.fault.CallFault.TheVariants as call
 use Rattle.client_node.specs.declared.node.ClientNode.{ClientNode}
-use Rattle.client_node.specs.Node.{IsClient, IsNode, IsSame, told_by, sent_by, own_faults, LeavesEither}
+use Rattle.client_node.specs.Node.{IsClient, IsNode, IsSame, told_by, sent_by, own_faults, LeavesEither, HasPlansBelow}
 use Rattle.client_node.specs.Calls.{Fell, Stays, IsBehind}
 use Rattle.client_node.specs.Looks.{IsNotDisk, Serves, Looks}
 use Rattle.client_node.specs.Does.{Does, IsOfNode, HasNoNumber, step_with, refusal_in}
 use Rattle.client_node.specs.Answers.{IsAnswered, IsFault}
 use Rattle.client_node.proofs.OwnFaults.{own_kept, fresh_now}
-use Rattle.client_node.proofs.Asked.{IsMid, mid_devs, again, call_leaves, call_fell, call_fell_leaves, call_fell_cause}
+use Rattle.client_node.proofs.Asked.{IsMid, mid_devs, again, call_leaves, call_plans, call_fell, call_fell_leaves, call_fell_plans, call_fell_cause}
 
 pub disk_or : (e : CallFault) → (e ≡ call.Disk) ⊎ (e ≡ call.Disk → ⊥)
 disk_or call.NoTable = inr (λ is. cc)
@@ -92,6 +92,7 @@ module _ {D : Type 0} (state : D → DiskState) (images : D → ℕ → List ℕ
               counted = λ n. absurd (n (as_err e call.Disk same));
               cause = λ _. call_fell_cause state images only_now old disk agenda t is_up (Err e) mid m k is new f;
               any_moment = call_fell_leaves state images only_now old disk agenda t is_up (Err e) mid m k is new f;
+              plans = call_fell_plans state images only_now old disk agenda t is_up (Err e) mid m k is new f;
             }
         pick (inr apart) =
             let n : IsNotDisk {T = S} (Err e) = λ is. apart (of_err e call.Disk is) in
@@ -105,12 +106,14 @@ module _ {D : Type 0} (state : D → DiskState) (images : D → ℕ → List ℕ
               counted = λ _. own_kept state old mid (fresh_now state old disk agenda t) k.fuse (k.counted n);
               cause = λ is. absurd (apart (of_err e call.Disk is));
               any_moment = call_leaves state images only_now old disk agenda t is_up mid k.leave;
+              plans = call_plans state images only_now old disk agenda t is_up mid (k.same n) k.refused;
             })
 
     -- memory was refused behind what was read
-    pub does_short : {S T : Type 0} (said : T → Answer) (x : S) (client : Journal (FuseDisk D)) → Serves st im old.devs client (Ok x) → (new : ClientNode D) → new.devs ≡ client → Stays state old new (at disk agenda)
+    pub does_short : {S T : Type 0} (said : T → Answer) (x : S) (client : Journal (FuseDisk D)) → Serves st im old.devs client (Ok x) → (new : ClientNode D) → new.devs ≡ client → writes_of client ≡ writes_of old.devs
+        → Stays state old new (at disk agenda)
         → Does {T = T} state images (at disk agenda) move said old new (Err call.Memory)
-    does_short {S} {T} said x client k new is s = record {
+    does_short {S} {T} said x client k new is writes s = record {
       done = tt;
       refused = λ refusal shape no. absurd cc;
       spent = λ last no. absurd cc;
@@ -119,13 +122,15 @@ module _ {D : Type 0} (state : D → DiskState) (images : D → ℕ → List ℕ
       counted = λ _. counted_with (Ok x) client k (λ no. cc) new is;
       cause = λ no. absurd cc;
       any_moment = subst (λ (d : Journal (FuseDisk D)). LeavesEither state images old (record new { devs = d }) disk disk) (sym is) (call_leaves state images only_now old disk agenda t is_up (record new { devs = client }) k.leave);
+      plans = call_plans state images only_now old disk agenda t is_up new (ap (λ (d : Journal (FuseDisk D)). devs st d) is ∙ k.same (λ no. cc)) (ap (λ (d : Journal (FuseDisk D)). writes_of d) is ∙ writes);
     }
 
     -- a call that is done
-    pub does_ok : {S T : Type 0} (said : T → Answer) (x : S) (value : T) (client : Journal (FuseDisk D)) → Serves st im old.devs client (Ok x) → (new : ClientNode D) → new.devs ≡ client → (shape : Shape) → IsOfNode state old shape
+    pub does_ok : {S T : Type 0} (said : T → Answer) (x : S) (value : T) (client : Journal (FuseDisk D)) → Serves st im old.devs client (Ok x) → (new : ClientNode D) → new.devs ≡ client
+        → ((n : ℕ) → HasPlansBelow state n old → HasPlansBelow state (suc n) new) → (shape : Shape) → IsOfNode state old shape
         → IsBehind state old new (step_with old shape (at disk agenda) move) → (step_with old shape (at disk agenda) move).answer ≡ said value
         → Does {T = T} state images (at disk agenda) move said old new (Ok value)
-    does_ok {S} {T} said x value client k new is shape of b answer = record {
+    does_ok {S} {T} said x value client k new is plans shape of b answer = record {
       done = (shape, of, b, answer);
       refused = tt;
       spent = λ last no. absurd cc;
@@ -134,6 +139,7 @@ module _ {D : Type 0} (state : D → DiskState) (images : D → ℕ → List ℕ
       counted = λ _. counted_with (Ok x) client k (λ no. cc) new is;
       cause = λ no. absurd cc;
       any_moment = subst (λ (d : Journal (FuseDisk D)). LeavesEither state images old (record new { devs = d }) disk disk) (sym is) (call_leaves state images only_now old disk agenda t is_up (record new { devs = client }) k.leave);
+      plans = plans;
     }
 
     -- a call that reads alone
@@ -147,7 +153,8 @@ module _ {D : Type 0} (state : D → DiskState) (images : D → ℕ → List ℕ
           let s = stays (Ok value) (record old { devs = client }) (mid_devs old client) k.serves (λ no. cc) k.agenda in
           let b : IsBehind state old (record old { devs = client }) (quiet disk agenda answer) = record { client = s.client; told = sym (append-nil (told_by old)); sent = sym (append-nil (sent_by old)); same = s.same } in
           subst (λ (x : ClientNode D). Does {T = T} state images (at disk agenda) move said old x (Ok value)) (sym (other (λ no. cc)))
-          (does_ok said value value client k.serves (record old { devs = client }) refl now of
+          (does_ok said value value client k.serves (record old { devs = client }) refl
+          (call_plans state images only_now old disk agenda t is_up (record old { devs = client }) (k.serves.same (λ no. cc)) k.agenda) now of
           (subst (λ (x : ClientStep). IsBehind state old (record old { devs = client }) x) (sym (step_is now of)) b)
           (ap (λ (x : ClientStep). x.answer) (step_is now of) ∙ a))
       does_quiet (Err e) client k a spent new fell other =

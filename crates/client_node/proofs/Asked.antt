@@ -1,5 +1,5 @@
 -- What a node is behind a call of its devices that changes nothing of what they hold.
-use Rattle.std.proofs.Common.{◌≡◌, ◌⊎◌, inl, ⊎_elim, ℕ, ◌<◌, length, true, false, List, [], ◌∷◌, Option, Some, None, Result, refl, sym, ◌∙◌, ap, subst, arith}
+use Rattle.std.proofs.Common.{◌≡◌, ◌⊎◌, inl, ⊎_elim, ℕ, suc, ◌<◌, length, true, false, List, [], ◌∷◌, Option, Some, None, Result, refl, sym, ◌∙◌, ap, subst, arith}
 use Rattle.disk_trait.specs.Image.{IsImage}
 use Rattle.disk_trait.specs.Calls.{DiskState}
 use Rattle.disk_trait.specs.Fuse.{behind, inner_of}
@@ -19,7 +19,7 @@ use Rattle.step_tables.specs.ClientMoves.{ClientDisk, ClientTask, Client}
 use Rattle.client_node.specs.declared.fault.CallFault.{CallFault}
 use Rattle.client_node.specs.declared.fault.CallFault.TheVariants as call
 use Rattle.client_node.specs.declared.node.ClientNode.{ClientNode}
-use Rattle.client_node.specs.Node.{StandsFor, IsWorking, IsClient, IsSame, LeavesEither, told_by, sent_by, own_faults}
+use Rattle.client_node.specs.Node.{StandsFor, IsWorking, IsClient, IsSame, LeavesEither, HasPlansBelow, told_by, sent_by, own_faults}
 use Rattle.client_node.specs.Calls.{Fell, Stays}
 use Rattle.client_node.specs.Looks.{IsNotDisk, Serves, Looks}
 use Rattle.client_node.specs.Waiting.{IsMore}
@@ -29,6 +29,7 @@ use Rattle.client_node.proofs.Steadies.{steady_more, tasks_more}
 use Rattle.client_node.proofs.Following.{follows_now}
 use Rattle.client_node.proofs.OwnFaults.{own_failed, fresh_now}
 use Rattle.client_node.proofs.Falling.{MayHold, fallen, fallen_leaves}
+use Rattle.client_node.proofs.PlanNumbers.{plans_same, plans_lost, next_below}
 
 -- a node amid a call: its devices were asked, room was made, and rows were noted
 pub record IsMid {D : Type 0} (old mid : ClientNode D) : Type 0 where
@@ -115,12 +116,16 @@ module _ {D : Type 0} (state : D → DiskState) (images : D → ℕ → List ℕ
         devs_weaker st im old.devs new.devs (λ d. d ≡ here) (λ d. StandsFor old.number d disk ⊎ StandsFor old.number d disk) (all_same st im only_now old.devs new.devs l.chunks l.slots l.journal)
         (λ d same. inl (subst (λ (x : ClientDevs). StandsFor old.number x disk) (sym same) stands))
 
+    declared_old : (a : Option (List ClientTask)) → IsClient state old (at disk a) → old.is_declared ≡ true
+    declared_old None c = let no = c.at.0 in absurd cc
+    declared_old (Some tasks) c = c.at.1.declared
+
+    -- it begins no plan
+    pub call_plans : (new : ClientNode D) → devs st new.devs ≡ here → writes_of new.devs ≡ writes_of old.devs → (n : ℕ) → HasPlansBelow state n old → HasPlansBelow state (suc n) new
+    call_plans new same writes n h = next_below state n new (plans_same state n old new (λ _. declared_old agenda t) same writes h)
+
     -- a disk has failed
     module _ {T : Type 0} (r : Result T CallFault) (mid : ClientNode D) (m : IsMid old mid) (k : Serves st im old.devs mid.devs r) (is : IsErrOf r call.Disk) (new : ClientNode D) (f : Fell state images mid new) where
-      declared_old : (a : Option (List ClientTask)) → IsClient state old (at disk a) → old.is_declared ≡ true
-      declared_old None c = let no = c.at.0 in absurd cc
-      declared_old (Some tasks) c = c.at.1.declared
-
       declared_new : new.is_declared ≡ true
       declared_new = f.declared ∙ (m.declared ∙ declared_old agenda t)
 
@@ -146,6 +151,11 @@ module _ {D : Type 0} (state : D → DiskState) (images : D → ℕ → List ℕ
 
       pub call_fell_leaves : LeavesEither state images old new disk disk
       call_fell_leaves = fallen_leaves state images old mid new same_is mid.waiting f.falls.waiting declared_new f.down f.falls old.devs here here disk disk may run
+
+      pub call_fell_plans : (n : ℕ) → HasPlansBelow state n old → HasPlansBelow state (suc n) new
+      call_fell_plans n h =
+          let left = f.falls.left old.devs here here run in
+          next_below state n new (plans_lost state n old new (λ _. declared_old agenda t) (⊎_elim (λ is. is) (λ is. is) left.0) f.falls.idle h)
 
       pub call_fell_cause : own_faults state old < own_faults state new
       call_fell_cause = let less = own_failed state old mid (fresh_now state old disk agenda t) k.fuse (k.disk is) in let n = f.falls.counted in omega (arith, less, n)

@@ -26,6 +26,7 @@ use Rattle.client_node.specs.Calls.{Falls, Crashes, IsBehind, step_at}
 use Rattle.client_node.proofs.Following.{follows_now}
 use Rattle.client_node.proofs.OwnFaults.{own_is}
 use Rattle.client_node.proofs.Falling.{MayHold, fallen, fallen_leaves}
+use Rattle.client_node.proofs.PlanNumbers.{plans_lost, plans_cut}
 use Rattle.client_node.proofs.Working.{IsKept, may}
 
 module _ {D : Type 0} (state : D → DiskState) (images : D → ℕ → List ℕ → Type 0) where
@@ -141,7 +142,9 @@ module _ {D : Type 0} (state : D → DiskState) (images : D → ℕ → List ℕ
         undone = λ _ few. undone_at few;
         done = λ same many. done_by r k same many;
         later = later_by r k (cases_lt calls 4);
+        idle = λ none. absurd cc;
         any_moment = fallen_leaves state images old mid new kept.same old.waiting kept.waiting declared down falls old.devs here there disk after may_hold all;
+        plans = λ n below. plans_cut state n old new w ws is (λ _. t.at.1.declared) (falls.left old.devs here there all).0 falls.idle below;
       }
 
     -- ---- with nothing to be done
@@ -172,13 +175,18 @@ module _ {D : Type 0} (state : D → DiskState) (images : D → ℕ → List ℕ
           let x = ⊎_elim (λ x. x) (λ x. x) (fallen state images old mid new kept.same old.waiting kept.waiting declared_now down falls old.devs now now disk disk hold run) in
           record { client = x; told = kept.told ∙ sym (append-nil (told_by old)); sent = kept.sent ∙ sym (append-nil (sent_by old)); same = kept.same }
 
+      own_before : own_faults state mid ≡ own_faults state old
+      own_before = ap (λ (x : Journal (FuseDisk D)). own_faults state (record mid { devs = x })) same
+
       crash_idle : Crashes state images calls idle old new
       crash_idle = record {
         crashed = inl cut;
         undone = λ _ _. cut;
         done = λ _ _. cut;
-        later = let f = falls.counted in let m = ap (λ (x : Journal (FuseDisk D)). own_faults state (record mid { devs = x })) same in omega (arith, f, m);
+        later = let f = falls.counted in let m = own_before in omega (arith, f, m);
+        idle = λ _. falls.counted ∙ own_before;
         any_moment = fallen_leaves state images old mid new kept.same old.waiting kept.waiting declared_now down falls old.devs now now disk disk hold run;
+        plans = λ n below. plans_lost state n old new (λ _. t.at.1.declared) (⊎_elim (λ x. x) (λ x. x) (falls.left old.devs now now run).0) falls.idle below;
       }
 
     -- by what stands in the agenda

@@ -30,6 +30,7 @@ use Rattle.client_node.specs.Node.{AreOwed, FollowsFor, IsToOpen, IsWorking, IsR
 use Rattle.client_node.specs.Starts.{Declares, Starts, torn_in}
 use Rattle.client_node.proofs.Making.{records_stand, records_fit, records_rest}
 use Rattle.client_node.proofs.OwnFaults.{own_kept, own_failed}
+use Rattle.client_node.proofs.PlanNumbers.{plans_none}
 use Rattle.client_node.proofs.Working.{IsKept}
 
 pub no_room : {T : Type 0} (g : Gathered T) → HasRoom g 0
@@ -85,6 +86,7 @@ module _ {D : Type 0} (state : D → DiskState) where
           counted = λ n. own_kept state old new r.fresh k.cause.fuse (k.cause.counted n);
           cause = λ is. absurd cc;
           only = tt;
+          plans = λ n. plans_none state n new k.holds.journal k.idle;
         }
 
     -- a node that is still down, and isn't declared
@@ -116,6 +118,7 @@ module _ {D : Type 0} (state : D → DiskState) where
           counted = λ n. falls.counted ∙ own_kept state old mid r.fresh k.cause.fuse (k.cause.counted n);
           cause = λ is. let less = own_failed state old mid r.fresh k.cause.fuse (k.cause.disk is) in let same = falls.counted in omega (arith, less, same);
           only = k.cause.only;
+          plans = λ n is. absurd cc;
         }
 
   pub declares_node : (s : Client) (old new : ClientNode D) (r : Result (Unit {0}) CallFault) → Declares state s old new r → IsNode state new
@@ -143,6 +146,7 @@ module _ {D : Type 0} (state : D → DiskState) where
       cause = λ is. absurd cc;
       only = inr refl;
       any_moment = λ is. absurd cc;
+      plans = λ n below. below;
     }
 
     pub late_failed : (new : ClientNode D) (e : CallFault) → Declares state (at disk agenda) mid new (Err e) → Starts state images (at disk agenda) old new (Err e)
@@ -153,6 +157,7 @@ module _ {D : Type 0} (state : D → DiskState) where
       cause = k.cause;
       only = k.only;
       any_moment = λ is. absurd cc;
+      plans = λ n below. k.plans n;
     }
 
     module _ (made : ClientNode D) (k : Declares state (at disk agenda) mid made (Ok tt)) (kept : made.facts ≡ more) (quiet : made.owed.facts.items ≡ []) (put : Gathered Told) (list : List Told) (one : list ≡ told.ClientRecovered old.number ∷ []) (added : put.items.items ≡ made.facts.items.items ++ list) where
@@ -205,4 +210,5 @@ module _ {D : Type 0} (state : D → DiskState) where
             cause = k.cause;
             only = tt;
             any_moment = λ is. absurd cc;
+            plans = λ n below. k.plans n;
           }

@@ -32,7 +32,7 @@ use Rattle.client_node.specs.Node.{FollowsFor, IsNode, IsClient, told_by, sent_b
 use Rattle.client_node.specs.Readied.{IsIdleAt, IsIdle, Readies, taken_at}
 use Rattle.client_node.specs.Taking.{FitsTable, FitsClient, Drops, Takes}
 use Rattle.client_node.proofs.Answering.{disk_or, does_node, stays, does_err, does_ok, shape_now, of_err, as_err}
-use Rattle.client_node.proofs.Asked.{IsMid, mid_devs, call_leaves}
+use Rattle.client_node.proofs.Asked.{IsMid, mid_devs, call_leaves, call_plans}
 use Rattle.client_node.proofs.OwnFaults.{own_kept, fresh_now}
 use Rattle.client_node.proofs.Pulls.{no_refusal, same_refusal}
 use Rattle.client_node.proofs.Sent.{tasks_of_writes}
@@ -74,6 +74,7 @@ module _ {D : Type 0} (state : D → DiskState) (images : D → ℕ → List ℕ
       counted = d.counted;
       cause = d.cause;
       any_moment = d.any_moment;
+      plans = d.plans;
     };
   }
 
@@ -134,7 +135,8 @@ module _ {D : Type 0} (state : D → DiskState) (images : D → ℕ → List ℕ
           (record {
             taken = λ fit.
                 let step = up_step old.is_linked old.number now here m linked ∙ r.none none old.waiting disk now (idle_at state images only_now old disk t is_up idle) fit in
-                does_ok state images only_now old disk (Some []) t is_up (Take m) said found tt client k.serves (record old { devs = client }) refl now (record { plan = refl })
+                does_ok state images only_now old disk (Some []) t is_up (Take m) said found tt client k.serves (record old { devs = client }) refl
+                (call_plans state images only_now old disk (Some []) t is_up (record old { devs = client }) (k.serves.same (λ no. cc)) k.agenda) now (record { plan = refl })
                 (subst (λ (x : ClientStep). IsBehind state old (record old { devs = client }) x) (sym step) b) (ap (λ (x : ClientStep). x.answer) step);
             dropped = λ unfit. record {
               dropped = s;
@@ -144,6 +146,7 @@ module _ {D : Type 0} (state : D → DiskState) (images : D → ℕ → List ℕ
               counted = λ n. own_kept state old (record old { devs = client }) (fresh_now state old disk (Some []) t) k.serves.fuse (k.serves.counted (λ no. cc));
               cause = λ no. absurd cc;
               any_moment = call_leaves state images only_now old disk (Some []) t is_up (record old { devs = client }) k.serves.leave;
+              plans = call_plans state images only_now old disk (Some []) t is_up (record old { devs = client }) (k.serves.same (λ no. cc)) k.agenda;
             };
           })
 

@@ -15,6 +15,7 @@ use Rattle.client_node.specs.Node.{IsClient, IsNode, told_by, sent_by}
 use Rattle.client_node.specs.Calls.{Falls, Halts, IsBehind, step_at}
 use Rattle.client_node.proofs.Following.{follows_now}
 use Rattle.client_node.proofs.Falling.{MayHold, fallen, fallen_leaves}
+use Rattle.client_node.proofs.PlanNumbers.{plans_lost}
 use Rattle.client_node.proofs.Working.{IsKept}
 
 module _ {D : Type 0} (state : D → DiskState) (images : D → ℕ → List ℕ → Type 0) where
@@ -46,6 +47,7 @@ module _ {D : Type 0} (state : D → DiskState) (images : D → ℕ → List ℕ
           counted = falls.counted;
           still = λ down. absurd cc;
           any_moment = λ _. fallen_leaves state images old old new kept.same old.waiting kept.waiting declared is_down falls old.devs here here disk disk may run;
+          plans = λ n below. plans_lost state n old new (λ _. h.declared) (⊎_elim (λ x. x) (λ x. x) (falls.left old.devs here here run).0) falls.idle below;
         }
 
   -- ---- a node that is down
@@ -58,6 +60,7 @@ module _ {D : Type 0} (state : D → DiskState) (images : D → ℕ → List ℕ
     counted = refl;
     still = λ _. refl;
     any_moment = λ up. absurd cc;
+    plans = λ n below. below;
   }
 
   pub halted_node : (s : Client) (old new : ClientNode D) → Halts state images s old new → IsNode state new

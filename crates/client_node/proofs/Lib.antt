@@ -1,4 +1,5 @@
 pub mod Rising
+pub mod PlanNumbers
 pub mod Steadies
 pub mod Opening
 pub mod Fitting

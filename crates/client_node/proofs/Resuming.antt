@@ -54,6 +54,7 @@ use Rattle.client_node.proofs.Fitting.{start_stays_fit}
 use Rattle.client_node.proofs.Owing.{AreQuiet, OwedTasks, is_last_task, owed_by, none_told, none_left, keeps_quiet, row_quiet, table_quiet}
 use Rattle.client_node.proofs.Planned.{steady_keeps, steady_append, steady_row, steady_table}
 use Rattle.client_node.proofs.OwnFaults.{own_kept, own_failed}
+use Rattle.client_node.proofs.PlanNumbers.{plans_lost, plans_started}
 use Rattle.client_node.proofs.Working.{IsKept}
 
 -- ---- the writes of a start tell nothing before the last of them
@@ -147,6 +148,7 @@ module _ {D : Type 0} (state : D → DiskState) (images : D → ℕ → List ℕ
         any_moment = λ _.
             devs_weaker st im node.devs node.devs (λ d. d ≡ devs st node.devs) (λ d. StandsFor node.number d disk ⊎ StandsFor node.number d disk) (rests_leave st im only_now node.devs (writes_of node.devs) t.at.1.ready)
             (λ d same. inl (subst (λ (x : ClientDevs). StandsFor node.number x disk) (sym same) s));
+        plans = λ n below. below;
       }
 
   -- ---- a node that is down, and declared
@@ -226,6 +228,7 @@ module _ {D : Type 0} (state : D → DiskState) (images : D → ℕ → List ℕ
         only = tt;
         any_moment = λ _.
             devs_weaker st im old.devs client (λ d. d ≡ here) (λ d. StandsFor old.number d disk ⊎ StandsFor old.number d disk) (left_here client k.leave) (λ d same. inl (subst (λ (x : ClientDevs). StandsFor old.number x disk) (sym same) stands));
+        plans = λ n below. plans_started state n old new declared r.idle k.same k.writes below;
       }
 
     -- it isn't: the devices hold what they held
@@ -247,6 +250,7 @@ module _ {D : Type 0} (state : D → DiskState) (images : D → ℕ → List ℕ
           cause = λ is. let less = own_failed state old mid r.fresh k.cause.fuse (k.cause.disk (as_err {T = Owed} e call.Disk (of_err {T = Unit {0}} e call.Disk is))) in let same = falls.counted in omega (arith, less, same);
           only = k.cause.only;
           any_moment = λ _. fallen_leaves state images old mid new kept.same old.waiting kept.waiting is_declared is_down falls old.devs here here disk disk may run;
+          plans = λ n below. plans_lost state n old new (λ _. declared) (⊎_elim (λ c. c) (λ c. c) (falls.left old.devs here here run).0) falls.idle below;
         }
 
   pub starts_node : (s : Client) (old new : ClientNode D) (r : Result (Unit {0}) CallFault) → Starts state images s old new r → IsNode state new

@@ -23,7 +23,7 @@ use Rattle.client_node.specs.Calls.{Fell, Stays, IsBehind}
 use Rattle.client_node.specs.Looks.{Serves, Looks}
 use Rattle.client_node.specs.Does.{Does, IsOfNode, step_with}
 use Rattle.client_node.specs.Sending.{AreTasksOf, Sends, sending}
-use Rattle.client_node.proofs.Asked.{IsMid, mid_devs, stands_now}
+use Rattle.client_node.proofs.Asked.{IsMid, mid_devs, stands_now, call_plans}
 use Rattle.client_node.proofs.Answering.{stays, does_err, does_short, does_ok, shape_now, as_err}
 
 -- there are as many tasks as writes
@@ -97,7 +97,7 @@ module _ {D : Type 0} (state : D → DiskState) (images : D → ℕ → List ℕ
       pub sends_short : (x : S) (client : Journal (FuseDisk D)) → Looks st im old.devs client (Ok x) → (new : ClientNode D) → new.devs ≡ client → IsMid old new → Does {T = T} state images (at disk (Some tasks)) move says old new (Err call.Memory)
       sends_short x client k new is m =
           let l : Looks st im old.devs new.devs (Ok x) = subst (λ (d : Journal (FuseDisk D)). Looks st im old.devs d (Ok x)) (sym is) k in
-          does_short state images only_now old disk (Some tasks) t is_up move says x new.devs l.serves new refl
+          does_short state images only_now old disk (Some tasks) t is_up move says x new.devs l.serves new refl l.agenda
           (stays state images only_now old disk (Some tasks) t is_up move (Ok x) new m l.serves (λ no. cc) l.agenda)
 
       pub sends_ok : (x : S) (value : T) (client : Journal (FuseDisk D)) → Looks st im old.devs client (Ok x) → Sends st old.devs old.is_linked old.number move said sent (Ok x) → says value ≡ said x → (new : ClientNode D) → new.devs ≡ client → HasSent old new (sent x)
@@ -111,7 +111,8 @@ module _ {D : Type 0} (state : D → DiskState) (images : D → ℕ → List ℕ
             sent = h.sent;
             same = record { number = h.number; linked = h.linked };
           } in
-          does_ok state images only_now old disk (Some tasks) t is_up move says x value client k.serves new is now (record { plan = refl })
+          does_ok state images only_now old disk (Some tasks) t is_up move says x value client k.serves new is
+          (call_plans state images only_now old disk (Some tasks) t is_up new (ap (λ (d : Journal (FuseDisk D)). devs st d) is ∙ k.serves.same (λ no. cc)) (ap (λ (d : Journal (FuseDisk D)). writes_of d) is ∙ k.agenda)) now (record { plan = refl })
           (subst (λ (y : ClientStep). IsBehind state old new y) (sym d.1) b) (ap (λ (y : ClientStep). y.answer) d.1 ∙ sym same)
 
   -- ---- whatever is to be done

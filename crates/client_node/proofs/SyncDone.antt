@@ -28,7 +28,7 @@ use Rattle.client_node.specs.Node.{IsClient, IsWorking, told_by, sent_by}
 use Rattle.client_node.specs.Readied.{IsIdleAt, IsIdle, IsReadied}
 use Rattle.client_node.specs.Syncing.{again_of, at_once, Syncs, SendsAgain}
 use Rattle.client_node.proofs.Answering.{stays, does_err, does_short, does_ok, shape_now, as_err}
-use Rattle.client_node.proofs.Asked.{IsMid, mid_devs, stands_now}
+use Rattle.client_node.proofs.Asked.{IsMid, mid_devs, stands_now, call_plans}
 use Rattle.client_node.proofs.Links.{linked_by, link_up}
 use Rattle.client_node.proofs.Sent.{HasSent, tasks_of_writes}
 use Rattle.client_node.proofs.TakenPlans.{idle_at, is_idle, shape_of, does_carried, does_uncarried}
@@ -63,7 +63,7 @@ module _ {D : Type 0} (state : D → DiskState) (images : D → ℕ → List ℕ
     pub sync_short : (x : Synced) (client : Journal (FuseDisk D)) → Looks st im old.devs client (Ok x) → (new : ClientNode D) → new.devs ≡ client → IsMid old new → Does {T = ℕ} state images (at disk (Some tasks)) (Sync table) said old new (Err call.Memory)
     sync_short x client k new is m =
         let l : Looks st im old.devs new.devs (Ok x) = subst (λ (d : Journal (FuseDisk D)). Looks st im old.devs d (Ok x)) (sym is) k in
-        does_short state images only_now old disk (Some tasks) t is_up (Sync table) said x new.devs l.serves new refl (stays state images only_now old disk (Some tasks) t is_up (Sync table) (Ok x) new m l.serves (λ no. cc) l.agenda)
+        does_short state images only_now old disk (Some tasks) t is_up (Sync table) said x new.devs l.serves new refl l.agenda (stays state images only_now old disk (Some tasks) t is_up (Sync table) (Ok x) new m l.serves (λ no. cc) l.agenda)
 
   -- nothing is to be done
   module _ (disk : ClientDisk) (t : IsClient state old (at disk (Some []))) (is_up : old.is_up ≡ true) (idle : writes_of old.devs ≡ []) (x : Synced) (client : Journal (FuseDisk D)) (k : Looks st im old.devs client (Ok x)) (a : SendsAgain st old.devs old.is_linked old.number table old.waiting (Ok x)) where
@@ -109,7 +109,8 @@ module _ {D : Type 0} (state : D → DiskState) (images : D → ℕ → List ℕ
           sent = h.sent;
           same = record { number = h.number; linked = h.linked };
         } in
-        does_ok state images only_now old disk (Some []) t is_up (Sync table) said x count client k.serves new is now (record { plan = refl })
+        does_ok state images only_now old disk (Some []) t is_up (Sync table) said x count client k.serves new is
+        (call_plans state images only_now old disk (Some []) t is_up new (ap (λ (d : Journal (FuseDisk D)). devs st d) is ∙ k.serves.same (λ no. cc)) (ap (λ (d : Journal (FuseDisk D)). writes_of d) is ∙ k.agenda)) now (record { plan = refl })
         (subst (λ (y : ClientStep). IsBehind state old new y) (sym step) b) (ap (λ (y : ClientStep). y.answer) step ∙ ap facts.Number (sym counts))
 
     module _ (planned : Planned) (next : x.next ≡ Some planned) where

@@ -1,5 +1,5 @@
 -- What a call promises that takes a prepared write on.
-use Rattle.std.proofs.Common.{◌≡◌, ◌⊎◌, inl, inr, ⊎_elim, ℕ, ◌≤◌, length, true, List, [], Option, Some, None, Result, Ok, Err, refl, sym, ◌∙◌, ap, subst, arith}
+use Rattle.std.proofs.Common.{◌≡◌, ◌⊎◌, inl, inr, ⊎_elim, ℕ, suc, ◌≤◌, length, true, List, [], Option, Some, None, Result, Ok, Err, refl, sym, ◌∙◌, ap, subst, arith}
 use Rattle.std.specs.Prelude.{map, IfOk, IsErrOf}
 use Rattle.std.specs.BTreeSet.{contains}
 use Rattle.disk_trait.specs.Image.{IsImage}
@@ -36,11 +36,12 @@ use Rattle.client_node.specs.Begins.{BeginsPlan}
 use Rattle.client_node.specs.Calls.{Fell, IsBehind}
 use Rattle.client_node.specs.Does.{Does, IsOfNode, refusal_in}
 use Rattle.client_node.specs.Looks.{Serves, Looks}
-use Rattle.client_node.specs.Node.{IsClient, told_by, sent_by}
+use Rattle.client_node.specs.Node.{IsClient, told_by, sent_by, HasPlansBelow}
 use Rattle.client_node.specs.Preparing.{IsCalled, IsPrepared, Prepares, MayBegin}
 use Rattle.client_node.specs.Waiting.{IsMore}
 use Rattle.client_node.proofs.Answering.{stays, does_err, does_short, does_ok, as_err}
 use Rattle.client_node.proofs.Asked.{IsMid, mid_devs, stands_now, steady_now}
+use Rattle.client_node.proofs.PlanNumbers.{plans_same, plans_begun}
 use Rattle.client_node.proofs.Planned.{IsPlanned, plan_behind, at_rest}
 use Rattle.client_node.proofs.Pulls.{no_refusal}
 use Rattle.client_node.proofs.Sent.{tasks_of_writes}
@@ -145,7 +146,7 @@ module _ {D : Type 0} (state : D → DiskState) (images : D → ℕ → List ℕ
       pub unnoted : (new : ClientNode D) → new.devs ≡ client → IsMid old new → Does {T = ℕ} state images (at disk (Some tasks)) move said old new (Err call.Memory)
       unnoted new is m =
           let l : Looks st im old.devs new.devs (Ok x) = subst (λ (d : Journal (FuseDisk D)). Looks st im old.devs d (Ok x)) (sym is) k in
-          does_short state images only_now old disk (Some tasks) t is_up move said x new.devs l.serves new refl
+          does_short state images only_now old disk (Some tasks) t is_up move said x new.devs l.serves new refl l.agenda
           (stays state images only_now old disk (Some tasks) t is_up move (Ok x) new m l.serves (λ no. cc) l.agenda)
 
       -- the devices don't take it on
@@ -224,9 +225,11 @@ module _ {D : Type 0} (state : D → DiskState) (images : D → ℕ → List ℕ
           record { client = made.client; told = made.told; sent = made.sent; same = record { number = h.number; linked = h.linked } } in
           let of : IsOfNode state old q.shape = record { plan = q.work ∙ ap (λ (d : ClientDevs). plan_at_work d []) (k.serves.same (λ no. cc)) ∙ ap (plan_at_work here) (sym a.idle) } in
           let both : Serves st im old.devs new.devs (Ok owed) = serves_then st im old.devs new.devs t.at.1.up t.at.1.ready client x (Ok owed) k s in
+          let plans : (n : ℕ) → HasPlansBelow state n old → HasPlansBelow state (suc n) new =
+          λ n below. plans_begun state n mid new x.planned.plan t.at.1.declared idle_mid (s.same (λ no. cc)) b (plans_same state n old mid (λ is. is) (k.serves.same (λ no. cc)) k.agenda below) in
           let none : tasks ≡ [] = (tasks_of_writes old.number here (writes_of old.devs) disk tasks t.at.1.follows).none a.idle in
           subst (λ (l : List ClientTask). Does {T = ℕ} state images (at disk (Some l)) move said old new (Ok x.number)) (sym none)
-          (does_ok state images only_now old disk (Some []) idle_old is_up move said owed x.number new.devs both new refl q.shape of
+          (does_ok state images only_now old disk (Some []) idle_old is_up move said owed x.number new.devs both new refl plans q.shape of
           (subst (λ (y : ClientStep). IsBehind state old new y) (sym q.step) here_is) (ap (λ (y : ClientStep). y.answer) q.step))
 
   -- ---- from a node whose devices were asked

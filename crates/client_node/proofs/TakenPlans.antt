@@ -44,6 +44,7 @@ use Rattle.client_node.specs.Steady.{IsNoted, IsSteadyPlan}
 use Rattle.client_node.specs.Waiting.{IsMore}
 use Rattle.client_node.proofs.Answering.{does_err, does_ok, of_err, as_err}
 use Rattle.client_node.proofs.Asked.{IsMid, stands_now, steady_now}
+use Rattle.client_node.proofs.PlanNumbers.{plans_begun}
 use Rattle.client_node.proofs.Planned.{IsPlanned, plan_behind, at_rest}
 use Rattle.client_node.proofs.Serving.{serves_then}
 
@@ -217,7 +218,8 @@ module _ {D : Type 0} (state : D → DiskState) (images : D → ℕ → List ℕ
               → Does {T = V} state images (at disk (Some [])) move said old new (Ok value)
           unfolding shape_of
           does_carried move said value answer step is =
-              does_ok state images only_now old disk (Some []) t is_up move said tt value new.devs (serves_then st im old.devs new.devs t.at.1.up t.at.1.ready client x (Ok tt) k s) new refl shape_of (record { plan = refl })
+              does_ok state images only_now old disk (Some []) t is_up move said tt value new.devs (serves_then st im old.devs new.devs t.at.1.up t.at.1.ready client x (Ok tt) k s) new refl
+              (λ n below. plans_begun state n old new planned.plan t.at.1.declared idle (s.same (λ no. cc) ∙ same) (begins_now new.devs c.begins) below) shape_of (record { plan = refl })
               (subst (λ (y : ClientStep). IsBehind state old new y) (sym step) (carried_behind answer)) (ap (λ (y : ClientStep). y.answer) step ∙ is)
 
       -- it wasn't

@@ -34,6 +34,7 @@ use Rattle.client_node.specs.Calls.{Falls, Works}
 use Rattle.client_node.proofs.Following.{follows_now, follows_w, owed_w, step_w, behind_w, done_working}
 use Rattle.client_node.proofs.OwnFaults.{own_kept, own_failed}
 use Rattle.client_node.proofs.Falling.{MayHold, fallen, fallen_leaves}
+use Rattle.client_node.proofs.PlanNumbers.{plans_done, plans_cut}
 use Rattle.client_node.proofs.Steadies.{steady_changed}
 
 -- a client that goes on from the same
@@ -79,6 +80,7 @@ module _ {D : Type 0} (state : D → DiskState) (images : D → ℕ → List ℕ
     cause = tt;
     only = tt;
     any_moment = still_leaves node disk t.at.1;
+    plans = λ n h. h;
   }
   idle_works node disk (Some (task ∷ tasks)) t up none = absurd (subst (λ (l : List Write). FollowsFor node.number (devs st node.devs) l disk (task ∷ tasks)) none t.at.1.follows).1
 
@@ -124,6 +126,7 @@ module _ {D : Type 0} (state : D → DiskState) (images : D → ℕ → List ℕ
           only = tt;
           any_moment = devs_weaker st im old.devs client (IsBeforeOrAfter here w) (λ d. StandsFor old.number d disk ⊎ StandsFor old.number d (changed disk task.change)) k.any_moment
               (λ d either. ⊎_elim (λ same. inl (subst (λ (x : ClientDevs). StandsFor old.number x disk) (sym same) may.first)) (λ same. inr (subst (λ (x : ClientDevs). StandsFor old.number x (changed disk task.change)) (sym same) may.second)) either);
+          plans = λ n below. plans_done state n old (record old { devs = client; facts = facts; messages = messages; owed = owed }) w ws is (λ so. so) k.devs_are rest below;
         }
 
     module _ (mid new : ClientNode D) (falls : Falls state images mid new) (kept : IsKept old new) (is_down : new.is_up ≡ false) where
@@ -143,6 +146,7 @@ module _ {D : Type 0} (state : D → DiskState) (images : D → ℕ → List ℕ
             cause = let r = own_failed state old mid t.at.1.fresh keeps d.1 in let n = falls.counted in omega (arith, r, n);
             only = refl;
             any_moment = fallen_leaves state images old mid new kept.same old.waiting kept.waiting declared is_down falls old.devs here (changed_by here w) disk (changed disk task.change) may k.any_moment;
+            plans = λ n below. plans_cut state n old new w ws is (λ _. t.at.1.declared) (falls.left old.devs here (changed_by here w) k.any_moment).0 falls.idle below;
           }
 
   -- ---- by what stands in the agenda

@@ -19,6 +19,7 @@ use Rattle.client_node.specs.declared.fault.CallFault.{CallFault}
 use Rattle.client_node.specs.declared.fault.CallFault.TheVariants.{Disk}
 use Rattle.client_node.specs.declared.node.ClientNode.{ClientNode}
 use Rattle.client_node.specs.Node.{IsClient, IsSame, told_by, sent_by, own_faults, behind_next, LeavesEither}
+use Rattle.client_node.specs.Node.{has_task, HasPlansBelow}
 
 -- what a move that begins no plan makes of the node's client
 abbrev pub step_at : {D : Type 0} → ClientNode D → Client → ClientMove → ClientStep
@@ -47,6 +48,7 @@ pub record Works {D : Type 0} (state : D → DiskState) (images : D → ℕ → 
   pub cause : OnErr result (own_faults state old < own_faults state new)
   pub only : IfErr result (λ e. e ≡ Disk)
   pub any_moment : LeavesEither state images old new s.disk (behind_next s.disk s.agenda)
+  pub plans : (n : ℕ) → HasPlansBelow state n old → HasPlansBelow state n new
 
 -- The write at work is undone, or done.
 pub record Crashes {D : Type 0} (state : D → DiskState) (images : D → ℕ → List ℕ → Type 0) (calls : ℕ)
@@ -59,7 +61,10 @@ pub record Crashes {D : Type 0} (state : D → DiskState) (images : D → ℕ �
   pub done : own_faults state new ≡ own_faults state old → 4 ≤ calls
       → IsBehind state old new (step_at old s (Crash FailedAfter))
   pub later : own_faults state old ≤ own_faults state new
+  -- with nothing to be done no disk is called that can fail by itself
+  pub idle : has_task s.agenda ≡ false → own_faults state new ≡ own_faults state old
   pub any_moment : LeavesEither state images old new s.disk (behind_next s.disk s.agenda)
+  pub plans : (n : ℕ) → HasPlansBelow state n old → HasPlansBelow state n new
 
 -- Nothing that was to be done is, and the disk is as it was. Of a node that is down nothing changes.
 pub record Halts {D : Type 0} (state : D → DiskState) (images : D → ℕ → List ℕ → Type 0) (s : Client)
@@ -69,6 +74,7 @@ pub record Halts {D : Type 0} (state : D → DiskState) (images : D → ℕ → 
   pub counted : own_faults state new ≡ own_faults state old
   pub still : old.is_up ≡ false → new ≡ old
   pub any_moment : old.is_up ≡ true → LeavesEither state images old new s.disk s.disk
+  pub plans : (n : ℕ) → HasPlansBelow state n old → HasPlansBelow state n new
 
 -- The node is down, and its disks were restarted: they hold what a crash since an earlier moment might have left.
 pub record Falls {D : Type 0} (state : D → DiskState) (images : D → ℕ → List ℕ → Type 0)

@@ -1,5 +1,5 @@
 -- What the calls of a client's node promise, each by its move of the client's step table.
-use Rattle.std.specs.Prelude.{◌≡◌, ◌⊎◌, ℕ, ◌<◌, List, Option, Some, None, Result, IfOk, IfErr, IsErrOf}
+use Rattle.std.specs.Prelude.{◌≡◌, ◌⊎◌, ℕ, suc, ◌<◌, List, Option, Some, None, Result, IfOk, IfErr, IsErrOf}
 use Rattle.disk_trait.specs.Calls.{DiskState}
 use Rattle.disk_trait.specs.Fuse.{behind}
 use Rattle.stab_base.specs.declared.limits.TheConstants.{NUMBER_MAX}
@@ -12,7 +12,7 @@ use Rattle.step_tables.specs.ClientMoves.{Shape, ClientDisk, Client, ClientStep,
 use Rattle.client_node.specs.declared.fault.CallFault.{CallFault}
 use Rattle.client_node.specs.declared.fault.CallFault.TheVariants as call
 use Rattle.client_node.specs.declared.node.ClientNode.{ClientNode}
-use Rattle.client_node.specs.Node.{own_faults, LeavesEither}
+use Rattle.client_node.specs.Node.{own_faults, LeavesEither, HasPlansBelow}
 use Rattle.client_node.specs.Linked.{linked_step}
 use Rattle.client_node.specs.Calls.{IsBehind, Stays}
 
@@ -59,3 +59,5 @@ pub record Does {D T : Type 0} (state : D → DiskState) (images : D → ℕ →
   pub counted : (IsErrOf result call.Disk → ⊥) → own_faults state new ≡ own_faults state old
   pub cause : IsErrOf result call.Disk → own_faults state old < own_faults state new
   pub any_moment : LeavesEither state images old new s.disk s.disk
+  -- one plan more at most
+  pub plans : (n : ℕ) → HasPlansBelow state n old → HasPlansBelow state (suc n) new

@@ -98,6 +98,11 @@ own_faults state node =
     + ((state (inner_of (disk_of (slots.vault_of node.devs.slots)))).faults
     + (state (inner_of (disk_of (journals.vault_of node.devs.journal)))).faults)
 
+-- no plan of a declared client has a number above this, now and behind all its writes
+abbrev pub HasPlansBelow : {D : Type 0} → (D → DiskState) → ℕ → ClientNode D → Type 0
+HasPlansBelow state n node = node.is_declared ≡ true
+    → (changed_by_all (devs (behind state) node.devs) (writes_of node.devs)).journal.greatest ≤ n
+
 -- Up: the devices hold this disk, and behind each of their writes what the tasks make of it; behind the last nothing is
 -- at work; and there is room for what the tasks tell and send.
 pub record IsWorking {D : Type 0} (state : D → DiskState) (node : ClientNode D) (disk : ClientDisk)

@@ -8,7 +8,7 @@ use Rattle.step_tables.specs.ClientMoves.{Shape, Client, Start, client_step}
 use Rattle.client_node.specs.declared.fault.CallFault.{CallFault}
 use Rattle.client_node.specs.declared.fault.CallFault.TheVariants.{Disk, Memory}
 use Rattle.client_node.specs.declared.node.ClientNode.{ClientNode}
-use Rattle.client_node.specs.Node.{own_faults, LeavesEither}
+use Rattle.client_node.specs.Node.{own_faults, LeavesEither, HasPlansBelow}
 use Rattle.client_node.specs.Calls.{IsBehind, Stays}
 
 -- A client that wasn't declared is, with its tables opened; else it isn't yet.
@@ -19,6 +19,8 @@ pub record Declares {D : Type 0} (state : D → DiskState) (s : Client) (old new
   pub counted : (IsErrOf result Disk → ⊥) → own_faults state new ≡ own_faults state old
   pub cause : IsErrOf result Disk → own_faults state old < own_faults state new
   pub only : IfErr result (λ e. (e ≡ Disk) ⊎ (e ≡ Memory))
+  -- no plan was begun
+  pub plans : (n : ℕ) → HasPlansBelow state n new
 
 -- the row that a start tells of as torn is that of the devices' intend
 abbrev pub torn_in : {D : Type 0} → (D → DiskState) → ClientNode D → Option (ℕ × List ℕ)
@@ -34,3 +36,4 @@ pub record Starts {D : Type 0} (state : D → DiskState) (images : D → ℕ →
   pub cause : IsErrOf result Disk → own_faults state old < own_faults state new
   pub only : IfErr result (λ e. (e ≡ Disk) ⊎ (e ≡ Memory))
   pub any_moment : old.is_declared ≡ true → LeavesEither state images old new s.disk s.disk
+  pub plans : (n : ℕ) → HasPlansBelow state n old → HasPlansBelow state n new

@@ -1,5 +1,5 @@
 -- What a client makes of a message.
-use Rattle.std.specs.Prelude.{◌≡◌, ℕ, ◌<◌, List, Option, Some, None, Result, Ok, OnOk, IfErr, IsErrOf}
+use Rattle.std.specs.Prelude.{◌≡◌, ℕ, suc, ◌<◌, List, Option, Some, None, Result, Ok, OnOk, IfErr, IsErrOf}
 use Rattle.disk_trait.specs.Calls.{DiskState}
 use Rattle.row_value.specs.Fit.{fit_of}
 use Rattle.step_tables.specs.Facts.{Refusal, Done}
@@ -9,7 +9,7 @@ use Rattle.step_tables.specs.ClientMoves.{Shape, TableDisk, ClientDisk, Client, 
 use Rattle.client_node.specs.declared.fault.CallFault.{CallFault}
 use Rattle.client_node.specs.declared.fault.CallFault.TheVariants.{Disk}
 use Rattle.client_node.specs.declared.node.ClientNode.{ClientNode}
-use Rattle.client_node.specs.Node.{own_faults, LeavesEither}
+use Rattle.client_node.specs.Node.{own_faults, LeavesEither, HasPlansBelow}
 use Rattle.client_node.specs.Calls.{Stays}
 use Rattle.client_node.specs.Does.{Does, IsOfNode, refusal_in, step_with}
 
@@ -35,6 +35,7 @@ pub record Drops {D : Type 0} (state : D → DiskState) (images : D → ℕ → 
   pub counted : (IsErrOf result Disk → ⊥) → own_faults state new ≡ own_faults state old
   pub cause : IsErrOf result Disk → own_faults state old < own_faults state new
   pub any_moment : LeavesEither state images old new s.disk s.disk
+  pub plans : (n : ℕ) → HasPlansBelow state n old → HasPlansBelow state (suc n) new
 
 -- A message whose row fits makes the table's step, and any other is dropped.
 pub record Takes {D : Type 0} (state : D → DiskState) (images : D → ℕ → List ℕ → Type 0) (s : Client)

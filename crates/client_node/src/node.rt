@@ -12,6 +12,7 @@ ghost use Rattle.step_tables.specs.Lines.{fact_of};
 ghost use Rattle.step_tables.specs.Travels.{send_of};
 ghost use Rattle.gathering.specs.Room.{HasRoom};
 ghost use Rattle.client_node.specs.Node.{IsToOpen, to_open, IsClient, IsNode, IsSame, told_by, sent_by, has_task};
+ghost use Rattle.client_node.specs.Node.{HasPlansBelow};
 ghost use Rattle.client_node.specs.Calls.{Works, Crashes, Falls, Fell, Halts};
 ghost use Rattle.client_node.specs.Starts.{Declares, Starts};
 ghost use Rattle.client_node.specs.declared.fault.CallFault.TheVariants.{Disk};
@@ -129,6 +130,7 @@ impl<D: Disk + Drop> ClientNode<D> {
         ensures linked { self.new.is_linked ≡ up }
         ensures kept { (s : Client) → IsClient D.state self.old s → IsClient D.state self.new s }
         ensures same { self.new ≡ record self.old { is_linked = up } }
+        ensures plans { (n : ℕ) → HasPlansBelow D.state n self.old → HasPlansBelow D.state n self.new }
     {
         self.is_linked = up;
     }
@@ -152,6 +154,7 @@ impl<D: Disk + Drop> ClientNode<D> {
         ensures devs { self.new.devs ≡ self.old.devs }
         ensures up { self.new.is_up ≡ self.old.is_up }
         ensures declared { self.new.is_declared ≡ self.old.is_declared }
+        ensures plans { (n : ℕ) → HasPlansBelow D.state n self.old → HasPlansBelow D.state n self.new }
     {
         Out {
             messages: Sequence::from_vec(self.messages.take()),

@@ -1,5 +1,5 @@
 -- The clients behind a call of one of them.
-use Rattle.std.proofs.Common.{◌≡◌, ◌⊎◌, inl, inr, ⊎_elim, ℕ, ◌<◌, ◌≤◌, ◌++◌, Bool, true, false, cond, List, [], ◌∷◌, Option, Some, None, Result, Ok, Err, refl, sym, ap, ◌∙◌, subst, arith, append-nil, rules}
+use Rattle.std.proofs.Common.{◌≡◌, ◌⊎◌, inl, inr, ⊎_elim, ℕ, suc, ◌<◌, ◌≤◌, ◌++◌, Bool, true, false, cond, List, [], ◌∷◌, Option, Some, None, Result, Ok, Err, refl, sym, ap, ◌∙◌, subst, arith, append-nil, rules}
 use Rattle.std.specs.Prelude.{not, ◌&&◌, ◌≢◌, is_some, IsSome, IfOk, IfErr, OnErr, if◌then◌else◌}
 use Rattle.std.specs.Ordering.{nat_cmp}
 use Rattle.std.specs.Cmp.{nat_cmp_total, unsigned_tied}
@@ -21,19 +21,18 @@ use Rattle.step_tables.specs.ClientMoves.{ClientDisk, ClientTask, Client, Client
 use Rattle.step_tables.proofs.Lists.{lookup-insert}
 use Rattle.client_node.specs.declared.fault.CallFault.{CallFault}
 use Rattle.client_node.specs.declared.node.ClientNode.{ClientNode}
-use Rattle.client_node.specs.Node.{IsClient, IsNode, told_by, has_task}
-use Rattle.client_node.specs.Does.{HasNoNumber}
+use Rattle.client_node.specs.Node.{IsClient, IsNode, told_by, has_task, HasPlansBelow}
+use Rattle.client_node.proofs.PlanNumbers.{next_below}
 use Rattle.client_node.specs.Linked.{linked_step}
 use Rattle.world_tables.specs.World.{World, WorldStep, Packet, client_at, is_cut, is_down, is_client_down, is_fault, first_luck, move_client, answered, refused, reads, unless_cut, packets_from, client_tasks, tasks_in}
 use Rattle.journal_host.specs.declared.asking.Ask.{Ask}
 use Rattle.journal_host.specs.declared.fault.ClientFault.{ClientFault}
-use Rattle.journal_host.specs.declared.fault.ClientFault.TheVariants as faults
 use Rattle.journal_host.specs.declared.out.ClientOut.{ClientOut}
 use Rattle.journal_host.specs.declared.host.ClientHost.{ClientHost}
 use Rattle.journal_host.specs.Asks.{move_of, FitsDisk, FitsAt, FitsIn}
-use Rattle.journal_host.specs.Holds.{IsHosted, ClientThere, HasClients, HoldsClients, KeepsClients, AreClients, outs_in, node_faults, faults_in, faults_at, SameFaults, RisenFaults}
+use Rattle.journal_host.specs.Holds.{IsHosted, ClientThere, HasClients, HoldsClients, KeepsClients, AreClients, outs_in, node_faults, faults_in, faults_at, SameFaults, RisenFaults, HavePlansBelow}
 use Rattle.journal_host.specs.Steps.{HasTold, IsMade, IsFallen, IsDropped, HasNodeCause, HasAnswerCause}
-use Rattle.journal_host.specs.Calls.{IsMoved, IsCalled, Comes, Stays, HasCause, HasMoveCause, HasLuck, SpendsNumber, IsNumberCause}
+use Rattle.journal_host.specs.Calls.{IsMoved, IsCalled, Comes, Stays, HasCause, HasMoveCause, HasLuck, IsNumberCause}
 use Rattle.journal_host.specs.Moves.{move_alone, alone_there, call_alone, take_there, take_alone, has_work}
 
 pub at_same : (k q : ℕ) → is_at (nat_cmp k) q ≡ true → k ≡ q
@@ -312,16 +311,11 @@ module _ {D : Type 0} (state : D → DiskState) (w : World) (old new : ClientHos
         by (Ok answer) k = tt
         by (Err e) k = record { held = record { there = same_clients state w old.clients new.clients c after h.there u there.0 there.1 k.0 }; outs = k.1 }
 
-    pub client_spent : ((cut : Bool) (s : Client) → IsHosted state cut c s node → FitsDisk s.disk ask → IfErr r (λ e. e ≡ faults.Spent → HasNoNumber state node s.disk))
-        → FitsIn w c ask → IfErr r (IsNumberCause state w c old)
-    client_spent spent fits = by r (spent (is_cut w c) there.0 there.2 (fits_there fits))
-      where
-        by : (r : Result Answer ClientFault) → IfErr r (λ e. e ≡ faults.Spent → HasNoNumber state node there.0.disk) → IfErr r (IsNumberCause state w c old)
-        by (Ok answer) k = tt
-        by (Err faults.Memory) k = tt
-        by (Err faults.Spent) k =
-            subst (λ (o : Option Client). SpendsNumber state o (tree.get nat_cmp old.clients c)) (sym there.1)
-            (subst (λ (o : Option (ClientNode D)). SpendsNumber state (Some there.0) o) is (k refl))
+    pub client_spent : (n : ℕ) → HavePlansBelow state n old.clients
+        → ((cut : Bool) (s : Client) (n : ℕ) → IsHosted state cut c s node → HasPlansBelow state n node → FitsDisk s.disk ask → IfErr r (IsNumberCause n (Some s)))
+        → FitsIn w c ask → IfErr r (IsNumberCause n (client_at w c))
+    client_spent n below spent fits =
+        subst (λ (o : Option Client). IfErr r (IsNumberCause n o)) (sym there.1) (spent (is_cut w c) there.0 n there.2 (below c node (sym is)) (fits_there fits))
 
 -- ---- which disks failed
 
@@ -351,12 +345,14 @@ module _ {D : Type 0} (state : D → DiskState) (old new : tree.BTreeMap ℕ (Cl
   one_risen rose = record { one = rw (faults_here, faults_then) rose; others = other_faults }
 
   -- a crash's first luck, from the node's faults
-  pub luck_there : (lucks : List Luck) → (node_faults state after ≡ node_faults state node → first_luck lucks ≡ messages.Done)
-      → (first_luck lucks ≡ messages.Done → node_faults state after ≡ node_faults state node) → node_faults state node ≤ node_faults state after → HasLuck state c old new lucks
-  luck_there lucks done counted later = record {
+  pub luck_there : (w : World) (lucks : List Luck) → (node_faults state after ≡ node_faults state node → first_luck lucks ≡ messages.Done)
+      → (first_luck lucks ≡ messages.Done → node_faults state after ≡ node_faults state node) → node_faults state node ≤ node_faults state after
+      → (has_work (client_tasks (client_at w c)) ≡ false → node_faults state after ≡ node_faults state node) → HasLuck state w c old new lucks
+  luck_there w lucks done counted later idle = record {
     done = λ same. done (sym faults_then ∙ (same c ∙ faults_here));
     counted = λ is. same_counts (counted is);
     cause = λ isnt. one_risen (⊎_elim (λ rose. rose) (λ most. absurd (isnt (done (omega (arith, most, later))))) (cases_lt (node_faults state node) (node_faults state after)));
+    idle = λ none. same_counts (idle none);
   }
 
   pub move_cause : {T : Type 0} (r : Result T CallFault) → HasNodeCause state node after r → HasMoveCause state c old new r
@@ -364,6 +360,38 @@ module _ {D : Type 0} (state : D → DiskState) (old new : tree.BTreeMap ℕ (Cl
 
   pub client_cause : (r : Result Answer ClientFault) → HasAnswerCause state node after r → HasCause state c old new r
   client_cause r k = record { counted = λ none. same_counts (k.counted none); cause = λ fault. one_risen (k.cause fault) }
+
+-- ---- how many plans were begun
+
+module _ {D : Type 0} (state : D → DiskState) (old new : tree.BTreeMap ℕ (ClientNode D)) (c : ℕ) (after : ClientNode D)
+    (u : (q : ℕ) → tree.get nat_cmp new q ≡ cond (is_at (nat_cmp c) q) (Some after) (tree.get nat_cmp old q)) where
+  some_same : (a b : ClientNode D) → Some a ≡ Some b → a ≡ b
+  some_same a b e = cc
+
+  pub plans_put : (n : ℕ) → HavePlansBelow state n old → HasPlansBelow state n after → HavePlansBelow state n new
+  plans_put n below here q it is = either (is_at (nat_cmp c) q) refl
+    where
+      either : (b : Bool) → is_at (nat_cmp c) q ≡ b → HasPlansBelow state n it
+      either true at =
+          let there : Some after ≡ Some it = sym (u q ∙ ap (λ (b : Bool). cond b (Some after) (tree.get nat_cmp old q)) at) ∙ is in
+          subst (λ (k : ClientNode D). HasPlansBelow state n k) (some_same after it there) here
+      either false at = below q it (sym (u q ∙ ap (λ (b : Bool). cond b (Some after) (tree.get nat_cmp old q)) at) ∙ is)
+
+  module _ (node : ClientNode D) (is : Some node ≡ tree.get nat_cmp old c) (n : ℕ) (below : HavePlansBelow state n old) where
+    -- none more
+    pub plans_there : (HasPlansBelow state n node → HasPlansBelow state n after) → HavePlansBelow state n new
+    plans_there k = plans_put n below (k (below c node (sym is)))
+
+    -- or one
+    pub plans_more : (HasPlansBelow state n node → HasPlansBelow state (suc n) after) → HavePlansBelow state (suc n) new
+    plans_more k = plans_put (suc n) (λ q it at. next_below state n it (below q it at)) (k (below c node (sym is)))
+
+module _ {D : Type 0} (state : D → DiskState) (old new : tree.BTreeMap ℕ (ClientNode D)) (same : new ≡ old) (n : ℕ) (below : HavePlansBelow state n old) where
+  pub plans_stay : HavePlansBelow state n new
+  plans_stay = subst (λ (m : tree.BTreeMap ℕ (ClientNode D)). HavePlansBelow state n m) (sym same) below
+
+  pub plans_stay_more : HavePlansBelow state (suc n) new
+  plans_stay_more q it at = next_below state n it (plans_stay q it at)
 
 -- ---- a client that isn't there
 

@@ -42,6 +42,7 @@ crashed_down state cut c calls d agenda node h down = record {
   done = λ same. refl;
   counted = λ is. refl;
   later = omega arith;
+  idle = λ none. refl;
 }
 
 module _ {D : Type 0} (state : D → DiskState) (images : D → ℕ → List ℕ → Type 0) (cut : Bool) (c calls : ℕ) (s : Client) (old new : ClientNode D) (h : IsHosted state cut c s old)
@@ -60,11 +61,12 @@ module _ {D : Type 0} (state : D → DiskState) (images : D → ℕ → List ℕ
     done = λ same. absurd (omega (arith, rose, same));
     counted = λ e. absurd (isnt e);
     later = k.later;
+    idle = k.idle;
   }
 
   -- none has
   stood : node_faults state new ≡ node_faults state old → (luck : Luck) → Told (luck_of calls luck) → HasCrashed state cut c calls s old new
-  stood same luck told = record { lucks = messages.Done ∷ luck ∷ []; told = told; done = λ _. refl; counted = λ _. same; later = k.later }
+  stood same luck told = record { lucks = messages.Done ∷ luck ∷ []; told = told; done = λ _. refl; counted = λ _. same; later = k.later; idle = k.idle }
 
   by_calls : node_faults state new ≡ node_faults state old → (calls < 2) ⊎ (2 ≤ calls) → (calls < 4) ⊎ (4 ≤ calls) → HasCrashed state cut c calls s old new
   by_calls same (inl few) which =

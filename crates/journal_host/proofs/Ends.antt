@@ -27,7 +27,7 @@ use Rattle.journal_host.specs.Steps.{HasTold, HasCrashed, IsStarted, IsNotStarte
 use Rattle.journal_host.specs.Calls.{IsMoved, IsCalled, Stays, HasLuck}
 use Rattle.journal_host.specs.Moves.{start_alone, starts_alone}
 use Rattle.journal_host.specs.Opening.{put_before, declared_among, HasJoinLuck}
-use Rattle.journal_host.proofs.Clients.{at_same, found, not_found, luck_there, move_done, nothing_done, same_clients, moved_clients, nowhere_held, nowhere_answers}
+use Rattle.journal_host.proofs.Clients.{at_same, busy_is, found, not_found, luck_there, move_done, nothing_done, same_clients, moved_clients, nowhere_held, nowhere_answers}
 
 -- ---- a crash
 
@@ -35,14 +35,14 @@ module _ {D : Type 0} (state : D → DiskState) (w : World) (old new : ClientHos
   pub crash_moved : (node after : ClientNode D) (is : Some node ≡ tree.get nat_cmp old.clients c)
       → ((q : ℕ) → tree.get nat_cmp new.clients q ≡ cond (is_at (nat_cmp c) q) (Some after) (tree.get nat_cmp old.clients q)) → new.outs.items ≡ old.outs.items
       → ((cut : Bool) (n : ℕ) (s : Client) → IsHosted state cut n s node → HasCrashed state cut n calls s node after)
-      → (lucks : List Luck) × IsMoved state old new (client_crashes c calls lucks w) × HasLuck state c old.clients new.clients lucks
+      → (lucks : List Luck) × IsMoved state old new (client_crashes c calls lucks w) × HasLuck state w c old.clients new.clients lucks
   crash_moved node after is u same k =
       let f = found state w old.clients c h.there node is in
       let t = k (is_cut w c) c f.0 f.2 in
       let luck = crash_luck calls (other_lucks t.lucks) (first_luck t.lucks) in (
         t.lucks,
         move_done state w old new c node after h u f.0 f.1 (Crash luck) no_shape (silent f.0 luck t.told),
-        luck_there state old.clients new.clients c node after is u t.lucks t.done t.counted t.later,
+        luck_there state old.clients new.clients c node after is u w t.lucks t.done t.counted t.later (λ none. t.idle (busy_is w c f.0 f.1 ∙ none)),
       )
     where
       silent : (s : Client) (luck : Luck) → HasTold state (is_cut w c) c (client_step c no_shape s (Crash luck)) after [] []
@@ -50,13 +50,13 @@ module _ {D : Type 0} (state : D → DiskState) (w : World) (old new : ClientHos
       silent s luck t = record { behind = t.behind; outs = ap outs_in same ∙ (sym (append-nil (outs_of old)) ∙ ap (λ l. outs_of old ++ l) t.outs) }
 
   pub crash_none : None ≡ tree.get nat_cmp old.clients c → new.clients ≡ old.clients → new.outs.items ≡ old.outs.items
-      → (lucks : List Luck) × IsMoved state old new (client_crashes c calls lucks w) × HasLuck state c old.clients new.clients lucks
+      → (lucks : List Luck) × IsMoved state old new (client_crashes c calls lucks w) × HasLuck state w c old.clients new.clients lucks
   crash_none none same outs =
       let gone = ap (λ (o : Option Client). move_there w c (Crash (luck_of calls messages.Done)) no_shape o) (not_found state w old.clients c h.there none).0 in (
         [],
         subst (λ (m : Moved). IsMoved state old new m) (sym gone)
             (record { held = nowhere_held state w old new c h none same outs; outs = ap outs_in outs ∙ sym (append-nil (outs_of old)) }),
-        record { done = λ as_before. refl; counted = λ is q. ap (λ m. faults_at state m q) same; cause = λ isnt. absurd (isnt refl) },
+        record { done = λ as_before. refl; counted = λ is q. ap (λ m. faults_at state m q) same; cause = λ isnt. absurd (isnt refl); idle = λ none q. ap (λ m. faults_at state m q) same },
       )
 
 -- ---- a start

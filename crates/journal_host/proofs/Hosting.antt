@@ -1,5 +1,5 @@
 -- A client's node behind a call, and what it tells put behind what was told.
-use Rattle.std.proofs.Common.{◌≡◌, ◌⊎◌, inl, inr, ⊎_elim, ℕ, ◌<◌, ◌++◌, Bool, true, false, List, [], ◌∷◌, Option, Some, None, Result, Ok, Err, refl, sym, ap, ◌∙◌, subst, append-nil}
+use Rattle.std.proofs.Common.{◌≡◌, ◌⊎◌, inl, inr, ⊎_elim, ℕ, suc, ◌<◌, ◌++◌, Bool, true, false, List, [], ◌∷◌, Option, Some, None, Result, Ok, Err, refl, sym, ap, ◌∙◌, subst, append-nil}
 use Rattle.std.specs.Prelude.{not, ◌&&◌, ◌≢◌, IfOk, IfErr, OnErr, IsErrOf, if◌then◌else◌}
 use Rattle.disk_trait.specs.Calls.{DiskState}
 use Rattle.stab_base.specs.declared.step.Step.{Step}
@@ -17,7 +17,7 @@ use Rattle.step_tables.specs.ClientMoves.{ClientDisk, ClientTask, Client, Client
 use Rattle.client_node.specs.declared.fault.CallFault.{CallFault}
 use Rattle.client_node.specs.declared.fault.CallFault.TheVariants as call
 use Rattle.client_node.specs.declared.node.ClientNode.{ClientNode}
-use Rattle.client_node.specs.Node.{IsClient, IsNode, has_task}
+use Rattle.client_node.specs.Node.{IsClient, IsNode, has_task, HasPlansBelow}
 use Rattle.client_node.specs.Calls.{IsBehind, Stays, Works, named}
 use Rattle.client_node.specs.Does.{IsOfNode, refusal_in, step_with}
 use Rattle.client_node.specs.Linked.{linked_step}
@@ -30,6 +30,7 @@ use Rattle.journal_host.specs.declared.fault.ClientFault.{ClientFault}
 use Rattle.journal_host.specs.declared.fault.ClientFault.TheVariants as faults
 use Rattle.journal_host.specs.declared.out.ClientOut.{ClientOut}
 use Rattle.journal_host.specs.Asks.{move_of, FitsDisk, as_answer, refused_as, answered_as}
+use Rattle.journal_host.specs.Calls.{IsNumberCause}
 use Rattle.journal_host.specs.Holds.{IsHosted, outs_in, said, node_faults}
 use Rattle.journal_host.specs.Steps.{HasMade, HasDropped, Replies, IsTelling, HasTold, IsMade, IsFallen, IsDropped, IsStarted, IsNotStarted, IsDeviceFault, HasNodeCause, HasAnswerCause, outbox_at}
 use Rattle.journal_host.proofs.Replying.{same_err}
@@ -199,19 +200,19 @@ module _ {D : Type 0} (state : D → DiskState) (images : D → ℕ → List ℕ
       by call.Memory was = stays (was (λ bad. absurd cc))
 
 -- no number was left
-pub spent_so : (P : Type 0) (r : Result Answer CallFault) → ((last : ℕ) → IsErrOf r (call.Spent last) → P) → IfErr (answered_as r) (λ e. e ≡ faults.Spent → P)
-spent_so P (Ok answer) k = tt
-spent_so P (Err call.NoTable) k = tt
-spent_so P (Err (call.BadCell column)) k = tt
-spent_so P (Err (call.BadObject column len)) k = tt
-spent_so P (Err (call.RowTooLarge len)) k = tt
-spent_so P (Err (call.TooManyChunks count)) k = tt
-spent_so P (Err call.NoRow) k = tt
-spent_so P (Err (call.Busy with)) k = tt
-spent_so P (Err call.Offline) k = tt
-spent_so P (Err (call.Spent last)) k = λ is. k last refl
-spent_so P (Err call.Disk) k = tt
-spent_so P (Err call.Memory) k = λ is. absurd cc
+pub spent_so : (n : ℕ) (s : Option Client) (r : Result Answer CallFault) → ((last : ℕ) → IsErrOf r (call.Spent last) → IsNumberCause n s faults.Spent) → IfErr (answered_as r) (IsNumberCause n s)
+spent_so n s (Ok answer) k = tt
+spent_so n s (Err call.NoTable) k = tt
+spent_so n s (Err (call.BadCell column)) k = tt
+spent_so n s (Err (call.BadObject column len)) k = tt
+spent_so n s (Err (call.RowTooLarge len)) k = tt
+spent_so n s (Err (call.TooManyChunks count)) k = tt
+spent_so n s (Err call.NoRow) k = tt
+spent_so n s (Err (call.Busy with)) k = tt
+spent_so n s (Err call.Offline) k = tt
+spent_so n s (Err (call.Spent last)) k = k last refl
+spent_so n s (Err call.Disk) k = tt
+spent_so n s (Err call.Memory) k = tt
 
 -- ---- causes
 
@@ -312,6 +313,13 @@ pub either_way : {D : Type 0} (state : D → DiskState) (images : D → ℕ → 
     → Replies state images s (move_of ask) old mid (HasMade state s (move_of ask) old mid) r ⊎ Replies state images s (move_of ask) old mid (HasDropped state s old mid) r
 either_way state images ask s old mid r (inl fits) made dropped = inl (made fits)
 either_way state images ask s old mid r (inr unfit) made dropped = inr (dropped unfit)
+
+-- one plan more at most
+pub either_plans : {D : Type 0} (state : D → DiskState) (images : D → ℕ → List ℕ → Type 0) (ask : Ask) (s : Client) (old mid : ClientNode D) (r : Result Answer CallFault)
+    → Replies state images s (move_of ask) old mid (HasMade state s (move_of ask) old mid) r ⊎ Replies state images s (move_of ask) old mid (HasDropped state s old mid) r
+    → (n : ℕ) → HasPlansBelow state n old → HasPlansBelow state (suc n) mid
+either_plans state images ask s old mid r (inl k) = k.plans
+either_plans state images ask s old mid r (inr k) = k.plans
 
 -- ---- a write
 

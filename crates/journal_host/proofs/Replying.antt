@@ -40,6 +40,7 @@ module _ {D : Type 0} (state : D → DiskState) (images : D → ℕ → List ℕ
       counted = λ is. k.counted (λ bad. absurd cc);
       cause = λ bad. absurd cc;
       any_moment = k.any_moment;
+      plans = k.plans;
     }
     replies_as (Err e) k = record {
       done = tt;
@@ -49,6 +50,7 @@ module _ {D : Type 0} (state : D → DiskState) (images : D → ℕ → List ℕ
       counted = λ is. k.counted (λ bad. is (same_err e Disk bad));
       cause = λ is. k.cause (same_err e Disk is);
       any_moment = k.any_moment;
+      plans = k.plans;
     }
 
     pub replies : (r : Result T CallFault) (a : Result Answer CallFault) → a ≡ as_answer gives r → Does state images s move said old new r
@@ -74,6 +76,7 @@ module _ {D : Type 0} (state : D → DiskState) (images : D → ℕ → List ℕ
       counted = λ is. k.counted (λ bad. absurd cc);
       cause = λ bad. absurd cc;
       any_moment = k.any_moment;
+      plans = k.plans;
     }
     drops_as (Err e) k = record {
       done = tt;
@@ -83,6 +86,7 @@ module _ {D : Type 0} (state : D → DiskState) (images : D → ℕ → List ℕ
       counted = λ is. k.counted (λ bad. is (same_err e Disk bad));
       cause = λ is. k.cause (same_err e Disk is);
       any_moment = k.any_moment;
+      plans = k.plans;
     }
 
     pub drops : (r : Result (Unit {0}) CallFault) (a : Result Answer CallFault) → a ≡ as_answer (λ x. answers.Done) r → Drops state images s message old new r

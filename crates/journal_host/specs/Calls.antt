@@ -1,21 +1,21 @@
 -- What the calls of clients on their devices promise, in the moves of the world.
-use Rattle.std.specs.Prelude.{◌≡◌, ◌⊎◌, ℕ, ◌++◌, List, Option, Some, None, Result, IfOk, IfErr, IsErrOf}
-use Rattle.std.specs.Ordering.{nat_cmp}
+use Rattle.std.specs.Prelude.{◌≡◌, ◌⊎◌, ℕ, ◌≤◌, ◌++◌, false, List, Option, Some, None, Result, IfOk, IfErr, IsErrOf}
 use Rattle.std.specs.BTreeMap as tree
 use Rattle.disk_trait.specs.Calls.{DiskState}
+use Rattle.stab_base.specs.declared.limits.TheConstants.{NUMBER_MAX}
 use Rattle.table_model.specs.declared.line.Answer.{Answer}
 use Rattle.step_tables.specs.Lines.{answer_of}
 use Rattle.step_tables.specs.Messages.{Luck, Done}
-use Rattle.step_tables.specs.ClientMoves.{Shape, Client}
+use Rattle.step_tables.specs.ClientMoves.{Shape, Client, seen}
 use Rattle.client_node.specs.declared.fault.CallFault.{CallFault}
 use Rattle.client_node.specs.declared.fault.CallFault.TheVariants.{Disk, Memory}
 use Rattle.client_node.specs.declared.node.ClientNode.{ClientNode}
-use Rattle.client_node.specs.Does.{HasNoNumber}
-use Rattle.world_tables.specs.World.{World, WorldStep, Moved, client_at, first_luck}
+use Rattle.world_tables.specs.World.{World, WorldStep, Moved, client_at, client_tasks, first_luck}
 use Rattle.journal_host.specs.declared.fault.ClientFault.{ClientFault}
 use Rattle.journal_host.specs.declared.fault.ClientFault.TheVariants as fault
 use Rattle.journal_host.specs.declared.host.ClientHost.{ClientHost}
 use Rattle.journal_host.specs.Holds.{HoldsClients, outs_of, said, SameFaults, RisenFaults}
+use Rattle.journal_host.specs.Moves.{has_work}
 use Rattle.journal_host.specs.Steps.{IsDeviceFault}
 
 -- ---- what a call makes of the clients
@@ -59,19 +59,19 @@ pub record HasMoveCause {D T : Type 0} (state : D → DiskState) (c : ℕ) (old 
   pub only : IfErr result (λ e. (e ≡ Disk) ⊎ (e ≡ Memory))
 
 -- What the first luck of a crash says of the disks: where it is that no device call fails, none has failed by itself;
--- else one of this client has.
-pub record HasLuck {D : Type 0} (state : D → DiskState) (c : ℕ) (old new : tree.BTreeMap ℕ (ClientNode D))
+-- else one of this client has. Of a client with nothing to do none has.
+pub record HasLuck {D : Type 0} (state : D → DiskState) (w : World) (c : ℕ) (old new : tree.BTreeMap ℕ (ClientNode D))
     (lucks : List Luck) : Type 0 where
   pub done : SameFaults state old new → first_luck lucks ≡ Done
   pub counted : first_luck lucks ≡ Done → SameFaults state old new
   pub cause : (first_luck lucks ≡ Done → ⊥) → RisenFaults state c old new
+  pub idle : has_work (client_tasks (client_at w c)) ≡ false → SameFaults state old new
 
--- the client's last number of a write or of a plan is given
-abbrev pub SpendsNumber : {D : Type 0} → (D → DiskState) → Option Client → Option (ClientNode D) → Type 0
-SpendsNumber state (Some s) (Some node) = HasNoNumber state node s.disk
-SpendsNumber state (Some s) None = ⊥
-SpendsNumber state None it = ⊥
+-- the client has made its last write, or so many plans were begun
+abbrev pub IsLast : Option Client → Type 0
+IsLast None = ⊥
+IsLast (Some s) = (seen s.disk).last ≡ NUMBER_MAX
 
-abbrev pub IsNumberCause : {D : Type 0} → (D → DiskState) → World → ℕ → ClientHost D → ClientFault → Type 0
-IsNumberCause state w c host fault.Spent = SpendsNumber state (client_at w c) (tree.get nat_cmp host.clients c)
-IsNumberCause state w c host fault.Memory = Unit {0}
+abbrev pub IsNumberCause : ℕ → Option Client → ClientFault → Type 0
+IsNumberCause n s fault.Spent = IsLast s ⊎ (NUMBER_MAX ≤ n)
+IsNumberCause n s fault.Memory = Unit {0}

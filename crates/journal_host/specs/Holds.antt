@@ -16,7 +16,7 @@ use Rattle.step_tables.specs.ClientMoves.{Client}
 use Rattle.step_tables.specs.Lines.{fact_of}
 use Rattle.step_tables.specs.Travels.{send_of}
 use Rattle.client_node.specs.declared.node.ClientNode.{ClientNode}
-use Rattle.client_node.specs.Node.{IsClient, IsToOpen, told_by, sent_by, own_faults}
+use Rattle.client_node.specs.Node.{IsClient, IsToOpen, told_by, sent_by, own_faults, HasPlansBelow}
 use Rattle.world_tables.specs.World.{World, Outbox, schema_at, client_at, is_cut, packets_from}
 use Rattle.journal_host.specs.declared.out.ClientOut.{ClientOut}
 use Rattle.journal_host.specs.declared.host.ClientHost.{ClientHost}
@@ -118,6 +118,13 @@ pub record RisenFaults {D : Type 0} (state : D → DiskState) (c : ℕ) (old new
     : Type 0 where
   pub one : faults_at state old c < faults_at state new c
   pub others : (q : ℕ) → q ≢ c → faults_at state new q ≡ faults_at state old q
+
+-- ---- plans
+
+-- no plan of a declared client has a number above this, now and behind all its writes
+abbrev pub HavePlansBelow : {D : Type 0} → (D → DiskState) → ℕ → tree.BTreeMap ℕ (ClientNode D) → Type 0
+HavePlansBelow {D} state n clients =
+    (c : ℕ) (node : ClientNode D) → tree.get nat_cmp clients c ≡ Some node → HasPlansBelow state n node
 
 -- ---- disks
 

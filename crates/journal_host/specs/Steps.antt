@@ -1,5 +1,5 @@
 -- A client's step, what it tells put behind what was told, and the causes of its calls.
-use Rattle.std.specs.Prelude.{◌≡◌, ◌⊎◌, ℕ, ◌<◌, ◌≤◌, ◌++◌, Bool, not, List, [], ◌∷◌, Some, None, Result, Ok}
+use Rattle.std.specs.Prelude.{◌≡◌, ◌⊎◌, ℕ, suc, ◌<◌, ◌≤◌, ◌++◌, Bool, false, not, List, [], ◌∷◌, Some, None, Result, Ok}
 use Rattle.std.specs.Prelude.{IfOk, IfErr, IsErrOf}
 use Rattle.disk_trait.specs.Calls.{DiskState}
 use Rattle.stab_base.specs.declared.node.Node.TheVariants as nodes
@@ -14,7 +14,7 @@ use Rattle.step_tables.specs.ClientMoves.{no_shape, quiet}
 use Rattle.client_node.specs.declared.fault.CallFault.{CallFault}
 use Rattle.client_node.specs.declared.fault.CallFault.TheVariants.{Disk, Memory}
 use Rattle.client_node.specs.declared.node.ClientNode.{ClientNode}
-use Rattle.client_node.specs.Node.{IsClient, told_by, sent_by, LeavesEither}
+use Rattle.client_node.specs.Node.{IsClient, told_by, sent_by, has_task, LeavesEither, HasPlansBelow}
 use Rattle.client_node.specs.Calls.{IsBehind, Stays}
 use Rattle.client_node.specs.Does.{IsOfNode, refusal_in, step_with}
 use Rattle.client_node.specs.Linked.{linked_step}
@@ -48,6 +48,7 @@ pub record Replies {D : Type 0} (state : D → DiskState) (images : D → ℕ �
   pub counted : (IsErrOf result Disk → ⊥) → node_faults state new ≡ node_faults state old
   pub cause : IsErrOf result Disk → node_faults state old < node_faults state new
   pub any_moment : LeavesEither state images old new s.disk s.disk
+  pub plans : (n : ℕ) → HasPlansBelow state n old → HasPlansBelow state (suc n) new
 
 -- ---- a step, and what it tells
 
@@ -103,6 +104,7 @@ pub record HasCrashed {D : Type 0} (state : D → DiskState) (cut : Bool) (c cal
   pub done : node_faults state new ≡ node_faults state old → first_luck lucks ≡ Done
   pub counted : first_luck lucks ≡ Done → node_faults state new ≡ node_faults state old
   pub later : node_faults state old ≤ node_faults state new
+  pub idle : has_task s.agenda ≡ false → node_faults state new ≡ node_faults state old
 
 -- ---- starts
 

@@ -1,6 +1,6 @@
 //! The clients of a world.
-ghost use Rattle.std.specs.Prelude.{◌≡◌, ◌≢◌, ◌⊎◌, ℕ, [], List, Option, Some, None, is_some, false, true, map};
-ghost use Rattle.std.specs.Prelude.{IfOk, IfErr, OnOk, OnErr, IsErrOf, option_map, slice_get, drop, length};
+ghost use Rattle.std.specs.Prelude.{◌≡◌, ◌≢◌, ◌⊎◌, ℕ, suc, [], List, Option, Some, None, is_some, false, true, map};
+ghost use Rattle.std.specs.Prelude.{IfOk, IfErr, OnOk, OnErr, IfSome, IsErrOf, option_map, slice_get, drop, length};
 ghost use Rattle.std.specs.Ordering.{nat_cmp};
 ghost use Rattle.std.specs.BTreeMap as tree;
 ghost use Rattle.stab_base.specs.declared.node.Node.TheVariants as nodes;
@@ -18,7 +18,7 @@ ghost use Rattle.journal_host.specs.Asks.{move_of, FitsIn};
 ghost use Rattle.journal_host.specs.Calls.{IsMoved, IsCalled, Comes, Stays, HasCause, HasMoveCause, HasLuck};
 ghost use Rattle.journal_host.specs.Calls.{IsNumberCause};
 ghost use Rattle.journal_host.specs.Holds.{HoldsClients, AreClients, HasSchemas, AreToOpen, SameFaults, disks_at};
-ghost use Rattle.journal_host.specs.Holds.{outs_of, outs_in, faults_at};
+ghost use Rattle.journal_host.specs.Holds.{outs_of, outs_in, faults_at, HavePlansBelow};
 ghost use Rattle.journal_host.specs.Opening.{HasJoinLuck};
 ghost use Rattle.journal_host.specs.Moves.{call_alone, take_alone, start_alone, has_work};
 
@@ -54,6 +54,7 @@ impl<D: Disk + Drop> ClientHost<D> {
     pub fn new(alloc: Global) -> ClientHost<D>
         ensures held { (w : AWorld) → w.clients ≡ [] → w.cuts ≡ [] → HoldsClients D.state w result }
         ensures told { outs_of result ≡ [] }
+        ensures plans { (n : ℕ) → HavePlansBelow D.state n result.clients }
     {
         ClientHost {
             clients: BTreeMap::new(alloc),
@@ -126,6 +127,8 @@ impl<D: Disk + Drop> ClientHost<D> {
             → faults_at D.state self.new.clients q ≡ faults_at D.state self.old.clients q }
         ensures outs { outs_of self.new ≡ outs_of self.old }
         ensures memory { IfErr result (λ e. e ≡ Memory) }
+        ensures plans { (n : ℕ) → HavePlansBelow D.state n self.old.clients
+            → HavePlansBelow D.state n self.new.clients }
     {
         let node = joining(self.alloc, client, tables, schemas, disks)?;
         self.clients.insert(client, node)?;
@@ -137,6 +140,8 @@ impl<D: Disk + Drop> ClientHost<D> {
         ensures called { (w : AWorld) → HoldsClients D.state w self.old
             → IsCalled D.state self.old self.new (linked w client up (client_at w client)) result }
         ensures counted { SameFaults D.state self.old.clients self.new.clients }
+        ensures plans { (n : ℕ) → HavePlansBelow D.state n self.old.clients
+            → HavePlansBelow D.state n self.new.clients }
     {
         match self.clients.get_mut(&client) {
             Some(node) => link(node, client, up),
@@ -152,11 +157,14 @@ impl<D: Disk + Drop> ClientHost<D> {
         ensures dropped { (w : AWorld) → HoldsClients D.state w self.old → (FitsIn w client ask → ⊥)
             → IfOk result (λ answer. ((answer ≡ Answer.Done) × Stays D.state w self.old self.new)
             ⊎ Comes D.state self.old self.new (call_alone w client (move_of ask)) (Ok answer)) }
-        ensures spent { (w : AWorld) → HoldsClients D.state w self.old → FitsIn w client ask
-            → IfErr result (IsNumberCause D.state w client self.old) }
+        ensures spent { (w : AWorld) (n : ℕ) → HoldsClients D.state w self.old
+            → HavePlansBelow D.state n self.old.clients → FitsIn w client ask
+            → IfErr result (IsNumberCause n (client_at w client)) }
         ensures kept { (w : AWorld) → HoldsClients D.state w self.old
             → OnErr result (Stays D.state w self.old self.new) }
         ensures cause { HasCause D.state client self.old.clients self.new.clients result }
+        ensures plans { (n : ℕ) → HavePlansBelow D.state n self.old.clients
+            → HavePlansBelow D.state (suc n) self.new.clients }
     {
         match self.clients.get_mut(&client) {
             Some(node) => call(node, &mut self.outs, client, ask),
@@ -179,11 +187,13 @@ impl<D: Disk + Drop> ClientHost<D> {
         requires { AreClients D.state self.old }
         ensures called { (w : AWorld) → HoldsClients D.state w self.old
             → Comes D.state self.old self.new (call_alone w client (moves.Write table row content)) result }
-        ensures spent { (w : AWorld) → HoldsClients D.state w self.old
-            → IfErr result (IsNumberCause D.state w client self.old) }
+        ensures spent { (w : AWorld) (n : ℕ) → HoldsClients D.state w self.old
+            → HavePlansBelow D.state n self.old.clients → IfErr result (IsNumberCause n (client_at w client)) }
         ensures kept { (w : AWorld) → HoldsClients D.state w self.old
             → OnErr result (Stays D.state w self.old self.new) }
         ensures cause { HasCause D.state client self.old.clients self.new.clients result }
+        ensures plans { (n : ℕ) → HavePlansBelow D.state n self.old.clients
+            → HavePlansBelow D.state (suc n) self.new.clients }
     {
         self.call(
             client,
@@ -210,11 +220,13 @@ impl<D: Disk + Drop> ClientHost<D> {
         requires { AreClients D.state self.old }
         ensures called { (w : AWorld) → HoldsClients D.state w self.old
             → Comes D.state self.old self.new (call_alone w client (moves.Change table row edit)) result }
-        ensures spent { (w : AWorld) → HoldsClients D.state w self.old
-            → IfErr result (IsNumberCause D.state w client self.old) }
+        ensures spent { (w : AWorld) (n : ℕ) → HoldsClients D.state w self.old
+            → HavePlansBelow D.state n self.old.clients → IfErr result (IsNumberCause n (client_at w client)) }
         ensures kept { (w : AWorld) → HoldsClients D.state w self.old
             → OnErr result (Stays D.state w self.old self.new) }
         ensures cause { HasCause D.state client self.old.clients self.new.clients result }
+        ensures plans { (n : ℕ) → HavePlansBelow D.state n self.old.clients
+            → HavePlansBelow D.state (suc n) self.new.clients }
     {
         self.call(client, Ask::Edit { table, row, edit })
     }
@@ -233,11 +245,13 @@ impl<D: Disk + Drop> ClientHost<D> {
         requires { AreClients D.state self.old }
         ensures called { (w : AWorld) → HoldsClients D.state w self.old
             → Comes D.state self.old self.new (call_alone w client (moves.Show table row)) result }
-        ensures spent { (w : AWorld) → HoldsClients D.state w self.old
-            → IfErr result (IsNumberCause D.state w client self.old) }
+        ensures spent { (w : AWorld) (n : ℕ) → HoldsClients D.state w self.old
+            → HavePlansBelow D.state n self.old.clients → IfErr result (IsNumberCause n (client_at w client)) }
         ensures kept { (w : AWorld) → HoldsClients D.state w self.old
             → OnErr result (Stays D.state w self.old self.new) }
         ensures cause { HasCause D.state client self.old.clients self.new.clients result }
+        ensures plans { (n : ℕ) → HavePlansBelow D.state n self.old.clients
+            → HavePlansBelow D.state (suc n) self.new.clients }
     {
         self.call(client, Ask::Show { table, row })
     }
@@ -256,11 +270,13 @@ impl<D: Disk + Drop> ClientHost<D> {
         requires { AreClients D.state self.old }
         ensures called { (w : AWorld) → HoldsClients D.state w self.old
             → Comes D.state self.old self.new (call_alone w client (moves.Sum table row)) result }
-        ensures spent { (w : AWorld) → HoldsClients D.state w self.old
-            → IfErr result (IsNumberCause D.state w client self.old) }
+        ensures spent { (w : AWorld) (n : ℕ) → HoldsClients D.state w self.old
+            → HavePlansBelow D.state n self.old.clients → IfErr result (IsNumberCause n (client_at w client)) }
         ensures kept { (w : AWorld) → HoldsClients D.state w self.old
             → OnErr result (Stays D.state w self.old self.new) }
         ensures cause { HasCause D.state client self.old.clients self.new.clients result }
+        ensures plans { (n : ℕ) → HavePlansBelow D.state n self.old.clients
+            → HavePlansBelow D.state (suc n) self.new.clients }
     {
         self.call(client, Ask::Sum { table, row })
     }
@@ -274,11 +290,13 @@ impl<D: Disk + Drop> ClientHost<D> {
         requires { AreClients D.state self.old }
         ensures called { (w : AWorld) → HoldsClients D.state w self.old
             → Comes D.state self.old self.new (call_alone w client (moves.Sync table)) result }
-        ensures spent { (w : AWorld) → HoldsClients D.state w self.old
-            → IfErr result (IsNumberCause D.state w client self.old) }
+        ensures spent { (w : AWorld) (n : ℕ) → HoldsClients D.state w self.old
+            → HavePlansBelow D.state n self.old.clients → IfErr result (IsNumberCause n (client_at w client)) }
         ensures kept { (w : AWorld) → HoldsClients D.state w self.old
             → OnErr result (Stays D.state w self.old self.new) }
         ensures cause { HasCause D.state client self.old.clients self.new.clients result }
+        ensures plans { (n : ℕ) → HavePlansBelow D.state n self.old.clients
+            → HavePlansBelow D.state (suc n) self.new.clients }
     {
         self.call(client, Ask::Sync { table })
     }
@@ -292,11 +310,13 @@ impl<D: Disk + Drop> ClientHost<D> {
         requires { AreClients D.state self.old }
         ensures called { (w : AWorld) → HoldsClients D.state w self.old
             → Comes D.state self.old self.new (call_alone w client (moves.Next table)) result }
-        ensures spent { (w : AWorld) → HoldsClients D.state w self.old
-            → IfErr result (IsNumberCause D.state w client self.old) }
+        ensures spent { (w : AWorld) (n : ℕ) → HoldsClients D.state w self.old
+            → HavePlansBelow D.state n self.old.clients → IfErr result (IsNumberCause n (client_at w client)) }
         ensures kept { (w : AWorld) → HoldsClients D.state w self.old
             → OnErr result (Stays D.state w self.old self.new) }
         ensures cause { HasCause D.state client self.old.clients self.new.clients result }
+        ensures plans { (n : ℕ) → HavePlansBelow D.state n self.old.clients
+            → HavePlansBelow D.state (suc n) self.new.clients }
     {
         self.call(client, Ask::Pull { table })
     }
@@ -314,11 +334,14 @@ impl<D: Disk + Drop> ClientHost<D> {
             → (FitsIn w client (asks.Deliver message) → ⊥)
             → IfOk result (λ answer. ((answer ≡ Answer.Done) × Stays D.state w self.old self.new)
             ⊎ Comes D.state self.old self.new (take_alone w client (message_of message)) (Ok answer)) }
-        ensures spent { (w : AWorld) → HoldsClients D.state w self.old → FitsIn w client (asks.Deliver message)
-            → IfErr result (IsNumberCause D.state w client self.old) }
+        ensures spent { (w : AWorld) (n : ℕ) → HoldsClients D.state w self.old
+            → HavePlansBelow D.state n self.old.clients → FitsIn w client (asks.Deliver message)
+            → IfErr result (IsNumberCause n (client_at w client)) }
         ensures kept { (w : AWorld) → HoldsClients D.state w self.old
             → OnErr result (Stays D.state w self.old self.new) }
         ensures cause { HasCause D.state client self.old.clients self.new.clients result }
+        ensures plans { (n : ℕ) → HavePlansBelow D.state n self.old.clients
+            → HavePlansBelow D.state (suc n) self.new.clients }
     {
         if self.clients.contains_key(&client) {
             return self.call(client, Ask::Deliver { message });
@@ -336,6 +359,8 @@ impl<D: Disk + Drop> ClientHost<D> {
             × ((client_writes client luck (client_tasks (client_at w client)) w).failed ≡ true)
             × IsMoved D.state self.old self.new (client_writes client luck (client_tasks (client_at w client)) w) }
         ensures cause { HasMoveCause D.state client self.old.clients self.new.clients result }
+        ensures plans { (n : ℕ) → HavePlansBelow D.state n self.old.clients
+            → HavePlansBelow D.state n self.new.clients }
     {
         match self.clients.get_mut(&client) {
             Some(node) => work(node, &mut self.outs, client),
@@ -354,6 +379,8 @@ impl<D: Disk + Drop> ClientHost<D> {
             → (lucks : List Luck) × ((client_until_idle client lucks w).failed ≡ true)
             × IsMoved D.state self.old self.new (client_until_idle client lucks w) }
         ensures cause { HasMoveCause D.state client self.old.clients self.new.clients result }
+        ensures plans { (n : ℕ) → HavePlansBelow D.state n self.old.clients
+            → HavePlansBelow D.state n self.new.clients }
     {
         for count in 0..u64::MAX {
             if !self.is_busy(client) {
@@ -375,6 +402,8 @@ impl<D: Disk + Drop> ClientHost<D> {
             × IsCalled D.state self.old self.new (worked w lucks (nodes.Client client)) answer) }
         ensures cause { HasCause D.state client self.old.clients self.new.clients result }
         ensures memory { IfErr result (λ e. e ≡ Memory) }
+        ensures plans { (n : ℕ) → HavePlansBelow D.state n self.old.clients
+            → HavePlansBelow D.state n self.new.clients }
     {
         let done = self.work_once(client);
         answered(did(done))
@@ -391,6 +420,8 @@ impl<D: Disk + Drop> ClientHost<D> {
             × IsCalled D.state self.old self.new (all_worked w lucks (nodes.Client client)) answer) }
         ensures cause { HasCause D.state client self.old.clients self.new.clients result }
         ensures memory { IfErr result (λ e. e ≡ Memory) }
+        ensures plans { (n : ℕ) → HavePlansBelow D.state n self.old.clients
+            → HavePlansBelow D.state n self.new.clients }
     {
         let done = self.work_on(client);
         answered(numbered(done))
@@ -403,10 +434,12 @@ impl<D: Disk + Drop> ClientHost<D> {
         requires { AreClients D.state self.old }
         ensures crashed { (w : AWorld) → HoldsClients D.state w self.old → (lucks : List Luck)
             × IsMoved D.state self.old self.new (client_crashes client calls lucks w)
-            × HasLuck D.state client self.old.clients self.new.clients lucks }
+            × HasLuck D.state w client self.old.clients self.new.clients lucks }
         ensures outs { outs_of self.new ≡ outs_of self.old }
         ensures others { (q : ℕ) → q ≢ client
             → faults_at D.state self.new.clients q ≡ faults_at D.state self.old.clients q }
+        ensures plans { (n : ℕ) → HavePlansBelow D.state n self.old.clients
+            → HavePlansBelow D.state n self.new.clients }
     {
         if let Some(node) = self.clients.get_mut(&client) {
             crash(node, calls, pick);
@@ -426,6 +459,8 @@ impl<D: Disk + Drop> ClientHost<D> {
             → OnErr result (Stays D.state w self.old self.new) }
         ensures cause { HasCause D.state client self.old.clients self.new.clients result }
         ensures memory { IfErr result (λ e. e ≡ Memory) }
+        ensures plans { (n : ℕ) → HavePlansBelow D.state n self.old.clients
+            → HavePlansBelow D.state n self.new.clients }
     {
         match self.clients.get_mut(&client) {
             Some(node) => start(node, &mut self.outs, client),
@@ -438,6 +473,7 @@ impl<D: Disk + Drop> ClientHost<D> {
     pub fn take_disks(&mut self) -> Option<(ClientNo, (D, D, D))>
         ensures disks { result ≡ option_map disks_at (slice_get self.old.clients.entries 0) }
         ensures others { self.new.clients.entries ≡ drop 1 self.old.clients.entries }
+        ensures gone { IfSome result (λ e. tree.get nat_cmp self.new.clients e.0 ≡ None) }
     {
         match self.clients.pop_first() {
             Some((client, node)) => Some((client, node.into_disks())),

@@ -1,6 +1,6 @@
 //! Calls of one client's node, what it tells put behind what was told.
-ghost use Rattle.std.specs.Prelude.{◌≡◌, ◌⊎◌, ◌∷◌, ◌<◌, ◌++◌, ℕ, Bool, [], true, false, not, IfOk, IfErr, OnErr};
-ghost use Rattle.std.specs.Prelude.{IsErrOf};
+ghost use Rattle.std.specs.Prelude.{◌≡◌, ◌⊎◌, ◌∷◌, ◌<◌, ◌++◌, ℕ, suc, Bool, [], Some, true, false, not};
+ghost use Rattle.std.specs.Prelude.{IfOk, IfErr, OnErr, IsErrOf};
 ghost use Rattle.std.specs.Vec.{vec_capacity, vec_len};
 ghost use Rattle.stab_base.specs.declared.node.Node.TheVariants as nodes;
 ghost use Rattle.table_model.specs.declared.line.Answer.TheVariants as answers;
@@ -8,11 +8,11 @@ ghost use Rattle.table_model.specs.declared.line.Refusal.TheVariants as refusals
 ghost use Rattle.step_tables.specs.ClientMoves.{Client, ClientStep, Work, client_step, no_shape};
 ghost use Rattle.step_tables.specs.Messages as lucks;
 ghost use Rattle.client_node.specs.declared.fault.CallFault.TheVariants.{Disk as DiskFailed};
-ghost use Rattle.client_node.specs.Does.{HasNoNumber};
-ghost use Rattle.client_node.specs.Node.{IsClient, IsNode, told_by, has_task};
+ghost use Rattle.client_node.specs.Node.{IsClient, IsNode, told_by, has_task, HasPlansBelow};
 ghost use Rattle.world_tables.specs.World.{next_write, tasks_in};
 ghost use Rattle.journal_host.specs.declared.fault.ClientFault.TheVariants as faults;
 ghost use Rattle.journal_host.specs.Asks.{move_of, FitsDisk, answered_as};
+ghost use Rattle.journal_host.specs.Calls.{IsNumberCause};
 ghost use Rattle.journal_host.specs.Holds.{IsHosted, outs_in, outbox_of, says_something, said, node_faults};
 ghost use Rattle.journal_host.specs.Steps.{IsTelling, HasTold, IsMade, IsFallen, IsDropped, HasNodeCause};
 ghost use Rattle.journal_host.specs.Steps.{HasAnswerCause, HasCrashed, IsStarted, IsNotStarted};
@@ -75,6 +75,7 @@ fn tell<D: Disk + Drop>(node: &mut ClientNode<D>, outs: &mut Vec<ClientOut>, cli
     ensures devs { node.new.devs ≡ node.old.devs }
     ensures up { node.new.is_up ≡ node.old.is_up }
     ensures declared { node.new.is_declared ≡ node.old.is_declared }
+    ensures plans { (n : ℕ) → HasPlansBelow D.state n node.old → HasPlansBelow D.state n node.new }
 {
     let out = node.take_out();
     put(outs, ClientOut { client, out });
@@ -96,11 +97,12 @@ fn call_up<D: Disk + Drop>(
         → IfOk result (λ answer. IsDropped D.state cut client s node.new outs.old.items outs.new.items answer
         ⊎ (IsMade D.state cut client s (move_of ask) node.new outs.old.items outs.new.items answer
         ⊎ IsFallen D.state cut client s node.new outs.old.items outs.new.items answer)) }
-    ensures spent { (cut : Bool) (s : Client) → IsHosted D.state cut client s node.old → FitsDisk s.disk ask
-        → IfErr result (λ e. e ≡ faults.Spent → HasNoNumber D.state node.old s.disk) }
+    ensures spent { (cut : Bool) (s : Client) (n : ℕ) → IsHosted D.state cut client s node.old
+        → HasPlansBelow D.state n node.old → FitsDisk s.disk ask → IfErr result (IsNumberCause n (Some s)) }
     ensures kept { (cut : Bool) (s : Client) → IsHosted D.state cut client s node.old
         → OnErr result (IsHosted D.state cut client s node.new × (outs_in outs.new.items ≡ outs_in outs.old.items)) }
     ensures cause { HasAnswerCause D.state node.old node.new result }
+    ensures plans { (n : ℕ) → HasPlansBelow D.state n node.old → HasPlansBelow D.state (suc n) node.new }
 {
     outs.reserve(1)?;
     let found = reply(node, ask);
@@ -127,11 +129,12 @@ pub(crate) fn call<D: Disk + Drop>(
         ⊎ IsFallen D.state cut client s node.new outs.old.items outs.new.items answer)) }
     ensures down { node.old.is_up ≡ false → (node.new ≡ node.old) × (outs.new.items ≡ outs.old.items)
         × IfOk result (λ answer. answer ≡ answers.Refused (refusals.Down (nodes.Client client))) }
-    ensures spent { (cut : Bool) (s : Client) → IsHosted D.state cut client s node.old → FitsDisk s.disk ask
-        → IfErr result (λ e. e ≡ faults.Spent → HasNoNumber D.state node.old s.disk) }
+    ensures spent { (cut : Bool) (s : Client) (n : ℕ) → IsHosted D.state cut client s node.old
+        → HasPlansBelow D.state n node.old → FitsDisk s.disk ask → IfErr result (IsNumberCause n (Some s)) }
     ensures kept { (cut : Bool) (s : Client) → IsHosted D.state cut client s node.old
         → OnErr result (IsHosted D.state cut client s node.new × (outs_in outs.new.items ≡ outs_in outs.old.items)) }
     ensures cause { HasAnswerCause D.state node.old node.new result }
+    ensures plans { (n : ℕ) → HasPlansBelow D.state n node.old → HasPlansBelow D.state (suc n) node.new }
 {
     if node.is_up() {
         return call_up(node, outs, client, ask);
@@ -148,6 +151,7 @@ pub(crate) fn link<D: Disk + Drop>(node: &mut ClientNode<D>, client: ClientNo, u
     ensures down { node.old.is_up ≡ false → (node.new ≡ node.old)
         × (result ≡ answers.Refused (refusals.Down (nodes.Client client))) }
     ensures counted { node_faults D.state node.new ≡ node_faults D.state node.old }
+    ensures plans { (n : ℕ) → HasPlansBelow D.state n node.old → HasPlansBelow D.state n node.new }
 {
     if node.is_up() {
         node.link(up);
@@ -175,6 +179,7 @@ fn work_up<D: Disk + Drop>(
         ⊎ HasTold D.state cut client (client_step client no_shape s (Work lucks.FailedAfter)) node.new outs.old.items
         outs.new.items }
     ensures cause { HasNodeCause D.state node.old node.new result }
+    ensures plans { (n : ℕ) → HasPlansBelow D.state n node.old → HasPlansBelow D.state n node.new }
 {
     outs.reserve(1)?;
     let done = node.work();
@@ -199,6 +204,7 @@ pub(crate) fn work<D: Disk + Drop>(
         outs.new.items }
     ensures busy { (s : Client) → IsClient D.state node.old s → IsErrOf result DiskFailed → has_task s.agenda ≡ true }
     ensures cause { HasNodeCause D.state node.old node.new result }
+    ensures plans { (n : ℕ) → HasPlansBelow D.state n node.old → HasPlansBelow D.state n node.new }
 {
     if node.is_busy() {
         return work_up(node, outs, client);
@@ -211,6 +217,7 @@ pub(crate) fn crash<D: Disk + Drop>(node: &mut ClientNode<D>, calls: u32, pick: 
     requires { IsNode D.state node.old }
     ensures crashed { (cut : Bool) (c : ℕ) (s : Client) → IsHosted D.state cut c s node.old
         → HasCrashed D.state cut c calls s node.old node.new }
+    ensures plans { (n : ℕ) → HasPlansBelow D.state n node.old → HasPlansBelow D.state n node.new }
 {
     if node.is_up() {
         node.crash(calls, pick);
@@ -233,6 +240,7 @@ fn start_down<D: Disk + Drop>(
         → OnErr result (IsHosted D.state cut client s node.new × (outs_in outs.new.items ≡ outs_in outs.old.items)) }
     ensures cause { HasAnswerCause D.state node.old node.new result }
     ensures memory { IfErr result (λ e. e ≡ faults.Memory) }
+    ensures plans { (n : ℕ) → HasPlansBelow D.state n node.old → HasPlansBelow D.state n node.new }
 {
     outs.reserve(1)?;
     let started = node.start();
@@ -255,6 +263,7 @@ pub(crate) fn start<D: Disk + Drop>(
         → OnErr result (IsHosted D.state cut client s node.new × (outs_in outs.new.items ≡ outs_in outs.old.items)) }
     ensures cause { HasAnswerCause D.state node.old node.new result }
     ensures memory { IfErr result (λ e. e ≡ faults.Memory) }
+    ensures plans { (n : ℕ) → HasPlansBelow D.state n node.old → HasPlansBelow D.state n node.new }
 {
     if node.is_up() {
         return Ok(Answer::Done);

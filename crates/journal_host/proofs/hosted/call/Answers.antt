@@ -1,4 +1,5 @@
 use Rattle.std.proofs.Common.{refl, sym, ◌∙◌}
+use Rattle.client_node.proofs.PlanNumbers.{next_below}
 use Rattle.journal_host.proofs.hosted.call.Goals as goal
 
 pub call_up-requires : goal.call_up-requires
@@ -11,7 +12,7 @@ pub returns-then-is_up-clause-dropped : goal.returns-then-is_up-clause-dropped
 returns-then-is_up-clause-dropped g c cut s h unfit up = c.call_up.ensures.dropped cut s h unfit
 
 pub returns-then-is_up-clause-spent : goal.returns-then-is_up-clause-spent
-returns-then-is_up-clause-spent g c cut s h fits = c.call_up.ensures.spent cut s h fits
+returns-then-is_up-clause-spent g c cut s n h below fits = c.call_up.ensures.spent cut s n h below fits
 
 pub returns-then-is_up-clause-kept : goal.returns-then-is_up-clause-kept
 returns-then-is_up-clause-kept g c cut s h = c.call_up.ensures.kept cut s h
@@ -32,10 +33,16 @@ pub returns-clause-down : goal.returns-clause-down
 returns-clause-down g c down = (refl, refl, refl)
 
 pub returns-clause-spent : goal.returns-clause-spent
-returns-clause-spent g c cut s h fits = tt
+returns-clause-spent g c cut s n h below fits = tt
 
 pub returns-clause-kept : goal.returns-clause-kept
 returns-clause-kept g c cut s h = tt
 
 pub returns-clause-cause : goal.returns-clause-cause
 returns-clause-cause g c = record { counted = λ is. refl; cause = λ bad. absurd cc }
+
+pub returns-then-is_up-clause-plans : goal.returns-then-is_up-clause-plans
+returns-then-is_up-clause-plans g c n below = c.call_up.ensures.plans n below
+
+pub returns-clause-plans : goal.returns-clause-plans
+returns-clause-plans g c n below = next_below g.D.Disk.state n c.args.node.now below

@@ -1,11 +1,11 @@
-use Rattle.std.proofs.Common.{List, ap, subst}
+use Rattle.std.proofs.Common.{suc, List, Some, ap, subst}
 use Rattle.std.proofs.lemmas.Result.{err_from_is_err_and}
 use Rattle.journal_host.specs.declared.out.ClientOut.{ClientOut}
-use Rattle.client_node.specs.Does.{HasNoNumber}
 use Rattle.journal_host.specs.Holds.{outs_in}
 use Rattle.journal_host.specs.Steps.{HasTold}
 use Rattle.journal_host.proofs.Replying.{fits_or}
-use Rattle.journal_host.proofs.Hosting.{call_made, call_dropped, call_kept, call_cause, spent_so, either_way}
+use Rattle.journal_host.proofs.Hosting.{call_made, call_dropped, call_kept, call_cause, spent_so, either_way, either_plans}
+use Rattle.client_node.proofs.PlanNumbers.{next_below, spent_plans}
 use Rattle.journal_host.proofs.hosted.call_up.Goals as goal
 
 pub returns-in_err-reserve-clause-kept : goal.returns-in_err-reserve-clause-kept
@@ -38,7 +38,8 @@ returns-clause-kept g c cut s h =
     (λ unfit. c.reply-found.ensures.dropped s h.client unfit)))
 
 pub returns-clause-spent : goal.returns-clause-spent
-returns-clause-spent g c cut s h fits = rw c.answered.ensures (spent_so (HasNoNumber g.D.Disk.state c.args.node.now s.disk) c.reply-found.result (c.reply-found.ensures.spent s h.client fits))
+returns-clause-spent g c cut s n h below fits = rw c.answered.ensures (spent_so n (Some s) c.reply-found.result
+    (λ last is. spent_plans g.D.Disk.state n c.args.node.now s.disk s.agenda h.client c.requires.up below (c.reply-found.ensures.spent s h.client fits last is)))
 
 pub returns-clause-cause : goal.returns-clause-cause
 returns-clause-cause g c =
@@ -48,3 +49,19 @@ returns-clause-cause g c =
     (either_way g.D.Disk.state g.D.Disk.images c.args.ask n.0 c.args.node.now c.reply-found.new.node c.reply-found.result (fits_or n.0.disk c.args.ask)
     (λ fits. c.reply-found.ensures.made n.0 n.1 fits)
     (λ unfit. c.reply-found.ensures.dropped n.0 n.1 unfit)))
+
+pub returns-in_err-reserve-clause-spent : goal.returns-in_err-reserve-clause-spent
+returns-in_err-reserve-clause-spent g c cut s n h below fits =
+    let p = err_from_is_err_and c.from_residual.result c.from_residual.ensures.1 in
+    rw (p.1, p.2) tt
+
+pub returns-in_err-reserve-clause-plans : goal.returns-in_err-reserve-clause-plans
+returns-in_err-reserve-clause-plans g c n below = next_below g.D.Disk.state n c.args.node.now below
+
+pub returns-clause-plans : goal.returns-clause-plans
+returns-clause-plans g c n below =
+    let a = c.requires.node in
+    c.tell.ensures.plans (suc n) (either_plans g.D.Disk.state g.D.Disk.images c.args.ask a.0 c.args.node.now c.reply-found.new.node c.reply-found.result
+    (either_way g.D.Disk.state g.D.Disk.images c.args.ask a.0 c.args.node.now c.reply-found.new.node c.reply-found.result (fits_or a.0.disk c.args.ask)
+    (λ fits. c.reply-found.ensures.made a.0 a.1 fits)
+    (λ unfit. c.reply-found.ensures.dropped a.0 a.1 unfit)) n below)

@@ -31,3 +31,9 @@ returns-clause-down g c down = (refl, refl)
 
 pub returns-clause-counted : goal.returns-clause-counted
 returns-clause-counted g c = refl
+
+pub returns-then-is_up-clause-plans : goal.returns-then-is_up-clause-plans
+returns-then-is_up-clause-plans g c n below = c.link.ensures.plans n below
+
+pub returns-clause-plans : goal.returns-clause-plans
+returns-clause-plans g c n below = below

@@ -28,3 +28,9 @@ returns-clause-cause g c = c.start_down.ensures.cause
 
 pub returns-clause-memory : goal.returns-clause-memory
 returns-clause-memory g c = c.start_down.ensures.memory
+
+pub returns-then-is_up-clause-plans : goal.returns-then-is_up-clause-plans
+returns-then-is_up-clause-plans g c n below = below
+
+pub returns-clause-plans : goal.returns-clause-plans
+returns-clause-plans g c n below = c.start_down.ensures.plans n below

@@ -35,3 +35,9 @@ pub returns-clause-memory : goal.returns-clause-memory
 returns-clause-memory g c =
     let n = c.requires.node in
     rw (c.answered.ensures, c.done.ensures) (start_memory g.D.Disk.state g.D.Disk.images n.0 c.args.node.now c.start-started.new.self c.start-started.result (c.start-started.ensures.starts n.0 n.1))
+
+pub returns-in_err-reserve-clause-plans : goal.returns-in_err-reserve-clause-plans
+returns-in_err-reserve-clause-plans g c n below = below
+
+pub returns-clause-plans : goal.returns-clause-plans
+returns-clause-plans g c n below = let a = c.requires.node in c.tell.ensures.plans n ((c.start-started.ensures.starts a.0 a.1).plans n below)

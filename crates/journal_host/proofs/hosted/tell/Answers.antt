@@ -15,3 +15,6 @@ returns-clause-told g c cut s t =
           ∙ (ap (λ (l : List Fact). outs_in c.args.outs.now.items ++ said (record (outbox_of (record { client = c.args.client; out = c.take_out-out.result })) { facts = l } ∷ [])) (k.facts ∙ t.told)
           ∙ ap (λ (l : List Send). outs_in c.args.outs.now.items ++ said (record { facts = s.facts; packets = packets_from (nodes.Client c.args.client) l } ∷ [])) (k.messages ∙ t.sent));
     }
+
+pub returns-clause-plans : goal.returns-clause-plans
+returns-clause-plans g c n below = c.take_out-out.ensures.plans n below

@@ -29,3 +29,9 @@ returns-clause-busy g c s t is = absurd cc
 
 pub returns-clause-cause : goal.returns-clause-cause
 returns-clause-cause g c = record { counted = λ is. refl; cause = λ bad. absurd cc; only = tt }
+
+pub returns-then-is_busy-clause-plans : goal.returns-then-is_busy-clause-plans
+returns-then-is_busy-clause-plans g c n below = c.work_up.ensures.plans n below
+
+pub returns-clause-plans : goal.returns-clause-plans
+returns-clause-plans g c n below = below

@@ -27,3 +27,9 @@ returns-clause-cause g c =
     let n = c.requires.node in
     node_cause g.D.Disk.state c.args.node.now c.work-done.new.self c.tell.new.node c.tell.ensures.devs c.work-done.result
     (works_cause g.D.Disk.state g.D.Disk.images n.0 c.args.node.now c.work-done.new.self c.work-done.result (c.work-done.ensures.works n.0 n.1))
+
+pub returns-in_err-reserve-clause-plans : goal.returns-in_err-reserve-clause-plans
+returns-in_err-reserve-clause-plans g c n below = below
+
+pub returns-clause-plans : goal.returns-clause-plans
+returns-clause-plans g c n below = let a = c.requires.node in c.tell.ensures.plans n ((c.work-done.ensures.works a.0 a.1).plans n below)

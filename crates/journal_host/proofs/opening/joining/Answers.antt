@@ -51,3 +51,9 @@ returns-in-Err-Disk-clause-joined g c w has =
         cause = λ bad. k.cause (c.in-Err-Disk.is ∙ ap (λ (e : CallFault). Err e) c.in-Err-Disk.field-0-is);
       },
     )
+
+pub returns-in-Ok-clause-plans : goal.returns-in-Ok-clause-plans
+returns-in-Ok-clause-plans g c n = (c.in-Ok.ensures.declares (record { disk = to_open c.in_ok-found.found.items; agenda = None }) c.new-node.ensures.at).plans n
+
+pub returns-in-Err-Disk-clause-plans : goal.returns-in-Err-Disk-clause-plans
+returns-in-Err-Disk-clause-plans g c n = (c.declare.ensures.declares (record { disk = to_open c.in_ok-found.found.items; agenda = None }) c.new-node.ensures.at).plans n

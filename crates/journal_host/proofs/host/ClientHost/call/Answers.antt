@@ -2,7 +2,7 @@ use Rattle.std.proofs.Common.{refl}
 use Rattle.table_model.specs.declared.line.Answer.TheVariants as answers
 use Rattle.table_model.specs.declared.line.Refusal.TheVariants as refusals
 use Rattle.journal_host.specs.Asks.{move_of}
-use Rattle.journal_host.proofs.Clients.{some_there, found_node, client_called, client_dropped, client_spent, client_kept, client_cause, nowhere, nowhere_unfit, none_failed}
+use Rattle.journal_host.proofs.Clients.{some_there, found_node, client_called, client_dropped, client_spent, client_kept, client_cause, plans_more, plans_stay_more, nowhere, nowhere_unfit, none_failed}
 use Rattle.journal_host.proofs.host.ClientHost.call.Goals as goal
 
 pub call-requires : goal.call-requires
@@ -21,10 +21,10 @@ returns-in-Some-clause-dropped g c w h unfit =
     ((c.get_mut.follows.holds c.call.new.node).3 (some_there _ _ c.in-Some.ensures.value)).0 c.args.ask c.call.result c.call.ensures.down c.call.ensures.dropped unfit
 
 pub returns-in-Some-clause-spent : goal.returns-in-Some-clause-spent
-returns-in-Some-clause-spent g c w h fits =
+returns-in-Some-clause-spent g c w n h below fits =
     client_spent g.D.Disk.state w c.args.self.now (record c.args.self.now { clients = c.get_mut.follows.lender c.call.new.node; outs = c.call.new.outs }) c.args.client c.in-Some.node.now
     c.call.new.node h c.in-Some.ensures.value
-    ((c.get_mut.follows.holds c.call.new.node).3 (some_there _ _ c.in-Some.ensures.value)).0 c.args.ask c.call.result c.call.ensures.down c.call.ensures.spent fits
+    ((c.get_mut.follows.holds c.call.new.node).3 (some_there _ _ c.in-Some.ensures.value)).0 c.args.ask c.call.result c.call.ensures.down n below c.call.ensures.spent fits
 
 pub returns-in-Some-clause-kept : goal.returns-in-Some-clause-kept
 returns-in-Some-clause-kept g c w h =
@@ -44,10 +44,18 @@ pub returns-in-None-clause-dropped : goal.returns-in-None-clause-dropped
 returns-in-None-clause-dropped g c w h unfit = absurd (nowhere_unfit g.D.Disk.state w c.args.self.now c.args.self.now c.args.client h c.in-None.ensures.value refl refl c.args.ask unfit)
 
 pub returns-in-None-clause-spent : goal.returns-in-None-clause-spent
-returns-in-None-clause-spent g c w h fits = tt
+returns-in-None-clause-spent g c w n h below fits = tt
 
 pub returns-in-None-clause-kept : goal.returns-in-None-clause-kept
 returns-in-None-clause-kept g c w h = tt
 
 pub returns-in-None-clause-cause : goal.returns-in-None-clause-cause
 returns-in-None-clause-cause g c = none_failed g.D.Disk.state c.args.client c.args.self.now.clients _ c.get_mut.follows.holds-at-none (answers.Refused refusals.NoTable) (λ bad. absurd cc)
+
+pub returns-in-Some-clause-plans : goal.returns-in-Some-clause-plans
+returns-in-Some-clause-plans g c n below =
+    plans_more g.D.Disk.state c.args.self.now.clients (c.get_mut.follows.lender c.call.new.node) c.args.client c.call.new.node
+    ((c.get_mut.follows.holds c.call.new.node).3 (some_there _ _ c.in-Some.ensures.value)).0 c.in-Some.node.now c.in-Some.ensures.value n below (c.call.ensures.plans n)
+
+pub returns-in-None-clause-plans : goal.returns-in-None-clause-plans
+returns-in-None-clause-plans g c n below = plans_stay_more g.D.Disk.state c.args.self.now.clients _ c.get_mut.follows.holds-at-none n below

@@ -1,6 +1,6 @@
 use Rattle.std.proofs.Common.{refl, ap}
 use Rattle.journal_host.specs.Holds.{faults_at}
-use Rattle.journal_host.proofs.Clients.{some_there, found_node}
+use Rattle.journal_host.proofs.Clients.{some_there, found_node, plans_there, plans_stay}
 use Rattle.journal_host.proofs.Ends.{crash_moved, crash_none, others_same}
 use Rattle.journal_host.proofs.host.ClientHost.crash.Goals as goal
 
@@ -23,3 +23,11 @@ returns-in_default-clause-crashed g c w h = crash_none g.D.Disk.state w c.args.s
 
 pub returns-in_default-clause-others : goal.returns-in_default-clause-others
 returns-in_default-clause-others g c q off = ap (λ m. faults_at g.D.Disk.state m q) c.get_mut.follows.holds-at-none
+
+pub returns-in-Some-clause-plans : goal.returns-in-Some-clause-plans
+returns-in-Some-clause-plans g c n below =
+    plans_there g.D.Disk.state c.args.self.now.clients (c.get_mut.follows.lender c.crash.new.node) c.args.client c.crash.new.node
+    ((c.get_mut.follows.holds c.crash.new.node).3 (some_there _ _ c.in-Some.ensures.value)).0 c.in-Some.node.now c.in-Some.ensures.value n below (c.crash.ensures.plans n)
+
+pub returns-in_default-clause-plans : goal.returns-in_default-clause-plans
+returns-in_default-clause-plans g c n below = plans_stay g.D.Disk.state c.args.self.now.clients _ c.get_mut.follows.holds-at-none n below

@@ -5,7 +5,7 @@ use Rattle.table_model.specs.declared.line.Answer.TheVariants as answers
 use Rattle.step_tables.specs.Travels.{message_of}
 use Rattle.journal_host.specs.declared.asking.Ask.TheVariants as asks
 use Rattle.journal_host.specs.Calls.{Stays}
-use Rattle.journal_host.proofs.Clients.{is_there, is_absent, found, taken_all, taken_or, lost, nowhere_unfit, none_failed}
+use Rattle.journal_host.proofs.Clients.{is_there, is_absent, found, taken_all, taken_or, lost, nowhere_unfit, none_failed, plans_stay_more}
 use Rattle.journal_host.proofs.host.ClientHost.deliver.Goals as goal
 
 pub returns-then-contains_key-clause-called : goal.returns-then-contains_key-clause-called
@@ -22,7 +22,7 @@ returns-then-contains_key-clause-dropped g c w h unfit =
     f.0 f.1 c.call.result (c.call.ensures.dropped w h unfit)
 
 pub returns-then-contains_key-clause-spent : goal.returns-then-contains_key-clause-spent
-returns-then-contains_key-clause-spent g c w h fits = c.call.ensures.spent w h fits
+returns-then-contains_key-clause-spent g c w n h below fits = c.call.ensures.spent w n h below fits
 
 pub returns-then-contains_key-clause-kept : goal.returns-then-contains_key-clause-kept
 returns-then-contains_key-clause-kept g c w h = c.call.ensures.kept w h
@@ -40,10 +40,16 @@ returns-clause-dropped g c w h unfit = absurd
     (is_absent (tree.get nat_cmp c.args.self.now.clients c.args.client) (sym c.contains_key.ensures ∙ c.if-contains_key.false)) refl refl (asks.Deliver c.args.message) unfit)
 
 pub returns-clause-spent : goal.returns-clause-spent
-returns-clause-spent g c w h fits = tt
+returns-clause-spent g c w n h below fits = tt
 
 pub returns-clause-kept : goal.returns-clause-kept
 returns-clause-kept g c w h = tt
 
 pub returns-clause-cause : goal.returns-clause-cause
 returns-clause-cause g c = none_failed g.D.Disk.state c.args.client c.args.self.now.clients c.args.self.now.clients refl answers.Done (λ bad. absurd cc)
+
+pub returns-then-contains_key-clause-plans : goal.returns-then-contains_key-clause-plans
+returns-then-contains_key-clause-plans g c n below = c.call.ensures.plans n below
+
+pub returns-clause-plans : goal.returns-clause-plans
+returns-clause-plans g c n below = plans_stay_more g.D.Disk.state c.args.self.now.clients c.args.self.now.clients refl n below

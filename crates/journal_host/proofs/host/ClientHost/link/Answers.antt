@@ -1,6 +1,6 @@
 use Rattle.std.proofs.Common.{refl, ap}
 use Rattle.journal_host.specs.Holds.{faults_at}
-use Rattle.journal_host.proofs.Clients.{some_there, same_counts}
+use Rattle.journal_host.proofs.Clients.{some_there, same_counts, plans_there, plans_stay}
 use Rattle.journal_host.proofs.Cuts.{link_there, link_nowhere}
 use Rattle.journal_host.proofs.host.ClientHost.link.Goals as goal
 
@@ -20,3 +20,11 @@ returns-in-None-clause-called g c w h = link_nowhere g.D.Disk.state w c.args.sel
 
 pub returns-in-None-clause-counted : goal.returns-in-None-clause-counted
 returns-in-None-clause-counted g c q = ap (λ m. faults_at g.D.Disk.state m q) c.get_mut.follows.holds-at-none
+
+pub returns-in-Some-clause-plans : goal.returns-in-Some-clause-plans
+returns-in-Some-clause-plans g c n below =
+    plans_there g.D.Disk.state c.args.self.now.clients (c.get_mut.follows.lender c.link.new.node) c.args.client c.link.new.node
+    ((c.get_mut.follows.holds c.link.new.node).3 (some_there _ _ c.in-Some.ensures.value)).0 c.in-Some.node.now c.in-Some.ensures.value n below (c.link.ensures.plans n)
+
+pub returns-in-None-clause-plans : goal.returns-in-None-clause-plans
+returns-in-None-clause-plans g c n below = plans_stay g.D.Disk.state c.args.self.now.clients _ c.get_mut.follows.holds-at-none n below

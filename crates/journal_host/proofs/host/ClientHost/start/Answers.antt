@@ -1,6 +1,6 @@
 use Rattle.std.proofs.Common.{refl}
 use Rattle.table_model.specs.declared.line.Answer.TheVariants as answers
-use Rattle.journal_host.proofs.Clients.{some_there, found_node, found_told, client_cause, none_failed}
+use Rattle.journal_host.proofs.Clients.{some_there, found_node, found_told, client_cause, none_failed, plans_there, plans_stay}
 use Rattle.journal_host.proofs.Ends.{start_called, start_stays, start_none}
 use Rattle.journal_host.proofs.host.ClientHost.start.Goals as goal
 
@@ -43,3 +43,11 @@ returns-in-None-clause-cause g c = none_failed g.D.Disk.state c.args.client c.ar
 
 pub returns-in-None-clause-memory : goal.returns-in-None-clause-memory
 returns-in-None-clause-memory g c = tt
+
+pub returns-in-Some-clause-plans : goal.returns-in-Some-clause-plans
+returns-in-Some-clause-plans g c n below =
+    plans_there g.D.Disk.state c.args.self.now.clients (c.get_mut.follows.lender c.start.new.node) c.args.client c.start.new.node
+    ((c.get_mut.follows.holds c.start.new.node).3 (some_there _ _ c.in-Some.ensures.value)).0 c.in-Some.node.now c.in-Some.ensures.value n below (c.start.ensures.plans n)
+
+pub returns-in-None-clause-plans : goal.returns-in-None-clause-plans
+returns-in-None-clause-plans g c n below = plans_stay g.D.Disk.state c.args.self.now.clients _ c.get_mut.follows.holds-at-none n below

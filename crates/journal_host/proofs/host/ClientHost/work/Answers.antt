@@ -14,3 +14,6 @@ returns-clause-cause g c =
 
 pub returns-clause-memory : goal.returns-clause-memory
 returns-clause-memory g c = rw (c.answered.ensures, c.did.ensures) (moves_memory answers.Did c.work_once-done.result c.work_once-done.ensures.cause.only)
+
+pub returns-clause-plans : goal.returns-clause-plans
+returns-clause-plans g c n below = c.work_once-done.ensures.plans n below

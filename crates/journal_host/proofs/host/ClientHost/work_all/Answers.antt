@@ -15,3 +15,6 @@ returns-clause-cause g c =
 
 pub returns-clause-memory : goal.returns-clause-memory
 returns-clause-memory g c = rw (c.answered.ensures, c.numbered.ensures) (moves_memory answers.Number c.work_on-done.result c.work_on-done.ensures.cause.only)
+
+pub returns-clause-plans : goal.returns-clause-plans
+returns-clause-plans g c n below = c.work_on-done.ensures.plans n below

@@ -5,7 +5,7 @@ use Rattle.journal_host.proofs.Draining.{drains, drains_next, drained, drained_b
 use Rattle.journal_host.proofs.host.ClientHost.work_on.Goals as goal
 
 pub loop-count-init : goal.loop-count-init
-loop-count-init g c = record { drained = λ w h. drains g.D.Disk.state w c.args.self.now c.args.client h; some = c.requires; counted = λ q. refl }
+loop-count-init g c = record { drained = λ w h. drains g.D.Disk.state w c.args.self.now c.args.client h; some = c.requires; counted = λ q. refl; plans = λ n below. below }
 
 pub loop-count-preserved : goal.loop-count-preserved
 loop-count-preserved g c = record {
@@ -16,6 +16,7 @@ loop-count-preserved g c = record {
       (c.in_ok-work_once.ensures.done d.here d.held).0;
   some = let n = c.loop-count.invariant.some in let x = c.in_ok-work_once.ensures.done n.0 n.1 in (_, x.0.held);
   counted = λ q. c.in_ok-work_once.ensures.cause.counted (λ bad. absurd cc) q ∙ c.loop-count.invariant.counted q;
+  plans = λ n below. c.work_once.ensures.plans n (c.loop-count.invariant.plans n below);
 }
 
 pub returns-in_err-work_once-clause-failed : goal.returns-in_err-work_once-clause-failed
@@ -38,3 +39,9 @@ returns-then-not-is_busy-clause-done g c w h =
     let d = c.loop-count.invariant.drained w h in
     let is_so : c.is_busy.result ≡ false = search rules in
     drained g.D.Disk.state w c.args.self.now c.args.client c.loop-count.self c.loop-count.count d (sym (c.is_busy.ensures d.here d.held) ∙ is_so)
+
+pub returns-in_err-work_once-clause-plans : goal.returns-in_err-work_once-clause-plans
+returns-in_err-work_once-clause-plans g c n below = c.work_once.ensures.plans n (c.loop-count.invariant.plans n below)
+
+pub returns-then-not-is_busy-clause-plans : goal.returns-then-not-is_busy-clause-plans
+returns-then-not-is_busy-clause-plans g c n below = c.loop-count.invariant.plans n below

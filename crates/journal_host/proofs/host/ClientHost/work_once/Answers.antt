@@ -1,6 +1,6 @@
 use Rattle.std.proofs.Common.{refl, ap}
 use Rattle.journal_host.specs.Holds.{faults_at}
-use Rattle.journal_host.proofs.Clients.{some_there, found_node, move_cause}
+use Rattle.journal_host.proofs.Clients.{some_there, found_node, move_cause, plans_there, plans_stay}
 use Rattle.journal_host.proofs.Draining.{work_moved, work_failed, none_moved}
 use Rattle.journal_host.proofs.host.ClientHost.work_once.Goals as goal
 
@@ -32,3 +32,11 @@ returns-in-None-clause-failed g c w h is = absurd cc
 
 pub returns-in-None-clause-cause : goal.returns-in-None-clause-cause
 returns-in-None-clause-cause g c = record { counted = λ is q. ap (λ m. faults_at g.D.Disk.state m q) c.get_mut.follows.holds-at-none; cause = λ bad. absurd cc; only = tt }
+
+pub returns-in-Some-clause-plans : goal.returns-in-Some-clause-plans
+returns-in-Some-clause-plans g c n below =
+    plans_there g.D.Disk.state c.args.self.now.clients (c.get_mut.follows.lender c.work.new.node) c.args.client c.work.new.node
+    ((c.get_mut.follows.holds c.work.new.node).3 (some_there _ _ c.in-Some.ensures.value)).0 c.in-Some.node.now c.in-Some.ensures.value n below (c.work.ensures.plans n)
+
+pub returns-in-None-clause-plans : goal.returns-in-None-clause-plans
+returns-in-None-clause-plans g c n below = plans_stay g.D.Disk.state c.args.self.now.clients _ c.get_mut.follows.holds-at-none n below

@@ -40,7 +40,7 @@ use Rattle.fair_laws.specs.Fair.{IsFitContent, IsFairSlots, IsFairRow, IsFairTab
 
 -- ---- lists and maps
 
-at_same : (k q : ℕ) → is_at (nat_cmp k) q ≡ true → k ≡ q
+pub at_same : (k q : ℕ) → is_at (nat_cmp k) q ≡ true → k ≡ q
 at_same k q h = eqb-true k q (sym (unsigned_tied k q) ∙ h)
 
 all_append : {X : Type 0} (P : X → Type 0) (xs ys : List X) → AllByRecursion P xs → AllByRecursion P ys → AllByRecursion P (xs ++ ys)
@@ -66,7 +66,7 @@ all_found {K} {V} R Q (x ∷ es) k v a e = go (is_at (R k) x.0) e (all_found R Q
     go true is rest = let same : x.1 ≡ v = cc in subst Q same a.0
     go false is rest = rest is
 
-some_is : {X : Type 0} (o : Option X) (a b : X) → o ≡ Some a → o ≡ Some b → a ≡ b
+pub some_is : {X : Type 0} (o : Option X) (a b : X) → o ≡ Some a → o ≡ Some b → a ≡ b
 some_is o a b e f = let s : Some a ≡ Some b = sym e ∙ f in cc
 
 module _ (known : ℕ → Option Schema) (c : ℕ) where
@@ -112,14 +112,14 @@ module _ (known : ℕ → Option Schema) (c : ℕ) where
   table_put_fair d number None a = a
   table_put_fair d number (Some position) a = with_fair d d.last number (table_at d number) (put_position position) refl (λ t k. record { schema = k.schema; rows = k.rows }) a
 
-  seen_fair : (d : ClientDisk) → IsFairDisk known d → AreFair (seen d).tables
-  seen_fair d k = go d.plan k.plan
+  pub tables_seen : (d : ClientDisk) → IsFairDisk known d → AreFair (seen d).tables
+  tables_seen d k = go d.plan k.plan
     where
       go : (o : Option Plan) → ((p : Plan) → o ≡ Some p → IsFairPlan known p) → AreFair (planned_in d o).tables
       go None plan = k.tables
       go (Some p) plan = table_put_fair (row_put d p.last p.table p.row) p.table p.position (row_put_fair d p.last p.table p.row (plan p refl) k.tables)
 
-  row_plan_is : (d : ClientDisk) (last number : ℕ) (o : Option RowPut) → (row_put d last number o).plan ≡ d.plan
+  pub row_plan_is : (d : ClientDisk) (last number : ℕ) (o : Option RowPut) → (row_put d last number o).plan ≡ d.plan
   row_plan_is d last number None = refl
   row_plan_is d last number (Some x) = go (table_at d number)
     where
@@ -127,7 +127,7 @@ module _ (known : ℕ → Option Schema) (c : ℕ) where
       go None = refl
       go (Some t) = refl
 
-  table_plan_is : (d : ClientDisk) (number : ℕ) (o : Option ℕ) → (table_put d number o).plan ≡ d.plan
+  pub table_plan_is : (d : ClientDisk) (number : ℕ) (o : Option ℕ) → (table_put d number o).plan ≡ d.plan
   table_plan_is d number None = refl
   table_plan_is d number (Some position) = go (table_at d number)
     where
@@ -479,8 +479,8 @@ module _ (known : ℕ → Option Schema) (c : ℕ) where
     take_fair (task ∷ more) a m = quiet_fair d (Some (task ∷ more)) (facts.Refuses (facts.Busy shape.plan)) k a
     take_fair [] a (SyncRequest q) = idle_fair facts.Done
     take_fair [] a (PullRequest q) = idle_fair facts.Done
-    take_fair [] a (SyncResponse q) = response_fair q (table_at (seen d) q.table) (λ t e. seen_fair d k q.table t e)
-    take_fair [] a (PullResponse q) = pulled_fair q (table_at (seen d) q.table) (λ t e. seen_fair d k q.table t e)
+    take_fair [] a (SyncResponse q) = response_fair q (table_at (seen d) q.table) (λ t e. tables_seen d k q.table t e)
+    take_fair [] a (PullResponse q) = pulled_fair q (table_at (seen d) q.table) (λ t e. tables_seen d k q.table t e)
 
     -- ---- writes, crashes and starts
 
@@ -518,13 +518,13 @@ module _ (known : ℕ → Option Schema) (c : ℕ) where
 
   module _ (shape : Shape) (d : ClientDisk) (k : IsFairDisk known d) where
     up_fair : (agenda : List ClientTask) → AreFairTasks agenda → (move : ClientMove) → IsFairStep known c (client_step c shape (record { disk = d; agenda = Some agenda }) move)
-    up_fair agenda a (client.Write table row content) = write_in_fair shape d k agenda a table row content (table_at (seen d) table) (λ t e. seen_fair d k table t e)
-    up_fair agenda a (client.Change table row edit) = edit_in_fair shape d k agenda a table row edit (table_at (seen d) table) (λ t e. seen_fair d k table t e)
+    up_fair agenda a (client.Write table row content) = write_in_fair shape d k agenda a table row content (table_at (seen d) table) (λ t e. tables_seen d k table t e)
+    up_fair agenda a (client.Change table row edit) = edit_in_fair shape d k agenda a table row edit (table_at (seen d) table) (λ t e. tables_seen d k table t e)
     up_fair agenda a (client.Show table row) = quiet_fair d (Some agenda) _ k a
     up_fair agenda a (client.Sum table row) = quiet_fair d (Some agenda) _ k a
-    up_fair agenda a (client.Sync table) = sync_in_fair shape d k agenda a table (table_at (seen d) table) (λ t e. seen_fair d k table t e)
+    up_fair agenda a (client.Sync table) = sync_in_fair shape d k agenda a table (table_at (seen d) table) (λ t e. tables_seen d k table t e)
     up_fair agenda a (client.Next table) = next_in_fair shape d k agenda a table (table_at (seen d) table)
-    up_fair agenda a (client.Resolve table row version choice) = resolve_in_fair shape d k agenda a table row version choice (table_at (seen d) table) (λ t e. seen_fair d k table t e)
+    up_fair agenda a (client.Resolve table row version choice) = resolve_in_fair shape d k agenda a table row version choice (table_at (seen d) table) (λ t e. tables_seen d k table t e)
     up_fair agenda a (client.Take m) = take_fair shape d k agenda a m
     up_fair agenda a (client.Work luck) = worked_fair shape d k (Some agenda) a luck
     up_fair agenda a (client.Crash luck) = crashed_fair shape d k (Some agenda) a luck

@@ -1,9 +1,10 @@
-//! The laws of what clients write and send: each content is a row of its table, and each request is the client's own.
+//! The laws of what is written and sent: each content is a row of its table, and each request is its client's own.
 //!
-//! A law says what holds of each client of the step table, and its function does nothing.
+//! A law says what holds of each client of the step table, or of each world; its function does nothing.
 #![tactic(auto)]
 
 ghost use Rattle.fair_laws.specs.Fair.{ClientsStayFair, MoreIsKnown, NewClientsAreFair};
+ghost use Rattle.fair_laws.specs.Worlds.{ReachedAreFair};
 
 /// Whatever is done to a client whose contents fit their tables, its contents fit behind it, and behind each of its
 /// writes; and each request that it sends is its own, with a content that is a row of its table.
@@ -19,4 +20,10 @@ pub fn more_is_known()
 /// What a client that joins has fits the tables that it opens.
 pub fn new_clients_are_fair()
     ensures { NewClientsAreFair }
+{}
+
+/// In every world that a script leads to, each row of a table and each one that is sent is a row of that table and has
+/// a version, and each request is its client's own.
+pub fn reached_worlds_are_fair()
+    ensures { ReachedAreFair }
 {}

@@ -841,3 +841,24 @@ last_few run c node at = ((behind_few run).1 c node at).0.0
 
 pub plan_few : (run : List Happening) (c : ℕ) (node : Client) (p : Plan) → client_at (world_from start run) c ≡ Some node → node.disk.plan ≡ Some p → p.last ≤ length run
 plan_few run c node p at is = subst (PlanUpTo (length run)) is ((behind_few run).1 c node at).0.1
+
+-- ---- the last number as it is read, with a plan's change
+
+with_last : (d : ClientDisk) (table : ℕ) (o : Option TableDisk) (f : TableDisk → TableDisk) → (client.with_table d table o f).last ≡ d.last
+with_last d table None f = refl
+with_last d table (Some there) f = refl
+
+row_last : (n : ℕ) (d : ClientDisk) (last table : ℕ) (row : Option RowPut) → d.last ≤ n → last ≤ n → (client.row_put d last table row).last ≤ n
+row_last n d last table None few new = few
+row_last n d last table (Some x) few new = subst (λ (m : ℕ). m ≤ n) (sym (with_last (record d { last = last }) table (table_at d table) (client.put_row x))) new
+
+put_last : (n : ℕ) (d : ClientDisk) (table : ℕ) (position : Option ℕ) → d.last ≤ n → (client.table_put d table position).last ≤ n
+put_last n d table None few = few
+put_last n d table (Some position) few = subst (λ (m : ℕ). m ≤ n) (sym (with_last d table (table_at d table) (client.put_position position))) few
+
+planned_last : (n : ℕ) (d : ClientDisk) (plan : Option Plan) → d.last ≤ n → PlanUpTo n plan → (client.planned_in d plan).last ≤ n
+planned_last n d None few new = few
+planned_last n d (Some p) few new = put_last n (client.row_put d p.last p.table p.row) p.table p.position (row_last n d p.last p.table p.row few new)
+
+pub seen_few : (run : List Happening) (c : ℕ) (node : Client) → client_at (world_from start run) c ≡ Some node → (seen node.disk).last ≤ length run
+seen_few run c node at = let few = ((behind_few run).1 c node at).0 in planned_last (length run) node.disk node.disk.plan few.0 few.1

@@ -1,0 +1,164 @@
+-- What an event keeps of a world, and a run from the start: each row is one of its table, and each request is its
+-- client's own.
+use Rattle.std.proofs.Common.{◌≡◌, ℕ, Bool, true, false, List, [], ◌∷◌, length, Option, Some, None, refl}
+use Rattle.std.specs.Prelude.{slice_get, if◌then◌else◌}
+use Rattle.std.specs.List.{AllByRecursion}
+use Rattle.stab_base.specs.declared.node.Node.{Node}
+use Rattle.stab_base.specs.declared.node.Node.TheVariants as nodes
+use Rattle.table_model.specs.declared.event.Event.{Event}
+use Rattle.table_model.specs.declared.event.Event.TheVariants as events
+use Rattle.step_tables.specs.Facts as facts
+use Rattle.step_tables.specs.Messages.{Message, Luck, SyncRequest, SyncResponse, PullRequest, PullResponse, table_of}
+use Rattle.step_tables.specs.Messages as messages
+use Rattle.step_tables.specs.StoreMoves as store
+use Rattle.step_tables.specs.StoreMoves.{StoreTask}
+use Rattle.step_tables.specs.ClientMoves as client
+use Rattle.step_tables.specs.ClientMoves.{Client, Shape, no_shape}
+use Rattle.step_tables.proofs.Lists.{among_none, among_get}
+use Rattle.world_tables.specs.World.{World, Packet, Hosted, Lucks, start, schema_at, hosted_at, client_at, owner, the_store, is_down, without_node, with_link, move_table, first_luck, other_lucks}
+use Rattle.world_tables.specs.World.{client_tasks, client_starts, busy_table, tasks_of, store_starts, crash_luck, answering, answered, linked}
+use Rattle.world_tables.specs.World.{take_read, take_at, to_hosted, to_there, carried, delivered, row_read, store_shows, chunk_names, history_lines, worked, all_worked, crashed, started, step}
+use Rattle.world_tables.specs.Turns.{Happening, world_from}
+use Rattle.fair_laws.specs.Reached.{IsBuilt}
+use Rattle.fair_laws.specs.Worlds.{IsFairMessage, IsFair}
+use Rattle.fair_laws.proofs.Stores.{TakesFair}
+use Rattle.fair_laws.proofs.Hosting.{beside_fair, table_fair, store_falls_fair, write_fair, works_fair, table_follows_fair, crashes_fair, store_starts_fair}
+use Rattle.fair_laws.proofs.Calling.{client_fair, client_works_fair, client_writes_fair, client_starts_fair, unless_down_fair, call_fair}
+use Rattle.fair_laws.proofs.Declaring.{declared_fair, joined_fair}
+
+module _ (w : World) (f : IsFair w) where
+  -- ---- deliveries
+
+  hosted_fair : (table : ℕ) (from : Node) (m : Message) → TakesFair (schema_at w) table m → (lucks : List Luck) (o : Option Hosted) → IsFair (to_hosted w table (store.Take from m) lucks o).world
+  hosted_fair table from m takes lucks None = f
+  hosted_fair table from m takes lucks (Some hosted) = go hosted.store.agenda
+    where
+      first : IsFair (move_table table (store.Take from m) w).world
+      first = table_fair w table (store.Take from m) takes f
+
+      read : (luck : Luck) → IsFair (take_read w table hosted (store.Take from m) (other_lucks lucks) luck).world
+      read messages.Done = table_follows_fair table (other_lucks lucks) (move_table table (store.Take from m) w).world first
+      read messages.FailedBefore = store_falls_fair owner w f
+      read messages.FailedAfter = store_falls_fair owner w f
+
+      go : (o : Option (List StoreTask)) → IsFair (take_at w table hosted (store.Take from m) lucks o).world
+      go None = first
+      go (Some (task ∷ more)) = first
+      go (Some []) = read (first_luck lucks)
+
+  takes_fair : (from : Node) (m : Message) → IsFairMessage (schema_at w) from m → TakesFair (schema_at w) (table_of m) m
+  takes_fair from (SyncRequest q) is = is.0
+  takes_fair from (PullRequest q) is = refl
+  takes_fair from (SyncResponse r) is = tt
+  takes_fair from (PullResponse q) is = tt
+
+  carried_fair : (p : Packet) → IsFairMessage (schema_at w) p.from p.message → (shape : Shape) (lucks : List Luck) (to : Node) → IsFair (carried w p shape lucks to).world
+  carried_fair p is shape lucks (nodes.Store number) = unless_down_fair w f (nodes.Store number) _
+      (hosted_fair (table_of p.message) p.from p.message (takes_fair p.from p.message is) lucks (hosted_at w (table_of p.message)))
+  carried_fair p is shape lucks (nodes.Gate gate) = f
+  carried_fair p is shape lucks (nodes.Client c) = go (client_at w c)
+    where
+      go : (o : Option Client) → IsFair (to_there w c p.message shape lucks o).world
+      go None = f
+      go (Some node) = call_fair w f c (client.Take p.message) shape lucks (Some node)
+
+  delivered_fair : (shape : Shape) (lucks : List Luck) (k : ℕ) (o : Option Packet) → slice_get w.packets k ≡ o → IsFair (delivered w shape lucks o).world
+  delivered_fair shape lucks k None at = f
+  delivered_fair shape lucks k (Some p) at = carried_fair p (f.packets p (among_get w.packets k p at)) shape lucks p.to
+
+  -- ---- links, holds, and what the Store has
+
+  linked_fair : (c : ℕ) (up : Bool) (o : Option Client) → IsFair (linked w c up o).world
+  linked_fair c up None = f
+  linked_fair c up (Some node) = unless_down_fair w f (nodes.Client c) _ (go up)
+    where
+      go : (b : Bool) → IsFair (with_link c b w)
+      go true = beside_fair w w.holds w.downs (without_node w.cuts (nodes.Client c)) f
+      go false = beside_fair w w.holds w.downs (nodes.Client c ∷ w.cuts) f
+
+  shows_fair : (row : List ℕ) (lucks : List Luck) (o : Option Hosted) → IsFair (store_shows w row lucks o).world
+  shows_fair row lucks None = f
+  shows_fair row lucks (Some hosted) = unless_down_fair w f the_store _ (read (first_luck lucks))
+    where
+      read : (luck : Luck) → IsFair (row_read w hosted row luck).world
+      read messages.Done = f
+      read messages.FailedBefore = store_falls_fair owner w f
+      read messages.FailedAfter = store_falls_fair owner w f
+
+  history_fair : (table : ℕ) (o : Option Hosted) → IsFair (history_lines w table o).world
+  history_fair table None = f
+  history_fair table (Some hosted) = f
+
+  chunks_fair : (table : ℕ) (o : Option Hosted) → IsFair (chunk_names w table o).world
+  chunks_fair table None = f
+  chunks_fair table (Some hosted) = unless_down_fair w f the_store _ f
+
+  -- ---- what is done to a node
+
+  worked_fair : (lucks : List Luck) (node : Node) → IsFair (worked w lucks node).world
+  worked_fair lucks (nodes.Store number) = write_fair number (first_luck lucks) (busy_table w number) w f
+  worked_fair lucks (nodes.Client c) = client_writes_fair c (first_luck lucks) (client_tasks (client_at w c)) w f
+  worked_fair lucks (nodes.Gate gate) = f
+
+  all_worked_fair : (lucks : List Luck) (node : Node) → IsFair (all_worked w lucks node).world
+  all_worked_fair lucks (nodes.Store number) = works_fair number (length (tasks_of w number)) lucks w f
+  all_worked_fair lucks (nodes.Client c) = client_works_fair c (client_tasks (client_at w c)) lucks w f
+  all_worked_fair lucks (nodes.Gate gate) = f
+
+  crashed_fair : (calls : ℕ) (lucks : List Luck) (node : Node) → IsFair (crashed w calls lucks node).world
+  crashed_fair calls lucks (nodes.Store number) = crashes_fair number calls lucks w f
+  crashed_fair calls lucks (nodes.Client c) = client_fair w c (client.Crash (crash_luck calls (other_lucks lucks) (first_luck lucks))) no_shape f
+  crashed_fair calls lucks (nodes.Gate gate) = f
+
+  started_fair : (shape : Shape) (lucks : List Luck) (node : Node) → IsFair (started w shape lucks node).world
+  started_fair shape lucks (nodes.Store number) = go (is_down w (nodes.Store number))
+    where
+      go : (b : Bool) → IsFair (if b then answering facts.Done (store_starts number lucks w) else answered w facts.Done).world
+      go true = store_starts_fair number lucks w f
+      go false = f
+  started_fair shape lucks (nodes.Client c) = go (is_down w (nodes.Client c))
+    where
+      go : (b : Bool) → IsFair (if b then answering facts.Done (client_starts c shape lucks w) else answered w facts.Done).world
+      go true = client_starts_fair c shape lucks w f
+      go false = f
+  started_fair shape lucks (nodes.Gate gate) = f
+
+  -- ---- every event
+
+  pub step_fair : (event : Event) → IsBuilt event → (lucks : Lucks) → IsFair (step w event lucks).world
+  step_fair (events.Store number) built lucks = f
+  step_fair (events.Table table schema) built lucks = declared_fair w f table schema built (first_luck lucks.calls) (hosted_at w table) refl
+  step_fair (events.Client c gate tables) built lucks = joined_fair w f c built tables (first_luck lucks.calls) (client_at w c)
+  step_fair (events.Write c table row x) built lucks = call_fair w f c (client.Write table row x) lucks.shape lucks.calls (client_at w c)
+  step_fair (events.Edit c table row x) built lucks = call_fair w f c (client.Change table row x) lucks.shape lucks.calls (client_at w c)
+  step_fair (events.Link c up) built lucks = linked_fair c up (client_at w c)
+  step_fair (events.Show c table row) built lucks = call_fair w f c (client.Show table row) lucks.shape lucks.calls (client_at w c)
+  step_fair (events.Sum c table row) built lucks = call_fair w f c (client.Sum table row) lucks.shape lucks.calls (client_at w c)
+  step_fair (events.Sync c table) built lucks = call_fair w f c (client.Sync table) lucks.shape lucks.calls (client_at w c)
+  step_fair (events.Pull c table) built lucks = call_fair w f c (client.Next table) lucks.shape lucks.calls (client_at w c)
+  step_fair (events.Deliver packet) built lucks = delivered_fair lucks.shape lucks.calls packet (slice_get w.packets packet) refl
+  step_fair (events.StoreShow table row) built lucks = shows_fair row lucks.calls (hosted_at w table)
+  step_fair (events.History table) built lucks = history_fair table (hosted_at w table)
+  step_fair (events.Chunks table) built lucks = chunks_fair table (hosted_at w table)
+  step_fair (events.Hold node) built lucks = unless_down_fair w f node _ (beside_fair w (node ∷ w.holds) w.downs w.cuts f)
+  step_fair (events.Free node) built lucks = unless_down_fair w f node _ (beside_fair w (without_node w.holds node) w.downs w.cuts f)
+  step_fair (events.Work node) built lucks = unless_down_fair w f node _ (worked_fair lucks.calls node)
+  step_fair (events.WorkAll node) built lucks = unless_down_fair w f node _ (all_worked_fair lucks.calls node)
+  step_fair (events.Crash node calls pick) built lucks = unless_down_fair w f node _ (crashed_fair calls lucks.calls node)
+  step_fair (events.Start node) built lucks = started_fair lucks.shape lucks.calls node
+
+-- ---- runs
+
+pub run_fair : (w : World) (run : List Happening) → AllByRecursion (λ (h : Happening). IsBuilt h.event) run → IsFair w → IsFair (world_from w run)
+run_fair w [] built f = f
+run_fair w (h ∷ more) built f = run_fair (step w h.event h.lucks).world more built.1 (step_fair w f h.event built.0 h.lucks)
+
+pub start_fair : IsFair start
+start_fair = record {
+  both = λ table. refl;
+  made = λ table schema at. absurd cc;
+  numbers = λ c is. absurd cc;
+  tables = λ table hosted at. absurd cc;
+  clients = λ c s at. absurd cc;
+  packets = λ p a. absurd (among_none p a);
+}

@@ -27,3 +27,4 @@ pub mod Sinces
 pub mod Stopping
 pub mod Renewing
 pub mod Arming
+pub mod Blanks

@@ -102,7 +102,7 @@ all_log opened (PutTable schema state ∷ ws) h = all_log opened ws h
 all_log opened (PutSub client terms ∷ ws) h = all_log opened ws h
 
 module _ {D : Type 0} (state : D → DiskState) (images : D → ℕ → List ℕ → Type 0) (only_now : (disk : D) (image : List ℕ) → images disk (state disk).moment image → IsImage (state disk).pending image) where
-  leave : (old new : TableDevs D) (P : List (ChunkName × List ℕ) → Type 0) (Q : TableData → Type 0) (S : Option Entry → Type 0) (R : Devs → Type 0)
+  pub leave : (old new : TableDevs D) (P : List (ChunkName × List ℕ) → Type 0) (Q : TableData → Type 0) (S : Option Entry → Type 0) (R : Devs → Type 0)
       → vaults.Leaves state images (chunks.vault_of old.chunks) (chunks.vault_of new.chunks) (λ l. P (chunks_of l))
       → vaults.Leaves state images (rows.vault_of old.rows) (rows.vault_of new.rows) (λ l. Q (data_of l))
       → vaults.Leaves state images (logs.vault_of old.log) (logs.vault_of new.log) (λ l. S (pending_of l))
@@ -788,7 +788,7 @@ module _ {D : Type 0} (state : D → DiskState) (images : D → ℕ → List ℕ
   short_stands image short = ([], stands_at image 0 [] (record { size = refl; front = refl; more = λ lt. absurd (omega arith); short = tt }) (λ _. omega arith), refl)
 
   -- while nothing is done, a crash of a blank file leaves no payload
-  blank_leaves : (vault : Vault D) → IsBlank state vault → vaults.Leaves state images vault vault (λ list. list ≡ [])
+  pub blank_leaves : (vault : Vault D) → IsBlank state vault → vaults.Leaves state images vault vault (λ list. list ≡ [])
   blank_leaves vault blank =
       let file = (state (disk_of vault)).seen in
       started state images (disk_of vault) (StandsForOne (λ list. list ≡ []))
@@ -796,15 +796,15 @@ module _ {D : Type 0} (state : D → DiskState) (images : D → ℕ → List ℕ
       let same = settled_only file image (subst (λ q. IsImage q image) blank.synced (only_now (disk_of vault) image left)) in
       short_stands image (rw same blank.short))
 
-  no_rows : data_of [] ≡ nothing_held
+  pub no_rows : data_of [] ≡ nothing_held
   unfolding data_of
   no_rows = refl
 
-  no_chunks : chunks_of [] ≡ []
+  pub no_chunks : chunks_of [] ≡ []
   unfolding chunks_of
   no_chunks = refl
 
-  no_entry : pending_of [] ≡ None
+  pub no_entry : pending_of [] ≡ None
   unfolding pending_of
   no_entry = refl
 
@@ -816,10 +816,10 @@ module _ {D : Type 0} (state : D → DiskState) (images : D → ℕ → List ℕ
       leave state images only_now old new (λ here. here ≡ chunks_of []) (λ here. here ≡ data_of []) (λ here. here ≡ pending_of []) (λ d. d ≡ nothing) a b c
       (λ x y z px py pz. let p : x ≡ [] = px ∙ no_chunks in let q : y ≡ nothing_held = py ∙ no_rows in let r : z ≡ None = pz ∙ no_entry in cc)
 
-  blank_rows : (dev : RowDev D) → IsBlank state (rows.vault_of dev) → vaults.Leaves state images (rows.vault_of dev) (rows.vault_of dev) (λ l. data_of l ≡ data_of [])
+  pub blank_rows : (dev : RowDev D) → IsBlank state (rows.vault_of dev) → vaults.Leaves state images (rows.vault_of dev) (rows.vault_of dev) (λ l. data_of l ≡ data_of [])
   blank_rows dev blank = runs_weaker state images (rows.vault_of dev) (rows.vault_of dev) (λ l. l ≡ []) (λ l. data_of l ≡ data_of []) (blank_leaves (rows.vault_of dev) blank) (λ l is. ap data_of is)
 
-  blank_log : (dev : StatusLog D) → IsBlank state (logs.vault_of dev) → vaults.Leaves state images (logs.vault_of dev) (logs.vault_of dev) (λ l. pending_of l ≡ pending_of [])
+  pub blank_log : (dev : StatusLog D) → IsBlank state (logs.vault_of dev) → vaults.Leaves state images (logs.vault_of dev) (logs.vault_of dev) (λ l. pending_of l ≡ pending_of [])
   blank_log dev blank = runs_weaker state images (logs.vault_of dev) (logs.vault_of dev) (λ l. l ≡ []) (λ l. pending_of l ≡ pending_of []) (blank_leaves (logs.vault_of dev) blank) (λ l is. ap pending_of is)
 
   pub one_blank : (old new : TableDevs D) → new.rows ≡ old.rows → new.log ≡ old.log → AreBlank state old

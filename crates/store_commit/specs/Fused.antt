@@ -33,6 +33,17 @@ vault_at table Chunks = chunks.vault_of table.chunks
 vault_at table Rows = rows.vault_of table.rows
 vault_at table Log = logs.vault_of table.log
 
+-- the other devices are as they were
+abbrev pub OthersStay : {D : Type 0} → Device → TableDevs D → TableDevs D → Type 0
+OthersStay Chunks old new = (new.rows ≡ old.rows) × (new.log ≡ old.log)
+OthersStay Rows old new = (new.chunks ≡ old.chunks) × (new.log ≡ old.log)
+OthersStay Log old new = (new.chunks ≡ old.chunks) × (new.rows ≡ old.rows)
+
+-- those beside the device of the first of these writes are as they were
+abbrev pub StayBeside : {D : Type 0} → List Write → TableDevs D → TableDevs D → Type 0
+StayBeside [] old new = new ≡ old
+StayBeside (w ∷ ws) old new = OthersStay (device_of w) old new
+
 -- the fuse of this device's disk is set, and the other devices are as they were
 abbrev pub StopsOne : {D : Type 0} → (D → DiskState) → (D → ℕ → List ℕ → Type 0) → ℕ → ℕ → Device
     → TableDevs (FuseDisk D) → TableDevs (FuseDisk D) → Type 0

@@ -1,5 +1,5 @@
 -- What the calls promise that take writes on, and do none.
-use Rattle.std.specs.Prelude.{◌≡◌, ◌⊎◌, ◌↔◌, ℕ, ◌<◌, ◌≤◌, List, [], length, Option, IfSome, Result, Ok, Err}
+use Rattle.std.specs.Prelude.{◌≡◌, ◌⊎◌, ◌↔◌, ℕ, ◌<◌, ◌≤◌, List, [], length, Option, None, IfSome, Result, Ok, Err}
 use Rattle.std.specs.Prelude.{OnOk, OnErr, IfOk, IfErr, IsErrOf}
 use Rattle.std.specs.Prelude.{Bool, false}
 use Rattle.std.specs.List.{AllByRecursion, Contains}
@@ -8,7 +8,7 @@ use Rattle.vault.specs.Limit.{payload_most}
 use Rattle.stab_base.specs.declared.row_version.RowVersion.{RowVersion}
 use Rattle.chunk_store.specs.Standing as chunks
 use Rattle.row_store.specs.declared.stored.StoredRow.{StoredRow}
-use Rattle.row_store.specs.Data.{TableData, row_of}
+use Rattle.row_store.specs.Data.{TableData, nothing_held, row_of}
 use Rattle.row_store.specs.Spelling.{HasStoredSpelling, row_payload}
 use Rattle.row_store.specs.Standing as rows
 use Rattle.status_log.specs.Entry.{Entry, HasSpelling}
@@ -30,6 +30,13 @@ pub record AllLeave {D : Type 0} (state : D → DiskState) (images : D → ℕ �
   pub chunks : chunks.Leaves state images old.chunks new.chunks (λ here. here ≡ chunks.chunks state old.chunks)
   pub rows : RowsLeave state images old new (λ held. held ≡ (devs state old).held)
   pub log : logs.Leaves state images old.log new.log (λ here. here ≡ logs.entry_open state old.log)
+
+-- a crash at any moment leaves of each device nothing
+pub record NoneLeave {D : Type 0} (state : D → DiskState) (images : D → ℕ → List ℕ → Type 0)
+    (old new : TableDevs D) : Type 0 where
+  pub chunks : chunks.Leaves state images old.chunks new.chunks (λ here. here ≡ [])
+  pub rows : RowsLeave state images old new (λ held. held ≡ nothing_held)
+  pub log : logs.Leaves state images old.log new.log (λ here. here ≡ None)
 
 -- Nothing has changed but room that was added; or a disk has failed, and its device is down. A crash at any moment
 -- leaves what was held.

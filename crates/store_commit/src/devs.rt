@@ -17,7 +17,9 @@ ghost use Rattle.store_commit.specs.Agenda.{Runs, IsMoment, IsRecovering, IsKeep
 ghost use Rattle.store_commit.specs.Standing.{write_of, writes_of, AreUp, IsOneDown, IsReady, Works, WorksOn, devs};
 ghost use Rattle.store_commit.specs.Standing.{DevsLeave, RowsLeave, AreLookedAt, AreSound, AreSynced, AreBlank, HaveOpenings};
 ghost use Rattle.store_commit.specs.Standing.{all_stops, nothing, GoesOn, NothingHidden, NothingSpared, seen, spared_of};
+ghost use Rattle.store_commit.specs.Fused.{device_of, OthersStay, StayBeside};
 ghost use Rattle.store_commit.specs.Shows.{behind_first, ShowsAlike};
+ghost use Rattle.store_commit.specs.TakesOn.{NoneLeave};
 ghost use Rattle.store_commit.specs.Unset.{KeepsUnset, HasCause};
 
 use crate::fault::{CommitFault, told};
@@ -105,6 +107,7 @@ impl<D: Disk + Drop> TableDevs<D> {
         ensures works { Works D.state D.images OpenChunks (writes_of self.old) self.old self.new result }
         ensures agenda { self.new.agenda ≡ self.old.agenda }
         ensures scanned { self.new.scanned ≡ self.old.scanned }
+        ensures others { OthersStay (device_of OpenChunks) self.old self.new }
     {
         told(self.chunks.open_write())
     }
@@ -117,6 +120,7 @@ impl<D: Disk + Drop> TableDevs<D> {
         ensures works { Works D.state D.images OpenRows (writes_of self.old) self.old self.new result }
         ensures agenda { self.new.agenda ≡ self.old.agenda }
         ensures scanned { self.new.scanned ≡ self.old.scanned }
+        ensures others { OthersStay (device_of OpenRows) self.old self.new }
     {
         told(self.rows.open_write())
     }
@@ -129,6 +133,7 @@ impl<D: Disk + Drop> TableDevs<D> {
         ensures works { Works D.state D.images OpenLog (writes_of self.old) self.old self.new result }
         ensures agenda { self.new.agenda ≡ self.old.agenda }
         ensures scanned { self.new.scanned ≡ self.old.scanned }
+        ensures others { OthersStay (device_of OpenLog) self.old self.new }
     {
         told(self.log.open_write())
     }
@@ -142,6 +147,7 @@ impl<D: Disk + Drop> TableDevs<D> {
             (writes_of self.old) self.old self.new result }
         ensures agenda { self.new.agenda ≡ self.old.agenda }
         ensures scanned { self.new.scanned ≡ self.old.scanned }
+        ensures others { OthersStay (device_of (OpenEntry (entry_of entry.now))) self.old self.new }
     {
         told(self.log.open_entry(entry))
     }
@@ -154,6 +160,7 @@ impl<D: Disk + Drop> TableDevs<D> {
         ensures works { Works D.state D.images (PutChunk name bytes.now) (writes_of self.old) self.old self.new result }
         ensures agenda { self.new.agenda ≡ self.old.agenda }
         ensures scanned { self.new.scanned ≡ self.old.scanned }
+        ensures others { OthersStay (device_of (PutChunk name bytes.now)) self.old self.new }
     {
         told(self.chunks.put(name, bytes))
     }
@@ -166,6 +173,7 @@ impl<D: Disk + Drop> TableDevs<D> {
         ensures works { Works D.state D.images (PutRow stored) (writes_of self.old) self.old self.new result }
         ensures agenda { self.new.agenda ≡ self.old.agenda }
         ensures scanned { self.new.scanned ≡ self.old.scanned }
+        ensures others { OthersStay (device_of (PutRow stored)) self.old self.new }
     {
         told(self.rows.put_row(stored))
     }
@@ -178,6 +186,7 @@ impl<D: Disk + Drop> TableDevs<D> {
         ensures works { Works D.state D.images (DropChunk name) (writes_of self.old) self.old self.new result }
         ensures agenda { self.new.agenda ≡ self.old.agenda }
         ensures scanned { self.new.scanned ≡ self.old.scanned }
+        ensures others { OthersStay (device_of (DropChunk name)) self.old self.new }
     {
         told(self.chunks.drop_chunk(name))
     }
@@ -190,6 +199,7 @@ impl<D: Disk + Drop> TableDevs<D> {
         ensures works { Works D.state D.images CloseEntry (writes_of self.old) self.old self.new result }
         ensures agenda { self.new.agenda ≡ self.old.agenda }
         ensures scanned { self.new.scanned ≡ self.old.scanned }
+        ensures others { OthersStay (device_of CloseEntry) self.old self.new }
     {
         told(self.log.close_entry())
     }
@@ -203,6 +213,7 @@ impl<D: Disk + Drop> TableDevs<D> {
             (writes_of self.old) self.old self.new result }
         ensures agenda { self.new.agenda ≡ self.old.agenda }
         ensures scanned { self.new.scanned ≡ self.old.scanned }
+        ensures others { OthersStay (device_of (PutTable schema.now state)) self.old self.new }
     {
         told(self.rows.put_table(schema, state))
     }
@@ -227,6 +238,9 @@ impl<D: Disk + Drop> TableDevs<D> {
             self.old self.new result }
         ensures agenda { self.new.agenda ≡ self.old.agenda }
         ensures scanned { self.new.scanned ≡ self.old.scanned }
+        ensures others { OthersStay (device_of
+            (PutSub client (terms_if on (record { gate = gate; period = period; tolerance = tolerance }))))
+            self.old self.new }
     {
         told(self.rows.put_sub(client, on, gate, period, tolerance))
     }
@@ -240,6 +254,7 @@ impl<D: Disk + Drop> TableDevs<D> {
         ensures works { Works D.state D.images (write_of task) (writes_of self.old) self.old self.new result }
         ensures agenda { self.new.agenda ≡ self.old.agenda }
         ensures scanned { self.new.scanned ≡ self.old.scanned }
+        ensures others { OthersStay (device_of (write_of task)) self.old self.new }
     {
         match task {
             Task::OpenChunks => self.open_chunks(),
@@ -269,6 +284,8 @@ impl<D: Disk + Drop> TableDevs<D> {
         // It stops one call at most.
         ensures once { all_stops D.state self.new ≤ all_stops D.state self.old + 1 }
         ensures works { AreUp self.old → WorksOn D.state D.images self.old self.new result (writes_of self.old) }
+        // The devices beside the write's own stay.
+        ensures others { AreUp self.old → StayBeside (writes_of self.old) self.old self.new }
         ensures down { IsErrOf result CommitFault.Down ↔ IsOneDown self.old }
         ensures unchanged { IsErrOf result CommitFault.Down → self.new ≡ self.old }
         // What was promised of every moment of an update still is, and a crash of this call leaves one of them.
@@ -377,6 +394,9 @@ impl<D: Disk + Drop> TableDevs<D> {
         // Of blank disks a crash at any moment leaves nothing.
         ensures blank { AreUp self.old → AreBlank D.state self.old
             → DevsLeave D.state D.images self.old self.new (λ d. d ≡ nothing) }
+        // And so it does of each by itself, whatever goes before or comes behind.
+        ensures none_left { AreUp self.old → AreBlank D.state self.old
+            → NoneLeave D.state D.images self.old self.new }
         ensures idle { writes_of self.new ≡ [] }
         ensures hidden { NothingHidden self.new }
         ensures spared { NothingSpared self.new }

@@ -1,4 +1,5 @@
 pub mod Lists
+pub mod Blanks
 pub mod Hosting
 pub mod Maps
 pub mod Moving

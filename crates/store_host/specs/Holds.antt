@@ -1,16 +1,18 @@
 -- What a Store with its tables holds of the world of the laws: of its tables, their schemas, and whether the Store is
 -- down. Packets, clients and holds are whoever's.
-use Rattle.std.specs.Prelude.{◌≡◌, ℕ, ◌≤◌, ◌<◌, Bool, true, false, not, ◌&&◌, List, [], ◌∷◌, map, filter}
+use Rattle.std.specs.Prelude.{◌≡◌, ℕ, ◌≤◌, ◌<◌, Bool, true, false, not, ◌&&◌, List, [], ◌∷◌, length, map, filter}
 use Rattle.std.specs.Prelude.{Option, Some, None}
 use Rattle.std.specs.Ordering.{nat_cmp}
 use Rattle.std.specs.BTreeMap as tree
 use Rattle.std.specs.Map.{keys_of}
 use Rattle.std.specs.List.Sorted.{IsStrictlySortedBy}
-use Rattle.disk_trait.specs.Calls.{DiskState}
+use Rattle.disk_trait.specs.Image.{settled}
+use Rattle.disk_trait.specs.Calls.{DiskState, LeavesOnly}
 use Rattle.disk_trait.specs.Fuse.{behind, inner_of}
+use Rattle.vault.specs.File.{StandsForOne}
 use Rattle.vault.specs.Standing.{disk_of}
 use Rattle.chunk_store.specs.Standing as chunks
-use Rattle.row_store.specs.Data.{TableData}
+use Rattle.row_store.specs.Data.{TableData, data_of}
 use Rattle.row_store.specs.Standing as rows
 use Rattle.status_log.specs.Standing as logs
 use Rattle.row_value.specs.declared.schema.Schema.{Schema}
@@ -20,7 +22,7 @@ use Rattle.device_laws.specs.Stands.{HasRows}
 use Rattle.store_node.specs.declared.node.StoreOut.{StoreOut}
 use Rattle.step_tables.specs.Travels.{send_of}
 use Rattle.store_node.specs.Due.{fact_of}
-use Rattle.store_node.specs.Node.{IsTable, told_by, sent_by, own_faults}
+use Rattle.store_node.specs.Node.{IsTable, told_by, sent_by, own_faults, HasNoRows}
 use Rattle.world_tables.specs.World.{World, Outbox, Moved, schema_at, hosted_at, owner, the_store, is_down, history_on}
 use Rattle.world_tables.specs.World.{packets_from, tasks_in}
 use Rattle.world_tables.specs.World as world
@@ -158,6 +160,25 @@ disks_at e = (
     inner_of (disk_of (logs.vault_of e.1.node.devs.log)),
   ),
 )
+
+-- ---- blank disks
+
+-- The disk is blank: empty, or with one byte, and all of it on the disk.
+pub record IsBlankDisk {D : Type 0} (state : D → DiskState) (disk : D) : Type 0 where
+  pub synced : (state disk).pending ≡ settled (state disk).seen
+  pub short : length (state disk).seen ≤ 1
+
+-- a table's disks of the chunks, the rows and the log are
+pub record AreBlankDisks {D : Type 0} (state : D → DiskState) (chunk_disk row_disk log_disk : D) : Type 0 where
+  pub chunks : IsBlankDisk state chunk_disk
+  pub rows : IsBlankDisk state row_disk
+  pub log : IsBlankDisk state log_disk
+
+-- at every moment since this disk of rows was handed in, a crash leaves no row of the table that has it now
+abbrev pub LeavesNoRow : {D : Type 0} → (D → DiskState) → (D → ℕ → List ℕ → Type 0) → D → Hosted D → Type 0
+LeavesNoRow state images row_disk it =
+    LeavesOnly state images row_disk (inner_of (disk_of (rows.vault_of it.node.devs.rows)))
+    (StandsForOne (λ list. HasNoRows it.node.schema (data_of list)))
 
 -- ---- rows at every moment
 

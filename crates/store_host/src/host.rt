@@ -19,7 +19,7 @@ ghost use Rattle.world_tables.specs.World.{busy_table, busy_step, write_next, st
 ghost use Rattle.world_tables.specs.World.{tasks_of, store_until_idle, is_at_work, schema_at, chunk_in, names_on};
 ghost use Rattle.world_tables.specs.World.{tables_start, tables_fall, and_then, still, without_down, with_table};
 ghost use Rattle.store_host.specs.Holds.{IsHosted, HoldsParts, HoldsStore, AreParts, IsStore, SameFaults};
-ghost use Rattle.store_host.specs.Holds.{LaterFaults, AreLeft, AreStill};
+ghost use Rattle.store_host.specs.Holds.{LaterFaults, AreLeft, AreStill, AreBlankDisks, LeavesNoRow};
 ghost use Rattle.store_host.specs.Holds.{faults_at, disks_at};
 ghost use Rattle.store_host.specs.Steps.{new_table, faults_of};
 ghost use Rattle.store_host.specs.Calls.{IsMoved, HasCause, HasLuck, Takes, HasTakeCause, ShowsRow};
@@ -163,6 +163,9 @@ impl<D: Disk + Drop> StoreHost<D> {
             → OnOk result (AreStill D.state D.images w self.old.tables self.new.tables) }
         ensures left_failed { (w : AWorld) → HoldsStore D.state w self.old → IsErrOf result DiskFailed
             → AreStill D.state D.images w self.old.tables self.new.tables }
+        // On blank disks a crash leaves no row of the new table, at any moment since they were handed in.
+        ensures blank { AreBlankDisks D.state chunk_disk row_disk log_disk → OnOk result ((it : Hosted D)
+            → tree.get nat_cmp self.new.tables table ≡ Some it → LeavesNoRow D.state D.images row_disk it) }
         ensures only { IfErr result (λ e. (e ≡ DiskFailed) ⊎ (e ≡ Memory)) }
     {
         let mut hosted = Hosted::new(

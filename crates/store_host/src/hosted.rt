@@ -13,10 +13,15 @@ ghost use Rattle.step_tables.specs.StoreMoves.{StoreStep, TableStore, Work, Cras
 ghost use Rattle.step_tables.specs.Messages as messages;
 ghost use Rattle.store_node.specs.declared.fault.NodeFault.TheVariants.{Disk as DiskFailed, Memory};
 ghost use Rattle.store_node.specs.Due.{fact_of};
+ghost use Rattle.disk_trait.specs.Fuse.{behind, inner_of};
+ghost use Rattle.vault.specs.Standing.{disk_of};
+ghost use Rattle.row_store.specs.Standing as rows;
+ghost use Rattle.store_commit.specs.Standing.{RowsLeave};
 ghost use Rattle.store_node.specs.Node.{IsNode, IsTable, has_task, own_faults, behind_next, LeavesRows};
+ghost use Rattle.store_node.specs.Node.{HasBlankDisks, HasNoRows};
 ghost use Rattle.world_tables.specs.World.{owner, goes_on, history_on, next_step, tasks_in};
 ghost use Rattle.world_tables.specs.World as world;
-ghost use Rattle.store_host.specs.Holds.{IsHosted, outs_in, outbox_of, says_something, disks_at};
+ghost use Rattle.store_host.specs.Holds.{IsHosted, outs_in, outbox_of, says_something, disks_at, AreBlankDisks};
 ghost use Rattle.store_host.specs.Steps.{IsTelling, HasTold, moved_at, started_at, new_table, faults_of, HasNodeCause};
 ghost use Rattle.store_host.specs.Steps.{HasCrashed, HasTaken, HasNodeTakeCause, HasShown};
 
@@ -111,6 +116,8 @@ impl<D: Disk + Drop> Hosted<D> {
         ensures hosted { IsHosted D.state (Some schema) table (new_table false false) result }
         ensures declared { result.node.is_declared ≡ false }
         ensures faults { own_faults D.state result.node ≡ faults_of D.state chunk_disk row_disk log_disk }
+        ensures blank { AreBlankDisks D.state chunk_disk row_disk log_disk → HasBlankDisks D.state result.node }
+        ensures rows { inner_of (disk_of (rows.vault_of result.node.devs.rows)) ≡ row_disk }
     {
         Hosted {
             node: TableNode::new(alloc, store, table, schema, chunk_disk, row_disk, log_disk),
@@ -129,6 +136,10 @@ impl<D: Disk + Drop> Hosted<D> {
             → IsHosted D.state declared table (new_table false false) self.old
             → OnErr result (IsHosted D.state declared table (new_table false false) self.new) }
         ensures cause { HasNodeCause D.state self.old.node self.new.node result }
+        // On blank disks a crash leaves no rows.
+        ensures blank { HasBlankDisks D.state self.old.node → OnOk result (RowsLeave (behind D.state)
+            (λ f. D.images (inner_of f)) self.old.node.devs self.new.node.devs (HasNoRows self.old.node.schema)) }
+        ensures schema { OnOk result (self.new.node.schema ≡ self.old.node.schema) }
     {
         match self.node.declare() {
             Ok(()) => {

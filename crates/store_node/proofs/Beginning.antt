@@ -28,7 +28,9 @@ use Rattle.store_node.specs.declared.fault.NodeFault.TheVariants as node_faults
 use Rattle.store_node.specs.declared.node.TableNode.{TableNode}
 use Rattle.store_node.specs.Node.{IsTable, told_by, sent_by, nothing_stored}
 use Rattle.store_node.specs.Calls.{Falls, Stays, Declares, DeclaresLate, Recovers, Starts}
-use Rattle.store_node.proofs.Recovering.{recovered_at, unrecovered_at}
+use Rattle.store_commit.proofs.Blanks.{none_still}
+use Rattle.store_node.proofs.Blanks.{none_made}
+use Rattle.store_node.proofs.Recovering.{recovered_at, unrecovered_at, none_at}
 use Rattle.store_node.proofs.Working.{IsKept, still_rows, down_rows}
 use Rattle.store_node.proofs.Whole.{whole_stands}
 
@@ -101,10 +103,18 @@ module _ {D : Type 0} (state : D → DiskState) (images : D → ℕ → List ℕ
 
   -- ---- declared late
 
-  pub late_short : (node : TableNode D) (facts : Gathered StoreFact) (disk : StoreDisk) (agenda : Option (List StoreTask)) → facts.items.items ≡ node.facts.items.items → IsTable state node (at disk agenda) → node.is_declared ≡ false
-      → DeclaresLate state (at disk agenda) node (record node { facts = facts }) (Err node_faults.Memory)
-  late_short node facts disk None same t isnt = record { declared = tt; refused = still node facts disk same t; counted = λ _. refl; cause = λ is. absurd cc; only = inr refl }
-  late_short node facts disk (Some tasks) same t isnt = let is = t.at.1.declared in absurd cc
+  pub late_short : ((disk : FuseDisk D) (image : List ℕ) → images (inner_of disk) (behind state disk).moment image → IsImage (behind state disk).pending image)
+      → (node : TableNode D) (facts : Gathered StoreFact) (disk : StoreDisk) (agenda : Option (List StoreTask)) → facts.items.items ≡ node.facts.items.items → IsTable state node (at disk agenda) → node.is_declared ≡ false
+      → DeclaresLate state images (at disk agenda) node (record node { facts = facts }) (Err node_faults.Memory)
+  late_short only_now node facts disk None same t isnt = record {
+    declared = tt;
+    refused = still node facts disk same t;
+    counted = λ _. refl;
+    cause = λ is. absurd cc;
+    only = inr refl;
+    blank = λ blank. none_at state images node (record node { facts = facts }) (none_made st im only_now node.schema node.devs node.devs (none_still st im only_now node.devs blank));
+  }
+  late_short only_now node facts disk (Some tasks) same t isnt = let is = t.at.1.declared in absurd cc
 
   pub late_node : (node : TableNode D) (facts : Gathered StoreFact) (disk : StoreDisk) (agenda : Option (List StoreTask)) → IsTable state node (at disk agenda) → node.is_declared ≡ false → IsTable state (record node { facts = facts }) (at disk agenda)
   late_node node facts disk None t isnt = facts_at node facts disk t
@@ -139,8 +149,8 @@ module _ {D : Type 0} (state : D → DiskState) (images : D → ℕ → List ℕ
       }
 
   pub late_done : (node : TableNode D) (reserved facts : Gathered StoreFact) (made : TableNode D) (s : TableStore) → reserved.items.items ≡ node.facts.items.items
-      → Declares state s (record node { facts = reserved }) made (Ok tt) → made.facts ≡ reserved → facts.items.items ≡ made.facts.items.items ++ told.Recovered made.store made.table ∷ [] → HasRoom facts 0
-      → DeclaresLate state s node (record made { facts = facts }) (Ok tt)
+      → Declares state images s (record node { facts = reserved }) made (Ok tt) → made.facts ≡ reserved → facts.items.items ≡ made.facts.items.items ++ told.Recovered made.store made.table ∷ [] → HasRoom facts 0
+      → DeclaresLate state images s node (record made { facts = facts }) (Ok tt)
   late_done node reserved facts made s same d kept added room = record {
     declared = record {
       table = more_facts made facts nothing_stored room d.declared.table;
@@ -152,19 +162,21 @@ module _ {D : Type 0} (state : D → DiskState) (images : D → ℕ → List ℕ
     counted = λ is. d.counted (λ was. cc);
     cause = λ is. absurd cc;
     only = tt;
+    blank = λ blank. let k = d.blank blank in record { any_moment = k.any_moment; rows_left = k.rows_left };
   }
     where
       facts_told : map fact_of (node.facts.items.items ++ told.Recovered made.store made.table ∷ []) ≡ told_by node ++ facts_of.StoreRecovered node.store node.table ∷ []
       facts_told = map-append fact_of node.facts.items.items (told.Recovered made.store made.table ∷ []) ∙ rw (d.declared.same.store, d.declared.same.table) refl
 
   pub late_failed : (node : TableNode D) (reserved : Gathered StoreFact) (made : TableNode D) (s : TableStore) (e : NodeFault) → reserved.items.items ≡ node.facts.items.items
-      → Declares state s (record node { facts = reserved }) made (Err e) → DeclaresLate state s node made (Err e)
+      → Declares state images s (record node { facts = reserved }) made (Err e) → DeclaresLate state images s node made (Err e)
   late_failed node reserved made s e same d = record {
     declared = tt;
     refused = record { table = d.refused.table; told = d.refused.told ∙ ap (map fact_of) same; sent = d.refused.sent; same = record { store = d.refused.same.store; table = d.refused.same.table; schema = d.refused.same.schema } };
     counted = λ is. d.counted (λ was. is was);
     cause = λ is. d.cause is;
     only = d.only;
+    blank = λ blank. let k = d.blank blank in record { any_moment = k.any_moment; rows_left = k.rows_left };
   }
 
   -- ---- a start
@@ -180,6 +192,7 @@ module _ {D : Type 0} (state : D → DiskState) (images : D → ℕ → List ℕ
     cause = λ is. absurd cc;
     only = tt;
     rows_left = λ _. still_rows state images only_now node disk tasks t.at.1;
+    blank = λ isnt. let is = t.at.1.declared in absurd cc;
   }
 
   pub start_recovers : (old new : TableNode D) (s : TableStore) (r : Result (Unit {0}) NodeFault) → old.is_declared ≡ true → Recovers state images s old new r → Starts state images s old new r
@@ -190,10 +203,10 @@ module _ {D : Type 0} (state : D → DiskState) (images : D → ℕ → List ℕ
     counted = k.counted;
     cause = k.cause;
     only = k.only;
-    rows_left = λ _.
-        k.rows_left;
+    rows_left = λ _. k.rows_left;
+    blank = λ isnt. absurd cc;
   }
 
-  pub start_declares : (old new : TableNode D) (s : TableStore) (r : Result (Unit {0}) NodeFault) → old.is_declared ≡ false → DeclaresLate state s old new r → Starts state images s old new r
+  pub start_declares : (old new : TableNode D) (s : TableStore) (r : Result (Unit {0}) NodeFault) → old.is_declared ≡ false → DeclaresLate state images s old new r → Starts state images s old new r
   start_declares old new s r isnt k = record
-      { started = λ is. absurd cc; declared = λ _. k.declared; refused = k.refused; counted = k.counted; cause = k.cause; only = k.only; rows_left = λ is. absurd cc }
+      { started = λ is. absurd cc; declared = λ _. k.declared; refused = k.refused; counted = k.counted; cause = k.cause; only = k.only; rows_left = λ is. absurd cc; blank = λ _. k.blank }

@@ -6,6 +6,7 @@ pub mod Crashing
 pub mod Starting
 pub mod Recovering
 pub mod Handing
+pub mod Blanks
 pub mod Making
 pub mod Whole
 pub mod Beginning

@@ -2,6 +2,7 @@
 use Rattle.std.proofs.Common.{◌≡◌, inl, inr, ⊎_elim, ℕ, List, [], ◌∷◌, Result, Ok, Err, refl, ◌∙◌, ap, subst, arith}
 use Rattle.std.specs.Prelude.{OnOk}
 use Rattle.std.specs.BTreeSet.{keys}
+use Rattle.disk_trait.specs.Image.{IsImage}
 use Rattle.disk_trait.specs.Calls.{DiskState}
 use Rattle.row_value.specs.declared.schema.Schema.{Schema}
 use Rattle.store_commit.specs.declared.devs.TableDevs.{TableDevs}
@@ -17,9 +18,12 @@ use Rattle.store_commit.specs.TakesOn.{TakesOn}
 use Rattle.store_commit.specs.Scan.{AllStay, Asks}
 use Rattle.store_commit.specs.Unset.{KeepsUnset, HasCause}
 use Rattle.store_commit.proofs.Fusing.{keeps_then, cause_then}
-use Rattle.store_commit.specs.Standing.{RowsLeave, NothingHidden}
+use Rattle.store_commit.specs.Fused.{StayBeside}
+use Rattle.store_commit.specs.Standing.{RowsLeave, NothingHidden, AreBlank}
+use Rattle.store_commit.specs.TakesOn.{NoneLeave}
 use Rattle.store_commit.proofs.Moments.{rows_then}
-use Rattle.store_node.specs.Devices.{MakesTable, BeginsStart}
+use Rattle.store_node.specs.Devices.{MakesTable, BeginsStart, LeavesNoRows}
+use Rattle.store_node.proofs.Blanks.{none_then, none_made, record_put}
 
 module _ {D : Type 0} (state : D → DiskState) (images : D → ℕ → List ℕ → Type 0) where
   pub ready_up : (table : TableDevs D) (ws : List Write) → IsReady state table ws → AreUp table
@@ -68,8 +72,12 @@ module _ {D : Type 0} (state : D → DiskState) (images : D → ℕ → List ℕ
 
   -- ---- a declaration
 
-  module _ (schema : Schema) (old formatted begun : TableDevs D) (w : Write) (table_is : w ≡ PutTable schema 2) (up : AreUp old) (fuse : KeepsUnset state old formatted) (cause : HasCause {T = Unit {0}} state old formatted (Ok tt)) (rests : IsReady state formatted []) (empty : devs state formatted ≡ nothing) (idle : writes_of formatted ≡ []) where
-    pub begin_refused : (e : CommitFault) → KeepsUnset state formatted begun → TakesOn {T = Unit {0}} state images ⊥ (λ _. w ∷ []) formatted begun (Err e) → MakesTable state schema old begun (Err e)
+  module _ (schema : Schema) (old formatted begun : TableDevs D) (w : Write) (table_is : w ≡ PutTable schema 2) (up : AreUp old) (fuse : KeepsUnset state old formatted) (cause : HasCause {T = Unit {0}} state old formatted (Ok tt)) (rests : IsReady state formatted []) (empty : devs state formatted ≡ nothing) (idle : writes_of formatted ≡ [])
+      (only_now : (disk : D) (image : List ℕ) → images disk (state disk).moment image → IsImage (state disk).pending image) (none : AreBlank state old → NoneLeave state images old formatted) where
+    none_begun : {T : Type 0} (r : Result T CommitFault) → TakesOn {T = T} state images ⊥ (λ _. w ∷ []) formatted begun r → AreBlank state old → NoneLeave state images old begun
+    none_begun r k blank = none_then state images only_now old formatted begun empty (none blank) (k.leave (ready_up formatted [] rests))
+
+    pub begin_refused : (e : CommitFault) → KeepsUnset state formatted begun → TakesOn {T = Unit {0}} state images ⊥ (λ _. w ∷ []) formatted begun (Err e) → MakesTable state images schema old begun (Err e)
     begin_refused e keeps k = record {
       held = tt;
       ready = tt;
@@ -78,9 +86,10 @@ module _ {D : Type 0} (state : D → DiskState) (images : D → ℕ → List ℕ
       hidden = tt;
       fuse = keeps_then state old formatted begun fuse keeps;
       cause = cause_then state old formatted begun tt (Err e) cause (takes_cause (λ _. w ∷ []) formatted begun e (ready_up formatted [] rests) idle k);
+      blank = λ blank. none_made state images only_now schema old begun (none_begun {T = Unit {0}} (Err e) k blank);
     }
 
-    module _ (keeps : KeepsUnset state formatted begun) (k : TakesOn {T = Unit {0}} state images ⊥ (λ _. w ∷ []) formatted begun (Ok tt)) (new : TableDevs D) (then_keeps : KeepsUnset state begun new) where
+    module _ (keeps : KeepsUnset state formatted begun) (k : TakesOn {T = Unit {0}} state images ⊥ (λ _. w ∷ []) formatted begun (Ok tt)) (new : TableDevs D) (then_keeps : KeepsUnset state begun new) (others : StayBeside (writes_of begun) begun new) where
       works : (r : Result Step CommitFault) → WorksOn state images begun new r (writes_of begun) → WorksOn state images begun new r (w ∷ [])
       works r h = subst (λ (l : List Write). WorksOn state images begun new r l) k.taken h
 
@@ -90,7 +99,12 @@ module _ {D : Type 0} (state : D → DiskState) (images : D → ℕ → List ℕ
       counted : all_faults state begun ≡ all_faults state old
       counted = k.counted (λ is. cc) ∙ cause.cause
 
-      pub work_refused : (e : CommitFault) → WorksOn state images begun new (Err e) (writes_of begun) → MakesTable state schema old new (Err e)
+      put_left : (r : Result Step CommitFault) → WorksOn state images begun new r (writes_of begun) → AreBlank state old → LeavesNoRows state images schema old new
+      put_left r h blank =
+          record_put state images only_now schema old begun new w table_is (k.same (λ is. cc) ∙ empty) (none_begun {T = Unit {0}} (Ok tt) k blank) (works r h).0.rows_left
+          (subst (λ (l : List Write). StayBeside l begun new) k.taken others)
+
+      pub work_refused : (e : CommitFault) → WorksOn state images begun new (Err e) (writes_of begun) → MakesTable state images schema old new (Err e)
       work_refused e h =
           let d = (works (Err e) h).0.disk e refl in
           record {
@@ -101,9 +115,10 @@ module _ {D : Type 0} (state : D → DiskState) (images : D → ℕ → List ℕ
             hidden = tt;
             fuse = all_keep;
             cause = record { cause = (λ is. let less = d.1 in omega (arith, counted, less), λ isnt. absurd (isnt d.0)); only = inl d.0 };
+            blank = put_left (Err e) h;
           }
 
-      pub made : (step : Step) → NothingHidden new → WorksOn state images begun new (Ok step) (writes_of begun) → MakesTable state schema old new (Ok tt)
+      pub made : (step : Step) → NothingHidden new → WorksOn state images begun new (Ok step) (writes_of begun) → MakesTable state images schema old new (Ok tt)
       made step hidden h =
           let x = works (Ok step) h in
           record {
@@ -114,6 +129,7 @@ module _ {D : Type 0} (state : D → DiskState) (images : D → ℕ → List ℕ
             hidden = hidden;
             fuse = all_keep;
             cause = record { cause = x.0.counted ∙ counted; only = tt };
+            blank = put_left (Ok step) h;
           }
 
   -- ---- a start

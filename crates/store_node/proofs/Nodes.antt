@@ -16,7 +16,7 @@ module _ {D : Type 0} (state : D → DiskState) (images : D → ℕ → List ℕ
   pub crashes_node : (calls : ℕ) (s : TableStore) (old new : TableNode D) → Crashes state images calls s old new → IsNode state new
   crashes_node calls s old new k = ⊎_elim (λ a. (_, a.table)) (λ a. (_, a.table)) k.crashed
 
-  pub declares_node : (s : TableStore) (old new : TableNode D) (r : Result (Unit {0}) NodeFault) → Declares state s old new r → IsNode state new
+  pub declares_node : (s : TableStore) (old new : TableNode D) (r : Result (Unit {0}) NodeFault) → Declares state images s old new r → IsNode state new
   declares_node s old new (Ok x) k = (_, k.declared.table)
   declares_node s old new (Err e) k = (_, k.refused.table)
 

@@ -12,7 +12,9 @@ use Rattle.store_commit.specs.declared.fault.CommitFault.{CommitFault}
 use Rattle.store_commit.specs.declared.fault.CommitFault.TheVariants as commits
 use Rattle.store_commit.specs.Devs.{Devs, Write}
 use Rattle.store_commit.specs.Agenda.{recovery_writes}
-use Rattle.store_commit.specs.Standing.{devs, writes_of, IsReady, DevsLeave}
+use Rattle.row_value.specs.declared.schema.Schema.{Schema}
+use Rattle.row_store.specs.Data.{TableData, nothing_held}
+use Rattle.store_commit.specs.Standing.{devs, writes_of, nothing, IsReady, DevsLeave}
 use Rattle.store_commit.specs.Unset.{HasCause, all_stops}
 use Rattle.store_commit.proofs.Moments.{devs_weaker, rows_weaker}
 use Rattle.step_tables.specs.Chunks.{rising}
@@ -20,11 +22,11 @@ use Rattle.step_tables.specs.Facts.{Fact}
 use Rattle.step_tables.specs.Messages.{Send}
 use Rattle.step_tables.specs.Store.{Stored}
 use Rattle.step_tables.specs.StoreMoves.{StoreDisk, StoreTask, TableStore, recover, recovering, reopening}
-use Rattle.device_laws.specs.Stands.{Stands, Follows}
+use Rattle.device_laws.specs.Stands.{Stands, Follows, HasRows}
 use Rattle.device_laws.proofs.Empty.{nothing_stands}
 use Rattle.device_laws.proofs.NamedDevices.{one_list_left, none_open, open_entry}
 use Rattle.device_laws.proofs.Recoveries.{open_follows, closed_follows}
-use Rattle.store_node.specs.Devices.{MakesTable, BeginsStart}
+use Rattle.store_node.specs.Devices.{MakesTable, BeginsStart, no_rows, LeavesNoRows}
 use Rattle.store_node.specs.Due.{fact_of, facts_found}
 use Rattle.store_node.specs.Fault.{fault_of}
 use Rattle.store_node.specs.Gathered.{HasRoom}
@@ -35,6 +37,7 @@ use Rattle.store_node.specs.declared.fault.NodeFault.{NodeFault}
 use Rattle.store_node.specs.declared.fault.NodeFault.TheVariants as node_faults
 use Rattle.store_node.specs.declared.node.TableNode.{TableNode}
 use Rattle.store_node.specs.Node.{AreOwed, GoesWell, facts_in, sends_in, IsTable, told_by, sent_by, own_faults, nothing_stored}
+use Rattle.store_node.specs.Node.{HasNoRows, LeavesNone, HoldsNone}
 use Rattle.store_node.specs.Calls.{Falls, IsBehind, Declares, Recovers}
 use Rattle.store_node.proofs.Following.{own_stays, own_rises}
 use Rattle.store_node.proofs.RowsLeft.{rows_of_disk}
@@ -73,10 +76,26 @@ module _ {D : Type 0} (state : D → DiskState) (images : D → ℕ → List ℕ
           let memory : fault_of e ≡ node_faults.Memory = ap fault_of is in
           record { disk = λ was. absurd cc; other = λ isnt. same ∙ stays; only = inr memory }
 
+  -- ---- on blank disks
+
+  pub none_at : (old new : TableNode D) → LeavesNoRows st im old.schema old.devs new.devs → LeavesNone state images old new
+  none_at old new k = record {
+    any_moment = k.any_moment;
+    rows_left = rows_weaker st im old.devs new.devs (IsEither nothing_held (no_rows old.schema).held) (HasNoRows old.schema) k.rows_left
+        (λ held either. ⊎_elim (λ is. inl is) (λ is. inr (subst (λ (h : TableData). HasRows old.schema h nothing_stored) (sym is) (nothing_stands old.schema).held)) either);
+  }
+
+  module _ (schema : Schema) (start : TableDevs (FuseDisk D)) (mid new : TableNode D) (f : Falls state images mid new) (k : LeavesNoRows st im schema start mid.devs) where
+    none_fallen : LeavesNoRows st im schema start new.devs
+    none_fallen = record { any_moment = (f.left start nothing (no_rows schema) k.any_moment).2; rows_left = (f.rows_left start nothing_held (no_rows schema).held k.rows_left).1 }
+
+    none_held : new.schema ≡ schema → HoldsNone state new
+    none_held same = let left = f.left start nothing (no_rows schema) k.any_moment in record { held = rw same left.0; sound = left.1 }
+
   -- ---- a declaration
 
   module _ (old : TableNode D) (disk : StoreDisk) (t : IsTable state old (at disk None)) where
-    pub declared_at : (table : TableDevs (FuseDisk D)) → MakesTable st old.schema old.devs table (Ok tt) → Declares state (at disk None) old (record old { is_declared = true; is_up = true; devs = table; owed = owed.Nothing }) (Ok tt)
+    pub declared_at : (table : TableDevs (FuseDisk D)) → MakesTable st im old.schema old.devs table (Ok tt) → Declares state images (at disk None) old (record old { is_declared = true; is_up = true; devs = table; owed = owed.Nothing }) (Ok tt)
     declared_at table k =
         let r = t.at.1 in
         let new : TableNode D = record old { is_declared = true; is_up = true; devs = table; owed = owed.Nothing } in
@@ -113,11 +132,13 @@ module _ {D : Type 0} (state : D → DiskState) (images : D → ℕ → List ℕ
           counted = λ _. own_stays state old new k.cause.cause (k.fuse.stopped r.fresh.unset);
           cause = λ is. absurd cc;
           only = tt;
+          blank = λ blank. none_at old new (k.blank blank);
+          left = λ _. tt;
         }
 
     -- it isn't, and the disks were restarted
-    pub undeclared_at : (mid new : TableNode D) (e : CommitFault) → old.is_declared ≡ false → MakesTable st old.schema old.devs mid.devs (Err e) → Falls state images mid new → IsKept old new → new.is_up ≡ false
-        → Declares state (at disk None) old new (Err (fault_of e))
+    pub undeclared_at : (mid new : TableNode D) (e : CommitFault) → old.is_declared ≡ false → MakesTable st im old.schema old.devs mid.devs (Err e) → Falls state images mid new → IsKept old new → new.is_up ≡ false
+        → Declares state images (at disk None) old new (Err (fault_of e))
     undeclared_at mid new e isnt k falls kept down =
         let r = t.at.1 in
         let c = caused_by old mid new e k.cause (k.fuse.stopped r.fresh.unset) falls.counted in
@@ -150,16 +171,18 @@ module _ {D : Type 0} (state : D → DiskState) (images : D → ℕ → List ℕ
           counted = λ is. c.other (λ was. is (ap (λ (f : NodeFault). Err f) was));
           cause = λ is. c.disk cc;
           only = c.only;
+          blank = λ blank. none_at old new (none_fallen old.schema old.devs mid new falls (k.blank blank));
+          left = λ blank. none_held old.schema old.devs mid new falls (k.blank blank) kept.same.schema;
         }
 
   -- by what the agenda is: a node that wasn't declared isn't up
-  pub declare_done : (old : TableNode D) (disk : StoreDisk) (agenda : Option (List StoreTask)) → IsTable state old (at disk agenda) → old.is_declared ≡ false → (table : TableDevs (FuseDisk D)) → MakesTable st old.schema old.devs table (Ok tt)
-      → Declares state (at disk agenda) old (record old { is_declared = true; is_up = true; devs = table; owed = owed.Nothing }) (Ok tt)
+  pub declare_done : (old : TableNode D) (disk : StoreDisk) (agenda : Option (List StoreTask)) → IsTable state old (at disk agenda) → old.is_declared ≡ false → (table : TableDevs (FuseDisk D)) → MakesTable st im old.schema old.devs table (Ok tt)
+      → Declares state images (at disk agenda) old (record old { is_declared = true; is_up = true; devs = table; owed = owed.Nothing }) (Ok tt)
   declare_done old disk None t isnt table k = declared_at old disk t table k
   declare_done old disk (Some tasks) t isnt table k = let is = t.at.1.declared in absurd cc
 
-  pub declare_failed : (old : TableNode D) (disk : StoreDisk) (agenda : Option (List StoreTask)) → IsTable state old (at disk agenda) → old.is_declared ≡ false → (mid new : TableNode D) (e : CommitFault) → MakesTable st old.schema old.devs mid.devs (Err e)
-      → Falls state images mid new → IsKept old new → new.is_up ≡ false → Declares state (at disk agenda) old new (Err (fault_of e))
+  pub declare_failed : (old : TableNode D) (disk : StoreDisk) (agenda : Option (List StoreTask)) → IsTable state old (at disk agenda) → old.is_declared ≡ false → (mid new : TableNode D) (e : CommitFault) → MakesTable st im old.schema old.devs mid.devs (Err e)
+      → Falls state images mid new → IsKept old new → new.is_up ≡ false → Declares state images (at disk agenda) old new (Err (fault_of e))
   declare_failed old disk None t isnt mid new e k falls kept down = undeclared_at old disk t mid new e isnt k falls kept down
   declare_failed old disk (Some tasks) t isnt mid new e k falls kept down = let is = t.at.1.declared in absurd cc
 

@@ -30,7 +30,7 @@ use Rattle.store_node.specs.declared.node.TableNode.{TableNode}
 use Rattle.store_node.specs.declared.showing.ShownRow.{ShownRow}
 use Rattle.store_node.specs.Reading.{shown_of}
 use Rattle.store_node.specs.Node.{IsTable, IsSame, told_by, sent_by, own_faults, behind_next, LeavesEither}
-use Rattle.store_node.specs.Node.{LeavesRows}
+use Rattle.store_node.specs.Node.{LeavesRows, LeavesNone, HoldsNone, HasBlankDisks}
 use Rattle.store_node.specs.Node.{nothing_stored, Fits}
 use Rattle.store_node.specs.Messages.{IsFor}
 use Rattle.store_node.specs.Taking.{refused_by}
@@ -85,14 +85,17 @@ pub record Crashes {D : Type 0} (state : D → DiskState) (images : D → ℕ �
   pub any_moment : LeavesEither state images old new s.disk (behind_next s.disk s.agenda)
   pub rows_left : LeavesRows state images old new s.disk (behind_next s.disk s.agenda)
 
--- A table that wasn't declared is, and holds nothing; else it isn't yet.
-pub record Declares {D : Type 0} (state : D → DiskState) (s : TableStore) (old new : TableNode D)
-    (result : Result (Unit {0}) NodeFault) : Type 0 where
+-- A table that wasn't declared is, and holds nothing; else it isn't yet. Of blank disks a crash leaves no rows.
+pub record Declares {D : Type 0} (state : D → DiskState) (images : D → ℕ → List ℕ → Type 0) (s : TableStore)
+    (old new : TableNode D) (result : Result (Unit {0}) NodeFault) : Type 0 where
   pub declared : OnOk result (Stays state old new (record { disk = nothing_stored; agenda = Some [] }))
   pub refused : OnErr result (Stays state old new s)
   pub counted : (IsErrOf result Disk → ⊥) → own_faults state new ≡ own_faults state old
   pub cause : IsErrOf result Disk → own_faults state old < own_faults state new
   pub only : IfErr result (λ e. (e ≡ Disk) ⊎ (e ≡ Memory))
+  pub blank : HasBlankDisks state old → LeavesNone state images old new
+  -- and where it isn't declared, its disks hold none
+  pub left : HasBlankDisks state old → OnErr result (HoldsNone state new)
 
 -- The table is started; else it is still down.
 pub record Recovers {D : Type 0} (state : D → DiskState) (images : D → ℕ → List ℕ → Type 0) (s : TableStore)
@@ -113,13 +116,14 @@ late node = record {
   sends = [];
 }
 
-pub record DeclaresLate {D : Type 0} (state : D → DiskState) (s : TableStore) (old new : TableNode D)
-    (result : Result (Unit {0}) NodeFault) : Type 0 where
+pub record DeclaresLate {D : Type 0} (state : D → DiskState) (images : D → ℕ → List ℕ → Type 0) (s : TableStore)
+    (old new : TableNode D) (result : Result (Unit {0}) NodeFault) : Type 0 where
   pub declared : OnOk result (IsBehind state old new (late old))
   pub refused : OnErr result (Stays state old new s)
   pub counted : (IsErrOf result Disk → ⊥) → own_faults state new ≡ own_faults state old
   pub cause : IsErrOf result Disk → own_faults state old < own_faults state new
   pub only : IfErr result (λ e. (e ≡ Disk) ⊎ (e ≡ Memory))
+  pub blank : HasBlankDisks state old → LeavesNone state images old new
 
 -- The table is started, or was up; a table that was never declared is; else it is still down.
 pub record Starts {D : Type 0} (state : D → DiskState) (images : D → ℕ → List ℕ → Type 0) (s : TableStore)
@@ -131,6 +135,7 @@ pub record Starts {D : Type 0} (state : D → DiskState) (images : D → ℕ →
   pub cause : IsErrOf result Disk → own_faults state old < own_faults state new
   pub only : IfErr result (λ e. (e ≡ Disk) ⊎ (e ≡ Memory))
   pub rows_left : old.is_declared ≡ true → LeavesRows state images old new s.disk s.disk
+  pub blank : old.is_declared ≡ false → HasBlankDisks state old → LeavesNone state images old new
 
 -- The node is down, and its disks were restarted: they hold what a crash since an earlier moment might have left.
 pub record Falls {D : Type 0} (state : D → DiskState) (images : D → ℕ → List ℕ → Type 0)

@@ -2,6 +2,7 @@
 use Rattle.std.specs.Prelude.{◌≡◌, ℕ, List, [], None, Result, OnOk, IfOk}
 use Rattle.disk_trait.specs.Calls.{DiskState}
 use Rattle.row_value.specs.declared.schema.Schema.{Schema}
+use Rattle.vault.specs.Calls.{IsEither}
 use Rattle.row_store.specs.Data.{nothing_held, with_table}
 use Rattle.store_commit.specs.declared.devs.TableDevs.{TableDevs}
 use Rattle.store_commit.specs.declared.recovery.Recovery.{Recovery}
@@ -9,7 +10,7 @@ use Rattle.store_commit.specs.declared.fault.CommitFault.{CommitFault}
 use Rattle.store_commit.specs.Devs.{Devs}
 use Rattle.store_commit.specs.Recover.{IsRecovery}
 use Rattle.store_commit.specs.Rising.{AreRisingWrites}
-use Rattle.store_commit.specs.Standing.{devs, writes_of, AreUp, IsReady, DevsLeave}
+use Rattle.store_commit.specs.Standing.{devs, writes_of, nothing, AreUp, IsReady, AreBlank, DevsLeave}
 use Rattle.store_commit.specs.Standing.{RowsLeave, NothingHidden}
 use Rattle.store_commit.specs.Unset.{KeepsUnset, HasCause}
 
@@ -17,9 +18,15 @@ use Rattle.store_commit.specs.Unset.{KeepsUnset, HasCause}
 abbrev pub no_rows : Schema → Devs
 no_rows schema = record { chunks = []; held = with_table nothing_held schema 2; pending = None }
 
--- The devices are those of a live table with no rows, and at rest.
-pub record MakesTable {D : Type 0} (state : D → DiskState) (schema : Schema) (old new : TableDevs D)
-    (result : Result (Unit {0}) CommitFault) : Type 0 where
+-- A crash at any moment since the old devices leaves nothing, or the record of a live table alone.
+pub record LeavesNoRows {D : Type 0} (state : D → DiskState) (images : D → ℕ → List ℕ → Type 0) (schema : Schema)
+    (old new : TableDevs D) : Type 0 where
+  pub any_moment : DevsLeave state images old new (IsEither nothing (no_rows schema))
+  pub rows_left : RowsLeave state images old new (IsEither nothing_held (no_rows schema).held)
+
+-- The devices are those of a live table with no rows, and at rest. Where their disks were blank, no crash leaves more.
+pub record MakesTable {D : Type 0} (state : D → DiskState) (images : D → ℕ → List ℕ → Type 0) (schema : Schema)
+    (old new : TableDevs D) (result : Result (Unit {0}) CommitFault) : Type 0 where
   pub held : OnOk result (devs state new ≡ no_rows schema)
   pub ready : OnOk result (IsReady state new [])
   pub idle : OnOk result (writes_of new ≡ [])
@@ -27,6 +34,7 @@ pub record MakesTable {D : Type 0} (state : D → DiskState) (schema : Schema) (
   pub hidden : OnOk result (NothingHidden new)
   pub fuse : KeepsUnset state old new
   pub cause : HasCause state old new result
+  pub blank : AreBlank state old → LeavesNoRows state images schema old new
 
 -- The writes of a start are taken on; else a crash since some moment leaves what was held. A crash at any moment leaves
 -- the rows.

@@ -10,12 +10,14 @@ use Rattle.row_value.specs.declared.schema.Scheme.TheVariants.{Eventual}
 use Rattle.row_value.specs.Fit.{fit_of}
 use Rattle.value_codec.specs.SchemaSpelling.{HasSchemaSpelling}
 use Rattle.chunk_store.specs.Standing as chunks
+use Rattle.row_store.specs.Data.{TableData, nothing_held}
 use Rattle.row_store.specs.Spelling.{IsClient, table_payload}
 use Rattle.row_store.specs.Standing as rows
 use Rattle.status_log.specs.Standing as logs
+use Rattle.vault.specs.Calls.{IsEither}
 use Rattle.store_commit.specs.Devs.{Write}
 use Rattle.store_commit.specs.Standing.{devs, writes_of, step_of, AreUp, AreSound, AreSynced, IsReady, DevsLeave}
-use Rattle.store_commit.specs.Standing.{RowsLeave, NothingHidden}
+use Rattle.store_commit.specs.Standing.{RowsLeave, NothingHidden, AreBlank, nothing}
 use Rattle.store_commit.specs.Unset.{AreFresh}
 use Rattle.step_tables.specs.Facts.{Fact}
 use Rattle.step_tables.specs.Messages.{Send}
@@ -25,6 +27,7 @@ use Rattle.step_tables.specs.declared.message.Message.{Message}
 use Rattle.step_tables.specs.declared.message.Message.TheVariants as kinds
 use Rattle.device_laws.specs.Stands.{Stands, Follows, HasRows}
 use Rattle.step_tables.specs.Travels.{send_of}
+use Rattle.store_node.specs.Devices.{no_rows}
 use Rattle.store_node.specs.Due.{fact_of, told_at, sent_at, is_last_of}
 use Rattle.store_node.specs.Gathered.{HasRoom}
 use Rattle.store_node.specs.declared.node.TableNode.{TableNode}
@@ -142,6 +145,29 @@ abbrev pub LeavesRows : {D : Type 0} → (D → DiskState) → (D → ℕ → Li
 LeavesRows state images old new a b =
     RowsLeave (behind state) (λ f. images (inner_of f)) old.devs new.devs
     (λ held. HasRows old.schema held a ⊎ HasRows old.schema held b)
+
+-- ---- a node whose disks were never written
+
+-- each of its three disks is blank: empty, or with a gate and nothing more, and all of it on the disk
+abbrev pub HasBlankDisks : {D : Type 0} → (D → DiskState) → TableNode D → Type 0
+HasBlankDisks state node = AreBlank (behind state) node.devs
+
+-- no row: none at all, or those of a table that is declared and has none
+abbrev pub HasNoRows : Schema → TableData → Type 0
+HasNoRows schema held = (held ≡ nothing_held) ⊎ HasRows schema held nothing_stored
+
+-- A crash at any moment since the old node leaves devices with no chunk, no row and no open entry: nothing, or the
+-- record of the table alone.
+pub record LeavesNone {D : Type 0} (state : D → DiskState) (images : D → ℕ → List ℕ → Type 0)
+    (old new : TableNode D) : Type 0 where
+  pub any_moment : DevsLeave (behind state) (λ f. images (inner_of f)) old.devs new.devs
+      (IsEither nothing (no_rows old.schema))
+  pub rows_left : RowsLeave (behind state) (λ f. images (inner_of f)) old.devs new.devs (HasNoRows old.schema)
+
+-- Its disks hold nothing, or the record of the table alone, and not by chance.
+pub record HoldsNone {D : Type 0} (state : D → DiskState) (node : TableNode D) : Type 0 where
+  pub held : IsEither nothing (no_rows node.schema) (devs (behind state) node.devs)
+  pub sound : AreSound (behind state) node.devs
 
 -- the same table, of the same Store
 pub record IsSame {D : Type 0} (old new : TableNode D) : Type 0 where

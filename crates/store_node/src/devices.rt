@@ -24,7 +24,7 @@ pub(crate) fn make_table<D: Disk + Drop>(
     requires up { AreUp table.old }
     requires spelled { HasSchemaSpelling schema.now }
     requires short { length (table_payload schema.now 2) ≤ payload_most }
-    ensures { MakesTable D.state schema.now table.old table.new result }
+    ensures { MakesTable D.state D.images schema.now table.old table.new result }
 {
     table.format()?;
     table.begin_table(schema, LIVE)?;

@@ -219,7 +219,8 @@ impl<D: Disk + Drop> TableNode<D> {
     fn make(&mut self) -> Result<(), NodeFault>
         requires node { IsNode D.state self.old }
         requires undeclared { self.old.is_declared ≡ false }
-        ensures declares { (s : TableStore) → IsTable D.state self.old s → Declares D.state s self.old self.new result }
+        ensures declares { (s : TableStore) → IsTable D.state self.old s
+            → Declares D.state D.images s self.old self.new result }
         ensures facts { self.new.facts ≡ self.old.facts }
         ensures kept { OnErr result (self.new.is_declared ≡ self.old.is_declared) }
         ensures up { OnOk result (self.new.is_up ≡ true) }
@@ -243,7 +244,8 @@ impl<D: Disk + Drop> TableNode<D> {
     pub fn declare(&mut self) -> Result<(), NodeFault>
         requires node { IsNode D.state self.old }
         requires undeclared { self.old.is_declared ≡ false }
-        ensures declares { (s : TableStore) → IsTable D.state self.old s → Declares D.state s self.old self.new result }
+        ensures declares { (s : TableStore) → IsTable D.state self.old s
+            → Declares D.state D.images s self.old self.new result }
         ensures node { IsNode D.state self.new }
         ensures kept { OnErr result (self.new.is_declared ≡ self.old.is_declared) }
         ensures up { OnOk result (self.new.is_up ≡ true) }
@@ -282,7 +284,7 @@ impl<D: Disk + Drop> TableNode<D> {
         requires node { IsNode D.state self.old }
         requires undeclared { self.old.is_declared ≡ false }
         ensures declares { (s : TableStore) → IsTable D.state self.old s
-            → DeclaresLate D.state s self.old self.new result }
+            → DeclaresLate D.state D.images s self.old self.new result }
         ensures kept { OnErr result (self.new.is_declared ≡ self.old.is_declared) }
         ensures up { OnOk result (self.new.is_up ≡ true) }
     {

@@ -3,6 +3,7 @@ use Rattle.chunk_store.specs.Standing as chunks
 use Rattle.row_store.specs.Standing as rows
 use Rattle.status_log.specs.Standing as logs
 use Rattle.store_commit.proofs.Works.{one_blank, two_blank, all_blank, all_empty, at_rest}
+use Rattle.store_commit.proofs.Blanks.{none_one, none_two, none_all}
 use Rattle.std.proofs.lemmas.Result.{err_from_is_err_and}
 use Rattle.store_commit.proofs.Fusing.{keeps_then, keeps_same, cause_then, chunk_burns, row_burns, log_burns, chunk_caused, row_caused, log_caused}
 use Rattle.store_commit.proofs.devs.TableDevs.format.Goals as goal
@@ -22,6 +23,22 @@ returns-in_err-format-3-clause-blank g c up blank =
 pub returns-clause-blank : goal.returns-clause-blank
 returns-clause-blank g c up blank =
     all_blank g.D.Disk.state g.D.Disk.images g.met.D.Disk.only_now c.args.self.now _ (c.format.ensures.blank up.chunks blank.chunks) (c.format-2.ensures.formats.blank up.rows blank.rows) (c.format-3.ensures.blank up.log blank.log)
+
+pub returns-in_err-format-clause-none_left : goal.returns-in_err-format-clause-none_left
+returns-in_err-format-clause-none_left g c up blank =
+    none_one g.D.Disk.state g.D.Disk.images g.met.D.Disk.only_now c.args.self.now _ refl refl blank (c.format.ensures.blank up.chunks blank.chunks)
+
+pub returns-in_err-format-2-clause-none_left : goal.returns-in_err-format-2-clause-none_left
+returns-in_err-format-2-clause-none_left g c up blank =
+    none_two g.D.Disk.state g.D.Disk.images g.met.D.Disk.only_now c.args.self.now _ refl blank (c.format.ensures.blank up.chunks blank.chunks) (c.format-2.ensures.formats.blank up.rows blank.rows)
+
+pub returns-in_err-format-3-clause-none_left : goal.returns-in_err-format-3-clause-none_left
+returns-in_err-format-3-clause-none_left g c up blank =
+    none_all g.D.Disk.state g.D.Disk.images g.met.D.Disk.only_now c.args.self.now _ (c.format.ensures.blank up.chunks blank.chunks) (c.format-2.ensures.formats.blank up.rows blank.rows) (c.format-3.ensures.blank up.log blank.log)
+
+pub returns-clause-none_left : goal.returns-clause-none_left
+returns-clause-none_left g c up blank =
+    none_all g.D.Disk.state g.D.Disk.images g.met.D.Disk.only_now c.args.self.now _ (c.format.ensures.blank up.chunks blank.chunks) (c.format-2.ensures.formats.blank up.rows blank.rows) (c.format-3.ensures.blank up.log blank.log)
 
 pub returns-clause-empty : goal.returns-clause-empty
 returns-clause-empty g c =

@@ -10,8 +10,10 @@ use Rattle.stab_base.specs.declared.step.Step.TheVariants.{Idle}
 use Rattle.store_commit.specs.Devs.{Write}
 use Rattle.store_commit.specs.Agenda.{Runs, IsMoment, IsRecovering, IsKeeping, IsKeepingWhole, IsStill}
 use Rattle.store_commit.specs.declared.scanned.Scanned.{Scanned}
+use Rattle.store_commit.specs.Fused.{device_of, StayBeside}
 use Rattle.store_commit.specs.Shows.{behind_first, ShowsAlike}
 use Rattle.store_commit.specs.Standing.{write_of, writes_of, devs, seen, hidden_of, IsReady, WorksOn}
+use Rattle.store_commit.proofs.Blanks.{others_from}
 use Rattle.store_commit.proofs.StillHidden.{still_hidden}
 use Rattle.store_commit.proofs.Showing.{alike_itself, shows_write}
 use Rattle.store_commit.proofs.Works.{works_named, works_failed, same_ready, same_works}
@@ -48,6 +50,22 @@ returns-in-Err-clause-works g c up =
     let works = same_works s i old _ refl refl refl w ws c.perform.new.self (Err c.in-Err.fault) (works_failed s i w ws _ c.perform.new.self c.in-Err.fault c.in-Err.ensures.works) in
     let rest : writes_of c.perform.new.self ≡ ws = ap (λ a. map write_of a.items) c.perform.ensures.agenda in
     subst (λ (l : List Task). WorksOn s i old c.perform.new.self (Err c.in-Err.fault) (map write_of l)) (sym items) (works, rest, tt)
+
+pub returns-in-Ok-clause-others : goal.returns-in-Ok-clause-others
+returns-in-Ok-clause-others g c up =
+    let old = c.args.self.now in
+    let mid = record old { agenda = c.pop_front.new.self; scanned = c.put.new.self } in
+    let w = write_of c.unwrap-task.result in
+    let items : old.agenda.items ≡ c.unwrap-task.result ∷ c.pop_front.new.self.items = c.pop_front.ensures.items ∙ ap (λ (o : Option Task). option_to_list o ++ c.pop_front.new.self.items) c.unwrap-task.ensures in
+    subst (λ (l : List Task). StayBeside (map write_of l) old c.perform.new.self) (sym items) (others_from (device_of w) old mid c.perform.new.self refl refl refl c.perform.ensures.others)
+
+pub returns-in-Err-clause-others : goal.returns-in-Err-clause-others
+returns-in-Err-clause-others g c up =
+    let old = c.args.self.now in
+    let mid = record old { agenda = c.pop_front.new.self; scanned = c.put.new.self } in
+    let w = write_of c.unwrap-task.result in
+    let items : old.agenda.items ≡ c.unwrap-task.result ∷ c.pop_front.new.self.items = c.pop_front.ensures.items ∙ ap (λ (o : Option Task). option_to_list o ++ c.pop_front.new.self.items) c.unwrap-task.ensures in
+    subst (λ (l : List Task). StayBeside (map write_of l) old c.perform.new.self) (sym items) (others_from (device_of w) old mid c.perform.new.self refl refl refl c.perform.ensures.others)
 
 pub returns-in-Ok-clause-updating : goal.returns-in-Ok-clause-updating
 returns-in-Ok-clause-updating g c meaning before stored up runs =
@@ -96,6 +114,14 @@ returns-in-Ok-clause-shows g c up =
     let same = ap (λ (x : Scanned). x.hidden) c.perform.ensures.scanned in
     subst (λ (l : List Task). ShowsAlike (behind_first (map write_of l) (seen s old)) (seen s c.perform.new.self)) (sym items)
     (shows_write s w old c.perform.new.self c.put.new.self.hidden c.in-Ok.ensures.works.devs_are c.put.ensures.hidden same)
+
+pub returns-then-is_empty-clause-others : goal.returns-then-is_empty-clause-others
+returns-then-is_empty-clause-others g c up =
+    let old = c.args.self.now in
+    let test = c.if-is_empty.ensures in
+    let none : length old.agenda.items ≡ 0 = first_of (grind (arith, nat_tests), grind (arith, common_steps), search (rules, eqb-true)) in
+    let is : writes_of old ≡ [] = ap (map write_of) (nil_from_length old.agenda.items none) in
+    subst (λ (l : List Write). StayBeside l old old) (sym is) refl
 
 pub returns-then-is_empty-clause-shows : goal.returns-then-is_empty-clause-shows
 returns-then-is_empty-clause-shows g c up =

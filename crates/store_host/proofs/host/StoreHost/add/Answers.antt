@@ -6,6 +6,7 @@ use Rattle.store_host.specs.Holds.{HoldsParts}
 use Rattle.disk_trait.specs.Fuse.{inner_of}
 use Rattle.store_host.specs.Steps.{new_table}
 use Rattle.store_host.proofs.Lefts.{added_still, fallen_still}
+use Rattle.store_host.proofs.Blanks.{none_added, is_added}
 use Rattle.store_host.proofs.Ups.{added_up, look_cases}
 use Rattle.store_host.proofs.Moving.{added_faults, other_faults}
 use Rattle.store_host.proofs.host.StoreHost.add.Goals as goal
@@ -72,3 +73,12 @@ returns-in_ok-put-in-Err-Disk-clause-left_failed g c w h failed =
     (λ q apart. ⊎_elim (λ e. absurd (apart e.0)) (λ e. e.1) (look_cases w.tables c.args.table (new_table false false) q))
     (c.fall.ensures.left (with_table w c.args.table c.args.schema false false)
     (c.in_ok-put-in-Err-Disk.ensures.put w c.args.schema false false h (c.in-Err-Disk.ensures.refused (Some c.args.schema) c.args.table c.new-hosted.ensures.hosted)))
+
+pub returns-in-Ok-clause-blank : goal.returns-in-Ok-clause-blank
+returns-in-Ok-clause-blank g c blank =
+    let new = c.new-hosted.ensures in
+    let declare = c.in-Ok.ensures in
+    on_ok_weaker c.put.result
+    (λ u it there. none_added g.D.Disk.state g.D.Disk.images c.declare.new.self it c.new-hosted.result.node.devs c.new-hosted.result.node.schema c.args.row_disk
+    (is_added c.args.self.now.tables c.put.new.self.tables c.args.table c.declare.new.self it u there) new.rows declare.schema (declare.blank (new.blank blank)))
+    c.put.ensures.tables

@@ -2,6 +2,7 @@ use Rattle.std.proofs.Common.{Bool, [], Some, true, false, sym, ◌∙◌, subst
 use Rattle.store_node.specs.Node.{nothing_stored}
 use Rattle.store_host.specs.Holds.{IsHosted}
 use Rattle.store_host.specs.Steps.{new_table}
+use Rattle.store_host.proofs.Blanks.{none_halted}
 use Rattle.store_host.proofs.Hosting.{made_up, made_down, not_started}
 use Rattle.store_host.proofs.hosted.Hosted.declare.Goals as goal
 
@@ -31,6 +32,26 @@ returns-else-is_up-clause-cause g c =
     let k = c.in-Ok.ensures.declares n.0 n.1 in
     let halts = c.halt.ensures.halts (record { disk = nothing_stored; agenda = Some [] }) k.declared.table in
     record { counted = λ _. halts.counted ∙ k.counted (λ e. absurd cc); cause = λ e. absurd cc; only = tt }
+
+pub returns-then-is_up-clause-blank : goal.returns-then-is_up-clause-blank
+returns-then-is_up-clause-blank g c blank = let n = c.requires.node in ((c.in-Ok.ensures.declares n.0 n.1).blank blank).rows_left
+
+pub returns-else-is_up-clause-blank : goal.returns-else-is_up-clause-blank
+returns-else-is_up-clause-blank g c blank =
+    let n = c.requires.node in
+    let k = c.in-Ok.ensures.declares n.0 n.1 in
+    let halts = c.halt.ensures.halts (record { disk = nothing_stored; agenda = Some [] }) k.declared.table in
+    none_halted g.D.Disk.state g.D.Disk.images c.args.self.now.node c.declare.new.self c.halt.new.self k.declared.same.schema (k.blank blank) (halts.rows_left k.declared.table.at.1.declared)
+
+pub returns-then-is_up-clause-schema : goal.returns-then-is_up-clause-schema
+returns-then-is_up-clause-schema g c = let n = c.requires.node in (c.in-Ok.ensures.declares n.0 n.1).declared.same.schema
+
+pub returns-else-is_up-clause-schema : goal.returns-else-is_up-clause-schema
+returns-else-is_up-clause-schema g c =
+    let n = c.requires.node in
+    let k = c.in-Ok.ensures.declares n.0 n.1 in
+    let halts = c.halt.ensures.halts (record { disk = nothing_stored; agenda = Some [] }) k.declared.table in
+    halts.halted.same.schema ∙ k.declared.same.schema
 
 pub returns-in-Err-clause-refused : goal.returns-in-Err-clause-refused
 returns-in-Err-clause-refused g c declared table h =

@@ -23,5 +23,5 @@ pub returns-in-Err-clause-declares : goal.returns-in-Err-clause-declares
 returns-in-Err-clause-declares g c s t =
     let old = c.args.self.now in
     let f = c.fall.ensures in
-    subst (λ (f : NodeFault). Declares g.D.Disk.state s old c.fall.new.self (Err f)) (sym c.from.ensures) (declare_failed g.D.Disk.state g.D.Disk.images old s.disk s.agenda t c.requires.undeclared (record old { devs = c.make_table.new.table }) c.fall.new.self c.in-Err.fault c.in-Err.ensures f.falls
+    subst (λ (f : NodeFault). Declares g.D.Disk.state g.D.Disk.images s old c.fall.new.self (Err f)) (sym c.from.ensures) (declare_failed g.D.Disk.state g.D.Disk.images old s.disk s.agenda t c.requires.undeclared (record old { devs = c.make_table.new.table }) c.fall.new.self c.in-Err.fault c.in-Err.ensures f.falls
     (record { told = ap (λ x. map fact_of x.items.items) f.facts; sent = ap (λ x. map send_of x.items.items) f.messages; same = record { store = f.same.store; table = f.same.table; schema = f.same.schema }; declared = f.declared }) f.down)

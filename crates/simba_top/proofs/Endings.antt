@@ -25,7 +25,7 @@ use Rattle.world_tables.specs.World.{start}
 use Rattle.world_tables.specs.Turns.{world_from}
 use Rattle.world_steps.specs.declared.world.World.{World}
 use Rattle.world_steps.specs.Faults.{IsUndone}
-use Rattle.simba_top.proofs.Sounds.{is_run, leads_still}
+use Rattle.simba_top.proofs.Sounds.{is_run, run_still}
 
 pub same_count : {D : Type 0} (old new : Run D) → new ≡ record old { reader = new.reader } → new.count ≡ old.count
 same_count {D} old new same = ap (λ (run : Run D). run.count) same
@@ -76,7 +76,7 @@ ended_left P Q (Limit limit) input script count count' left before now same caus
 -- an event isn't carried out
 pub still_tells : {D : Type 0} (state : D → DiskState) (script : List Event) (told : List TextLine) (world new : World D) (is_out out : ℕ → Bool) (before now : Option (List ℕ))
     → (leads : Leads state script told world is_out) → IsUndone state (world_from start leads.run) out world new → Appends before now (transcript_text told) → Tells (Led state new) script before now
-still_tells state script told world new is_out out before now leads u was = (told, is_run state script told new out (leads_still state script told world is_out leads new out u), was)
+still_tells state script told world new is_out out before now leads u was = (told, run_still state script told world is_out leads new out u, was)
 
 pub world_same : {D : Type 0} (old new : Run D) → new ≡ record old { reader = new.reader } → new.world ≡ old.world
 world_same {D} old new same = ap (λ (run : Run D). run.world) same

@@ -1,5 +1,5 @@
 -- What a line spells is built: its table is one that devices can have, and its client one of those that there are.
-use Rattle.std.proofs.Common.{◌≡◌, ℕ, ◌*◌, ◌<◌, ◌≤◌, true, List, [], ◌∷◌, ◌++◌, length, refl, inl, inr, length-append, arith}
+use Rattle.std.proofs.Common.{◌≡◌, ℕ, ◌+◌, ◌*◌, ◌<◌, ◌≤◌, true, List, [], ◌∷◌, ◌++◌, length, refl, inl, inr, length-append, arith}
 use Rattle.std.specs.Prelude.{◌≢◌}
 use Rattle.std.specs.List.{AllByRecursion, list_all, flat_map}
 use Rattle.std.specs.Int.{w32, to_be_bytes}
@@ -10,18 +10,15 @@ use Rattle.std.proofs.lemmas.Str.{IsUtf8-from_ascii}
 use Rattle.std.proofs.lemmas.Str.Ascii.{IsAscii-nil, IsAscii-cons}
 use Rattle.row_value.specs.declared.schema.Column.{Column}
 use Rattle.row_value.specs.declared.schema.Schema.{Schema}
-use Rattle.value_codec.specs.SchemaSpelling.{HasSchemaSpelling, HasColumnSpelling, IsChunkSize, column_spelling, kind_code, scheme_code}
+use Rattle.value_codec.specs.SchemaSpelling.{schema_spelling, HasSchemaSpelling, HasColumnSpelling, IsChunkSize, column_spelling, kind_code, scheme_code}
 use Rattle.vault.specs.Limit.{payload_most}
-use Rattle.row_store.specs.Spelling.{table_payload}
-use Rattle.stab_base.specs.declared.node.Node.{Node}
-use Rattle.stab_base.specs.declared.node.Node.TheVariants as nodes
 use Rattle.table_model.specs.declared.event.Event.{Event}
 use Rattle.table_model.specs.declared.event.Event.TheVariants as events
-use Rattle.world_steps.specs.Holds.{IsMade, HasDevices, IsBuilt}
+use Rattle.fair_laws.specs.Reached.{IsMade, IsBuilt}
 use Rattle.script_words.specs.Words.{is_name, is_name_byte}
 use Rattle.script_words.proofs.WordLemmas.{both}
 use Rattle.script_text.specs.Names.{Names}
-use Rattle.script_text.specs.Grammar.{IsChunk, AreColumns, SpellsTable, IsNode, SpelledBy, Spells}
+use Rattle.script_text.specs.Grammar.{IsChunk, AreColumns, SpellsTable, SpelledBy, Spells}
 
 -- ---- names
 
@@ -88,19 +85,18 @@ module _ (schema : Schema) (named : is_name schema.name ≡ true) (chunk : IsChu
   }
 
   -- a name, 32 columns and some numbers
-  payload_short : length (table_payload schema 2) ≤ payload_most
+  payload_short : length (schema_spelling schema) + 14 ≤ payload_most
   payload_short =
       let name = name_is schema.name named in
       let each = columns_short schema.columns columns.names in
       let listed = to_be_bytes w32 (length schema.columns) ++ flat_map column_spelling schema.columns in
       let behind = scheme_code schema.scheme ∷ (to_be_bytes w32 schema.chunk ++ listed) in
       let counted = to_be_bytes w32 (length schema.name) ++ schema.name in
-      let a = length-append (counted ++ behind) (2 ∷ []) in
       let b = length-append counted behind in
       let c = length-append (to_be_bytes w32 (length schema.name)) schema.name in
       let d = length-append (to_be_bytes w32 schema.chunk) listed in
       let e = length-append (to_be_bytes w32 (length schema.columns)) (flat_map column_spelling schema.columns) in
-      omega (arith, name.0, each, columns.few, a, b, c, d, e)
+      omega (arith, name.0, each, columns.few, b, c, d, e)
 
 table_made : (names : Names) (words : List (List ℕ)) (table : ℕ) (schema : Schema) → SpellsTable names words table schema → IsMade table schema
 table_made names words table schema s = record {
@@ -112,20 +108,9 @@ table_made names words table schema s = record {
   short = payload_short schema s.5 s.3 s.4;
 }
 
--- no line is of a client's devices
-with_devices : (names : Names) (node : Node) → IsNode names node → HasDevices node
-with_devices names (nodes.Store number) is = tt
-with_devices names (nodes.Gate gate) is = absurd is
-with_devices names (nodes.Client client) is = absurd is
-
 spelled_built : (names : Names) (words : List (List ℕ)) (event : Event) → SpelledBy names words event → IsBuilt event
 spelled_built names words (events.Table table schema) s = table_made names words table schema s
-spelled_built names words (events.Client client gate tables) s = s.1
-spelled_built names words (events.Edit client table row edit) s = absurd s.3
-spelled_built names words (events.Link client up) s = absurd s.1
-spelled_built names words (events.Hold node) s = with_devices names node s.1
-spelled_built names words (events.Crash node calls pick) s = with_devices names node s.1
-spelled_built names words (events.Start node) s = with_devices names node s.1
+spelled_built names words (events.Client client gate tables) s = record { least = s.1.0; most = s.1.1 }
 spelled_built names words other s = tt
 
 pub built : (names : Names) (line : List ℕ) (event : Event) → Spells names line event → IsBuilt event

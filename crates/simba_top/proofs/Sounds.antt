@@ -1,5 +1,5 @@
 -- What leads to a world is a run of its script, and goes on by one event.
-use Rattle.std.proofs.Common.{◌≡◌, ℕ, ◌+◌, ◌<◌, Bool, true, false, Option, Some, None, arith, List, [], ◌∷◌, ◌++◌, length, map, refl, sym, ap, subst, ◌∙◌, append-nil, append_assoc}
+use Rattle.std.proofs.Common.{◌≡◌, ℕ, suc, ◌+◌, ◌<◌, Bool, true, false, Option, Some, None, arith, length-append, List, [], ◌∷◌, ◌++◌, length, map, refl, sym, ap, subst, ◌∙◌, append-nil, append_assoc}
 use Rattle.std.proofs.lemmas.List.{map-append, length-map}
 use Rattle.std.specs.List.{AllByRecursion}
 use Rattle.disk_trait.specs.Calls.{DiskState}
@@ -16,8 +16,9 @@ use Rattle.world_laws.proofs.Runs.{all_runs}
 use Rattle.world_laws.proofs.Fresh.{fresh_part}
 use Rattle.name_laws.proofs.Runs.{all_listed}
 use Rattle.world_steps.specs.declared.world.World.{World}
-use Rattle.world_steps.specs.Holds.{Holds, IsBuilt, IsReached, IsWorld, AreOut}
-use Rattle.world_steps.specs.Steps.{IsStep}
+use Rattle.fair_laws.specs.Reached.{IsBuilt, IsReached}
+use Rattle.world_steps.specs.Holds.{Holds, IsWorld, AreOut}
+use Rattle.world_steps.specs.Steps.{IsStep, HavePlansBelow}
 use Rattle.world_tables.specs.Faults.{one_if, is_device_fault, device_faults}
 use Rattle.world_steps.specs.Faults.{IsUndone, all_faults, all_faults_back}
 use Rattle.table_model.specs.declared.entry.Entry.{Entry}
@@ -64,6 +65,9 @@ one_more faults old new true m rose same = let a = m.few in let r = rose refl in
 one_more faults old new false m rose same =
     let a = m.few in let s = same refl in record { few = omega (arith, a, s); one = λ up. let c = m.one (omega (arith, up, s)) in omega (arith, c) }
 
+one_longer : {X : Type 0} (xs : List X) (x : X) → suc (length xs) ≡ length (xs ++ x ∷ [])
+one_longer xs x = let e = length-append xs (x ∷ []) in omega (arith, e)
+
 all-push : {X : Type 0} (P : X → Type 0) (xs : List X) (x : X) → AllByRecursion P xs → P x → AllByRecursion P (xs ++ x ∷ [])
 all-push P [] x all here = (here, tt)
 all-push P (first ∷ xs) x all here = (all.0, all-push P xs x all.1 here)
@@ -90,8 +94,9 @@ module _ {D : Type 0} (state : D → DiskState) (script : List Event) (told : Li
   is_world = record { w = world_from start leads.run; reached = reached; held = leads.held; out = leads.out }
 
   pub leads_on : (images : D → ℕ → List ℕ → Type 0) (event : Event) (lines : List TextLine) (new : World D) (out : ℕ → Bool) → IsBuilt event
-      → IsStep state images (world_from start leads.run) event lines out world new → Leads state (script ++ event ∷ []) (told ++ lines) new out
-  leads_on images event lines new out built s =
+      → IsStep state images (world_from start leads.run) event lines out world new
+      → ((n : ℕ) → HavePlansBelow state n world → HavePlansBelow state (suc n) new) → Leads state (script ++ event ∷ []) (told ++ lines) new out
+  leads_on images event lines new out built s plans =
       let h : Happening = record { event = event; lucks = s.lucks } in
       let behind : world_from start (leads.run ++ h ∷ []) ≡ (step (world_from start leads.run) event s.lucks).world =
       world_from-push h start leads.run in
@@ -107,18 +112,18 @@ module _ {D : Type 0} (state : D → DiskState) (script : List Event) (told : Li
         out = subst (λ (w : moves.World). AreOut out w) (sym behind) s.out;
         counted = subst (λ (n : ℕ). Matches n (all_faults state new)) (sym (faults-push h start leads.run))
             (one_more (device_faults start leads.run) (all_faults state world) (all_faults state new) (is_device_fault (world_from start leads.run) event s.lucks) leads.counted s.rose s.same);
+        plans = subst (λ (n : ℕ). HavePlansBelow state n new) (one_longer leads.run h) (plans (length leads.run) leads.plans);
       }
 
   -- an event that isn't carried out leaves all as it was
-  pub leads_still : (new : World D) (out : ℕ → Bool) → IsUndone state (world_from start leads.run) out world new → Leads state script told new out
-  leads_still new out u = record {
+  pub run_still : (new : World D) (out : ℕ → Bool) → IsUndone state (world_from start leads.run) out world new → IsRun (Led state new) script told
+  run_still new out u = record {
     run = leads.run;
     events = leads.events;
     lines_are = leads.lines_are;
-    built = leads.built;
-    held = u.held;
-    out = u.out;
-    counted = subst (λ (n : ℕ). Matches (device_faults start leads.run) n) (sym u.same) leads.counted;
+    sound = all_runs client_law client_grows lapsed_grows fresh_part leads.run;
+    listed = all_listed leads.run;
+    kept = record { built = leads.built; held = u.held; counted = subst (λ (n : ℕ). Matches (device_faults start leads.run) n) (sym u.same) leads.counted };
   }
 
 -- the world stands where a script has led, also where an event isn't carried out

@@ -1,5 +1,5 @@
 -- A run goes on by one line.
-use Rattle.std.proofs.Common.{◌≡◌, ◌⊎◌, inl, inr, ℕ, ◌+◌, ◌-◌, ◌<◌, ◌≤◌, lit≤, Bool, true, false, cond, List, [], ◌∷◌, ◌++◌, length, map, Option, Some, None, refl, sym, ap, subst, ◌∙◌, append-nil}
+use Rattle.std.proofs.Common.{◌≡◌, ◌⊎◌, inl, inr, ℕ, suc, ◌+◌, ◌-◌, ◌<◌, ◌≤◌, lit≤, Bool, true, false, cond, List, [], ◌∷◌, ◌++◌, length, map, Option, Some, None, refl, sym, ap, subst, ◌∙◌, append-nil}
 use Rattle.std.proofs.Common.{length-append, arith}
 use Rattle.std.specs.Prelude.{IfSome, IfNone, IsSomeAnd, MatchOption}
 use Rattle.std.specs.Global.{Vec}
@@ -27,8 +27,9 @@ use Rattle.simba_top.specs.declared.stop.Stop.{Stop}
 use Rattle.simba_top.specs.declared.stop.Stop.TheVariants as stops
 use Rattle.simba_top.specs.declared.turn.Run.{Run}
 use Rattle.simba_top.specs.declared.run.TheConstants.{MOST_LINES}
-use Rattle.world_steps.specs.Holds.{Holds, IsBuilt}
-use Rattle.world_steps.specs.Steps.{IsStep, Spends}
+use Rattle.fair_laws.specs.Reached.{IsBuilt}
+use Rattle.world_steps.specs.Holds.{Holds}
+use Rattle.world_steps.specs.Steps.{HavePlansBelow, IsStep, Spends}
 use Rattle.world_steps.specs.Faults.{all_faults}
 use Rattle.world_steps.proofs.Counted.{no_faults}
 use Rattle.simba_top.specs.Faults.{Matches}
@@ -63,29 +64,30 @@ counted_new : {D : Type 0} (state : D → DiskState) (world : World D) (is_out :
 counted_new state world is_out held none = let z = no_faults state world held in record { few = omega arith; one = λ up. absurd (omega (arith, up, z)) }
 
 -- the run at its start
-pub leads_new : {D : Type 0} (state : D → DiskState) (world : World D) (is_out : ℕ → Bool) → Holds state start world → ((k : ℕ) → is_out k ≡ false)
+pub leads_new : {D : Type 0} (state : D → DiskState) (world : World D) (is_out : ℕ → Bool) → Holds state start world → HavePlansBelow state 0 world → ((k : ℕ) → is_out k ≡ false)
     → Leads state [] [] world is_out
-leads_new state world is_out held none =
+leads_new state world is_out held plans none =
     record {
       run = [];
       events = refl;
       lines_are = refl;
       built = tt;
       held = held;
-      out = λ table k some few. none _;
+      out = record { tables = λ table k some most few. none _; clients = λ c k some few. none _ };
       counted = counted_new state world is_out held none;
+      plans = plans;
     }
 
 pub stands_new : {D : Type 0} (state : D → DiskState) (input : List ℕ) (run : Run D) (is_out : ℕ → Bool)
     → run.reader ≡ record { used = 0; held = []; stopped = None; limits = record { line = LINE_LIMIT; input = INPUT_LIMIT } }
-    → run.names ≡ no_names → run.count ≡ 0 → HasRows [] run.rows → Holds state start run.world → ((k : ℕ) → is_out k ≡ false)
+    → run.names ≡ no_names → run.count ≡ 0 → HasRows [] run.rows → Holds state start run.world → HavePlansBelow state 0 run.world → ((k : ℕ) → is_out k ≡ false)
     → Stands state input [] [] run is_out (Some input)
-stands_new state input run is_out reader names count rows world none = record {
+stands_new state input run is_out reader names count rows world plans none = record {
   rest = input;
   front = rw (names, count) (front_start input);
   here = ap (λ (r : Reading). ahead r (Some input)) reader;
   used = let e = ap (λ (r : Reading). r.used) reader in omega (arith, e);
-  world = leads_new state run.world is_out world none;
+  world = leads_new state run.world is_out world plans none;
   rows = rows;
 }
 
@@ -266,9 +268,10 @@ module _ {D : Type 0} (state : D → DiskState) (input : List ℕ) (script : Lis
       → Spells run.names line event → names ≡ with_event run.names event
       → HasRows (script ++ event ∷ []) rows → FewRows (script ++ event ∷ [])
       → IsBuilt event → IsStep state images (world_from start has.world.run) event lines out run.world world
+      → ((n : ℕ) → HavePlansBelow state n run.world → HavePlansBelow state (suc n) world)
       → texts ≡ map (λ (line : TextLine). text_of line ++ 10 ∷ []) lines
       → GoesOn state input told (record run { names = names; rows = rows; world = world; count = run.count + 1 }) out left texts
-  carries_out images event names rows world out lines texts spells named has_rows few_rows built step text = (
+  carries_out images event names rows world out lines texts spells named has_rows few_rows built step plans text = (
     script ++ event ∷ [],
     told ++ lines,
     record {
@@ -276,7 +279,7 @@ module _ {D : Type 0} (state : D → DiskState) (input : List ℕ) (script : Lis
       front = rw named (front_event input script run.count run.names has.before line has.rest has.front has.next few event spells few_rows);
       here = has.here;
       used = has.used;
-      world = leads_on state script told run.world is_out has.world images event lines world out built step;
+      world = leads_on state script told run.world is_out has.world images event lines world out built step plans;
       rows = has_rows;
     },
     step_texts told lines texts text,
@@ -299,7 +302,7 @@ module _ {D : Type 0} (state : D → DiskState) (input : List ℕ) (script : Lis
 
   -- no number is spent yet
   pub world_stops : (event : Event) (fault : WorldFault) → IsBuilt event
-      → ((code count : ℕ) → fault ≡ world_faults.Limit code count → (code ≡ 11) × Spends (world_from start has.world.run) event)
+      → ((code count : ℕ) → fault ≡ world_faults.Limit code count → (code ≡ 11) × Spends (length has.world.run) (world_from start has.world.run) event)
       → IsCause (of_world fault) input script run.count left
   world_stops event world_faults.Memory built spent = (run.names, has.before, has.front)
   world_stops event world_faults.Depot built spent = (run.names, has.before, has.front)

@@ -9,7 +9,8 @@ use Rattle.world_tables.specs.Turns.{Happening, turns, world_from, transcript_of
 use Rattle.world_tables.specs.World.{Hosted, start, hosted_at}
 use Rattle.world_steps.specs.declared.world.World.{World}
 use Rattle.world_steps.specs.Faults.{all_faults, all_faults_back}
-use Rattle.world_steps.specs.Holds.{Holds, IsBuilt}
+use Rattle.fair_laws.specs.Reached.{IsBuilt}
+use Rattle.world_steps.specs.Holds.{Holds}
 use Rattle.world_steps.specs.Rows.{IsRowsBack}
 
 -- a run has no more device faults than disks have failed, and has one where a disk has failed

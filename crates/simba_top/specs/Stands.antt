@@ -21,7 +21,9 @@ use Rattle.simba_top.specs.declared.turn.Run.{Run}
 use Rattle.world_steps.specs.declared.world.World.{World}
 use Rattle.world_tables.specs.Faults.{device_faults}
 use Rattle.world_steps.specs.Faults.{all_faults}
-use Rattle.world_steps.specs.Holds.{Holds, IsBuilt, AreOut}
+use Rattle.fair_laws.specs.Reached.{IsBuilt}
+use Rattle.world_steps.specs.Holds.{Holds, AreOut}
+use Rattle.world_steps.specs.Steps.{HavePlansBelow}
 use Rattle.simba_top.specs.Faults.{Matches, AnyRun}
 use Rattle.simba_top.specs.RowNames.{HasRows}
 use Rattle.simba_top.specs.Script.{next_in, IsFront, IsWhole}
@@ -33,7 +35,8 @@ pub record IsReady {D : Type 0} (run : Run D) : Type 0 where
   pub limits : run.reader.limits ≡ record { line = LINE_LIMIT; input = INPUT_LIMIT }
   pub few : run.count ≤ MOST_LINES
 
--- the events of a script led to this world, with some lucks, and wrote these lines; the disks that are out are its own
+-- the events of a script led to this world, with some lucks, and wrote these lines; the disks that are out are its own;
+-- and no client has begun more plans than there were events
 pub record Leads {D : Type 0} (state : D → DiskState) (script : List Event) (told : List TextLine) (world : World D)
     (is_out : ℕ → Bool) : Type 0 where
   pub run : List Happening
@@ -43,6 +46,7 @@ pub record Leads {D : Type 0} (state : D → DiskState) (script : List Event) (t
   pub held : Holds state (world_from start run) world
   pub out : AreOut is_out (world_from start run)
   pub counted : Matches (device_faults start run) (all_faults state world)
+  pub plans : HavePlansBelow state (length run) world
 
 -- the lines so far are the first of the input and spell the script, and the bytes ahead are the rest
 pub record Stands {D : Type 0} (state : D → DiskState) (input : List ℕ) (script : List Event) (told : List TextLine)

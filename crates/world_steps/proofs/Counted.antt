@@ -1,6 +1,6 @@
 -- Which disks failed in a call, by its lines.
 use Rattle.std.proofs.Common.{◌≡◌, ◌≢◌, ⊎_elim, ℕ, ◌+◌, ◌<◌, ◌≤◌, Bool, true, false, List, [], ◌∷◌, ◌++◌, length, map, Option, Some, None, Result, Ok, Err, refl, sym, ◌∙◌, ap, subst, arith}
-use Rattle.std.specs.Prelude.{IfOk, IfErr, is_some, option_to_list, if◌then◌else◌}
+use Rattle.std.specs.Prelude.{IfOk, IfErr, is_some, option_to_list}
 use Rattle.std.specs.Ordering.{nat_cmp}
 use Rattle.std.specs.BTreeMap as tree
 use Rattle.std.proofs.lemmas.Bool.Decides.{eqb_tells}
@@ -9,11 +9,11 @@ use Rattle.table_model.specs.declared.event.Event.{Event}
 use Rattle.table_model.specs.declared.line.Answer.{Answer}
 use Rattle.table_model.specs.declared.line.TextLine.{TextLine}
 use Rattle.step_tables.specs.Facts.{Line, AnswerLine}
+use Rattle.step_tables.specs.ClientMoves.{Client}
 use Rattle.step_tables.specs.Facts as facts
 use Rattle.step_tables.specs.Lines.{line_of, answer_of}
 use Rattle.step_tables.specs.Messages.{Luck}
-use Rattle.step_tables.specs.Messages as messages
-use Rattle.world_tables.specs.World.{WorldStep, Lucks, Hosted, lines_of, lines_from, hosted_at, is_fault, first_luck, busy_table, owner, step, start, schema_at}
+use Rattle.world_tables.specs.World.{WorldStep, Lucks, Hosted, lines_of, lines_from, hosted_at, client_at, is_cut, is_fault, first_luck, busy_table, owner, step, start, schema_at}
 use Rattle.world_tables.specs.World as moves
 use Rattle.world_tables.specs.Faults.{is_failure, fails_cut, is_fault_answer, is_device_fault}
 use Rattle.world_tables.specs.Passed.{first_part}
@@ -23,18 +23,21 @@ use Rattle.store_host.specs.declared.hosted.Hosted.{Hosted as Kept}
 use Rattle.store_host.specs.declared.host.StoreHost.{StoreHost}
 use Rattle.store_host.specs.Holds.{HostedThere, SameFaults, RisenFaults, faults_at, faults_in}
 use Rattle.store_host.specs.Calls.{HasLuck}
+use Rattle.row_store.specs.Spelling.{IsClient}
+use Rattle.client_node.specs.declared.node.ClientNode.{ClientNode}
+use Rattle.journal_host.specs.declared.host.ClientHost.{ClientHost}
+use Rattle.journal_host.specs.Holds as clients
 use Rattle.world_steps.specs.declared.fault.WorldFault.{WorldFault}
 use Rattle.world_steps.specs.declared.fault.WorldFault.TheVariants.{Memory}
 use Rattle.world_steps.specs.declared.world.World.{World}
-use Rattle.world_steps.specs.Calls.{IsDone, Comes, HasTold, HasSent}
-use Rattle.world_steps.specs.Faults.{IsCounted, AreCounted, ComesCounted, IsUndone, all_faults, tell_fault}
-use Rattle.world_steps.specs.Holds.{Holds, IsReached, AreOut}
+use Rattle.world_steps.specs.Calls.{IsDone, Comes, HasTold, HasToldClients}
+use Rattle.world_steps.specs.Faults.{IsCounted, AreTotals, AreCounted, ComesCounted, IsUndone, table_faults, client_faults, all_faults, tell_fault}
+use Rattle.world_steps.specs.Holds.{Holds, AreOut}
 use Rattle.world_steps.specs.Rows.{ComesLeft}
-use Rattle.world_steps.specs.Steps.{IsStep}
+use Rattle.world_steps.specs.Steps.{IsStep, IsStill}
 use Rattle.world_steps.proofs.Rows.{Stays, stay_over}
 use Rattle.world_steps.proofs.Sums.{sum_same, sum_rises, sum_none}
-use Rattle.step_tables.specs.declared.out.Out.{Out}
-use Rattle.stab_base.specs.declared.node.Node.{Node}
+use Rattle.fair_laws.specs.Reached.{IsReached}
 
 module _ {D : Type 0} (state : D → DiskState) where
   -- ---- tables
@@ -88,27 +91,105 @@ module _ {D : Type 0} (state : D → DiskState) where
       go : (it : Option (Kept D)) → 0 < faults_in state it → (o : Option Hosted) → hosted_at w table ≡ o → HostedThere state (schema_at w table) table o it → (1 ≤ table) × (table ≤ 64)
       go None up o e k = absurd (omega (arith, up))
       go (Some it) up None e k = absurd k
-      go (Some it) up (Some hosted) e k = h.fair.ranged table (ap (λ (o : Option Hosted). is_some o) e)
+      go (Some it) up (Some hosted) e k = h.numbered.tables table (ap (λ (o : Option Hosted). is_some o) e)
 
-  pub all_rise : (w : moves.World) (old new : World D) → Holds state w new → RisenFaults state old.store.tables new.store.tables → all_faults state old < all_faults state new
-  all_rise w old new h rose =
+  pub tables_rise : (w : moves.World) (old new : World D) → Holds state w new → RisenFaults state old.store.tables new.store.tables → table_faults state old < table_faults state new
+  tables_rise w old new h rose =
       let up = rose.one.1 in
       let range = ranged_at w new h rose.one.0 (omega (arith, up)) in
       sum_rises (faults_at state old.store.tables) (faults_at state new.store.tables) 64 rose.one.0 rose.each range.0 range.1 up
 
-  pub all_stay : (old new : World D) → SameFaults state old.store.tables new.store.tables → all_faults state new ≡ all_faults state old
-  all_stay old new same = sum_same (faults_at state new.store.tables) (faults_at state old.store.tables) 64 same
+  pub tables_same : (old new : World D) → SameFaults state old.store.tables new.store.tables → table_faults state new ≡ table_faults state old
+  tables_same old new same = sum_same (faults_at state new.store.tables) (faults_at state old.store.tables) 64 same
 
-  pub all_still : (old new : World D) → new.store ≡ old.store → all_faults state new ≡ all_faults state old
-  all_still old new same = all_stay old new (λ table. ap (λ (s : StoreHost D). faults_at state s.tables table) same)
+  pub tables_still : (old new : World D) → new.store ≡ old.store → table_faults state new ≡ table_faults state old
+  tables_still old new same = tables_same old new (λ table. ap (λ (s : StoreHost D). faults_at state s.tables table) same)
+
+  -- ---- all clients
+
+  pub client_ranged : (w : moves.World) (world : World D) → Holds state w world → (c : ℕ) → 0 < clients.faults_at state world.clients.clients c → IsClient c
+  client_ranged w world h c up = go (tree.get nat_cmp world.clients.clients c) up (client_at w c) refl (h.clients.there c)
+    where
+      go : (it : Option (ClientNode D)) → 0 < clients.faults_in state it → (o : Option Client) → client_at w c ≡ o → clients.ClientThere state (is_cut w c) c o it → IsClient c
+      go None up o e k = absurd (omega (arith, up))
+      go (Some it) up None e k = absurd k
+      go (Some it) up (Some s) e k = h.numbered.clients c (ap (λ (o : Option Client). is_some o) e)
+
+  -- the disks of one client have failed
+  pub client_rises : (w : moves.World) (old new : World D) (c : ℕ) → Holds state w new → clients.RisenFaults state c old.clients.clients new.clients.clients
+      → client_faults state old < client_faults state new
+  client_rises w old new c h rose =
+      let up = rose.one in
+      let range = client_ranged w new h c (omega (arith, up)) in
+      sum_rises (clients.faults_at state old.clients.clients) (clients.faults_at state new.clients.clients) 64 c later range.least range.most up
+    where
+      up_at : (q : ℕ) → q ≡ c → clients.faults_at state old.clients.clients q ≤ clients.faults_at state new.clients.clients q
+      up_at q is =
+          subst (λ (k : ℕ). clients.faults_at state old.clients.clients k ≤ clients.faults_at state new.clients.clients k) (sym is) (let up = rose.one in omega (arith, up))
+
+      later : (q : ℕ) → clients.faults_at state old.clients.clients q ≤ clients.faults_at state new.clients.clients q
+      later q = ⊎_elim (λ is. up_at q is.1) (λ no. let a = rose.others q no.1 in omega (arith, a)) (eqb_tells q c)
+
+  -- no client's disks have failed
+  pub clients_same : (old new : World D) → clients.SameFaults state old.clients.clients new.clients.clients → client_faults state new ≡ client_faults state old
+  clients_same old new same = sum_same (clients.faults_at state new.clients.clients) (clients.faults_at state old.clients.clients) 64 same
+
+  pub clients_still : (old new : World D) → new.clients.clients ≡ old.clients.clients → client_faults state new ≡ client_faults state old
+  clients_still old new same = clients_same old new (λ c. ap (λ (m : tree.BTreeMap ℕ (ClientNode D)). clients.faults_at state m c) same)
+
+  -- ---- all disks
+
+  first_rises : (a b c d : ℕ) → a < c → d ≡ b → a + b < c + d
+  first_rises a b c d up same = omega (arith, up, same)
+
+  second_rises : (a b c d : ℕ) → c ≡ a → b < d → a + b < c + d
+  second_rises a b c d same up = omega (arith, up, same)
+
+  both_same : (a b c d : ℕ) → c ≡ a → d ≡ b → c + d ≡ a + b
+  both_same a b c d one two = omega (arith, one, two)
+
+  pub all_same : (old new : World D) → table_faults state new ≡ table_faults state old → client_faults state new ≡ client_faults state old → all_faults state new ≡ all_faults state old
+  all_same old new one two = both_same (table_faults state old) (client_faults state old) (table_faults state new) (client_faults state new) one two
+
+  pub all_still : (old new : World D) → new.store ≡ old.store → new.clients.clients ≡ old.clients.clients → all_faults state new ≡ all_faults state old
+  all_still old new store nodes = all_same old new (tables_still old new store) (clients_still old new nodes)
+
+  -- the tables alone
+  pub tables_counted : (w : moves.World) (old new : World D) (b : Bool) → Holds state w new → IsCounted state b old.store.tables new.store.tables → new.clients.clients ≡ old.clients.clients
+      → AreTotals state b old new
+  tables_counted w old new b h k nodes = record {
+    rose = λ t. first_rises (table_faults state old) (client_faults state old) (table_faults state new) (client_faults state new) (tables_rise w old new h (k.rose t)) (clients_still old new nodes);
+    same = λ f. all_same old new (tables_same old new (k.same f)) (clients_still old new nodes);
+  }
+
+  -- one client alone
+  pub client_counted : (w : moves.World) (old new : World D) (c : ℕ) (b : Bool) → Holds state w new → (b ≡ true → clients.RisenFaults state c old.clients.clients new.clients.clients)
+      → (b ≡ false → clients.SameFaults state old.clients.clients new.clients.clients) → new.store ≡ old.store → AreTotals state b old new
+  client_counted w old new c b h rose same store = record {
+    rose = λ t. second_rises (table_faults state old) (client_faults state old) (table_faults state new) (client_faults state new) (tables_still old new store) (client_rises w old new c h (rose t));
+    same = λ f. all_same old new (tables_still old new store) (clients_same old new (same f));
+  }
+
+  -- none at all
+  pub none_totals : (old new : World D) (b : Bool) → b ≡ false → new.store ≡ old.store → new.clients.clients ≡ old.clients.clients → AreTotals state b old new
+  none_totals old new b fine store nodes = record { rose = λ t. let no : false ≡ true = sym fine ∙ t in absurd cc; same = λ f. all_still old new store nodes }
+
+  pub totals_as : (old new : World D) (a b : Bool) → a ≡ b → AreTotals state b old new → AreTotals state a old new
+  totals_as old new a b is k = subst (λ (x : Bool). AreTotals state x old new) (sym is) k
 
   -- a world in which nothing is declared has no disks
   pub no_faults : (world : World D) → Holds state start world → all_faults state world ≡ 0
-  no_faults world h = sum_same (faults_at state world.store.tables) (λ k. 0) 64 (λ table. go table (tree.get nat_cmp world.store.tables table) (h.store.tables.there table)) ∙ sum_none 64
+  no_faults world h = both_same 0 0 (table_faults state world) (client_faults state world)
+      (sum_same (faults_at state world.store.tables) (λ k. 0) 64 (λ table. no_table table (tree.get nat_cmp world.store.tables table) (h.store.tables.there table)) ∙ sum_none 64)
+      (sum_same (clients.faults_at state world.clients.clients) (λ k. 0) 64 (λ c. no_client c (tree.get nat_cmp world.clients.clients c) (h.clients.there c)) ∙ sum_none 64)
     where
-      go : (table : ℕ) (it : Option (Kept D)) → HostedThere state (schema_at start table) table None it → faults_in state it ≡ 0
-      go table None k = refl
-      go table (Some it) k = absurd k
+      no_table : (table : ℕ) (it : Option (Kept D)) → HostedThere state (schema_at start table) table None it → faults_in state it ≡ 0
+      no_table table None k = refl
+      no_table table (Some it) k = absurd k
+
+      no_client : (c : ℕ) (it : Option (ClientNode D)) → clients.ClientThere state (is_cut start c) c None it → clients.faults_in state it ≡ 0
+      no_client c None k = refl
+      no_client c (Some it) k = absurd k
 
   -- ---- lines
 
@@ -119,36 +200,33 @@ module _ {D : Type 0} (state : D → DiskState) where
   counted_as old new a b is k = subst (λ (x : Bool). IsCounted state x old new) (sym is) k
 
   -- an answer alone
-  pub only_counted : (result : Result (List TextLine) WorldFault) (a : facts.Answer) (old new : World D) → is_fault a ≡ false → new.store ≡ old.store
+  pub only_counted : (result : Result (List TextLine) WorldFault) (a : facts.Answer) (old new : World D) → is_fault a ≡ false → new.store ≡ old.store → new.clients.clients ≡ old.clients.clients
       → IfOk result (λ lines. map line_of lines ≡ AnswerLine a ∷ []) → AreCounted state result old new
-  only_counted (Err e) a old new fine same k = tt
-  only_counted (Ok lines) a old new fine same k =
-      none_failed old.store.tables new.store.tables (tell_fault (map line_of lines)) (tells (map line_of lines) a [] k ∙ fine)
-      (λ table. ap (λ (s : StoreHost D). faults_at state s.tables table) same)
-
-  -- what a client told and sent
-  pub sent_counted : (result : Result (List TextLine) WorldFault) (a : facts.Answer) (old mid new : World D) (from : Node) (out : Out) → is_fault a ≡ false → mid.store ≡ old.store
-      → IfOk result (λ lines. HasSent mid new from a out lines) → AreCounted state result old new
-  sent_counted (Err e) a old mid new from out fine same k = tt
-  sent_counted (Ok lines) a old mid new from out fine same k =
-      none_failed old.store.tables new.store.tables (tell_fault (map line_of lines)) (tells (map line_of lines) a _ k.lines_are ∙ fine)
-      (λ table. ap (λ (s : StoreHost D). faults_at state s.tables table) (ap (λ (x : World D). x.store) k.same ∙ same))
+  only_counted (Err e) a old new fine store nodes k = tt
+  only_counted (Ok lines) a old new fine store nodes k = none_totals old new (tell_fault (map line_of lines)) (tells (map line_of lines) a [] k ∙ fine) store nodes
 
   -- what the Store told and sent
-  pub told_counted : (result : Result (List TextLine) WorldFault) (a : facts.Answer) (old new : World D) (s : StoreHost D) → IsCounted state (is_fault a) old.store.tables s.tables
-      → IfOk result (λ lines. HasTold (record old { store = s }) new a lines) → AreCounted state result old new
-  told_counted (Err e) a old new s c k = tt
-  told_counted (Ok lines) a old new s c k =
-      counted_as old.store.tables new.store.tables (tell_fault (map line_of lines)) (is_fault a) (tells (map line_of lines) a _ k.lines_are)
-      (subst (λ (x : StoreHost D). IsCounted state (is_fault a) old.store.tables x.tables) (sym k.store) c)
+  pub told_counted : (w : moves.World) (f : Lucks → WorldStep) (result : Result (List TextLine) WorldFault) (a : facts.Answer) (old new : World D) (s : StoreHost D)
+      → IsCounted state (is_fault a) old.store.tables s.tables → IfOk result (λ lines. HasTold (record old { store = s }) new a lines) → Comes state w f result new → AreCounted state result old new
+  told_counted w f (Err e) a old new s c k d = tt
+  told_counted w f (Ok lines) a old new s c k d =
+      totals_as old new (tell_fault (map line_of lines)) (is_fault a) (tells (map line_of lines) a _ k.lines_are)
+      (tables_counted (f d.0).world old new (is_fault a) d.1.held (subst (λ (x : StoreHost D). IsCounted state (is_fault a) old.store.tables x.tables) (sym k.store) c)
+      (ap (λ (x : World D). x.clients.clients) k.same))
+
+  -- what a client told and sent
+  pub sent_counted : (w : moves.World) (f : Lucks → WorldStep) (result : Result (List TextLine) WorldFault) (a : facts.Answer) (old new : World D) (mid : ClientHost D) (c : ℕ)
+      → (is_fault a ≡ true → clients.RisenFaults state c old.clients.clients mid.clients) → (is_fault a ≡ false → clients.SameFaults state old.clients.clients mid.clients)
+      → IfOk result (λ lines. HasToldClients state (record old { clients = mid }) new a lines) → Comes state w f result new → AreCounted state result old new
+  sent_counted w f (Err e) a old new mid c rose same k d = tt
+  sent_counted w f (Ok lines) a old new mid c rose same k d =
+      totals_as old new (tell_fault (map line_of lines)) (is_fault a) (tells (map line_of lines) a _ k.lines_are)
+      (client_counted (f d.0).world old new c (is_fault a) d.1.held
+      (λ t. subst (λ (m : tree.BTreeMap ℕ (ClientNode D)). clients.RisenFaults state c old.clients.clients m) (sym k.nodes) (rose t))
+      (λ t. subst (λ (m : tree.BTreeMap ℕ (ClientNode D)). clients.SameFaults state old.clients.clients m) (sym k.nodes) (same t))
+      (ap (λ (x : World D). x.store) k.same))
 
   -- ---- steps
-
-  abbrev Rises : Bool → World D → World D → Type 0
-  Rises b old new = (b ≡ true → all_faults state old < all_faults state new) × (b ≡ false → all_faults state new ≡ all_faults state old)
-
-  pub rises : (w : moves.World) (old new : World D) (b : Bool) → Holds state w new → IsCounted state b old.store.tables new.store.tables → Rises b old new
-  rises w old new b h k = (λ t. all_rise w old new h (k.rose t), λ f. all_stay old new (k.same f))
 
   fault_told : (w : moves.World) (s : WorldStep) (lines : List TextLine) → is_some s.answer ≡ true → map line_of lines ≡ lines_of w s → tell_fault (map line_of lines) ≡ is_fault_answer s.answer
   fault_told w s lines some is = ap tell_fault is ∙ go s.answer some
@@ -158,8 +236,21 @@ module _ {D : Type 0} (state : D → DiskState) where
       go (Some a) e = refl
 
   module _ (images : D → ℕ → List ℕ → Type 0) (w : moves.World) (event : Event) (is_out : ℕ → Bool) (old new : World D) (result : Result (List TextLine) WorldFault) (out : AreOut is_out w) where
-    out_behind : (lucks : Lucks) → ((table : ℕ) → is_some (hosted_at (step w event lucks).world table) ≡ is_some (hosted_at w table)) → AreOut is_out (step w event lucks).world
-    out_behind lucks tables table disk one small = out table disk one small ∙ sym (tables table)
+    out_behind : (lucks : Lucks) (lines : List TextLine) → IsDone state w (step w event lucks) lines new → AreOut is_out (step w event lucks).world
+    out_behind lucks lines k = record {
+      tables = λ table disk one most small. out.tables table disk one most small ∙ sym (k.tables table);
+      clients = λ c disk one small. out.clients c disk one small ∙ sym (k.clients c);
+    }
+
+    -- the step is done, with these totals
+    step_is : (lines : List TextLine) (lucks : Lucks) → IsDone state w (step w event lucks) lines new → AreTotals state (is_device_fault w event lucks) old new → Stays state images w event old new
+        → IsStep state images w event lines is_out old new
+    step_is lines lucks k c stay =
+        record { lucks = lucks; lines_are = k.lines_are; held = k.held; out = out_behind lucks lines k; rose = c.rose; same = c.same; rows = stay lucks }
+
+    fault_as : is_declaration event ≡ false → ((lucks : Lucks) → is_device_fault w event lucks ≡ is_fault_answer (step w event lucks).answer) → (lines : List TextLine) (lucks : Lucks)
+        → IsDone state w (step w event lucks) lines new → is_device_fault w event lucks ≡ tell_fault (map line_of lines)
+    fault_as asks plain lines lucks k = plain lucks ∙ sym (fault_told w (step w event lucks) lines (step_answered w event lucks asks) k.lines_are)
 
     -- by the answer
     pub stepped : is_declaration event ≡ false → ((lucks : Lucks) → is_device_fault w event lucks ≡ is_fault_answer (step w event lucks).answer)
@@ -171,10 +262,7 @@ module _ {D : Type 0} (state : D → DiskState) where
             → IfOk r (λ lines. IsStep state images w event lines is_out old new)
         go (Err e) k c stay = tt
         go (Ok lines) k c stay =
-            let same : is_device_fault w event k.0 ≡ tell_fault (map line_of lines) =
-            plain k.0 ∙ sym (fault_told w (step w event k.0) lines (step_answered w event k.0 asks) k.1.lines_are) in
-            let r = rises (step w event k.0).world old new (is_device_fault w event k.0) k.1.held (counted_as old.store.tables new.store.tables _ _ same c) in
-            record { lucks = k.0; lines_are = k.1.lines_are; held = k.1.held; out = out_behind k.0 k.1.tables; rose = r.0; same = r.1; rows = stay k.0 }
+            step_is lines k.0 k.1 (totals_as old new (is_device_fault w event k.0) (tell_fault (map line_of lines)) (fault_as asks plain lines k.0 k.1) c) stay
 
     -- the same of an event whose first part goes with its lucks
     pub stepped_first : IsReached w → is_declaration event ≡ false → ((lucks : Lucks) → is_device_fault w event lucks ≡ is_fault_answer (step w event lucks).answer)
@@ -185,36 +273,26 @@ module _ {D : Type 0} (state : D → DiskState) where
             → IfOk r (λ lines. IsStep state images w event lines is_out old new)
         go (Err e) k c = tt
         go (Ok lines) k c =
-            let same : is_device_fault w event k.0 ≡ tell_fault (map line_of lines) =
-            plain k.0 ∙ sym (fault_told w (step w event k.0) lines (step_answered w event k.0 asks) k.1.lines_are) in
-            let r = rises (step w event k.0).world old new (is_device_fault w event k.0) k.1.held (counted_as old.store.tables new.store.tables _ _ same c) in
+            let t = totals_as old new (is_device_fault w event k.0) (tell_fault (map line_of lines)) (fault_as asks plain lines k.0 k.1) c in
             record {
               lucks = k.0;
               lines_are = k.1.lines_are;
               held = k.1.held;
-              out = out_behind k.0 k.1.tables;
-              rose = r.0;
-              same = r.1;
+              out = out_behind k.0 lines k.1;
+              rose = t.rose;
+              same = t.same;
               rows = stay_over state images w reached event k.0 old new k.2;
             }
 
-    -- the Store stays as it is
-    pub stepped_still : ((lucks : Lucks) → is_device_fault w event lucks ≡ false) → new.store ≡ old.store → Comes state w (step w event) result new
+    -- the disks stay as they are
+    pub stepped_still : ((lucks : Lucks) → is_device_fault w event lucks ≡ false) → new.store ≡ old.store → new.clients.clients ≡ old.clients.clients → Comes state w (step w event) result new
         → IfOk result (λ lines. Stays state images w event old new) → IfOk result (λ lines. IsStep state images w event lines is_out old new)
-    stepped_still fine same k stay = go result k stay
+    stepped_still fine store nodes k stay = go result k stay
       where
         go : (r : Result (List TextLine) WorldFault) → Comes state w (step w event) r new → IfOk r (λ lines. Stays state images w event old new)
             → IfOk r (λ lines. IsStep state images w event lines is_out old new)
         go (Err e) k stay = tt
-        go (Ok lines) k stay = record {
-          lucks = k.0;
-          lines_are = k.1.lines_are;
-          held = k.1.held;
-          out = out_behind k.0 k.1.tables;
-          rose = λ t. let no : false ≡ true = sym (fine k.0) ∙ t in absurd cc;
-          same = λ f. all_still old new same;
-          rows = stay k.0;
-        }
+        go (Ok lines) k stay = step_is lines k.0 k.1 (none_totals old new (is_device_fault w event k.0) (fine k.0) store nodes) stay
 
     pub stepped_counted : ComesCounted state w (step w event) (λ lucks. is_device_fault w event lucks) result old new → IfOk result (λ lines. Stays state images w event old new)
         → IfOk result (λ lines. IsStep state images w event lines is_out old new)
@@ -223,9 +301,7 @@ module _ {D : Type 0} (state : D → DiskState) where
         go : (r : Result (List TextLine) WorldFault) → ComesCounted state w (step w event) (λ lucks. is_device_fault w event lucks) r old new → IfOk r (λ lines. Stays state images w event old new)
             → IfOk r (λ lines. IsStep state images w event lines is_out old new)
         go (Err e) k stay = tt
-        go (Ok lines) k stay =
-            let r = rises (step w event k.0).world old new (is_device_fault w event k.0) k.1.held k.2 in
-            record { lucks = k.0; lines_are = k.1.lines_are; held = k.1.held; out = out_behind k.0 k.1.tables; rose = r.0; same = r.1; rows = stay k.0 }
+        go (Ok lines) k stay = step_is lines k.0 k.1 k.2 stay
 
   -- ---- faults of a run
 
@@ -237,38 +313,32 @@ module _ {D : Type 0} (state : D → DiskState) where
         go (Ok lines) k = tt
         go (Err e) k = λ no. absurd (no k)
 
-    pub left_still : IfErr result (λ e. e ≢ Memory → Holds state w new × (new.store ≡ old.store)) → IfErr result (λ e. e ≢ Memory → IsUndone state w is_out old new)
+    pub left_still : IfErr result (λ e. e ≢ Memory → IsStill state w old new) → IfErr result (λ e. e ≢ Memory → IsUndone state w is_out old new)
     left_still k = go result k
       where
-        go : (r : Result (List TextLine) WorldFault) → IfErr r (λ e. e ≢ Memory → Holds state w new × (new.store ≡ old.store)) → IfErr r (λ e. e ≢ Memory → IsUndone state w is_out old new)
+        go : (r : Result (List TextLine) WorldFault) → IfErr r (λ e. e ≢ Memory → IsStill state w old new) → IfErr r (λ e. e ≢ Memory → IsUndone state w is_out old new)
         go (Ok lines) k = tt
-        go (Err e) k = λ no. record { held = (k no).0; out = out; same = all_still old new (k no).1 }
-
-    pub left_same : IfErr result (λ e. e ≢ Memory → Holds state w new × SameFaults state old.store.tables new.store.tables) → IfErr result (λ e. e ≢ Memory → IsUndone state w is_out old new)
-    left_same k = go result k
-      where
-        go : (r : Result (List TextLine) WorldFault) → IfErr r (λ e. e ≢ Memory → Holds state w new × SameFaults state old.store.tables new.store.tables)
-            → IfErr r (λ e. e ≢ Memory → IsUndone state w is_out old new)
-        go (Ok lines) k = tt
-        go (Err e) k = λ no. record { held = (k no).0; out = out; same = all_stay old new (k no).1 }
+        go (Err e) k = λ no. record { held = (k no).held; out = out; same = (k no).same }
 
   -- ---- crashes
 
   module _ (w : moves.World) (f g : Lucks → WorldStep) (a b : Lucks → Bool) (result : Result (List TextLine) WorldFault) (old new : World D) where
-    pub counted_still : ((lucks : Lucks) → a lucks ≡ false) → new.store ≡ old.store → Comes state w f result new → ComesCounted state w f a result old new
-    counted_still fine same k = go result k
+    pub counted_still : ((lucks : Lucks) → a lucks ≡ false) → new.store ≡ old.store → new.clients.clients ≡ old.clients.clients → Comes state w f result new
+        → ComesCounted state w f a result old new
+    counted_still fine store nodes k = go result k
       where
         go : (r : Result (List TextLine) WorldFault) → Comes state w f r new → ComesCounted state w f a r old new
         go (Err e) k = tt
-        go (Ok lines) k = (k.0, k.1, none_failed old.store.tables new.store.tables (a k.0) (fine k.0) (λ table. ap (λ (s : StoreHost D). faults_at state s.tables table) same))
+        go (Ok lines) k = (k.0, k.1, none_totals old new (a k.0) (fine k.0) store nodes)
 
     pub comes_counted_as : ((lucks : Lucks) → f lucks ≡ g lucks) → ((lucks : Lucks) → a lucks ≡ b lucks) → ComesCounted state w g b result old new → ComesCounted state w f a result old new
     comes_counted_as steps faults k = go result k
       where
         go : (r : Result (List TextLine) WorldFault) → ComesCounted state w g b r old new → ComesCounted state w f a r old new
         go (Err e) k = tt
-        go (Ok lines) k = (k.0, subst (λ (s : WorldStep). IsDone state w s lines new) (sym (steps k.0)) k.1, counted_as old.store.tables new.store.tables (a k.0) (b k.0) (faults k.0) k.2)
+        go (Ok lines) k = (k.0, subst (λ (s : WorldStep). IsDone state w s lines new) (sym (steps k.0)) k.1, totals_as old new (a k.0) (b k.0) (faults k.0) k.2)
 
+    -- a crash of the Store
     pub counted_done : (lucks : Lucks) (s : StoreHost D) (given : facts.Answer) → IfOk result (λ lines. IsDone state w (f lucks) lines new)
         → IfOk result (λ lines. HasTold (record old { store = s }) new given lines) → IsCounted state (a lucks) old.store.tables s.tables → ComesCounted state w f a result old new
     counted_done lucks s given k t c = go result k t
@@ -276,4 +346,28 @@ module _ {D : Type 0} (state : D → DiskState) where
         go : (r : Result (List TextLine) WorldFault) → IfOk r (λ lines. IsDone state w (f lucks) lines new) → IfOk r (λ lines. HasTold (record old { store = s }) new given lines)
             → ComesCounted state w f a r old new
         go (Err e) k t = tt
-        go (Ok lines) k t = (lucks, k, subst (λ (x : StoreHost D). IsCounted state (a lucks) old.store.tables x.tables) (sym t.store) c)
+        go (Ok lines) k t = (
+          lucks,
+          k,
+          tables_counted (f lucks).world old new (a lucks) k.held (subst (λ (x : StoreHost D). IsCounted state (a lucks) old.store.tables x.tables) (sym t.store) c)
+              (ap (λ (x : World D). x.clients.clients) t.same),
+        )
+
+    -- and of a client
+    pub client_done : (lucks : Lucks) (mid : ClientHost D) (c : ℕ) (given : facts.Answer) → IfOk result (λ lines. IsDone state w (f lucks) lines new)
+        → IfOk result (λ lines. HasToldClients state (record old { clients = mid }) new given lines)
+        → (a lucks ≡ true → clients.RisenFaults state c old.clients.clients mid.clients) → (a lucks ≡ false → clients.SameFaults state old.clients.clients mid.clients)
+        → ComesCounted state w f a result old new
+    client_done lucks mid c given k t rose same = go result k t
+      where
+        go : (r : Result (List TextLine) WorldFault) → IfOk r (λ lines. IsDone state w (f lucks) lines new)
+            → IfOk r (λ lines. HasToldClients state (record old { clients = mid }) new given lines) → ComesCounted state w f a r old new
+        go (Err e) k t = tt
+        go (Ok lines) k t = (
+          lucks,
+          k,
+          client_counted (f lucks).world old new c (a lucks) k.held
+              (λ up. subst (λ (m : tree.BTreeMap ℕ (ClientNode D)). clients.RisenFaults state c old.clients.clients m) (sym t.nodes) (rose up))
+              (λ fine. subst (λ (m : tree.BTreeMap ℕ (ClientNode D)). clients.SameFaults state old.clients.clients m) (sym t.nodes) (same fine))
+              (ap (λ (x : World D). x.store) t.same),
+        )

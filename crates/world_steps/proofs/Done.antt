@@ -1,11 +1,10 @@
 -- What a call of the world comes to: an answer alone, moves of the Store that are told, and nodes that are down.
-use Rattle.std.proofs.Common.{◌≡◌, ⊎_elim, ℕ, Bool, true, false, List, [], ◌∷◌, ◌++◌, length, map, Option, Some, None, Result, Ok, Err, refl, sym, ◌∙◌, ap, subst, true≢false}
-use Rattle.std.specs.Prelude.{IfOk, if◌then◌else◌, is_some, filter, not, ◌==◌, option_to_list}
+use Rattle.std.proofs.Common.{◌≡◌, ℕ, Bool, true, false, List, [], ◌∷◌, ◌++◌, length, map, Option, Result, Ok, Err, refl, sym, ◌∙◌, ap, subst}
+use Rattle.std.specs.Prelude.{IfOk, if◌then◌else◌, is_some, not}
 use Rattle.std.specs.Ordering.{nat_cmp}
 use Rattle.std.specs.BTreeMap as tree
 use Rattle.disk_trait.specs.Calls.{DiskState}
 use Rattle.stab_base.specs.declared.node.Node.{Node}
-use Rattle.stab_base.specs.declared.node.Node.TheVariants as nodes
 use Rattle.row_value.specs.declared.schema.Schema.{Schema}
 use Rattle.table_model.specs.declared.line.Answer.{Answer}
 use Rattle.table_model.specs.declared.line.TextLine.{TextLine}
@@ -13,24 +12,20 @@ use Rattle.step_tables.specs.Facts.{Line, AnswerLine}
 use Rattle.step_tables.specs.Facts as facts
 use Rattle.step_tables.specs.Lines.{line_of, answer_of}
 use Rattle.step_tables.specs.ClientMoves.{Client}
-use Rattle.step_tables.specs.Members.{Among}
-use Rattle.step_tables.specs.Messages.{Message, SyncRequest, SyncResponse, PullRequest, PullResponse}
-use Rattle.step_tables.proofs.Lists.{among_either}
-use Rattle.world_tables.specs.World.{Lucks, no_lucks, Moved, Outbox, Packet, WorldStep, Hosted, answering, answered, refused, unless_down, is_down, same_node, has_node, the_store, lines_of, lines_from}
-use Rattle.world_tables.specs.World.{schema_at, hosted_at, client_at, still}
+use Rattle.world_tables.specs.World.{Lucks, no_lucks, Moved, Outbox, Packet, WorldStep, answering, answered, refused, unless_down, is_down, same_node, has_node, the_store, lines_from}
+use Rattle.world_tables.specs.World.{schema_at, client_at}
 use Rattle.world_tables.specs.World as moves
 use Rattle.store_host.specs.declared.host.StoreHost.{StoreHost}
-use Rattle.store_host.specs.Holds.{HoldsStore, IsStore, outs_of, says_something, said_by}
-use Rattle.store_host.specs.Calls.{IsMoved}
-use Rattle.client_host.specs.declared.host.ClientHost.{ClientHost}
-use Rattle.client_host.specs.Holds.{HoldsClients, KeepsClients}
-use Rattle.client_host.proofs.Hosting.{clients_stay}
+use Rattle.store_host.specs.Holds.{HoldsStore, IsStore, outs_of, said_by}
+use Rattle.journal_host.specs.Holds.{HoldsClients}
+use Rattle.journal_host.specs.Holds as nodes
+use Rattle.journal_host.proofs.Clients.{clients_stay}
 use Rattle.world_steps.specs.declared.fault.WorldFault.{WorldFault}
 use Rattle.world_steps.specs.declared.network.Network.{Network}
 use Rattle.world_steps.specs.declared.world.World.{World}
 use Rattle.world_steps.specs.Network.{packets_in}
 use Rattle.world_steps.specs.Nodes.{HasNodes, is_in}
-use Rattle.world_steps.specs.Fair.{IsFair, IsFairMessage, IsFromStore}
+use Rattle.world_steps.specs.Numbers.{AreNumbered}
 use Rattle.world_steps.specs.Holds.{Holds}
 use Rattle.world_steps.specs.Outs.{packets_of, Goes, IsAnswered}
 use Rattle.world_steps.specs.Calls.{IsDone, Comes, HasTold}
@@ -46,7 +41,7 @@ module _ {D : Type 0} (state : D → DiskState) (w : moves.World) (world : World
   pub stays : (a : facts.Answer) (result : Result (List TextLine) WorldFault) → IfOk result (λ lines. map line_of lines ≡ AnswerLine a ∷ [])
       → Comes state w (λ lucks. answered w a) result world
   stays a (Err e) k = tt
-  stays a (Ok lines) k = (no_lucks, record { lines_are = k; held = h; tables = λ t. refl })
+  stays a (Ok lines) k = (no_lucks, record { lines_are = k; held = h; tables = λ t. refl; clients = λ c. refl })
 
 -- ---- another step that is the same
 
@@ -88,74 +83,61 @@ down_now true e = absurd cc
 schema_same : (w after : moves.World) → after.schemas ≡ w.schemas → (table : ℕ) → schema_at after table ≡ schema_at w table
 schema_same w after same table = ap (λ (es : List (ℕ × Schema)). schema_at (record w { schemas = es }) table) same
 
-pub fair_known : (w after : moves.World) (p : Packet) → ((table : ℕ) (schema : Schema) → schema_at w table ≡ Some schema → schema_at after table ≡ Some schema)
-    → IsFairMessage w p.from p.message → IsFairMessage after p.from p.message
-fair_known w after p known f = go p.message f
-  where
-    go : (m : Message) → IsFairMessage w p.from m → IsFairMessage after p.from m
-    go (SyncRequest q) f = (f.0, known q.table f.0 f.1, f.2, f.3, f.4)
-    go (PullRequest q) f = tt
-    go (SyncResponse r) f = tt
-    go (PullResponse q) f = f
-
-fair_sent : (after : moves.World) (p : Packet) → IsFromStore p.message → IsFairMessage after p.from p.message
-fair_sent after p f = go p.message f
-  where
-    go : (m : Message) → IsFromStore m → IsFairMessage after p.from m
-    go (SyncRequest q) f = absurd f
-    go (PullRequest q) f = tt
-    go (SyncResponse r) f = tt
-    go (PullResponse q) f = f
+pub same_client : (w after : moves.World) → after.clients ≡ w.clients → (c : ℕ) → is_some (client_at after c) ≡ is_some (client_at w c)
+same_client w after same c = ap (λ (cs : List (ℕ × Client)). is_some (client_at (record w { clients = cs }) c)) same
 
 -- what the program's world holds of a world beside the Store
-pub record Rest {D : Type 0} (w : moves.World) (world : World D) : Type 0 where
+pub record Rest {D : Type 0} (state : D → DiskState) (w : moves.World) (world : World D) : Type 0 where
   pub schemas : (table : ℕ) → tree.get nat_cmp world.schemas table ≡ schema_at w table
-  pub clients : HoldsClients w world.clients
+  pub clients : HoldsClients state w world.clients
+  pub clients_told : nodes.outs_of world.clients ≡ []
   pub packets : packets_in world.network ≡ w.packets
   pub held : HasNodes w.holds world.held
   pub downs : (node : Node) → same_node node the_store ≡ false → is_in world.downs node ≡ has_node w.downs node
-  pub fair : IsFair w
+  pub numbered : AreNumbered w
 
-pub rest_of : {D : Type 0} (state : D → DiskState) (w : moves.World) (world : World D) → Holds state w world → Rest w world
-rest_of state w world h = record { schemas = h.schemas; clients = h.clients; packets = h.packets; held = h.held; downs = h.downs; fair = h.fair }
+pub rest_of : {D : Type 0} (state : D → DiskState) (w : moves.World) (world : World D) → Holds state w world → Rest state w world
+rest_of state w world h = record {
+  schemas = h.schemas;
+  clients = h.clients;
+  clients_told = h.clients_told;
+  packets = h.packets;
+  held = h.held;
+  downs = h.downs;
+  numbered = h.numbered;
+}
 
-pub whole : {D : Type 0} (state : D → DiskState) (w : moves.World) (world : World D) → Rest w world → HoldsStore state w world.store → outs_of world.store ≡ [] → Holds state w world
+pub whole : {D : Type 0} (state : D → DiskState) (w : moves.World) (world : World D) → Rest state w world → HoldsStore state w world.store → outs_of world.store ≡ [] → Holds state w world
 whole state w world r store told = record {
   schemas = r.schemas;
   store = store;
-  told = told;
   clients = r.clients;
+  store_told = told;
+  clients_told = r.clients_told;
   packets = r.packets;
   held = r.held;
   downs = r.downs;
-  fair = r.fair;
+  numbered = r.numbered;
 }
 
-module _ {D : Type 0} (w : moves.World) (old : World D) (r : Rest w old) (m : Moved) (g : Goes w m) where
-  fair_behind : IsFair m.world
-  fair_behind = record {
-    both = λ table. ap (λ (o : Option Schema). is_some o) (schema_same w m.world g.schemas table) ∙ (r.fair.both table ∙ sym (g.tables table));
-    numbers = λ c there. r.fair.numbers c (ap (λ (cs : List (ℕ × Client)). is_some (client_at (record w { clients = cs }) c)) (sym g.clients) ∙ there);
-    ranged = λ table there. r.fair.ranged table (sym (g.tables table) ∙ there);
-    tables = g.fair;
-    packets = λ p a. ⊎_elim (λ b. fair_known w m.world p (λ table schema at. schema_same w m.world g.schemas table ∙ at) (r.fair.packets p b)) (λ b. fair_sent m.world p (g.sent p b))
-        (among_either w.packets (packets_of m.outs) p (subst (λ (ps : List Packet). Among ps p) g.packets a));
+module _ {D : Type 0} (state : D → DiskState) (w : moves.World) (old : World D) (r : Rest state w old) (m : Moved) (g : Goes w m) where
+  numbered_behind : AreNumbered m.world
+  numbered_behind = record {
+    both = λ table. ap (λ (o : Option Schema). is_some o) (schema_same w m.world g.schemas table) ∙ (r.numbered.both table ∙ sym (g.tables table));
+    tables = λ table there. r.numbered.tables table (sym (g.tables table) ∙ there);
+    clients = λ c there. r.numbered.clients c (sym (same_client w m.world g.clients c) ∙ there);
   }
 
-  pub rest_behind : (store : StoreHost D) (network : Network) → packets_in network ≡ packets_in old.network ++ packets_of m.outs → Rest m.world (record old { store = store; network = network })
+  pub rest_behind : (store : StoreHost D) (network : Network) → packets_in network ≡ packets_in old.network ++ packets_of m.outs
+      → Rest state m.world (record old { store = store; network = network })
   rest_behind store network packets = record {
     schemas = λ table. r.schemas table ∙ sym (schema_same w m.world g.schemas table);
-    clients = clients_stay w m.world old.clients r.clients
-        (record {
-          clients = g.clients;
-          free = λ free c. ap (λ (ns : List Node). has_node ns (nodes.Client c)) g.holds ∙ free c;
-          linked = λ linked c. ap (λ (ns : List Node). has_node ns (nodes.Client c)) g.cuts ∙ linked c;
-          schemas = λ table schema at. schema_same w m.world g.schemas table ∙ at;
-        });
+    clients = clients_stay state w m.world old.clients r.clients (record { clients = g.clients; cuts = g.cuts });
+    clients_told = r.clients_told;
     packets = packets ∙ (ap (λ (ps : List Packet). ps ++ packets_of m.outs) r.packets ∙ sym g.packets);
     held = λ node. r.held node ∙ ap (λ (ns : List Node). has_node ns node) (sym g.holds);
     downs = λ node apart. r.downs node apart ∙ sym (g.downs node apart);
-    fair = fair_behind;
+    numbered = numbered_behind;
   }
 
 module _ {D : Type 0} (state : D → DiskState) (w : moves.World) (old : World D) (h : Holds state w old) (m : Moved) (g : Goes w m) where
@@ -170,14 +152,15 @@ module _ {D : Type 0} (state : D → DiskState) (w : moves.World) (old : World D
             (ap (λ (ps : List Packet). lines_from (length ps) (outs_of s)) h.packets ∙ (ap (λ (os : List Outbox). lines_from (length w.packets) os) waiting ∙ said_lines (length w.packets) m.outs)));
         held = subst (λ (x : World D). Holds state m.world x) (sym t.same)
             (whole state m.world (record old { store = new.store; network = new.network })
-            (rest_behind w old (rest_of state w old h) m g new.store new.network
+            (rest_behind state w old (rest_of state w old h) m g new.store new.network
             (t.packets ∙ ap (λ (ps : List Packet). packets_in old.network ++ ps) (ap packets_of waiting ∙ said_packets m.outs)))
             held (ap (λ (x : StoreHost D). outs_of x) t.store));
         tables = g.tables;
+        clients = same_client w m.world g.clients;
       })
     where
       waiting : outs_of s ≡ said_by m
-      waiting = k.moved.outs ∙ ap (λ (os : List Outbox). os ++ said_by m) h.told
+      waiting = k.moved.outs ∙ ap (λ (os : List Outbox). os ++ said_by m) h.store_told
 
       held : HoldsStore state m.world new.store
       held = subst (λ (x : StoreHost D). HoldsStore state m.world x) (sym t.store)

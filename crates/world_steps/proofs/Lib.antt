@@ -1,11 +1,12 @@
 pub mod NodeSets
 pub mod Others
-pub mod Stores
 pub mod Going
 pub mod Moved
 pub mod Said
 pub mod Done
 pub mod Declared
+pub mod Keeping
+pub mod Clients
 pub mod Called
 pub mod Taken
 pub mod Showing

@@ -1,5 +1,5 @@
 -- What a Store's moves come to: whether one failed, and moves put together.
-use Rattle.std.proofs.Common.{◌≡◌, ℕ, zero, suc, Bool, true, false, cond, List, [], ◌∷◌, ◌++◌, length, Option, Some, None, refl, sym, ◌∙◌, ap, subst, append_assoc, append-nil}
+use Rattle.std.proofs.Common.{◌≡◌, ℕ, zero, suc, Bool, true, false, List, [], ◌∷◌, ◌++◌, length, Option, Some, None, refl, sym, ◌∙◌, ap, subst, append_assoc, append-nil}
 use Rattle.std.specs.Prelude.{if◌then◌else◌, ◌||◌, drop, IfOk, Result, Ok, Err}
 use Rattle.std.proofs.lemmas.List.Elements.{filter-append}
 use Rattle.disk_trait.specs.Calls.{DiskState}
@@ -10,7 +10,7 @@ use Rattle.step_tables.specs.Lines.{answer_of}
 use Rattle.step_tables.specs.Messages.{Luck}
 use Rattle.step_tables.specs.Messages as messages
 use Rattle.step_tables.specs.StoreMoves as store
-use Rattle.world_tables.specs.World.{World, Moved, Hosted, Outbox, owner, the_store, has_node, still, and_then, and_unless, failing, hosted_at, move_hosted, move_table, or_falls}
+use Rattle.world_tables.specs.World.{World, Moved, Hosted, Outbox, owner, the_store, has_node, still, and_then, and_unless, hosted_at, move_hosted, move_table, or_falls}
 use Rattle.world_tables.specs.World.{store_falls, write_next, busy_table}
 use Rattle.world_tables.specs.World.{first_luck, other_lucks, tables_of, tables_fall, tables_start, table_starts, without_down, store_until_idle, store_follows, store_starts, crash_luck}
 use Rattle.world_tables.specs.World.{table_crashes, store_crashes}
@@ -19,7 +19,6 @@ use Rattle.store_host.specs.Holds.{HoldsStore, outs_of, says_something, said_by}
 use Rattle.store_host.specs.Calls.{IsMoved}
 use Rattle.store_host.proofs.Moving.{done_answer, crash_silent, falls_silent}
 use Rattle.world_steps.specs.declared.fault.WorldFault.{WorldFault}
-use Rattle.world_steps.specs.Fair.{AreFairTables}
 use Rattle.world_steps.specs.Outs.{IsAnswered}
 use Rattle.world_steps.proofs.Going.{tables_start_goes}
 
@@ -158,13 +157,13 @@ module _ {D : Type 0} (state : D → DiskState) (old : StoreHost D) (w : World) 
         refl,
       )
 
-  pub starts_ok : (mid new : StoreHost D) → AreFairTables w → m.failed ≡ false → IsMoved state old mid (and_then m (λ x. still (without_down the_store x)))
+  pub starts_ok : (mid new : StoreHost D) → m.failed ≡ false → IsMoved state old mid (and_then m (λ x. still (without_down the_store x)))
       → (is_held : Bool) → is_held ≡ has_node w.holds the_store → (result : Result Answer WorldFault)
       → ((x : World) → HoldsStore state x mid → is_held ≡ has_node x.holds the_store → IfOk result
       (λ given. (more : List Luck) × IsAnswered state mid new facts.Done (store_follows owner more x) given))
       → IfOk result (λ given. (all : List Luck) × IsAnswered state old new facts.Done (store_starts owner all w) given × (tables_start tables all w ≡ m))
-  starts_ok mid new fair well first is_held is (Err e) k = tt
-  starts_ok mid new fair well first is_held is (Ok given) k =
-      let same : m.world.holds ≡ w.holds = (tables_start_goes tables lucks w fair).holds in
+  starts_ok mid new well first is_held is (Err e) k = tt
+  starts_ok mid new well first is_held is (Ok given) k =
+      let same : m.world.holds ≡ w.holds = (tables_start_goes tables lucks w).holds in
       let x = k (without_down the_store m.world) first.held (is ∙ ap (λ (ns : List Node). has_node ns the_store) (sym same)) in
       starts_well mid new well first given x.0 x.1

@@ -1,6 +1,6 @@
 -- Sets of nodes as lists of nodes.
 use Rattle.std.proofs.Common.{◌≡◌, ℕ, Bool, true, false, cond, arith, List, [], ◌∷◌, refl, sym, ◌∙◌, ap, subst, true≢false}
-use Rattle.std.specs.Prelude.{not, ◌||◌, ◌&&◌, ◌==◌, if◌then◌else◌, filter}
+use Rattle.std.specs.Prelude.{not, ◌||◌, ◌&&◌, ◌==◌, if◌then◌else◌}
 use Rattle.std.proofs.lemmas.Bool.{eqb-true, eq-eqb}
 use Rattle.std.proofs.lemmas.Bool.Decides.{nat_tests}
 use Rattle.std.specs.Ordering.{nat_cmp}

@@ -1,5 +1,5 @@
 -- What a crash leaves of the rows of a world's tables, from call to call, and where that stands in the tables' histories.
-use Rattle.std.proofs.Common.{◌≡◌, ◌⊎◌, inl, inr, ⊎_elim, ℕ, true, List, ◌∷◌, map, Option, Some, None, Result, Ok, Err, refl, sym, ◌∙◌, ap, subst}
+use Rattle.std.proofs.Common.{◌≡◌, ◌⊎◌, inl, inr, ⊎_elim, ℕ, List, Option, Some, Result, Ok, Err, sym, ◌∙◌, ap, subst}
 use Rattle.std.specs.Prelude.{IfOk, slice_get}
 use Rattle.std.specs.Ordering.{nat_cmp}
 use Rattle.std.specs.BTreeMap.{is_at}
@@ -12,14 +12,12 @@ use Rattle.disk_trait.specs.declared.fuse.FuseDisk.{FuseDisk}
 use Rattle.stab_base.specs.declared.node.Node.{Node}
 use Rattle.row_value.specs.declared.schema.Schema.{Schema}
 use Rattle.row_store.specs.Data.{TableData}
-use Rattle.store_commit.specs.Standing.{RowsLeave}
 use Rattle.store_commit.proofs.Moments.{rows_weaker, rows_then}
 use Rattle.table_model.specs.declared.event.Event.{Event}
 use Rattle.table_model.specs.declared.event.Event.TheVariants as events
 use Rattle.table_model.specs.declared.line.Answer.{Answer}
 use Rattle.table_model.specs.declared.line.TextLine.{TextLine}
 use Rattle.step_tables.specs.Facts as facts
-use Rattle.step_tables.specs.Lines.{line_of}
 use Rattle.step_tables.specs.Messages.{Luck}
 use Rattle.step_tables.specs.StoreMoves.{StoreDisk, TableStore}
 use Rattle.device_laws.specs.Stands.{HasRows}
@@ -36,11 +34,11 @@ use Rattle.store_host.proofs.Froms.{IsFrom}
 use Rattle.store_host.proofs.Lefts.{still_left, none_still, between}
 use Rattle.world_steps.specs.declared.fault.WorldFault.{WorldFault}
 use Rattle.world_steps.specs.declared.world.World.{World}
-use Rattle.world_steps.specs.Calls.{IsDone, Comes, HasTold, HasSent}
-use Rattle.world_steps.specs.Holds.{Holds, IsReached}
+use Rattle.world_steps.specs.Calls.{IsDone, Comes, HasTold}
+use Rattle.world_steps.specs.Holds.{Holds}
 use Rattle.world_steps.specs.Outs.{IsAnswered}
 use Rattle.world_steps.specs.Rows.{disk_with, HasRowsBetween, RowsStay, HasSome, HasSomeAt, AreLeftOver, ComesLeft}
-use Rattle.step_tables.specs.declared.out.Out.{Out}
+use Rattle.fair_laws.specs.Reached.{IsReached}
 
 some_same : {X : Type 0} (a b : X) → Some a ≡ Some b → a ≡ b
 some_same a b e = cc
@@ -67,12 +65,6 @@ module _ {D : Type 0} (P : tree.BTreeMap ℕ (Kept D) → Type 0) where
 pub any_ok : {A : Type 0} (result : Result A WorldFault) (P : Type 0) → P → IfOk result (λ x. P)
 any_ok (Err e) P p = tt
 any_ok (Ok x) P p = p
-
--- a client's call leaves the Store as it is
-pub sent_same : {D : Type 0} (result : Result (List TextLine) WorldFault) (a : facts.Answer) (old mid new : World D) (from : Node) (out : Out) → mid.store ≡ old.store
-    → IfOk result (λ lines. HasSent mid new from a out lines) → IfOk result (λ lines. new.store ≡ old.store)
-sent_same (Err e) a old mid new from out same k = tt
-sent_same {D} (Ok lines) a old mid new from out same k = ap (λ (x : World D). x.store) k.same ∙ same
 
 module _ {D : Type 0} (state : D → DiskState) (images : D → ℕ → List ℕ → Type 0) where
   abbrev st : FuseDisk D → DiskState
@@ -203,6 +195,12 @@ module _ {D : Type 0} (state : D → DiskState) (images : D → ℕ → List ℕ
       → Comes state w f result new → IfOk result (λ lines. AreLeft state images w old.store.tables new.store.tables) → ComesLeft state images w f first result old new
   comes_still w f first (Err e) old new k left = tt
   comes_still w f first (Ok lines) old new k left = (k.0, k.1, over_first w (first k.0) old.store.tables new.store.tables left)
+
+  -- without what is left
+  pub left_comes : (w : moves.World) (f : Lucks → WorldStep) (first : Lucks → moves.World) (result : Result (List TextLine) WorldFault) (old new : World D)
+      → ComesLeft state images w f first result old new → Comes state w f result new
+  left_comes w f first (Err e) old new k = tt
+  left_comes w f first (Ok lines) old new k = (k.0, k.1)
 
 -- ---- deliveries
 

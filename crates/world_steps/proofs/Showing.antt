@@ -1,6 +1,8 @@
 -- What the Store shows of its tables.
-use Rattle.std.proofs.Common.{◌≡◌, ℕ, Bool, true, false, List, [], ◌∷◌, ◌++◌, length, map, Option, Some, None, Result, Ok, Err, refl, sym, ◌∙◌, ap, subst, append-nil, rules}
+use Rattle.std.proofs.Common.{◌≡◌, ℕ, true, false, List, [], ◌∷◌, length, map, Option, Some, None, Result, Ok, Err, refl, sym, ◌∙◌, ap, append-nil, rules}
 use Rattle.std.specs.Prelude.{IfOk, IsSome, is_some, option_map}
+use Rattle.std.specs.Ordering.{nat_cmp}
+use Rattle.std.specs.BTreeMap as tree
 use Rattle.disk_trait.specs.Calls.{DiskState}
 use Rattle.table_model.specs.declared.entry.Entry.{Entry}
 use Rattle.table_model.specs.declared.line.TextLine.{TextLine}
@@ -11,13 +13,13 @@ use Rattle.step_tables.specs.Messages.{Luck}
 use Rattle.step_tables.specs.Messages as messages
 use Rattle.step_tables.specs.Store.{current_of}
 use Rattle.store_host.specs.declared.host.StoreHost.{StoreHost}
-use Rattle.store_host.specs.Holds.{outs_of}
+use Rattle.store_host.specs.declared.hosted.Hosted.{Hosted as Kept}
+use Rattle.store_host.specs.Holds.{HoldsStore, HostedThere, outs_of}
 use Rattle.store_node.specs.declared.node.StoreOut.{StoreOut}
-use Rattle.world_tables.specs.World.{Lucks, no_lucks, WorldStep, Hosted, hosted_at, refused, answering, entry_lines, history_lines, row_read, row_shown, first_luck, still, failing, store_falls, owner}
+use Rattle.world_tables.specs.World.{Lucks, no_lucks, WorldStep, Hosted, hosted_at, schema_at, refused, answering, entry_lines, history_lines, row_read, row_shown, first_luck, still, failing, store_falls, owner}
 use Rattle.world_tables.specs.World as moves
 use Rattle.world_steps.specs.declared.fault.WorldFault.{WorldFault}
 use Rattle.world_steps.specs.declared.world.World.{World}
-use Rattle.world_steps.specs.Fair.{AreFairTables}
 use Rattle.world_steps.specs.Holds.{Holds}
 use Rattle.world_steps.specs.Outs.{Goes, read_moves}
 use Rattle.world_steps.specs.Calls.{IsDone, Comes}
@@ -35,6 +37,15 @@ none_of (Some x) e = absurd cc
 pub there_now : {X : Type 0} (o : Option X) → true ≡ is_some o → IsSome o
 there_now None e = absurd cc
 there_now (Some x) e = search rules
+
+pub there_at : {D : Type 0} (state : D → DiskState) (w : moves.World) (store : StoreHost D) (table : ℕ) → HoldsStore state w store → IsSome (tree.get nat_cmp store.tables table)
+    → (hosted : Hosted) × (hosted_at w table ≡ Some hosted)
+there_at {D} state w store table h there = go (hosted_at w table) refl (tree.get nat_cmp store.tables table) there (h.tables.there table)
+  where
+    go : (o : Option Hosted) → hosted_at w table ≡ o → (it : Option (Kept D)) → IsSome it → HostedThere state (schema_at w table) table o it → (hosted : Hosted) × (hosted_at w table ≡ Some hosted)
+    go (Some hosted) at it there k = (hosted, at)
+    go None at None there k = absurd cc
+    go None at (Some it) there k = absurd k
 
 pub no_outs : {D : Type 0} (store : StoreHost D) → outs_of store ≡ [] → store.outs ≡ []
 no_outs store e = go store.outs e
@@ -78,6 +89,7 @@ module _ {D : Type 0} (state : D → DiskState) (w : moves.World) where
                     ∙ ap (λ (ls : List Line). AnswerLine (facts.Number (length hosted.history)) ∷ ls) (sym (append-nil (entry_lines table hosted.history))));
                 held = h;
                 tables = λ q. refl;
+                clients = λ c. refl;
               },
             )
 
@@ -91,10 +103,10 @@ module _ {D : Type 0} (state : D → DiskState) (w : moves.World) where
 
 -- ---- a look at a row
 
-pub read_goes : (w : moves.World) (luck : Luck) → AreFairTables w → Goes w (read_moves w luck)
-read_goes w messages.Done f = still_goes w f
-read_goes w messages.FailedBefore f = failing_goes w (store_falls owner w) (store_falls_goes w f)
-read_goes w messages.FailedAfter f = failing_goes w (store_falls owner w) (store_falls_goes w f)
+pub read_goes : (w : moves.World) (luck : Luck) → Goes w (read_moves w luck)
+read_goes w messages.Done = still_goes w
+read_goes w messages.FailedBefore = failing_goes w (store_falls owner w) (store_falls_goes w)
+read_goes w messages.FailedAfter = failing_goes w (store_falls owner w) (store_falls_goes w)
 
 pub read_is : (w : moves.World) (hosted : Hosted) (row : List ℕ) (luck : Luck) → row_read w hosted row luck ≡ answering (row_shown (current_of hosted.store.disk.items row)) (read_moves w luck)
 read_is w hosted row messages.Done = refl

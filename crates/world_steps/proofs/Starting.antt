@@ -1,14 +1,11 @@
 -- A world in which nothing is declared.
-use Rattle.std.proofs.Common.{◌≡◌, ℕ, true, [], Some, None, refl, ap}
-use Rattle.step_tables.proofs.Lists.{among_none}
+use Rattle.std.proofs.Common.{refl}
 use Rattle.world_tables.specs.World.{start}
-use Rattle.world_steps.specs.Fair.{IsFair}
+use Rattle.world_steps.specs.Numbers.{AreNumbered}
 
-pub start_fair : IsFair start
-start_fair = record {
+pub start_numbered : AreNumbered start
+start_numbered = record {
   both = λ table. refl;
-  numbers = λ client there. absurd cc;
-  ranged = λ table there. absurd cc;
-  tables = λ table hosted at. absurd cc;
-  packets = λ packet a. absurd (among_none packet a);
+  tables = λ table there. absurd cc;
+  clients = λ client there. absurd cc;
 }

@@ -1,31 +1,33 @@
 -- A call of the world as a step, and the faults that come of it.
-use Rattle.std.proofs.Common.{◌≡◌, ◌≢◌, ◌⊎◌, ⊎_elim, ℕ, true, List, [], ◌∷◌, map, Option, Some, None, Result, Ok, Err, refl, sym, ◌∙◌, ap, subst, Bool}
-use Rattle.std.specs.Prelude.{IfOk, IfErr, is_some}
+use Rattle.std.proofs.Common.{◌≡◌, ◌≢◌, ◌⊎◌, ⊎_elim, ℕ, suc, List, [], ◌∷◌, Option, Result, Ok, Err, refl, sym, ◌∙◌, ap, subst, arith, Bool}
+use Rattle.std.specs.Prelude.{IfOk, IfErr}
 use Rattle.disk_trait.specs.Calls.{DiskState, IsCounted}
 use Rattle.stab_base.specs.declared.node.Node.{Node}
 use Rattle.stab_base.specs.declared.node.Node.TheVariants as nodes
-use Rattle.table_model.specs.declared.event.Event.{Event}
 use Rattle.table_model.specs.declared.event.Event.TheVariants as events
 use Rattle.table_model.specs.declared.line.TextLine.{TextLine}
-use Rattle.step_tables.specs.ClientMoves.{Client}
 use Rattle.step_tables.specs.Members.{Among}
-use Rattle.step_tables.specs.Messages as messages
 use Rattle.world_tables.specs.Quiet.{Quiet, at_first, after}
 use Rattle.world_tables.specs.Turns.{Happening, world_from}
-use Rattle.world_tables.specs.World.{Packet, Hosted, no_lucks, step, start, lines_of, hosted_at, client_at, joined}
-use Rattle.world_tables.specs.Faults.{fails_joined}
+use Rattle.world_tables.specs.World.{no_lucks, step, start, lines_of}
 use Rattle.world_tables.specs.World as moves
 use Rattle.name_laws.proofs.Plain as plain
 use Rattle.name_laws.proofs.Quiets.{Follows, start_follows, step_follows}
 use Rattle.world_steps.specs.declared.fault.WorldFault.{WorldFault}
 use Rattle.world_steps.specs.declared.fault.WorldFault.TheVariants.{Memory, Limit, Depot}
 use Rattle.world_steps.specs.declared.world.World.{World}
-use Rattle.world_steps.specs.Fair.{IsPlace, ArePlaces}
-use Rattle.world_steps.specs.Holds.{Holds, IsReached, AreOut, first_disk}
-use Rattle.world_steps.specs.Steps.{IsStep}
-use Rattle.world_steps.proofs.Counted.{all_still}
+use Rattle.world_steps.specs.Places.{IsPlace, ArePlaces}
+use Rattle.world_steps.specs.Holds.{Holds, IsWorld, AreOut}
+use Rattle.world_steps.specs.Calls.{Comes}
+use Rattle.world_steps.specs.Steps.{HavePlansBelow, IsStep}
+use Rattle.row_value.specs.declared.content.Content.{Content}
+use Rattle.row_edits.specs.declared.change.Edit.{Edit}
 use Rattle.world_steps.proofs.Rows.{over_first, stay_over}
-use Rattle.store_host.specs.declared.host.StoreHost.{StoreHost}
+use Rattle.fair_laws.specs.Reached.{IsReached}
+use Rattle.fair_laws.specs.Worlds.{IsFair}
+use Rattle.fair_laws.proofs.Worlds.{reached_fair}
+use Rattle.journal_host.specs.declared.host.ClientHost.{ClientHost}
+use Rattle.journal_host.specs.Holds as hosts
 use Rattle.store_host.specs.Holds.{AreLeft}
 
 -- ---- packets go to places
@@ -62,30 +64,40 @@ nothing_done state images w number is_out world lines r h out is left =
       rows = stay_over state images w r (events.Store number) no_lucks world world (over_first state images w w world.store.tables world.store.tables left);
     })
 
-pub client_joins : {D : Type 0} (state : D → DiskState) (images : D → ℕ → List ℕ → Type 0) (w : moves.World) (c : ℕ) (gate : Option ℕ) (tables : List ℕ) (is_out : ℕ → Bool) (old new : World D)
-    (result : Result (List TextLine) WorldFault) → IsReached w → AreOut is_out w → new.store ≡ old.store
-    → IfOk result (λ lines. (lines ≡ []) × Holds state (joined w c tables messages.Done (client_at w c)) new) → AreLeft state images w old.store.tables old.store.tables
+-- the tables are those of the event
+pub joins_as : {D : Type 0} (state : D → DiskState) (images : D → ℕ → List ℕ → Type 0) (w : moves.World) (c : ℕ) (gate : Option ℕ) (made tables : List ℕ) (is_out : ℕ → Bool) (old new : World D)
+    (result : Result (List TextLine) WorldFault) → made ≡ tables → IfOk result (λ lines. IsStep state images w (events.Client c gate made) lines is_out old new)
     → IfOk result (λ lines. IsStep state images w (events.Client c gate tables) lines is_out old new)
-client_joins {D} state images w c gate tables is_out old new (Err e) r out still k left = tt
-client_joins {D} state images w c gate tables is_out old new (Ok lines) r out still k left =
-    subst (λ (ls : List TextLine). IsStep state images w (events.Client c gate tables) ls is_out old new) (sym k.0) (record {
-      lucks = no_lucks;
-      lines_are = refl;
-      held = k.1;
-      out = λ table disk one small. out table disk one small ∙ same table (client_at w c);
-      rose = λ t. absurd (joins_well (client_at w c) t);
-      same = λ f. all_still state old new still;
-      rows = stay_over state images w r (events.Client c gate tables) no_lucks old new (over_first state images w w old.store.tables new.store.tables
-          (subst (λ (s : StoreHost D). AreLeft state images w old.store.tables s.tables) (sym still) left));
-    })
-  where
-    joins_well : (o : Option Client) → fails_joined o [] ≡ true → ⊥
-    joins_well None t = absurd cc
-    joins_well (Some node) t = absurd cc
+joins_as state images w c gate made tables is_out old new result same k =
+    subst (λ (ts : List ℕ). IfOk result (λ lines. IsStep state images w (events.Client c gate ts) lines is_out old new)) same k
 
-    same : (table : ℕ) (o : Option Client) → is_some (hosted_at w table) ≡ is_some (hosted_at (joined w c tables messages.Done o) table)
-    same table None = refl
-    same table (Some node) = refl
+-- and so is the content
+pub writes_as : {D : Type 0} (state : D → DiskState) (w : moves.World) (c table : ℕ) (row : List ℕ) (made content : Content) (new : World D) (result : Result (List TextLine) WorldFault)
+    → made ≡ content → Comes state w (step w (events.Write c table row made)) result new → Comes state w (step w (events.Write c table row content)) result new
+writes_as state w c table row made content new result same k = subst (λ (x : Content). Comes state w (step w (events.Write c table row x)) result new) same k
+
+-- and the edit
+pub edits_as : {D : Type 0} (state : D → DiskState) (w : moves.World) (c table : ℕ) (row : List ℕ) (made edit : Edit) (new : World D) (result : Result (List TextLine) WorldFault)
+    → made ≡ edit → Comes state w (step w (events.Edit c table row made)) result new → Comes state w (step w (events.Edit c table row edit)) result new
+edits_as state w c table row made edit new result same k = subst (λ (x : Edit). Comes state w (step w (events.Edit c table row x)) result new) same k
+
+-- ---- plans
+
+pub nodes_same : {D : Type 0} (old new : World D) → new.clients ≡ old.clients → new.clients.clients ≡ old.clients.clients
+nodes_same {D} old new same = ap (λ (host : ClientHost D). host.clients) same
+
+-- more may have been begun
+pub plans_later : {D : Type 0} (state : D → DiskState) (n : ℕ) (world : World D) → HavePlansBelow state n world → HavePlansBelow state (suc n) world
+plans_later state n world k = λ c node at is. let few = k c node at is in omega (arith, few)
+
+pub plans_kept : {D : Type 0} (state : D → DiskState) (n : ℕ) (old new : World D) → new.clients ≡ old.clients → HavePlansBelow state n old → HavePlansBelow state (suc n) new
+plans_kept {D} state n old new same k =
+    subst (λ (host : ClientHost D). hosts.HavePlansBelow state (suc n) host.clients) (sym same) (plans_later state n old k)
+
+-- ---- worlds
+
+pub fair_there : {D : Type 0} (state : D → DiskState) (is_out : ℕ → Bool) (world : World D) → IsWorld state is_out world → (w : moves.World) × Holds state w world × IsFair w
+fair_there state is_out world k = (k.w, k.held, reached_fair k.w k.reached)
 
 -- ---- faults
 

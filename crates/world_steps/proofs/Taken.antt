@@ -1,9 +1,8 @@
 -- What a message for one of its tables, or a look at a row, comes to at the Store.
-use Rattle.std.proofs.Common.{◌≡◌, ℕ, Bool, true, false, cond, List, [], ◌∷◌, ◌++◌, length, map, Option, Some, None, Result, Ok, Err, refl, sym, ◌∙◌, ap, subst, append-nil, append_assoc}
-use Rattle.std.specs.Prelude.{if◌then◌else◌, ◌||◌, ◌==◌, nat_lt, option_map, IfOk, is_some}
+use Rattle.std.proofs.Common.{◌≡◌, ℕ, Bool, true, false, cond, List, [], ◌∷◌, ◌++◌, Option, Some, None, Result, Ok, Err, refl, sym, ◌∙◌, ap, subst, append-nil, append_assoc}
+use Rattle.std.specs.Prelude.{if◌then◌else◌, ◌||◌, ◌==◌, nat_lt, option_map, IfOk, IfErr, is_some}
 use Rattle.std.specs.Ordering.{nat_cmp}
 use Rattle.std.specs.Cmp.{nat_cmp_total}
-use Rattle.std.specs.Map.{keys_of}
 use Rattle.std.specs.BTreeMap.{is_at, insert_entry}
 use Rattle.std.specs.BTreeMap as tree
 use Rattle.std.specs.List.Sorted.{IsStrictlySortedBy}
@@ -19,27 +18,27 @@ use Rattle.step_tables.specs.declared.message.Message.{Message}
 use Rattle.step_tables.specs.declared.message.Message.TheVariants as kinds
 use Rattle.step_tables.specs.Facts as facts
 use Rattle.step_tables.specs.Lines.{answer_of}
-use Rattle.step_tables.specs.Members.{Among}
 use Rattle.step_tables.specs.Messages.{Luck, Request, Pair, table_of}
 use Rattle.step_tables.specs.Messages as messages
 use Rattle.step_tables.specs.Store.{Stored, current_of}
 use Rattle.step_tables.specs.StoreMoves.{StoreDisk, StoreTask, Take, taken, decided, judged, takes, version_of, version_at, yours_in}
 use Rattle.step_tables.specs.StoreMoves as store
 use Rattle.step_tables.specs.Travels.{message_of}
-use Rattle.step_tables.proofs.Lists.{among_get, lookup-insert}
+use Rattle.step_tables.proofs.Lists.{lookup-insert}
 use Rattle.store_node.specs.Calls.{IsAtWork}
 use Rattle.store_node.specs.Reading.{shown_of}
 use Rattle.store_node.specs.declared.showing.ShownRow.{ShownRow}
 use Rattle.store_host.specs.declared.host.StoreHost.{StoreHost}
-use Rattle.store_host.specs.declared.hosted.Hosted.{Hosted as Kept}
 use Rattle.store_host.specs.Holds.{HoldsStore, HostedThere, outs_of, outs_in, says_something, said_by}
-use Rattle.store_host.specs.Calls.{IsMoved, FitsIn, IsBusyWith}
+use Rattle.store_host.specs.Calls.{IsMoved, FitsIn, IsBusyWith, IsSpentIn}
 use Rattle.store_host.proofs.Maps.{keys_kept, at_same}
-use Rattle.world_tables.specs.World.{World, Moved, Outbox, Packet, Hosted, owner, hosted_at, schema_at, scheme_in, chunk_in, still, and_then, failing, answering, is_fault, table_step}
+use Rattle.world_tables.specs.World.{World, Moved, Outbox, Packet, Hosted, owner, hosted_at, schema_at, scheme_in, chunk_in, still, and_then, failing, is_fault, table_step}
 use Rattle.world_tables.specs.World.{move_table, move_hosted, store_falls, store_follows, has_node, the_store}
 use Rattle.world_tables.specs.World.{table_follows, is_at_work, to_hosted, take_at, row_shown}
 use Rattle.world_steps.specs.declared.fault.WorldFault.{WorldFault}
-use Rattle.world_steps.specs.Fair.{AreFairTables, IsFairMessage}
+use Rattle.world_steps.specs.declared.fault.WorldFault.TheVariants.{Limit as LimitPassed}
+use Rattle.world_steps.specs.Steps.{IsFull}
+use Rattle.fair_laws.specs.Worlds.{IsFairMessage}
 use Rattle.world_steps.specs.Outs.{IsAnswered, IsTakenAs, read_moves}
 use Rattle.world_steps.proofs.Showing.{some_of}
 use Rattle.world_steps.proofs.Going.{still_goes, then_goes, failing_goes, table_goes, table_follows_goes, store_falls_goes}
@@ -125,7 +124,7 @@ holds_same w table from m = go (hosted_at w table)
 
 -- ---- a message
 
-module _ {D : Type 0} (state : D → DiskState) (w : World) (old : StoreHost D) (h : HoldsStore state w old) (fair : AreFairTables w) (from : Node) (m : messages.Message) where
+module _ {D : Type 0} (state : D → DiskState) (w : World) (old : StoreHost D) (h : HoldsStore state w old) (from : Node) (m : messages.Message) where
   pub lost : hosted_at w (table_of m) ≡ None → (given : Answer) → answer_of given ≡ facts.Done → (lucks : List Luck) × IsTakenAs state w from m lucks old old given
   lost at given is = (
     [],
@@ -134,7 +133,7 @@ module _ {D : Type 0} (state : D → DiskState) (w : World) (old : StoreHost D) 
       moves = still w;
       step_is = ap (to_hosted w (table_of m) (Take from m) []) at;
       answered = record { moved = record { held = h; outs = sym (append-nil (outs_of old)) }; answer_is = is };
-      goes = still_goes w fair;
+      goes = still_goes w;
     },
   )
 
@@ -158,7 +157,7 @@ module _ {D : Type 0} (state : D → DiskState) (w : World) (old : StoreHost D) 
             moves = and_then mv (table_follows (table_of m) lucks);
             step_is = ap (to_hosted w (table_of m) (Take from m) (messages.Done ∷ lucks)) at ∙ ap (take_at w (table_of m) hosted (Take from m) (messages.Done ∷ lucks)) idle;
             answered = then_answered state old mid new mv (table_follows (table_of m) lucks) (table_step w (table_of m) hosted (Take from m)).answer given moved (idle_well idle) (idle_done idle) k;
-            goes = then_goes w mv (table_follows (table_of m) lucks) (table_goes w (table_of m) (Take from m) fair) (λ x. table_follows_goes (table_of m) lucks mv.world x);
+            goes = then_goes w mv (table_follows (table_of m) lucks) (table_goes w (table_of m) (Take from m)) (table_follows_goes (table_of m) lucks mv.world);
           },
         )
 
@@ -171,7 +170,7 @@ module _ {D : Type 0} (state : D → DiskState) (w : World) (old : StoreHost D) 
         moves = failing (store_falls owner w);
         step_is = ap (to_hosted w (table_of m) (Take from m) (messages.FailedBefore ∷ [])) at ∙ ap (take_at w (table_of m) hosted (Take from m) (messages.FailedBefore ∷ [])) idle;
         answered = record { moved = record { held = moved.held; outs = moved.outs }; answer_is = is };
-        goes = failing_goes w (store_falls owner w) (store_falls_goes w fair);
+        goes = failing_goes w (store_falls owner w) (store_falls_goes w);
       },
     )
 
@@ -208,7 +207,7 @@ module _ {D : Type 0} (state : D → DiskState) (w : World) (old : StoreHost D) 
             moved = record { held = same_store state w new (table_of m) hosted at (w.packets ++ []) held; outs = ap outs_in outs ∙ sym (append-nil (outs_of old)) };
             answer_is = is;
           });
-          goes = table_goes w (table_of m) (Take from m) fair;
+          goes = table_goes w (table_of m) (Take from m);
         },
       )
 
@@ -251,17 +250,29 @@ module _ {D : Type 0} (state : D → DiskState) (w : World) (old new : StoreHost
 
 -- ---- a packet that was sent
 
-pub fits : (w : World) (from : Node) (message : Message) → IsFairMessage w from (message_of message) → FitsIn w message
+pub fits : (w : World) (from : Node) (message : Message) → IsFairMessage (schema_at w) from (message_of message) → FitsIn w message
 fits w from (kinds.SyncRequest q) f = (
   λ schema at.
-      let both : Some f.0 ≡ Some schema = sym f.1 ∙ at in
-      let same : f.0 ≡ schema = cc in
-      subst (λ (s : Schema). fit_of s q.content ≡ Ok tt) same f.2,
-  f.3,
+      let both : Some f.0.0 ≡ Some schema = sym f.0.1 ∙ at in
+      let same : f.0.0 ≡ schema = cc in
+      subst (λ (s : Schema). fit_of s q.content ≡ Ok tt) same f.0.2,
+  f.1,
 )
 fits w from (kinds.PullRequest q) f = tt
 fits w from (kinds.SyncResponse r) f = tt
 fits w from (kinds.PullResponse q) f = tt
+
+-- no version is left for the write that it asks for
+pub full_at : (w : World) (message : Message) → IsSpentIn w message → IsFull w
+full_at w (kinds.SyncRequest q) k = record { table = q.table; hosted = k.0; at = k.1; full = k.3.1 }
+full_at w (kinds.PullRequest q) k = absurd k.3
+full_at w (kinds.SyncResponse r) k = absurd k.3
+full_at w (kinds.PullResponse q) k = absurd k.3
+
+pub full_limit : {A : Type 0} (w : World) (message : Message) (r : Result A WorldFault) → IfErr r (λ e. (code count : ℕ) → e ≡ LimitPassed code count → (code ≡ 11) × IsSpentIn w message)
+    → IfErr r (λ e. (code count : ℕ) → e ≡ LimitPassed code count → (code ≡ 11) × IsFull w)
+full_limit w message (Ok x) k = tt
+full_limit w message (Err e) k = λ code count is. let x = k code count is in (x.0, full_at w message x.1)
 
 pub shown_is : (o : Option Stored) (x : ShownRow) → Some x ≡ option_map shown_of o → facts.Stores x.version x.content ≡ row_shown o
 shown_is None x e = absurd cc

@@ -1,15 +1,13 @@
 -- What goes back to a depot when a world ends.
-use Rattle.std.specs.Prelude.{◌≡◌, ℕ, ◌+◌, ◌==◌, ◌<◌, ◌≤◌, Bool, true, false, ◌&&◌, not, Option, Some, None, IfSome}
-use Rattle.std.specs.Prelude.{is_some, if◌then◌else◌}
-use Rattle.std.specs.Ordering.{nat_cmp}
-use Rattle.std.specs.BTreeMap as tree
-use Rattle.std.specs.Map.{keys_of}
-use Rattle.std.specs.List.Sorted.{IsStrictlySortedBy}
+use Rattle.std.specs.Prelude.{◌≡◌, ℕ, ◌+◌, ◌==◌, ◌<◌, Bool, ◌&&◌, not, Option, Some, None}
+use Rattle.std.specs.Prelude.{if◌then◌else◌}
 use Rattle.store_host.specs.declared.hosted.Hosted.{Hosted}
 use Rattle.store_host.specs.Holds.{disks_at}
-use Rattle.world_steps.specs.Holds.{first_disk}
+use Rattle.client_node.specs.declared.node.ClientNode.{ClientNode}
+use Rattle.journal_host.specs.Holds as clients
+use Rattle.world_steps.specs.Holds.{first_disk, first_client_disk}
 
--- the three disks of a table that begin at this number are no longer out
+-- the three disks of a table or of a client that begin at this number are no longer out
 abbrev pub without_three : ℕ → (ℕ → Bool) → ℕ → Bool
 without_three first is_out k =
     not (k == first + 2) && (not (k == first + 1) && (not (k == first) && is_out k))
@@ -22,20 +20,21 @@ TellsThree (Some old) (Some new) first disks = (k : ℕ) → new k ≡ (if k == 
 TellsThree None (Some new) first disks = ⊥
 TellsThree (Some old) None first disks = ⊥
 
+-- the disks that a depot tells under numbers below this one are as they were
+abbrev pub StayBelow : {D : Type 0} → Option (ℕ → Option D) → Option (ℕ → Option D) → ℕ → Type 0
+StayBelow None None n = Unit {0}
+StayBelow (Some old) (Some new) n = (k : ℕ) → k < n → new k ≡ old k
+StayBelow None (Some new) n = ⊥
+StayBelow (Some old) None n = ⊥
+
 -- a table's three disks came back last under their numbers
 pub record AreBack {D : Type 0} (disks : ℕ → Option D) (table : ℕ) (it : Hosted D) : Type 0 where
   pub chunks : disks (first_disk table) ≡ Some (disks_at (table, it)).1.0
   pub rows : disks (first_disk table + 1) ≡ Some (disks_at (table, it)).1.1
   pub log : disks (first_disk table + 2) ≡ Some (disks_at (table, it)).1.2
 
--- of these tables those are left whose disks are out, and the disks of the others came back
-pub record IsClosing {D : Type 0} (all left : tree.BTreeMap ℕ (Hosted D)) (is_out : ℕ → Bool)
-    (told : Option (ℕ → Option D)) : Type 0 where
-  pub rising : IsStrictlySortedBy nat_cmp (keys_of left.entries)
-  pub some : (table : ℕ) (it : Hosted D) → tree.get nat_cmp left table ≡ Some it
-      → tree.get nat_cmp all table ≡ Some it
-  pub ranged : (table : ℕ) → is_some (tree.get nat_cmp left table) ≡ true → (1 ≤ table) × (table ≤ 64)
-  pub out : (table k : ℕ) → 1 ≤ table → k < 3
-      → is_out (first_disk table + k) ≡ is_some (tree.get nat_cmp left table)
-  pub back : IfSome told (λ disks. (table : ℕ) (it : Hosted D) → tree.get nat_cmp all table ≡ Some it
-      → tree.get nat_cmp left table ≡ None → AreBack disks table it)
+-- a client's three disks came back last under their numbers
+pub record AreClientBack {D : Type 0} (disks : ℕ → Option D) (c : ℕ) (node : ClientNode D) : Type 0 where
+  pub journal : disks (first_client_disk c) ≡ Some (clients.disks_at (c, node)).1.0
+  pub slots : disks (first_client_disk c + 1) ≡ Some (clients.disks_at (c, node)).1.1
+  pub chunks : disks (first_client_disk c + 2) ≡ Some (clients.disks_at (c, node)).1.2

@@ -1,6 +1,7 @@
 pub mod Network
 pub mod Nodes
-pub mod Fair
+pub mod Places
+pub mod Numbers
 pub mod Holds
 pub mod Outs
 pub mod Faults

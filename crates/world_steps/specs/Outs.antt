@@ -1,5 +1,5 @@
 -- What a Store's moves told and sent, as lines and packets.
-use Rattle.std.specs.Prelude.{◌≡◌, ℕ, ◌++◌, Bool, false, List, map, length, is_some, if◌then◌else◌}
+use Rattle.std.specs.Prelude.{◌≡◌, ℕ, ◌++◌, false, List, map, length, is_some, if◌then◌else◌}
 use Rattle.std.specs.List.{flat_map}
 use Rattle.disk_trait.specs.Calls.{DiskState}
 use Rattle.table_model.specs.declared.line.Answer.{Answer}
@@ -15,9 +15,7 @@ use Rattle.world_tables.specs.World.{to_hosted, hosted_at, answering, same_node,
 use Rattle.store_host.specs.declared.host.StoreHost.{StoreHost}
 use Rattle.store_host.specs.Calls.{IsMoved}
 use Rattle.world_steps.specs.declared.network.Network.{Network}
-use Rattle.step_tables.specs.Members.{Among}
 use Rattle.world_steps.specs.Network.{packets_in}
-use Rattle.world_steps.specs.Fair.{IsFromStore, AreFairTables}
 
 abbrev pub packets_of : List Outbox → List Packet
 packets_of outs = flat_map (λ (out : Outbox). out.packets) outs
@@ -31,8 +29,6 @@ pub record Goes (w : World) (m : Moved) : Type 0 where
   pub packets : m.world.packets ≡ w.packets ++ packets_of m.outs
   pub downs : (node : Node) → same_node node the_store ≡ false → has_node m.world.downs node ≡ has_node w.downs node
   pub tables : (table : ℕ) → is_some (hosted_at m.world table) ≡ is_some (hosted_at w table)
-  pub fair : AreFairTables m.world
-  pub sent : (p : Packet) → Among (packets_of m.outs) p → IsFromStore p.message
 
 -- what was told stands behind the lines so far, and what was sent behind the packets so far
 pub record Tells (outs : List Outbox) (old new : Network) (before after : List TextLine) : Type 0 where

@@ -1,15 +1,16 @@
 -- What a step of the world promises.
-use Rattle.std.specs.Prelude.{◌≡◌, ℕ, ◌<◌, Bool, true, false, List, map, length, Some}
+use Rattle.std.specs.Prelude.{◌≡◌, ◌⊎◌, ℕ, ◌<◌, ◌≤◌, Bool, true, false, List, map, length, Some}
 use Rattle.disk_trait.specs.Calls.{DiskState}
 use Rattle.stab_base.specs.declared.limits.TheConstants.{NUMBER_MAX}
 use Rattle.table_model.specs.declared.event.Event.{Event}
 use Rattle.table_model.specs.declared.event.Event.TheVariants as events
 use Rattle.table_model.specs.declared.line.TextLine.{TextLine}
-use Rattle.step_tables.specs.ClientMoves.{Client}
 use Rattle.step_tables.specs.Lines.{line_of}
 use Rattle.world_tables.specs.World.{Lucks, step, lines_of, hosted_at, client_at}
 use Rattle.world_tables.specs.World as moves
 use Rattle.world_tables.specs.Faults.{is_device_fault}
+use Rattle.journal_host.specs.Calls.{IsLast}
+use Rattle.journal_host.specs.Holds as clients
 use Rattle.world_steps.specs.declared.world.World.{World}
 use Rattle.world_steps.specs.Holds.{Holds, AreOut}
 use Rattle.world_steps.specs.Faults.{all_faults}
@@ -28,11 +29,33 @@ pub record IsStep {D : Type 0} (state : D → DiskState) (images : D → ℕ →
   pub same : is_device_fault w event lucks ≡ false → all_faults state new ≡ all_faults state old
   pub rows : RowsStay state images w (step w event lucks).world old new
 
--- a number or a version above the last would be needed
-abbrev pub Spends : moves.World → Event → Type 0
-Spends w (events.Write client table row content) =
-    (node : Client) × (client_at w client ≡ Some node) × (node.disk.last ≡ NUMBER_MAX)
-Spends w (events.Deliver packet) =
-    (table : ℕ) × (hosted : moves.Hosted) × (hosted_at w table ≡ Some hosted)
-    × (length hosted.store.disk.items ≡ NUMBER_MAX)
-Spends w other = ⊥
+-- no plan of a client has a number above this
+abbrev pub HavePlansBelow : {D : Type 0} → (D → DiskState) → ℕ → World D → Type 0
+HavePlansBelow state n world = clients.HavePlansBelow state n world.clients.clients
+
+-- The program's world still holds the world, and no disk has failed.
+pub record IsStill {D : Type 0} (state : D → DiskState) (w : moves.World) (old new : World D) : Type 0 where
+  pub held : Holds state w new
+  pub same : all_faults state new ≡ all_faults state old
+
+-- the last version of a table is given
+pub record IsFull (w : moves.World) : Type 0 where
+  pub table : ℕ
+  pub hosted : moves.Hosted
+  pub at : hosted_at w table ≡ Some hosted
+  pub full : length hosted.store.disk.items ≡ NUMBER_MAX
+
+-- a client has made its last write, or so many plans were begun
+abbrev pub SpendsNumber : ℕ → moves.World → ℕ → Type 0
+SpendsNumber n w c = IsLast (client_at w c) ⊎ (NUMBER_MAX ≤ n)
+
+-- A number of a write or of a plan, or a version, above the last would be needed, where so many plans were begun.
+abbrev pub Spends : ℕ → moves.World → Event → Type 0
+Spends n w (events.Write client table row content) = SpendsNumber n w client
+Spends n w (events.Edit client table row edit) = SpendsNumber n w client
+Spends n w (events.Show client table row) = SpendsNumber n w client
+Spends n w (events.Sum client table row) = SpendsNumber n w client
+Spends n w (events.Sync client table) = SpendsNumber n w client
+Spends n w (events.Pull client table) = SpendsNumber n w client
+Spends n w (events.Deliver packet) = IsFull w ⊎ ((c : ℕ) × SpendsNumber n w c)
+Spends n w other = ⊥

@@ -1,60 +1,40 @@
 //! The calls of clients.
-ghost use Rattle.std.specs.Prelude.{◌≡◌, ◌∷◌, ◌≢◌, ℕ, [], map, IfOk, IfErr};
-ghost use Rattle.step_tables.specs.Facts.{AnswerLine};
-ghost use Rattle.step_tables.specs.Lines.{answer_of, line_of};
+ghost use Rattle.std.specs.Prelude.{◌≡◌, ◌≢◌, ◌⊎◌, ℕ, suc, Ok, Err, IfOk, IfErr};
+ghost use Rattle.step_tables.specs.Lines.{answer_of};
 ghost use Rattle.table_model.specs.declared.event.Event.TheVariants as events;
+ghost use Rattle.table_model.specs.declared.line.Answer.{Answer as AnAnswer};
 ghost use Rattle.world_tables.specs.World.{World as AWorld, step};
+ghost use Rattle.journal_host.specs.declared.fault.ClientFault.TheVariants.{Spent};
 ghost use Rattle.world_steps.specs.declared.fault.WorldFault.TheVariants.{Memory, Limit as LimitPassed};
 ghost use Rattle.world_steps.specs.declared.fault.WorldFault.TheVariants.{Depot as DepotFailed};
-ghost use Rattle.world_steps.specs.Calls.{Comes, HasSent};
-ghost use Rattle.world_steps.specs.Faults.{AreCounted};
+ghost use Rattle.world_steps.specs.Calls.{Comes, HasToldClients};
+ghost use Rattle.world_steps.specs.Faults.{AreCounted, all_faults};
 ghost use Rattle.world_steps.specs.Holds.{Holds};
-ghost use Rattle.world_steps.specs.Steps.{Spends};
+ghost use Rattle.world_steps.specs.Steps.{HavePlansBelow, IsStill, SpendsNumber};
 
 use crate::fault::WorldFault;
 use crate::world::{Lines, World};
-use client_host::ClientFault;
+use client_events::{edit as change, pull, show, sum, sync, write};
 use disk_trait::Disk;
+use journal_host::ClientFault;
+use row_edits::Edit;
 use row_value::{ClientNo, Content, RowId, TableNo};
 use stab_base::{NUMBER_MAX, Node};
-use step_tables::Out;
-use table_model::{Answer, TextLine};
+use table_model::Answer;
 
 impl<D: Disk + Drop> World<D> {
-    /// An answer, and then what a party told and sent.
-    pub(crate) fn send(&mut self, from: Node, answer: Answer, out: Out) -> Result<Lines, WorldFault>
-        ensures sent { IfOk result (λ lines. HasSent self.old self.new from (answer_of answer) out lines) }
-        ensures memory { IfErr result (λ e. e ≡ Memory) }
-    {
-        let mut lines = self.only(answer)?;
-        let Out { messages, facts } = out;
-        for fact in facts.into_vec() {
-            lines.push(TextLine::Fact(fact))?;
-        }
-        self.network.send_all(from, messages, &mut lines)?;
-        Ok(lines)
-    }
-
-    /// The client writes a row whole.
-    pub(crate) fn write(
-        &mut self,
-        client: ClientNo,
-        table: TableNo,
-        row: RowId,
-        content: &Content,
-    ) -> Result<Lines, WorldFault>
-        ensures done { (w : AWorld) → Holds D.state w self.old
-            → Comes D.state w (step w (events.Write client table row content.now)) result self.new }
-        ensures counted { (w : AWorld) → Holds D.state w self.old → AreCounted D.state result self.old self.new }
-        ensures same { IfOk result (λ lines. self.new.store ≡ self.old.store) }
-        ensures left { (w : AWorld) → Holds D.state w self.old
-            → IfErr result (λ e. e ≢ Memory → Holds D.state w self.new × (self.new.store ≡ self.old.store)) }
-        ensures limit { (w : AWorld) → Holds D.state w self.old → IfErr result (λ e. (code count : ℕ)
-            → e ≡ LimitPassed code count → (code ≡ 11) × Spends w (events.Write client table row content.now)) }
+    /// What a client's event comes to: its lines, with what the clients told and sent, or why the run ends.
+    pub(crate) fn end(&mut self, found: Result<Answer, ClientFault>) -> Result<Lines, WorldFault>
+        ensures told { IfOk result (λ lines. (answer : AnAnswer) × (found ≡ Ok answer)
+            × HasToldClients D.state self.old self.new (answer_of answer) lines) }
+        ensures spent { IfErr result (λ e. (code count : ℕ) → e ≡ LimitPassed code count
+            → (code ≡ 11) × (found ≡ Err Spent) × (self.new ≡ self.old)) }
         ensures only { IfErr result (λ e. e ≢ DepotFailed) }
+        ensures store { self.new.store ≡ self.old.store }
+        ensures nodes { self.new.clients.clients ≡ self.old.clients.clients }
     {
-        match self.clients.write(client, table, row, content) {
-            Ok((answer, out)) => self.send(Node::Client(client), answer, out),
+        match found {
+            Ok(answer) => self.tell_clients(answer),
             Err(ClientFault::Spent) => Err(WorldFault::Limit {
                 code: 11,
                 count: NUMBER_MAX + 1,
@@ -63,67 +43,145 @@ impl<D: Disk + Drop> World<D> {
         }
     }
 
+    /// The client writes a row whole.
+    pub(crate) fn write(
+        &mut self,
+        client: ClientNo,
+        table: TableNo,
+        row: RowId,
+        content: Content,
+    ) -> Result<Lines, WorldFault>
+        requires held { (w : AWorld) × Holds D.state w self.old }
+        ensures done { (w : AWorld) → Holds D.state w self.old
+            → Comes D.state w (step w (events.Write client table row content)) result self.new }
+        ensures counted { AreCounted D.state result self.old self.new }
+        ensures store { self.new.store ≡ self.old.store }
+        ensures left { (w : AWorld) → Holds D.state w self.old
+            → IfErr result (λ e. e ≢ Memory → IsStill D.state w self.old self.new) }
+        ensures limit { (w : AWorld) (n : ℕ) → Holds D.state w self.old → HavePlansBelow D.state n self.old
+            → IfErr result (λ e. (code count : ℕ) → e ≡ LimitPassed code count
+            → (code ≡ 11) × SpendsNumber n w client) }
+        ensures plans { (n : ℕ) → HavePlansBelow D.state n self.old → HavePlansBelow D.state (suc n) self.new }
+        ensures only { IfErr result (λ e. e ≢ DepotFailed) }
+    {
+        let is_held = self.is_held(Node::Client(client));
+        let found = write(&mut self.clients, is_held, client, table, row, content);
+        self.end(found)
+    }
+
+    /// The client writes what an edit makes of the content that it shows of a row.
+    pub(crate) fn edit(
+        &mut self,
+        client: ClientNo,
+        table: TableNo,
+        row: RowId,
+        edit: Edit,
+    ) -> Result<Lines, WorldFault>
+        requires held { (w : AWorld) × Holds D.state w self.old }
+        ensures done { (w : AWorld) → Holds D.state w self.old
+            → Comes D.state w (step w (events.Edit client table row edit)) result self.new }
+        ensures counted { AreCounted D.state result self.old self.new }
+        ensures store { self.new.store ≡ self.old.store }
+        ensures left { (w : AWorld) → Holds D.state w self.old
+            → IfErr result (λ e. e ≢ Memory → IsStill D.state w self.old self.new) }
+        ensures limit { (w : AWorld) (n : ℕ) → Holds D.state w self.old → HavePlansBelow D.state n self.old
+            → IfErr result (λ e. (code count : ℕ) → e ≡ LimitPassed code count
+            → (code ≡ 11) × SpendsNumber n w client) }
+        ensures plans { (n : ℕ) → HavePlansBelow D.state n self.old → HavePlansBelow D.state (suc n) self.new }
+        ensures only { IfErr result (λ e. e ≢ DepotFailed) }
+    {
+        let is_held = self.is_held(Node::Client(client));
+        let found = change(&mut self.clients, is_held, client, table, row, edit);
+        self.end(found)
+    }
+
     /// The client shows a row.
     pub(crate) fn show(
-        &self,
+        &mut self,
         client: ClientNo,
         table: TableNo,
         row: RowId,
     ) -> Result<Lines, WorldFault>
-        ensures done { (w : AWorld) → Holds D.state w self.now
-            → Comes D.state w (step w (events.Show client table row)) result self.now }
-        ensures counted { (w : AWorld) → Holds D.state w self.now → AreCounted D.state result self.now self.now }
-        ensures memory { IfErr result (λ e. e ≡ Memory) }
+        requires held { (w : AWorld) × Holds D.state w self.old }
+        ensures done { (w : AWorld) → Holds D.state w self.old
+            → Comes D.state w (step w (events.Show client table row)) result self.new }
+        ensures counted { AreCounted D.state result self.old self.new }
+        ensures store { self.new.store ≡ self.old.store }
+        ensures left { (w : AWorld) → Holds D.state w self.old
+            → IfErr result (λ e. e ≢ Memory → IsStill D.state w self.old self.new) }
+        ensures limit { (w : AWorld) (n : ℕ) → Holds D.state w self.old → HavePlansBelow D.state n self.old
+            → IfErr result (λ e. (code count : ℕ) → e ≡ LimitPassed code count
+            → (code ≡ 11) × SpendsNumber n w client) }
+        ensures plans { (n : ℕ) → HavePlansBelow D.state n self.old → HavePlansBelow D.state (suc n) self.new }
+        ensures only { IfErr result (λ e. e ≢ DepotFailed) }
     {
-        match self.clients.show(client, table, row) {
-            Ok(answer) => self.only(answer),
-            Err(_) => Err(WorldFault::Memory),
-        }
+        let is_held = self.is_held(Node::Client(client));
+        let found = show(&mut self.clients, is_held, client, table, row);
+        self.end(found)
     }
 
     /// The client shows a row, each object by its digest.
     pub(crate) fn sum(
-        &self,
+        &mut self,
         client: ClientNo,
         table: TableNo,
         row: RowId,
     ) -> Result<Lines, WorldFault>
-        ensures done { (w : AWorld) → Holds D.state w self.now
-            → Comes D.state w (step w (events.Sum client table row)) result self.now }
-        ensures counted { (w : AWorld) → Holds D.state w self.now → AreCounted D.state result self.now self.now }
-        ensures memory { IfErr result (λ e. e ≡ Memory) }
+        requires held { (w : AWorld) × Holds D.state w self.old }
+        ensures done { (w : AWorld) → Holds D.state w self.old
+            → Comes D.state w (step w (events.Sum client table row)) result self.new }
+        ensures counted { AreCounted D.state result self.old self.new }
+        ensures store { self.new.store ≡ self.old.store }
+        ensures left { (w : AWorld) → Holds D.state w self.old
+            → IfErr result (λ e. e ≢ Memory → IsStill D.state w self.old self.new) }
+        ensures limit { (w : AWorld) (n : ℕ) → Holds D.state w self.old → HavePlansBelow D.state n self.old
+            → IfErr result (λ e. (code count : ℕ) → e ≡ LimitPassed code count
+            → (code ≡ 11) × SpendsNumber n w client) }
+        ensures plans { (n : ℕ) → HavePlansBelow D.state n self.old → HavePlansBelow D.state (suc n) self.new }
+        ensures only { IfErr result (λ e. e ≢ DepotFailed) }
     {
-        match self.clients.sum(client, table, row) {
-            Ok(answer) => self.only(answer),
-            Err(_) => Err(WorldFault::Memory),
-        }
+        let is_held = self.is_held(Node::Client(client));
+        let found = sum(&mut self.clients, is_held, client, table, row);
+        self.end(found)
     }
 
     /// The client sends the writes of a table that wait to be sent.
     pub(crate) fn sync(&mut self, client: ClientNo, table: TableNo) -> Result<Lines, WorldFault>
+        requires held { (w : AWorld) × Holds D.state w self.old }
         ensures done { (w : AWorld) → Holds D.state w self.old
             → Comes D.state w (step w (events.Sync client table)) result self.new }
-        ensures counted { (w : AWorld) → Holds D.state w self.old → AreCounted D.state result self.old self.new }
-        ensures same { IfOk result (λ lines. self.new.store ≡ self.old.store) }
-        ensures memory { IfErr result (λ e. e ≡ Memory) }
+        ensures counted { AreCounted D.state result self.old self.new }
+        ensures store { self.new.store ≡ self.old.store }
+        ensures left { (w : AWorld) → Holds D.state w self.old
+            → IfErr result (λ e. e ≢ Memory → IsStill D.state w self.old self.new) }
+        ensures limit { (w : AWorld) (n : ℕ) → Holds D.state w self.old → HavePlansBelow D.state n self.old
+            → IfErr result (λ e. (code count : ℕ) → e ≡ LimitPassed code count
+            → (code ≡ 11) × SpendsNumber n w client) }
+        ensures plans { (n : ℕ) → HavePlansBelow D.state n self.old → HavePlansBelow D.state (suc n) self.new }
+        ensures only { IfErr result (λ e. e ≢ DepotFailed) }
     {
-        match self.clients.sync(client, table) {
-            Ok((answer, out)) => self.send(Node::Client(client), answer, out),
-            Err(_) => Err(WorldFault::Memory),
-        }
+        let is_held = self.is_held(Node::Client(client));
+        let found = sync(&mut self.clients, is_held, client, table);
+        self.end(found)
     }
 
     /// The client asks for the next change of a table.
     pub(crate) fn pull(&mut self, client: ClientNo, table: TableNo) -> Result<Lines, WorldFault>
+        requires held { (w : AWorld) × Holds D.state w self.old }
         ensures done { (w : AWorld) → Holds D.state w self.old
             → Comes D.state w (step w (events.Pull client table)) result self.new }
-        ensures counted { (w : AWorld) → Holds D.state w self.old → AreCounted D.state result self.old self.new }
-        ensures same { IfOk result (λ lines. self.new.store ≡ self.old.store) }
-        ensures memory { IfErr result (λ e. e ≡ Memory) }
+        ensures counted { AreCounted D.state result self.old self.new }
+        ensures store { self.new.store ≡ self.old.store }
+        ensures left { (w : AWorld) → Holds D.state w self.old
+            → IfErr result (λ e. e ≢ Memory → IsStill D.state w self.old self.new) }
+        ensures limit { (w : AWorld) (n : ℕ) → Holds D.state w self.old → HavePlansBelow D.state n self.old
+            → IfErr result (λ e. (code count : ℕ) → e ≡ LimitPassed code count
+            → (code ≡ 11) × SpendsNumber n w client) }
+        ensures plans { (n : ℕ) → HavePlansBelow D.state n self.old → HavePlansBelow D.state (suc n) self.new }
+        ensures only { IfErr result (λ e. e ≢ DepotFailed) }
     {
-        match self.clients.pull(client, table) {
-            Ok((answer, out)) => self.send(Node::Client(client), answer, out),
-            Err(_) => Err(WorldFault::Memory),
-        }
+        let is_held = self.is_held(Node::Client(client));
+        let found = pull(&mut self.clients, is_held, client, table);
+        self.end(found)
     }
 }

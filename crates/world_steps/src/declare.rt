@@ -1,17 +1,19 @@
 //! The declarations of tables and of clients.
-ghost use Rattle.std.specs.Prelude.{◌≡◌, ◌≢◌, ◌⊎◌, ◌==◌, ◌||◌, ◌+◌, ◌*◌, ◌-◌, ◌<◌, ◌≤◌, ℕ, false, true, [], None};
+ghost use Rattle.std.specs.Prelude.{◌≡◌, ◌≢◌, ◌⊎◌, ◌==◌, ◌||◌, ◌+◌, ◌*◌, ◌-◌, ◌<◌, ◌≤◌, ℕ, false, true, Option, None};
 ghost use Rattle.std.specs.Prelude.{IfOk, IfErr, OnOk, OnErr};
 ghost use Rattle.std.specs.Ordering.{nat_cmp};
 ghost use Rattle.std.specs.BTreeMap as tree;
 ghost use Rattle.disk_trait.specs.Calls.{IsCounted};
 ghost use Rattle.table_model.specs.declared.event.Event.TheVariants as events;
-ghost use Rattle.step_tables.specs.Messages as lucks;
-ghost use Rattle.world_tables.specs.World.{World as AWorld, joined, client_at};
+ghost use Rattle.world_tables.specs.World.{World as AWorld};
 ghost use Rattle.world_steps.specs.declared.fault.WorldFault.TheVariants.{Depot as DepotFailed, Memory};
-ghost use Rattle.world_steps.specs.Holds.{Holds, IsMade, IsReached, AreOut, first_disk};
+ghost use Rattle.row_store.specs.Spelling.{IsClient};
+ghost use Rattle.fair_laws.specs.Reached.{IsMade, IsReached};
+ghost use Rattle.fair_laws.specs.Worlds.{IsFair};
+ghost use Rattle.world_steps.specs.Holds.{Holds, AreOut, first_disk};
 ghost use Rattle.store_host.specs.Steps.{faults_of};
 ghost use Rattle.world_steps.specs.Faults.{IsUndone};
-ghost use Rattle.world_steps.specs.Steps.{IsStep};
+ghost use Rattle.world_steps.specs.Steps.{HavePlansBelow, IsStep};
 
 use crate::fault::WorldFault;
 use crate::moves::add;
@@ -62,7 +64,7 @@ fn hand_out_two<P: Depot>(
     }
 }
 
-// The three disks of a table, or none.
+// The three disks of a table or of a client, or none.
 fn hand_out_three<P: Depot>(
     depot: &mut P,
     first: u32,
@@ -76,12 +78,12 @@ fn hand_out_three<P: Depot>(
     ensures cause { IsCounted DepotFailed (P.state depot.old).faults (P.state depot.new).faults result }
     ensures only { IfErr result (λ e. (e ≡ DepotFailed) ⊎ (e ≡ Memory)) }
 {
-    let (chunk_disk, row_disk) = hand_out_two(depot, first, first + 1)?;
+    let (disk, other) = hand_out_two(depot, first, first + 1)?;
     match hand_out(depot, first + 2) {
-        Ok(log_disk) => Ok((chunk_disk, row_disk, log_disk)),
+        Ok(last) => Ok((disk, other, last)),
         Err(fault) => {
-            depot.back(first, chunk_disk);
-            depot.back(first + 1, row_disk);
+            depot.back(first, disk);
+            depot.back(first + 1, other);
             Err(fault)
         }
     }
@@ -102,6 +104,7 @@ impl<D: Disk + Drop> World<D> {
             (P.state depot.new).is_out self.old self.new) }
         ensures left { (w : AWorld) → Holds D.state w self.old → AreOut (P.state depot.old).is_out w
             → IfErr result (λ e. e ≢ Memory → IsUndone D.state w (P.state depot.new).is_out self.old self.new) }
+        ensures clients { self.new.clients ≡ self.old.clients }
         ensures depot { IsCounted DepotFailed (P.state depot.old).faults (P.state depot.new).faults result }
         ensures only { IfErr result (λ e. (e ≡ DepotFailed) ⊎ (e ≡ Memory)) }
     {
@@ -125,6 +128,7 @@ impl<D: Disk + Drop> World<D> {
             (P.state depot.new).is_out self.old self.new) }
         ensures left { (w : AWorld) → Holds D.state w self.old → AreOut (P.state depot.old).is_out w
             → IfErr result (λ e. e ≢ Memory → IsUndone D.state w (P.state depot.new).is_out self.old self.new) }
+        ensures clients { self.new.clients ≡ self.old.clients }
         ensures depot { IsCounted DepotFailed (P.state depot.old).faults (P.state depot.new).faults result }
         ensures only { IfErr result (λ e. (e ≡ DepotFailed) ⊎ (e ≡ Memory)) }
     {
@@ -137,15 +141,51 @@ impl<D: Disk + Drop> World<D> {
     }
 
     /// Adds a client that opens these tables, as far as they are declared; one that is there stays as it is.
-    pub(crate) fn join(&mut self, client: ClientNo, tables: &[TableNo]) -> Result<Lines, WorldFault>
-        requires least { 1 ≤ client }
-        requires most { client ≤ 64 }
-        ensures done { (w : AWorld) → Holds D.state w self.old → IfOk result (λ lines. (lines ≡ [])
-            × Holds D.state (joined w client tables.now lucks.Done (client_at w client)) self.new) }
-        ensures same { self.new.store ≡ self.old.store }
-        ensures memory { IfErr result (λ e. e ≡ Memory) }
+    pub(crate) fn join<P: Depot<Disk = D>>(
+        &mut self,
+        depot: &mut P,
+        client: ClientNo,
+        tables: &[TableNo],
+    ) -> Result<Lines, WorldFault>
+        requires numbered { IsClient client }
+        requires held { (w : AWorld) × Holds D.state w self.old × AreOut (P.state depot.old).is_out w × IsFair w }
+        ensures done { (w : AWorld) (gate : Option ℕ) → IsReached w → Holds D.state w self.old
+            → AreOut (P.state depot.old).is_out w
+            → IfOk result (λ lines. IsStep D.state D.images w (events.Client client gate tables.now) lines
+            (P.state depot.new).is_out self.old self.new) }
+        ensures left { (w : AWorld) → Holds D.state w self.old → AreOut (P.state depot.old).is_out w
+            → IfErr result (λ e. e ≢ Memory → IsUndone D.state w (P.state depot.new).is_out self.old self.new) }
+        ensures plans { (n : ℕ) → HavePlansBelow D.state n self.old → HavePlansBelow D.state n self.new }
+        ensures depot { IsCounted DepotFailed (P.state depot.old).faults (P.state depot.new).faults result }
+        ensures only { IfErr result (λ e. (e ≡ DepotFailed) ⊎ (e ≡ Memory)) }
     {
-        match self.clients.join(client, tables, &self.schemas) {
+        if self.clients.has(client) {
+            return Ok(Sequence::new(self.alloc));
+        }
+        self.add_client(depot, client, tables)
+    }
+
+    fn add_client<P: Depot<Disk = D>>(
+        &mut self,
+        depot: &mut P,
+        client: ClientNo,
+        tables: &[TableNo],
+    ) -> Result<Lines, WorldFault>
+        requires numbered { IsClient client }
+        requires held { (w : AWorld) × Holds D.state w self.old × AreOut (P.state depot.old).is_out w × IsFair w }
+        requires absent { tree.get nat_cmp self.old.clients.clients client ≡ None }
+        ensures done { (w : AWorld) (gate : Option ℕ) → IsReached w → Holds D.state w self.old
+            → AreOut (P.state depot.old).is_out w
+            → IfOk result (λ lines. IsStep D.state D.images w (events.Client client gate tables.now) lines
+            (P.state depot.new).is_out self.old self.new) }
+        ensures left { (w : AWorld) → Holds D.state w self.old → AreOut (P.state depot.old).is_out w
+            → IfErr result (λ e. e ≢ Memory → IsUndone D.state w (P.state depot.new).is_out self.old self.new) }
+        ensures plans { (n : ℕ) → HavePlansBelow D.state n self.old → HavePlansBelow D.state n self.new }
+        ensures depot { IsCounted DepotFailed (P.state depot.old).faults (P.state depot.new).faults result }
+        ensures only { IfErr result (λ e. (e ≡ DepotFailed) ⊎ (e ≡ Memory)) }
+    {
+        let disks = hand_out_three(depot, 192 + 3 * (client - 1))?;
+        match self.clients.join(client, tables, &self.schemas, disks) {
             Ok(()) => Ok(Sequence::new(self.alloc)),
             Err(_) => Err(WorldFault::Memory),
         }

@@ -1,5 +1,5 @@
 //! Deliveries of packets.
-ghost use Rattle.std.specs.Prelude.{◌≡◌, ◌≢◌, ◌∷◌, ℕ, [], true, Some, length, map, slice_get, IfOk, IfErr};
+ghost use Rattle.std.specs.Prelude.{◌≡◌, ◌≢◌, ◌∷◌, ℕ, suc, [], true, Some, length, map, slice_get, IfOk, IfErr};
 ghost use Rattle.stab_base.specs.declared.node.Node.TheVariants as nodes;
 ghost use Rattle.step_tables.specs.Facts as moves;
 ghost use Rattle.step_tables.specs.Facts.{AnswerLine};
@@ -9,22 +9,24 @@ ghost use Rattle.world_tables.specs.World.{World as AWorld, Packet as APacket, s
 ghost use Rattle.world_tables.specs.World.{hosted_at};
 ghost use Rattle.world_tables.specs.Passed.{taken_part, taken_by};
 ghost use Rattle.step_tables.specs.Messages.{table_of};
-ghost use Rattle.store_host.specs.Holds.{SameFaults};
 ghost use Rattle.step_tables.specs.StoreMoves.{Take};
 ghost use Rattle.world_steps.specs.declared.fault.WorldFault.TheVariants.{Memory, Limit as LimitPassed};
 ghost use Rattle.world_steps.specs.declared.fault.WorldFault.TheVariants.{Depot as DepotFailed};
 ghost use Rattle.world_steps.specs.Calls.{Comes};
-ghost use Rattle.world_steps.specs.Fair.{ArePlaces};
+ghost use Rattle.fair_laws.specs.Worlds.{IsFair};
+ghost use Rattle.world_steps.specs.Places.{ArePlaces};
 ghost use Rattle.world_steps.specs.Faults.{AreCounted};
 ghost use Rattle.world_steps.specs.Holds.{Holds};
 ghost use Rattle.world_steps.specs.Network.{packets_in};
 ghost use Rattle.world_steps.specs.Rows.{AreLeftOver};
-ghost use Rattle.world_steps.specs.Steps.{Spends};
+ghost use Rattle.world_steps.specs.Steps.{Spends, SpendsNumber, IsFull, IsStill, HavePlansBelow};
 
+use crate::copies::copied;
 use crate::fault::WorldFault;
 use crate::moves::take;
 use crate::network::STORE;
 use crate::world::{Lines, World};
+use client_events::deliver;
 use disk_trait::Disk;
 use row_value::ClientNo;
 use stab_base::Node;
@@ -33,17 +35,19 @@ use table_model::{Answer, Refusal};
 impl<D: Disk + Drop> World<D> {
     /// Delivers a packet. Where its party isn't there it is lost.
     pub(crate) fn deliver(&mut self, number: u64) -> Result<Lines, WorldFault>
-        requires held { (w : AWorld) × Holds D.state w self.old }
-        ensures done { (w : AWorld) → Holds D.state w self.old → ArePlaces w
+        requires held { (w : AWorld) × Holds D.state w self.old × IsFair w }
+        ensures done { (w : AWorld) → Holds D.state w self.old → IsFair w → ArePlaces w
             → Comes D.state w (step w (events.Deliver number)) result self.new }
         ensures counted { AreCounted D.state result self.old self.new }
-        ensures rows { (w : AWorld) → Holds D.state w self.old → ArePlaces w → IfOk result (λ lines.
+        ensures rows { (w : AWorld) → Holds D.state w self.old → IsFair w → ArePlaces w → IfOk result (λ lines.
             AreLeftOver D.state D.images w (taken_part w (events.Deliver number)) self.old.store.tables
             self.new.store.tables) }
-        ensures left { (w : AWorld) → Holds D.state w self.old → IfErr result (λ e. e ≢ Memory
-            → Holds D.state w self.new × SameFaults D.state self.old.store.tables self.new.store.tables) }
-        ensures limit { (w : AWorld) → Holds D.state w self.old → IfErr result (λ e. (code count : ℕ)
-            → e ≡ LimitPassed code count → (code ≡ 11) × Spends w (events.Deliver number)) }
+        ensures left { (w : AWorld) → Holds D.state w self.old
+            → IfErr result (λ e. e ≢ Memory → IsStill D.state w self.old self.new) }
+        ensures limit { (w : AWorld) (n : ℕ) → Holds D.state w self.old → IsFair w → HavePlansBelow D.state n self.old
+            → IfErr result (λ e. (code count : ℕ) → e ≡ LimitPassed code count
+            → (code ≡ 11) × Spends n w (events.Deliver number)) }
+        ensures plans { (n : ℕ) → HavePlansBelow D.state n self.old → HavePlansBelow D.state (suc n) self.new }
         ensures only { IfErr result (λ e. e ≢ DepotFailed) }
     {
         match self.network.address(number) {
@@ -65,36 +69,44 @@ impl<D: Disk + Drop> World<D> {
     }
 
     fn deliver_to_client(&mut self, client: ClientNo, number: u64) -> Result<Lines, WorldFault>
-        ensures done { (w : AWorld) (packet : APacket) → Holds D.state w self.old
+        requires held { (w : AWorld) × Holds D.state w self.old × IsFair w }
+        ensures done { (w : AWorld) (packet : APacket) → Holds D.state w self.old → IsFair w
             → slice_get w.packets number ≡ Some packet
             → Comes D.state w (λ lucks. carried w packet lucks.shape lucks.calls (nodes.Client client)) result
             self.new }
         ensures counted { AreCounted D.state result self.old self.new }
-        ensures same { IfOk result (λ lines. self.new.store ≡ self.old.store) }
-        ensures memory { IfErr result (λ e. e ≡ Memory) }
+        ensures store { self.new.store ≡ self.old.store }
+        ensures left { (w : AWorld) → Holds D.state w self.old
+            → IfErr result (λ e. e ≢ Memory → IsStill D.state w self.old self.new) }
+        ensures limit { (w : AWorld) (n : ℕ) → Holds D.state w self.old → IsFair w → HavePlansBelow D.state n self.old
+            → IfErr result (λ e. (code count : ℕ) → e ≡ LimitPassed code count
+            → (code ≡ 11) × SpendsNumber n w client) }
+        ensures plans { (n : ℕ) → HavePlansBelow D.state n self.old → HavePlansBelow D.state (suc n) self.new }
+        ensures only { IfErr result (λ e. e ≢ DepotFailed) }
     {
+        let is_held = self.is_held(Node::Client(client));
         let Some(packet) = self.network.get(number) else {
             return Err(WorldFault::Memory);
         };
-        match self.clients.deliver(client, &packet.message) {
-            Ok(out) => self.send(Node::Client(client), Answer::Done, out),
-            Err(_) => Err(WorldFault::Memory),
-        }
+        let message = copied(&packet.message)?;
+        let found = deliver(&mut self.clients, is_held, client, message);
+        self.end(found)
     }
 
     fn deliver_to_store(&mut self, number: u64) -> Result<Lines, WorldFault>
-        requires held { (w : AWorld) × Holds D.state w self.old }
-        ensures done { (w : AWorld) (packet : APacket) → Holds D.state w self.old
+        requires held { (w : AWorld) × Holds D.state w self.old × IsFair w }
+        ensures done { (w : AWorld) (packet : APacket) → Holds D.state w self.old → IsFair w
             → slice_get w.packets number ≡ Some packet
             → Comes D.state w (λ lucks. carried w packet lucks.shape lucks.calls the_store) result self.new }
         ensures counted { AreCounted D.state result self.old self.new }
-        ensures rows { (w : AWorld) (packet : APacket) → Holds D.state w self.old
+        ensures rows { (w : AWorld) (packet : APacket) → Holds D.state w self.old → IsFair w
             → slice_get w.packets number ≡ Some packet → IfOk result (λ lines. AreLeftOver D.state D.images w
             (taken_by w packet the_store) self.old.store.tables self.new.store.tables) }
-        ensures left { (w : AWorld) → Holds D.state w self.old → IfErr result (λ e. e ≢ Memory
-            → Holds D.state w self.new × SameFaults D.state self.old.store.tables self.new.store.tables) }
-        ensures limit { (w : AWorld) → Holds D.state w self.old → IfErr result (λ e. (code count : ℕ)
-            → e ≡ LimitPassed code count → (code ≡ 11) × Spends w (events.Deliver number)) }
+        ensures left { (w : AWorld) → Holds D.state w self.old
+            → IfErr result (λ e. e ≢ Memory → IsStill D.state w self.old self.new) }
+        ensures limit { (w : AWorld) → Holds D.state w self.old → IsFair w → IfErr result (λ e. (code count : ℕ)
+            → e ≡ LimitPassed code count → (code ≡ 11) × IsFull w) }
+        ensures clients { self.new.clients ≡ self.old.clients }
         ensures only { IfErr result (λ e. e ≢ DepotFailed) }
     {
         if self.is_down(STORE) {
@@ -104,20 +116,21 @@ impl<D: Disk + Drop> World<D> {
     }
 
     fn take(&mut self, number: u64) -> Result<Lines, WorldFault>
-        requires held { (w : AWorld) × Holds D.state w self.old }
+        requires held { (w : AWorld) × Holds D.state w self.old × IsFair w }
         requires up { self.old.store.is_up ≡ true }
-        ensures done { (w : AWorld) (packet : APacket) → Holds D.state w self.old
+        ensures done { (w : AWorld) (packet : APacket) → Holds D.state w self.old → IsFair w
             → slice_get w.packets number ≡ Some packet
             → Comes D.state w (λ lucks. to_hosted w (table_of packet.message) (Take packet.from packet.message)
             lucks.calls (hosted_at w (table_of packet.message))) result self.new }
         ensures counted { AreCounted D.state result self.old self.new }
-        ensures rows { (w : AWorld) (packet : APacket) → Holds D.state w self.old
+        ensures rows { (w : AWorld) (packet : APacket) → Holds D.state w self.old → IsFair w
             → slice_get w.packets number ≡ Some packet → IfOk result (λ lines. AreLeftOver D.state D.images w
             (taken_by w packet the_store) self.old.store.tables self.new.store.tables) }
-        ensures left { (w : AWorld) → Holds D.state w self.old → IfErr result (λ e. e ≢ Memory
-            → Holds D.state w self.new × SameFaults D.state self.old.store.tables self.new.store.tables) }
-        ensures limit { (w : AWorld) → Holds D.state w self.old → IfErr result (λ e. (code count : ℕ)
-            → e ≡ LimitPassed code count → (code ≡ 11) × Spends w (events.Deliver number)) }
+        ensures left { (w : AWorld) → Holds D.state w self.old
+            → IfErr result (λ e. e ≢ Memory → IsStill D.state w self.old self.new) }
+        ensures limit { (w : AWorld) → Holds D.state w self.old → IsFair w → IfErr result (λ e. (code count : ℕ)
+            → e ≡ LimitPassed code count → (code ≡ 11) × IsFull w) }
+        ensures clients { self.new.clients ≡ self.old.clients }
         ensures only { IfErr result (λ e. e ≢ DepotFailed) }
     {
         let is_held = self.is_held(STORE);

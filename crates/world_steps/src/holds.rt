@@ -8,7 +8,7 @@ ghost use Rattle.world_tables.specs.World.{World as AWorld, step, is_down, has_n
 ghost use Rattle.world_tables.specs.World.{without_node};
 ghost use Rattle.world_steps.specs.declared.fault.WorldFault.TheVariants.{Memory};
 ghost use Rattle.world_steps.specs.Calls.{Comes};
-ghost use Rattle.world_steps.specs.Holds.{Holds, HasDevices};
+ghost use Rattle.world_steps.specs.Holds.{Holds};
 
 use crate::fault::WorldFault;
 use crate::world::{Lines, World};
@@ -57,14 +57,14 @@ impl<D: Disk + Drop> World<D> {
         self.is_other_down(node)
     }
 
-    // Clients are in memory and gateways have no devices: they are up.
+    // A gateway has no devices: it is up.
     fn is_other_down(&self, node: Node) -> bool
         requires { same_node node the_store ≡ false }
         ensures { (w : AWorld) → Holds D.state w self.now → result ≡ is_down w node }
     {
         match node {
             Node::Store(_) => self.downs.has(node),
-            Node::Client(_) => false,
+            Node::Client(client) => self.clients.is_down(client),
             Node::Gate(_) => false,
         }
     }
@@ -77,10 +77,10 @@ impl<D: Disk + Drop> World<D> {
 
     /// From now on the node does its device writes only where a line says so.
     pub(crate) fn hold(&mut self, node: Node) -> Result<Lines, WorldFault>
-        requires { HasDevices node }
         ensures done { (w : AWorld) → Holds D.state w self.old
             → Comes D.state w (step w (events.Hold node)) result self.new }
         ensures same { self.new.store ≡ self.old.store }
+        ensures clients { self.new.clients ≡ self.old.clients }
         ensures memory { IfErr result (λ e. e ≡ Memory) }
     {
         if self.is_down(node) {
@@ -90,10 +90,10 @@ impl<D: Disk + Drop> World<D> {
     }
 
     fn hold_up(&mut self, node: Node) -> Result<Lines, WorldFault>
-        requires { HasDevices node }
         ensures done { (w : AWorld) → Holds D.state w self.old
             → Comes D.state w (λ lucks. answered (record w { holds = node ∷ w.holds }) moves.Done) result self.new }
         ensures same { self.new.store ≡ self.old.store }
+        ensures clients { self.new.clients ≡ self.old.clients }
         ensures memory { IfErr result (λ e. e ≡ Memory) }
     {
         self.held.add(node)?;
@@ -105,6 +105,7 @@ impl<D: Disk + Drop> World<D> {
         ensures done { (w : AWorld) → Holds D.state w self.old
             → Comes D.state w (step w (events.Free node)) result self.new }
         ensures same { self.new.store ≡ self.old.store }
+        ensures clients { self.new.clients ≡ self.old.clients }
         ensures memory { IfErr result (λ e. e ≡ Memory) }
     {
         if self.is_down(node) {
@@ -117,6 +118,7 @@ impl<D: Disk + Drop> World<D> {
         ensures done { (w : AWorld) → Holds D.state w self.old → Comes D.state w
             (λ lucks. answered (record w { holds = without_node w.holds node }) moves.Done) result self.new }
         ensures same { self.new.store ≡ self.old.store }
+        ensures clients { self.new.clients ≡ self.old.clients }
         ensures memory { IfErr result (λ e. e ≡ Memory) }
     {
         self.held.remove(node);

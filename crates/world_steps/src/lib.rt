@@ -1,8 +1,10 @@
-//! The world: the Store's tables on their disks, the clients, and the network between them.
+//! The world: the Store's tables and the clients on their disks, and the network between them.
 #![tactic(auto)]
 
 mod calls;
+mod client_moves;
 mod close;
+mod copies;
 mod declare;
 mod deliver;
 mod fault;

@@ -22,11 +22,10 @@ ghost use Rattle.store_host.specs.Calls.{FitsIn, HasLuck, IsSpentIn};
 ghost use Rattle.store_host.specs.Steps.{faults_of};
 ghost use Rattle.world_steps.specs.declared.fault.WorldFault.TheVariants.{Memory, Limit as LimitPassed};
 ghost use Rattle.world_steps.specs.declared.fault.WorldFault.TheVariants.{Depot as DepotFailed};
-ghost use Rattle.world_steps.specs.Fair.{AreFairTables};
 ghost use Rattle.world_steps.specs.Faults.{IsCounted};
 ghost use Rattle.world_steps.specs.Outs.{IsAnswered, IsTakenAs, read_moves};
 ghost use Rattle.world_steps.specs.Rows.{AreLeftOver};
-ghost use Rattle.world_steps.specs.Holds.{IsMade};
+ghost use Rattle.fair_laws.specs.Reached.{IsMade};
 
 use crate::fault::WorldFault;
 use crate::network::table_in;
@@ -125,7 +124,7 @@ pub(crate) fn start<D: Disk + Drop>(
 ) -> Result<Answer, WorldFault>
     requires held { IsStore D.state store.old }
     requires down { store.old.is_up ≡ false }
-    ensures done { (w : AWorld) → HoldsStore D.state w store.old → AreFairTables w
+    ensures done { (w : AWorld) → HoldsStore D.state w store.old
         → is_held ≡ has_node w.holds the_store → IfOk result (λ answer. (lucks : List Luck)
         × IsAnswered D.state store.old store.new moves.Done (store_starts owner lucks w) answer
         × AreLeftOver D.state D.images w (tables_start (tables_of w owner) lucks w).world store.old.tables
@@ -232,7 +231,7 @@ pub(crate) fn take<D: Disk + Drop>(
 ) -> Result<Answer, WorldFault>
     requires held { (w : AWorld) × HoldsStore D.state w store.old × FitsIn w message.now }
     requires up { store.old.is_up ≡ true }
-    ensures done { (w : AWorld) → HoldsStore D.state w store.old → AreFairTables w
+    ensures done { (w : AWorld) → HoldsStore D.state w store.old
         → is_held ≡ has_node w.holds the_store → FitsIn w message.now → IfOk result (λ answer. (lucks : List Luck)
         × IsTakenAs D.state w from (message_of message.now) lucks store.old store.new answer) }
     ensures counted { IfOk result (λ answer.
@@ -261,7 +260,7 @@ fn take_there<D: Disk + Drop>(
 ) -> Result<Answer, WorldFault>
     requires held { (w : AWorld) × HoldsStore D.state w store.old × FitsIn w message.now }
     requires up { store.old.is_up ≡ true }
-    ensures done { (w : AWorld) (hosted : AHosted) → HoldsStore D.state w store.old → AreFairTables w
+    ensures done { (w : AWorld) (hosted : AHosted) → HoldsStore D.state w store.old
         → is_held ≡ has_node w.holds the_store → FitsIn w message.now
         → hosted_at w (table_of (message_of message.now)) ≡ Some hosted → IfOk result (λ answer. (lucks : List Luck)
         × IsTakenAs D.state w from (message_of message.now) lucks store.old store.new answer) }

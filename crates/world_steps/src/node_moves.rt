@@ -1,4 +1,4 @@
-//! What is done to a node: its next write, all its writes, a crash, a start. Only a Store has devices so far.
+//! What is done to a node: its next write, all its writes, a crash, a start.
 ghost use Rattle.std.specs.Prelude.{◌≡◌, ℕ, true, false, IfOk, IfErr};
 ghost use Rattle.stab_base.specs.declared.node.Node.TheVariants as nodes;
 ghost use Rattle.step_tables.specs.Facts as moves;
@@ -8,11 +8,12 @@ ghost use Rattle.world_tables.specs.World.{World as AWorld, step, worked, all_wo
 ghost use Rattle.world_tables.specs.World.{is_down, same_node, answered, with_down};
 ghost use Rattle.world_tables.specs.Faults.{is_device_fault, fails_crash};
 ghost use Rattle.world_tables.specs.Passed.{started_at, first_part};
-ghost use Rattle.store_host.specs.Holds.{IsStore, AreLeft};
+ghost use Rattle.store_host.specs.Holds.{AreLeft};
 ghost use Rattle.world_steps.specs.declared.fault.WorldFault.TheVariants.{Memory};
 ghost use Rattle.world_steps.specs.Calls.{Comes, HasTold};
 ghost use Rattle.world_steps.specs.Faults.{AreCounted, ComesCounted};
-ghost use Rattle.world_steps.specs.Holds.{Holds, HasDevices};
+ghost use Rattle.world_steps.specs.Holds.{Holds};
+ghost use Rattle.world_steps.specs.Steps.{HavePlansBelow};
 ghost use Rattle.world_steps.specs.Rows.{ComesLeft};
 
 use crate::fault::WorldFault;
@@ -29,6 +30,7 @@ impl<D: Disk + Drop> World<D> {
     /// An answer, and then what the Store told and sent.
     pub(crate) fn tell(&mut self, answer: Answer) -> Result<Lines, WorldFault>
         ensures told { IfOk result (λ lines. HasTold self.old self.new (answer_of answer) lines) }
+        ensures clients { self.new.clients ≡ self.old.clients }
         ensures memory { IfErr result (λ e. e ≡ Memory) }
     {
         let mut lines = self.only(answer)?;
@@ -39,12 +41,13 @@ impl<D: Disk + Drop> World<D> {
 
     /// The node does its next device write.
     pub(crate) fn work(&mut self, node: Node) -> Result<Lines, WorldFault>
-        requires held { IsStore D.state self.old.store }
+        requires held { (w : AWorld) × Holds D.state w self.old }
         ensures done { (w : AWorld) → Holds D.state w self.old
             → Comes D.state w (step w (events.Work node)) result self.new }
         ensures counted { AreCounted D.state result self.old self.new }
         ensures rows { (w : AWorld) → Holds D.state w self.old → IfOk result (λ lines.
             AreLeft D.state D.images w self.old.store.tables self.new.store.tables) }
+        ensures plans { (n : ℕ) → HavePlansBelow D.state n self.old → HavePlansBelow D.state n self.new }
         ensures memory { IfErr result (λ e. e ≡ Memory) }
     {
         if self.is_down(node) {
@@ -54,29 +57,49 @@ impl<D: Disk + Drop> World<D> {
     }
 
     fn work_up(&mut self, node: Node) -> Result<Lines, WorldFault>
-        requires held { IsStore D.state self.old.store }
+        requires held { (w : AWorld) × Holds D.state w self.old }
         requires up { same_node node the_store ≡ true → self.old.store.is_up ≡ true }
         ensures done { (w : AWorld) → Holds D.state w self.old
             → Comes D.state w (λ lucks. worked w lucks.calls node) result self.new }
         ensures counted { AreCounted D.state result self.old self.new }
         ensures rows { (w : AWorld) → Holds D.state w self.old → IfOk result (λ lines.
             AreLeft D.state D.images w self.old.store.tables self.new.store.tables) }
+        ensures plans { (n : ℕ) → HavePlansBelow D.state n self.old → HavePlansBelow D.state n self.new }
         ensures memory { IfErr result (λ e. e ≡ Memory) }
     {
         if is_owner(node) {
             return self.work_store();
         }
-        self.only(Answer::Did(Step::Idle))
+        self.work_other(node)
+    }
+
+    // A Store that has no tables has no writes, and a gateway has no devices.
+    fn work_other(&mut self, node: Node) -> Result<Lines, WorldFault>
+        requires held { (w : AWorld) × Holds D.state w self.old }
+        requires other { same_node node the_store ≡ false }
+        ensures done { (w : AWorld) → Holds D.state w self.old
+            → Comes D.state w (λ lucks. worked w lucks.calls node) result self.new }
+        ensures counted { AreCounted D.state result self.old self.new }
+        ensures store { self.new.store ≡ self.old.store }
+        ensures plans { (n : ℕ) → HavePlansBelow D.state n self.old → HavePlansBelow D.state n self.new }
+        ensures memory { IfErr result (λ e. e ≡ Memory) }
+    {
+        match node {
+            Node::Client(client) => self.work_client(client),
+            Node::Store(_) => self.only(Answer::Did(Step::Idle)),
+            Node::Gate(_) => self.only(Answer::Did(Step::Idle)),
+        }
     }
 
     fn work_store(&mut self) -> Result<Lines, WorldFault>
-        requires held { IsStore D.state self.old.store }
+        requires held { (w : AWorld) × Holds D.state w self.old }
         requires up { self.old.store.is_up ≡ true }
         ensures done { (w : AWorld) → Holds D.state w self.old
             → Comes D.state w (λ lucks. worked w lucks.calls the_store) result self.new }
         ensures counted { AreCounted D.state result self.old self.new }
         ensures rows { (w : AWorld) → Holds D.state w self.old → IfOk result (λ lines.
             AreLeft D.state D.images w self.old.store.tables self.new.store.tables) }
+        ensures clients { self.new.clients ≡ self.old.clients }
         ensures memory { IfErr result (λ e. e ≡ Memory) }
     {
         let answer = work_once(&mut self.store)?;
@@ -85,12 +108,13 @@ impl<D: Disk + Drop> World<D> {
 
     /// The node does all its device writes.
     pub(crate) fn work_all(&mut self, node: Node) -> Result<Lines, WorldFault>
-        requires held { IsStore D.state self.old.store }
+        requires held { (w : AWorld) × Holds D.state w self.old }
         ensures done { (w : AWorld) → Holds D.state w self.old
             → Comes D.state w (step w (events.WorkAll node)) result self.new }
         ensures counted { AreCounted D.state result self.old self.new }
         ensures rows { (w : AWorld) → Holds D.state w self.old → IfOk result (λ lines.
             AreLeft D.state D.images w self.old.store.tables self.new.store.tables) }
+        ensures plans { (n : ℕ) → HavePlansBelow D.state n self.old → HavePlansBelow D.state n self.new }
         ensures memory { IfErr result (λ e. e ≡ Memory) }
     {
         if self.is_down(node) {
@@ -100,29 +124,49 @@ impl<D: Disk + Drop> World<D> {
     }
 
     fn work_all_up(&mut self, node: Node) -> Result<Lines, WorldFault>
-        requires held { IsStore D.state self.old.store }
+        requires held { (w : AWorld) × Holds D.state w self.old }
         requires up { same_node node the_store ≡ true → self.old.store.is_up ≡ true }
         ensures done { (w : AWorld) → Holds D.state w self.old
             → Comes D.state w (λ lucks. all_worked w lucks.calls node) result self.new }
         ensures counted { AreCounted D.state result self.old self.new }
         ensures rows { (w : AWorld) → Holds D.state w self.old → IfOk result (λ lines.
             AreLeft D.state D.images w self.old.store.tables self.new.store.tables) }
+        ensures plans { (n : ℕ) → HavePlansBelow D.state n self.old → HavePlansBelow D.state n self.new }
         ensures memory { IfErr result (λ e. e ≡ Memory) }
     {
         if is_owner(node) {
             return self.work_store_all();
         }
-        self.only(Answer::Number(0))
+        self.work_other_all(node)
+    }
+
+    // A Store that has no tables has no writes, and a gateway has no devices.
+    fn work_other_all(&mut self, node: Node) -> Result<Lines, WorldFault>
+        requires held { (w : AWorld) × Holds D.state w self.old }
+        requires other { same_node node the_store ≡ false }
+        ensures done { (w : AWorld) → Holds D.state w self.old
+            → Comes D.state w (λ lucks. all_worked w lucks.calls node) result self.new }
+        ensures counted { AreCounted D.state result self.old self.new }
+        ensures store { self.new.store ≡ self.old.store }
+        ensures plans { (n : ℕ) → HavePlansBelow D.state n self.old → HavePlansBelow D.state n self.new }
+        ensures memory { IfErr result (λ e. e ≡ Memory) }
+    {
+        match node {
+            Node::Client(client) => self.work_client_all(client),
+            Node::Store(_) => self.only(Answer::Number(0)),
+            Node::Gate(_) => self.only(Answer::Number(0)),
+        }
     }
 
     fn work_store_all(&mut self) -> Result<Lines, WorldFault>
-        requires held { IsStore D.state self.old.store }
+        requires held { (w : AWorld) × Holds D.state w self.old }
         requires up { self.old.store.is_up ≡ true }
         ensures done { (w : AWorld) → Holds D.state w self.old
             → Comes D.state w (λ lucks. all_worked w lucks.calls the_store) result self.new }
         ensures counted { AreCounted D.state result self.old self.new }
         ensures rows { (w : AWorld) → Holds D.state w self.old → IfOk result (λ lines.
             AreLeft D.state D.images w self.old.store.tables self.new.store.tables) }
+        ensures clients { self.new.clients ≡ self.old.clients }
         ensures memory { IfErr result (λ e. e ≡ Memory) }
     {
         let answer = work_all(&mut self.store)?;
@@ -131,13 +175,13 @@ impl<D: Disk + Drop> World<D> {
 
     /// The node stops inside its next device write. A gateway has no devices, and goes on.
     pub(crate) fn crash(&mut self, node: Node, calls: u32, pick: u64) -> Result<Lines, WorldFault>
-        requires devices { HasDevices node }
-        requires held { IsStore D.state self.old.store }
+        requires held { (w : AWorld) × Holds D.state w self.old }
         ensures done { (w : AWorld) → Holds D.state w self.old
             → ComesCounted D.state w (step w (events.Crash node calls pick))
             (λ lucks. is_device_fault w (events.Crash node calls pick) lucks) result self.old self.new }
         ensures rows { (w : AWorld) → Holds D.state w self.old → IfOk result (λ lines.
             AreLeft D.state D.images w self.old.store.tables self.new.store.tables) }
+        ensures plans { (n : ℕ) → HavePlansBelow D.state n self.old → HavePlansBelow D.state n self.new }
         ensures memory { IfErr result (λ e. e ≡ Memory) }
     {
         if self.is_down(node) {
@@ -147,30 +191,31 @@ impl<D: Disk + Drop> World<D> {
     }
 
     fn crash_up(&mut self, node: Node, calls: u32, pick: u64) -> Result<Lines, WorldFault>
-        requires devices { HasDevices node }
-        requires held { IsStore D.state self.old.store }
+        requires held { (w : AWorld) × Holds D.state w self.old }
         requires up { same_node node the_store ≡ true → self.old.store.is_up ≡ true }
         ensures done { (w : AWorld) → Holds D.state w self.old
             → ComesCounted D.state w (λ lucks. crashed w calls lucks.calls node)
             (λ lucks. fails_crash w lucks.calls node) result self.old self.new }
         ensures rows { (w : AWorld) → Holds D.state w self.old → IfOk result (λ lines.
             AreLeft D.state D.images w self.old.store.tables self.new.store.tables) }
+        ensures plans { (n : ℕ) → HavePlansBelow D.state n self.old → HavePlansBelow D.state n self.new }
         ensures memory { IfErr result (λ e. e ≡ Memory) }
     {
         if is_owner(node) {
             return self.crash_store(calls, pick);
         }
-        self.crash_other(node)
+        self.crash_other(node, calls, pick)
     }
 
     fn crash_store(&mut self, calls: u32, pick: u64) -> Result<Lines, WorldFault>
-        requires held { IsStore D.state self.old.store }
+        requires held { (w : AWorld) × Holds D.state w self.old }
         requires up { self.old.store.is_up ≡ true }
         ensures done { (w : AWorld) → Holds D.state w self.old
             → ComesCounted D.state w (λ lucks. crashed w calls lucks.calls the_store)
             (λ lucks. fails_crash w lucks.calls the_store) result self.old self.new }
         ensures rows { (w : AWorld) → Holds D.state w self.old → IfOk result (λ lines.
             AreLeft D.state D.images w self.old.store.tables self.new.store.tables) }
+        ensures clients { self.new.clients ≡ self.old.clients }
         ensures memory { IfErr result (λ e. e ≡ Memory) }
     {
         let answer = crash(&mut self.store, calls, pick);
@@ -178,19 +223,19 @@ impl<D: Disk + Drop> World<D> {
     }
 
     // A Store that has no tables is down; a gateway goes on.
-    fn crash_other(&mut self, node: Node) -> Result<Lines, WorldFault>
+    fn crash_other(&mut self, node: Node, calls: u32, pick: u64) -> Result<Lines, WorldFault>
+        requires held { (w : AWorld) × Holds D.state w self.old }
         requires other { same_node node the_store ≡ false }
-        requires devices { HasDevices node }
-        ensures done { (w : AWorld) (calls : ℕ) → Holds D.state w self.old
+        ensures done { (w : AWorld) → Holds D.state w self.old
             → ComesCounted D.state w (λ lucks. crashed w calls lucks.calls node)
             (λ lucks. fails_crash w lucks.calls node) result self.old self.new }
-        ensures rows { (w : AWorld) → Holds D.state w self.old → IfOk result (λ lines.
-            AreLeft D.state D.images w self.old.store.tables self.new.store.tables) }
+        ensures store { self.new.store ≡ self.old.store }
+        ensures plans { (n : ℕ) → HavePlansBelow D.state n self.old → HavePlansBelow D.state n self.new }
         ensures memory { IfErr result (λ e. e ≡ Memory) }
     {
         match node {
             Node::Store(number) => self.take_down(number),
-            Node::Client(_) => self.only(Answer::Done),
+            Node::Client(client) => self.crash_client(client, calls, pick),
             Node::Gate(_) => self.only(Answer::Done),
         }
     }
@@ -200,6 +245,7 @@ impl<D: Disk + Drop> World<D> {
         ensures done { (w : AWorld) → Holds D.state w self.old → Comes D.state w
             (λ lucks. answered (with_down (nodes.Store number) w) moves.Done) result self.new }
         ensures same { self.new.store ≡ self.old.store }
+        ensures clients { self.new.clients ≡ self.old.clients }
         ensures memory { IfErr result (λ e. e ≡ Memory) }
     {
         self.downs.add(Node::Store(number))?;
@@ -208,11 +254,12 @@ impl<D: Disk + Drop> World<D> {
 
     /// A node that is down is started; one that is up goes on.
     pub(crate) fn start(&mut self, node: Node) -> Result<Lines, WorldFault>
-        requires held { IsStore D.state self.old.store }
+        requires held { (w : AWorld) × Holds D.state w self.old }
         ensures done { (w : AWorld) → Holds D.state w self.old
             → ComesLeft D.state D.images w (step w (events.Start node)) (first_part w (events.Start node)) result
             self.old self.new }
         ensures counted { AreCounted D.state result self.old self.new }
+        ensures plans { (n : ℕ) → HavePlansBelow D.state n self.old → HavePlansBelow D.state n self.new }
         ensures memory { IfErr result (λ e. e ≡ Memory) }
     {
         if self.is_down(node) {
@@ -222,26 +269,46 @@ impl<D: Disk + Drop> World<D> {
     }
 
     fn start_down(&mut self, node: Node) -> Result<Lines, WorldFault>
-        requires held { IsStore D.state self.old.store }
+        requires held { (w : AWorld) × Holds D.state w self.old }
         requires down { same_node node the_store ≡ true → self.old.store.is_up ≡ false }
         ensures done { (w : AWorld) → Holds D.state w self.old → true ≡ is_down w node
             → ComesLeft D.state D.images w (λ lucks. started w lucks.shape lucks.calls node)
             (λ lucks. started_at w lucks.calls node) result self.old self.new }
         ensures counted { AreCounted D.state result self.old self.new }
+        ensures plans { (n : ℕ) → HavePlansBelow D.state n self.old → HavePlansBelow D.state n self.new }
         ensures memory { IfErr result (λ e. e ≡ Memory) }
     {
         if is_owner(node) {
             return self.start_store();
         }
-        self.bring_up(node)
+        self.start_other(node)
+    }
+
+    fn start_other(&mut self, node: Node) -> Result<Lines, WorldFault>
+        requires held { (w : AWorld) × Holds D.state w self.old }
+        requires other { same_node node the_store ≡ false }
+        ensures done { (w : AWorld) → Holds D.state w self.old → true ≡ is_down w node
+            → Comes D.state w (λ lucks. started w lucks.shape lucks.calls node) result self.new }
+        ensures counted { AreCounted D.state result self.old self.new }
+        ensures store { self.new.store ≡ self.old.store }
+        ensures plans { (n : ℕ) → HavePlansBelow D.state n self.old → HavePlansBelow D.state n self.new }
+        ensures memory { IfErr result (λ e. e ≡ Memory) }
+    {
+        match node {
+            Node::Client(client) => self.start_client(client),
+            Node::Store(_) => self.bring_up(node),
+            Node::Gate(_) => self.bring_up(node),
+        }
     }
 
     fn bring_up(&mut self, node: Node) -> Result<Lines, WorldFault>
-        requires { same_node node the_store ≡ false }
+        requires other { same_node node the_store ≡ false }
+        requires no_client { (c : ℕ) → same_node node (nodes.Client c) ≡ false }
         ensures done { (w : AWorld) → Holds D.state w self.old → true ≡ is_down w node
-            → ComesLeft D.state D.images w (λ lucks. started w lucks.shape lucks.calls node)
-            (λ lucks. started_at w lucks.calls node) result self.old self.new }
+            → Comes D.state w (λ lucks. started w lucks.shape lucks.calls node) result self.new }
         ensures counted { AreCounted D.state result self.old self.new }
+        ensures store { self.new.store ≡ self.old.store }
+        ensures clients { self.new.clients ≡ self.old.clients }
         ensures memory { IfErr result (λ e. e ≡ Memory) }
     {
         self.downs.remove(node);
@@ -249,12 +316,13 @@ impl<D: Disk + Drop> World<D> {
     }
 
     fn start_store(&mut self) -> Result<Lines, WorldFault>
-        requires held { IsStore D.state self.old.store }
+        requires held { (w : AWorld) × Holds D.state w self.old }
         requires down { self.old.store.is_up ≡ false }
         ensures done { (w : AWorld) → Holds D.state w self.old → true ≡ is_down w the_store
             → ComesLeft D.state D.images w (λ lucks. started w lucks.shape lucks.calls the_store)
             (λ lucks. started_at w lucks.calls the_store) result self.old self.new }
         ensures counted { AreCounted D.state result self.old self.new }
+        ensures clients { self.new.clients ≡ self.old.clients }
         ensures memory { IfErr result (λ e. e ≡ Memory) }
     {
         let is_held = self.is_held(STORE);

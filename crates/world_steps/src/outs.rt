@@ -1,4 +1,4 @@
-//! What a Store's moves told and sent, as lines and as packets on the network.
+//! What moves of the Store and of clients told and sent, as lines and as packets on the network.
 ghost use Rattle.std.specs.Prelude.{◌≡◌, ◌++◌, ◌∷◌, [], List, ℕ, map, false, true, Ok, Err, IfOk, IfErr, OnOk};
 ghost use Rattle.disk_trait.specs.Calls.{DiskState};
 ghost use Rattle.step_tables.specs.Facts as moves;
@@ -7,12 +7,16 @@ ghost use Rattle.step_tables.specs.Lines.{line_of};
 ghost use Rattle.step_tables.specs.Lines as lines;
 ghost use Rattle.store_node.specs.Due.{fact_of};
 ghost use Rattle.store_host.specs.Holds.{outs_in, outbox_of};
+ghost use Rattle.journal_host.specs.Holds as clients;
 ghost use Rattle.world_steps.specs.declared.fault.WorldFault.TheVariants.{Memory};
 ghost use Rattle.world_steps.specs.Outs.{Tells};
 
 use crate::fault::WorldFault;
 use crate::network::{Network, STORE};
+use journal_host::ClientOut;
 use row_value::Sequence;
+use stab_base::Node;
+use step_tables::Out;
 use store_node::{StoreFact, StoreOut};
 use table_model::{Fact, TextLine};
 
@@ -62,6 +66,38 @@ pub(crate) fn tell(
 {
     for out in outs.into_vec() {
         tell_one(network, out, lines)?;
+    }
+    Ok(())
+}
+
+// The facts of one move of a client, and then its packets.
+fn tell_client(
+    network: &mut Network,
+    out: ClientOut,
+    lines: &mut Sequence<TextLine>,
+) -> Result<(), WorldFault>
+    ensures told { OnOk result (Tells (clients.outbox_of out ∷ []) network.old network.new lines.old lines.new) }
+    ensures memory { IfErr result (λ e. e ≡ Memory) }
+{
+    let ClientOut { client, out } = out;
+    let Out { messages, facts } = out;
+    for fact in facts.into_vec() {
+        lines.push(TextLine::Fact(fact))?;
+    }
+    network.send_all(Node::Client(client), messages, lines)
+}
+
+/// The same of clients' moves.
+pub(crate) fn tell_clients(
+    network: &mut Network,
+    outs: Sequence<ClientOut>,
+    lines: &mut Sequence<TextLine>,
+) -> Result<(), WorldFault>
+    ensures told { OnOk result (Tells (clients.outs_in outs) network.old network.new lines.old lines.new) }
+    ensures memory { IfErr result (λ e. e ≡ Memory) }
+{
+    for out in outs.into_vec() {
+        tell_client(network, out, lines)?;
     }
     Ok(())
 }

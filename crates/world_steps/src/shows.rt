@@ -65,12 +65,13 @@ impl<D: Disk + Drop> World<D> {
 
     /// The Store shows a row.
     pub(crate) fn store_show(&mut self, table: TableNo, row: &RowId) -> Result<Lines, WorldFault>
-        requires held { IsStore D.state self.old.store }
+        requires held { (w : AWorld) × Holds D.state w self.old }
         ensures done { (w : AWorld) → Holds D.state w self.old
             → Comes D.state w (step w (events.StoreShow table row.now)) result self.new }
         ensures counted { AreCounted D.state result self.old self.new }
         ensures rows { (w : AWorld) → Holds D.state w self.old → IfOk result (λ lines.
             AreLeft D.state D.images w self.old.store.tables self.new.store.tables) }
+        ensures clients { self.new.clients ≡ self.old.clients }
         ensures memory { IfErr result (λ e. e ≡ Memory) }
     {
         if self.store.has(table) {
@@ -80,7 +81,7 @@ impl<D: Disk + Drop> World<D> {
     }
 
     fn show_there(&mut self, table: TableNo, row: &RowId) -> Result<Lines, WorldFault>
-        requires held { IsStore D.state self.old.store }
+        requires held { (w : AWorld) × Holds D.state w self.old }
         requires there { IsSome (tree.get nat_cmp self.old.store.tables table) }
         ensures done { (w : AWorld) (hosted : AHosted) → Holds D.state w self.old → hosted_at w table ≡ Some hosted
             → Comes D.state w (λ lucks. unless_down w the_store (row_read w hosted row.now (first_luck lucks.calls)))
@@ -88,6 +89,7 @@ impl<D: Disk + Drop> World<D> {
         ensures counted { AreCounted D.state result self.old self.new }
         ensures rows { (w : AWorld) → Holds D.state w self.old → IfOk result (λ lines.
             AreLeft D.state D.images w self.old.store.tables self.new.store.tables) }
+        ensures clients { self.new.clients ≡ self.old.clients }
         ensures memory { IfErr result (λ e. e ≡ Memory) }
     {
         if self.is_down(STORE) {
@@ -97,7 +99,7 @@ impl<D: Disk + Drop> World<D> {
     }
 
     fn show_stored(&mut self, table: TableNo, row: &RowId) -> Result<Lines, WorldFault>
-        requires held { IsStore D.state self.old.store }
+        requires held { (w : AWorld) × Holds D.state w self.old }
         requires up { self.old.store.is_up ≡ true }
         requires there { IsSome (tree.get nat_cmp self.old.store.tables table) }
         ensures done { (w : AWorld) (hosted : AHosted) → Holds D.state w self.old → hosted_at w table ≡ Some hosted
@@ -105,6 +107,7 @@ impl<D: Disk + Drop> World<D> {
         ensures counted { AreCounted D.state result self.old self.new }
         ensures rows { (w : AWorld) → Holds D.state w self.old → IfOk result (λ lines.
             AreLeft D.state D.images w self.old.store.tables self.new.store.tables) }
+        ensures clients { self.new.clients ≡ self.old.clients }
         ensures memory { IfErr result (λ e. e ≡ Memory) }
     {
         let answer = show(&mut self.store, table, row)?;

@@ -1,17 +1,19 @@
-ghost use Rattle.std.specs.Prelude.{◌≡◌, ◌≢◌, ℕ, IfOk, IfErr};
+ghost use Rattle.std.specs.Prelude.{◌≡◌, ◌≢◌, ℕ, suc, IfOk, IfErr};
 ghost use Rattle.world_tables.specs.World.{World as AWorld, start};
 ghost use Rattle.world_steps.specs.declared.fault.WorldFault.TheVariants.{Depot as DepotFailed, Memory};
 ghost use Rattle.world_steps.specs.declared.fault.WorldFault.TheVariants.{Limit as LimitPassed};
 ghost use Rattle.disk_trait.specs.Calls.{IsCounted};
-ghost use Rattle.world_steps.specs.Holds.{Holds, IsReached, IsBuilt, IsWorld, AreOut};
+ghost use Rattle.fair_laws.specs.Reached.{IsReached, IsBuilt};
+ghost use Rattle.world_steps.specs.Holds.{Holds, IsWorld, AreOut};
 ghost use Rattle.world_steps.specs.Faults.{IsUndone};
-ghost use Rattle.world_steps.specs.Steps.{IsStep, Spends};
+ghost use Rattle.world_steps.specs.Steps.{HavePlansBelow, IsStep, Spends};
 
 use crate::fault::WorldFault;
 use crate::network::Network;
 use crate::nodes::NodeSet;
-use client_host::ClientHost;
 use disk_trait::{Depot, Disk};
+use journal_host::ClientHost;
+use row_edits::Edit;
 use row_value::{Schema, Sequence, TableNo};
 use std::alloc::Global;
 use std::collections::BTreeMap;
@@ -26,17 +28,26 @@ pub type Lines = Sequence<TextLine>;
 pub struct World<D: Disk> {
     pub(crate) schemas: BTreeMap<TableNo, Schema>,
     pub(crate) store: StoreHost<D>,
-    pub(crate) clients: ClientHost,
+    pub(crate) clients: ClientHost<D>,
     pub(crate) network: Network,
     pub(crate) held: NodeSet,
     pub(crate) downs: NodeSet,
     pub(crate) alloc: Global,
 }
 
+// An edit again: the event stays whose it is.
+fn copied(edit: &Edit) -> Result<Edit, WorldFault>
+    ensures same { IfOk result (λ made. made ≡ edit.now) }
+    ensures memory { IfErr result (λ e. e ≡ Memory) }
+{
+    Ok(edit.clone()?)
+}
+
 impl<D: Disk + Drop> World<D> {
     /// A world in which nothing is declared.
     pub fn new(alloc: Global) -> World<D>
         ensures held { Holds D.state start result }
+        ensures plans { (n : ℕ) → HavePlansBelow D.state n result }
     {
         World {
             schemas: BTreeMap::new(alloc),
@@ -49,12 +60,13 @@ impl<D: Disk + Drop> World<D> {
         }
     }
 
-    /// Carries out an event: the lines that it writes. A table's disks come from the depot: of table T those of the
-    /// numbers 3(T-1), 3(T-1)+1 and 3(T-1)+2, for its chunks, its rows and its log.
+    /// Carries out an event: the lines that it writes. Disks come from the depot: of table T those of the numbers
+    /// 3(T-1), 3(T-1)+1 and 3(T-1)+2, for its chunks, its rows and its log; of client C those of the numbers
+    /// 192+3(C-1), 192+3(C-1)+1 and 192+3(C-1)+2, for its journal, its slots and its chunks.
     ///
-    /// `Limit` where a client has made its last write, or a table has given its last version; `Depot` where the depot
-    /// handed out no disk: either leaves the world as it was. What want of memory leaves of it isn't said. Each ends
-    /// the run.
+    /// `Limit` where a client has made its last write or has begun its last plan, or a table has given its last
+    /// version; `Depot` where the depot handed out no disk: either leaves the world as it was. What want of memory
+    /// leaves of it isn't said. Each ends the run.
     pub fn step<P: Depot<Disk = D>>(
         &mut self,
         depot: &mut P,
@@ -65,8 +77,10 @@ impl<D: Disk + Drop> World<D> {
         ensures done { (w : AWorld) → IsReached w → Holds D.state w self.old → AreOut (P.state depot.old).is_out w
             → IfOk result (λ lines. IsStep D.state D.images w event.now lines (P.state depot.new).is_out self.old
             self.new) }
-        ensures limit { (w : AWorld) → IsReached w → Holds D.state w self.old
-            → IfErr result (λ e. (code count : ℕ) → e ≡ LimitPassed code count → (code ≡ 11) × Spends w event.now) }
+        ensures limit { (w : AWorld) (n : ℕ) → IsReached w → Holds D.state w self.old
+            → HavePlansBelow D.state n self.old → IfErr result (λ e. (code count : ℕ) → e ≡ LimitPassed code count
+            → (code ≡ 11) × Spends n w event.now) }
+        ensures plans { (n : ℕ) → HavePlansBelow D.state n self.old → HavePlansBelow D.state (suc n) self.new }
         ensures left { (w : AWorld) → IsReached w → Holds D.state w self.old → AreOut (P.state depot.old).is_out w
             → IfErr result (λ e. e ≢ Memory → IsUndone D.state w (P.state depot.new).is_out self.old self.new) }
         ensures depot { IsCounted DepotFailed (P.state depot.old).faults (P.state depot.new).faults result }
@@ -74,15 +88,20 @@ impl<D: Disk + Drop> World<D> {
         match event {
             Event::Store { .. } => Ok(Sequence::new(self.alloc)),
             Event::Table { table, schema } => self.declare(depot, *table, schema),
-            Event::Client { client, tables, .. } => self.join(*client, tables.as_slice()),
+            Event::Client { client, tables, .. } => self.join(depot, *client, tables.as_slice()),
             Event::Write {
                 client,
                 table,
                 row,
                 content,
-            } => self.write(*client, *table, *row, content),
-            Event::Edit { .. } => unreachable!(),
-            Event::Link { .. } => unreachable!(),
+            } => self.write(*client, *table, *row, content.copy()?),
+            Event::Edit {
+                client,
+                table,
+                row,
+                edit,
+            } => self.edit(*client, *table, *row, copied(edit)?),
+            Event::Link { client, up } => self.link(*client, *up),
             Event::Show { client, table, row } => self.show(*client, *table, *row),
             Event::Sum { client, table, row } => self.sum(*client, *table, *row),
             Event::Sync { client, table } => self.sync(*client, *table),

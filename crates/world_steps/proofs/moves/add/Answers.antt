@@ -1,4 +1,4 @@
-use Rattle.std.proofs.Common.{◌≡◌, ◌<◌, ℕ, refl, sym, subst}
+use Rattle.std.proofs.Common.{◌<◌, ℕ, refl, subst}
 use Rattle.step_tables.specs.Messages as messages
 use Rattle.store_host.specs.Holds.{faults_at}
 use Rattle.world_steps.proofs.Counted.{added_badly, some_failed}

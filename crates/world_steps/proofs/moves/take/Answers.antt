@@ -10,14 +10,14 @@ use Rattle.world_steps.proofs.Rows.{none_left, over_first}
 use Rattle.world_steps.proofs.moves.take.Goals as goal
 
 pub returns-then-has-clause-done : goal.returns-then-has-clause-done
-returns-then-has-clause-done g c w h fair is fits =
-    ok_there g.D.Disk.state w c.args.store.now h fair c.args.from (message_of c.args.message.now) c.take_there.new.store c.table_in.result c.table_in.ensures
+returns-then-has-clause-done g c w h is fits =
+    ok_there g.D.Disk.state w c.args.store.now h c.args.from (message_of c.args.message.now) c.take_there.new.store c.table_in.result c.table_in.ensures
     (sym c.if-has.true ∙ c.has.ensures.held w h) c.take_there.result
-    (λ hosted at. c.take_there.ensures.done w hosted h fair is fits at)
+    (λ hosted at. c.take_there.ensures.done w hosted h is fits at)
 
 pub returns-clause-done : goal.returns-clause-done
-returns-clause-done g c w h fair is fits =
-    lost g.D.Disk.state w c.args.store.now h fair c.args.from (message_of c.args.message.now)
+returns-clause-done g c w h is fits =
+    lost g.D.Disk.state w c.args.store.now h c.args.from (message_of c.args.message.now)
     (none_of _ (sym c.if-has.false ∙ (c.has.ensures.held w h ∙ ap (λ t. is_some (hosted_at w t)) c.table_in.ensures))) _ refl
 
 pub returns-clause-rows : goal.returns-clause-rows

@@ -1,4 +1,4 @@
-use Rattle.std.proofs.Common.{refl, sym}
+use Rattle.std.proofs.Common.{refl}
 use Rattle.step_tables.specs.Messages.{table_of}
 use Rattle.step_tables.specs.StoreMoves.{TableStore, Take}
 use Rattle.step_tables.specs.Travels.{message_of}
@@ -18,22 +18,22 @@ follow_table-requires-clause-held g c =
     let k = c.requires.held in (_, ((c.in-Ok.ensures.takes k.0 k.1).done k.2).held)
 
 pub returns-in-Ok-clause-done : goal.returns-in-Ok-clause-done
-returns-in-Ok-clause-done g c w hosted h fair is fits at =
+returns-in-Ok-clause-done g c w hosted h is fits at =
     let k = c.in-Ok.ensures.takes w h in
-    done_ok g.D.Disk.state w c.args.store.now h fair c.args.from (message_of c.args.message.now) c.deliver.new.self c.follow_table.new.store hosted at
+    done_ok g.D.Disk.state w c.args.store.now h c.args.from (message_of c.args.message.now) c.deliver.new.self c.follow_table.new.store hosted at
     (k.idle (λ b. let e = b.1 in absurd cc) hosted at) (k.done fits) c.args.is_held is c.table_in.result c.table_in.ensures
     c.follow_table.result c.follow_table.ensures.done
 
 pub returns-in-Err-Busy-clause-done : goal.returns-in-Err-Busy-clause-done
-returns-in-Err-Busy-clause-done g c w hosted h fair is fits at =
+returns-in-Err-Busy-clause-done g c w hosted h is fits at =
     let k = c.in-Err-Busy.ensures.takes w h in let e = c.in-Err-Busy.field-0-is in
-    busy g.D.Disk.state w c.args.store.now h fair c.args.from (message_of c.args.message.now) c.in-Err-Busy.with ((k.busy c.in-Err-Busy.with).0 cc) c.deliver.new.self (k.refused (λ no. absurd cc))
+    busy g.D.Disk.state w c.args.store.now h c.args.from (message_of c.args.message.now) c.in-Err-Busy.with ((k.busy c.in-Err-Busy.with).0 cc) c.deliver.new.self (k.refused (λ no. absurd cc))
     c.in-Err-Busy.ensures.outs _ refl
 
 pub returns-in-Err-Disk-clause-done : goal.returns-in-Err-Disk-clause-done
-returns-in-Err-Disk-clause-done g c w hosted h fair is fits at =
+returns-in-Err-Disk-clause-done g c w hosted h is fits at =
     let k = c.in-Err-Disk.ensures.takes w h in let e = c.in-Err-Disk.field-0-is in
-    fallen g.D.Disk.state w c.args.store.now h fair c.args.from (message_of c.args.message.now) hosted at c.deliver.new.self (k.idle (λ b. let f = b.1 in absurd cc) hosted at) (k.fallen cc) _ refl
+    fallen g.D.Disk.state w c.args.store.now h c.args.from (message_of c.args.message.now) hosted at c.deliver.new.self (k.idle (λ b. let f = b.1 in absurd cc) hosted at) (k.fallen cc) _ refl
 
 pub returns-in-Ok-clause-counted : goal.returns-in-Ok-clause-counted
 returns-in-Ok-clause-counted g c =

@@ -1,7 +1,7 @@
 use Rattle.std.proofs.lemmas.Result.{err_from_is_err_and}
 use Rattle.world_tables.specs.World.{start}
 use Rattle.world_tables.specs.Turns.{world_from}
-use Rattle.std.proofs.Common.{refl, ap}
+use Rattle.std.proofs.Common.{refl, ap, length}
 use Rattle.simba_top.specs.Stops.{of_world}
 use Rattle.simba_top.proofs.Sounds.{reached, world_on, nothing_undone}
 use Rattle.simba_top.proofs.Turns.{carries_out, row_stops, world_stops}
@@ -24,7 +24,7 @@ returns-clause-texts g c = λ input script told line left has spells.
     carries_out state input script told line c.args.self.now out left has c.requires.few g.D.Disk.images c.args.event.now c.add.new.self c.add-2.new.self c.step.new.self new
     c.in_ok-lines.lines c.in_ok-texts.texts.items
     spells c.in_ok-add.ensures.ok (c.in_ok-add-2.ensures.rows script has.rows) (c.in_ok-add-2.ensures.few script has.rows has.front.rows) c.requires.built
-    (c.in_ok-lines.ensures.done (world_from start l.run) (reached state script told c.args.self.now.world out l) l.held l.out) c.in_ok-texts.ensures
+    (c.in_ok-lines.ensures.done (world_from start l.run) (reached state script told c.args.self.now.world out l) l.held l.out) c.in_ok-lines.ensures.plans c.in_ok-texts.ensures
 
 pub returns-in_err-add-2-clause-texts : goal.returns-in_err-add-2-clause-texts
 returns-in_err-add-2-clause-texts g c = λ input script told line left has spells.
@@ -39,7 +39,7 @@ returns-in_err-lines-clause-texts g c = λ input script told line left has spell
     let l = has.world in
     let p = err_from_is_err_and c.from_residual-in_err-lines.result c.from_residual-in_err-lines.ensures.1 in
     rw (p.1, p.2) (world_stops state input script told line c.args.self.now out left has c.requires.few c.args.event.now c.in_err-lines.field-0.0 c.requires.built
-    (c.in_err-lines.ensures.limit (world_from start l.run) (reached state script told c.args.self.now.world out l) l.held))
+    (c.in_err-lines.ensures.limit (world_from start l.run) (length l.run) (reached state script told c.args.self.now.world out l) l.held l.plans))
 
 pub returns-in_err-add-clause-left : goal.returns-in_err-add-clause-left
 returns-in_err-add-clause-left g c = λ w r h out.

@@ -23,7 +23,8 @@ hand_out_three-requires-clause-small g c =
 
 pub hand_out_three-requires-clause-free : goal.hand_out_three-requires-clause-free
 hand_out_three-requires-clause-free g c =
-    let k = c.requires.held in not_out g.D.Disk.state k.0 c.args.table c.args.self.now k.1 (g.P.Depot.state c.args.depot.now).is_out k.2 c.requires.absent c.requires.made.least
+    let k = c.requires.held in
+    not_out g.D.Disk.state k.0 c.args.table c.args.self.now k.1 (g.P.Depot.state c.args.depot.now).is_out k.2 c.requires.absent c.requires.made.least c.requires.made.most
 
 pub returns-clause-done : goal.returns-clause-done
 returns-clause-done g c w reached h out =

@@ -1,5 +1,5 @@
 use Rattle.std.proofs.Common.{sym, ◌∙◌, refl}
-use Rattle.world_tables.specs.World.{store_shows, chunk_names}
+use Rattle.world_tables.specs.World.{chunk_names}
 use Rattle.world_steps.proofs.Showing.{comes_there, comes_not_there, there_now}
 use Rattle.world_steps.proofs.world.World.chunks.Goals as goal
 

@@ -1,51 +1,32 @@
-use Rattle.std.proofs.Common.{◌≡◌, ◌∙◌, ℕ, refl, sym, ap}
-use Rattle.store_host.specs.Holds.{disks_at}
-use Rattle.world_steps.proofs.Closing.{closing_starts, next_table, goes_back, ones_there, none_out, all_told, at_end}
-use Rattle.world_steps.proofs.Returned.{all_rows_back}
+use Rattle.std.proofs.Common.{◌∙◌, ◌≤◌, ◌+◌, ℕ, arith}
+use Rattle.world_steps.specs.Holds.{first_client_disk}
+use Rattle.world_steps.proofs.Closing.{all_numbers}
+use Rattle.world_steps.proofs.Returned.{tables_stay_back, all_told, all_rows_back}
 use Rattle.world_steps.proofs.world.World.close.Goals as goal
 
-pub tables-init : goal.tables-init
-tables-init g c =
-    let k = c.requires.held in record {
-      closing = closing_starts g.D.Disk.state k.w c.args.self k.held (g.P.Depot.state c.args.depot.now).is_out k.out (g.P.Depot.returned c.args.depot.now);
-      faults = refl;
-    }
+above : (c k : ℕ) → 192 ≤ first_client_disk c + k
+above c k = omega arith
 
-pub give_back-requires-clause-least : goal.give_back-requires-clause-least
-give_back-requires-clause-least g c =
-    (next_table c.args.self.store.tables c.tables.store.tables (g.P.Depot.state c.tables.depot).is_out (g.P.Depot.returned c.tables.depot) c.tables.invariant.closing c.in-Some.table c.in-Some.disks
-    c.in-Some.ensures.disks).least
+pub close_tables-requires : goal.close_tables-requires
+close_tables-requires g c =
+    let k = c.requires.held in record { held = (k.w, k.held.numbered, k.held.store, k.out) }
 
-pub give_back-requires-clause-most : goal.give_back-requires-clause-most
-give_back-requires-clause-most g c =
-    (next_table c.args.self.store.tables c.tables.store.tables (g.P.Depot.state c.tables.depot).is_out (g.P.Depot.returned c.tables.depot) c.tables.invariant.closing c.in-Some.table c.in-Some.disks
-    c.in-Some.ensures.disks).most
-
-pub give_back-requires-clause-out : goal.give_back-requires-clause-out
-give_back-requires-clause-out g c =
-    (next_table c.args.self.store.tables c.tables.store.tables (g.P.Depot.state c.tables.depot).is_out (g.P.Depot.returned c.tables.depot) c.tables.invariant.closing c.in-Some.table c.in-Some.disks
-    c.in-Some.ensures.disks).out
-
-pub tables-preserved : goal.tables-preserved
-tables-preserved g c =
-    let k = c.requires.held in record {
-      closing = goes_back c.args.self.store.tables c.tables.store.tables c.take_disks.new.self.tables (g.P.Depot.state c.tables.depot).is_out (g.P.Depot.state c.give_back.new.depot).is_out
-          (g.P.Depot.returned c.tables.depot) (g.P.Depot.returned c.give_back.new.depot) (ones_there g.D.Disk.state k.w c.args.self k.held) c.tables.invariant.closing c.in-Some.table c.in-Some.disks
-          c.in-Some.ensures.disks c.take_disks.ensures.others c.give_back.ensures.back c.give_back.ensures.told;
-      faults = c.give_back.ensures.faults ∙ c.tables.invariant.faults;
-    }
+pub close_clients-requires : goal.close_clients-requires
+close_clients-requires g c =
+    let k = c.requires.held in
+    record { held = (k.w, k.held.numbered, k.held.clients, λ q n one small. c.close_tables.ensures.others (first_client_disk q + n) (above q n) ∙ k.out.clients q n one small) }
 
 pub returns-clause-back : goal.returns-clause-back
 returns-clause-back g c =
-    none_out c.args.self.store.tables c.tables.store.tables (g.P.Depot.state c.tables.depot).is_out (g.P.Depot.returned c.tables.depot) c.tables.invariant.closing
-    (at_end c.tables.store.tables.entries disks_at c.in_default.ensures.disks)
+    all_numbers (g.P.Depot.state c.close_clients.new.depot).is_out (λ k below. c.close_clients.ensures.others k below ∙ c.close_tables.ensures.back k below) c.close_clients.ensures.back
 
 pub returns-clause-told : goal.returns-clause-told
 returns-clause-told g c w h =
-    all_told g.D.Disk.state w c.args.self h c.tables.store.tables (g.P.Depot.state c.tables.depot).is_out (g.P.Depot.returned c.tables.depot) c.tables.invariant.closing
-    (at_end c.tables.store.tables.entries disks_at c.in_default.ensures.disks)
+    all_told g.D.Disk.state w c.args.self h (g.P.Depot.returned c.close_clients.new.depot)
+    (tables_stay_back g.D.Disk.state w c.args.self h (g.P.Depot.returned c.close_tables.new.depot) (g.P.Depot.returned c.close_clients.new.depot) c.close_clients.ensures.kept c.close_tables.ensures.told)
+    c.close_clients.ensures.told
 
 pub returns-clause-rows : goal.returns-clause-rows
 returns-clause-rows g c w r h =
-    all_rows_back g.D.Disk.state g.D.Disk.images g.met.D.Disk.counts_now g.met.D.Disk.only_now w r c.args.self h c.tables.store.tables (g.P.Depot.state c.tables.depot).is_out
-    (g.P.Depot.returned c.tables.depot) c.tables.invariant.closing (at_end c.tables.store.tables.entries disks_at c.in_default.ensures.disks)
+    all_rows_back g.D.Disk.state g.D.Disk.images g.met.D.Disk.counts_now g.met.D.Disk.only_now w r c.args.self h (g.P.Depot.returned c.close_clients.new.depot)
+    (tables_stay_back g.D.Disk.state w c.args.self h (g.P.Depot.returned c.close_tables.new.depot) (g.P.Depot.returned c.close_clients.new.depot) c.close_clients.ensures.kept c.close_tables.ensures.told)

@@ -15,7 +15,7 @@ returns-then-is_down-clause-done g c w h =
     let event = events.Crash c.args.node c.args.calls c.args.pick in
     let is = sym c.if-is_down.true ∙ c.is_down.ensures.held w h in
     counted_still g.D.Disk.state w (step w event) (step w event) (λ lucks. is_device_fault w event lucks) (λ lucks. is_device_fault w event lucks) c.refuse.result c.args.self.now c.args.self.now
-    (λ lucks. ap (λ (b : Bool). if b then false else fails_crash w lucks.calls c.args.node) (sym is)) refl
+    (λ lucks. ap (λ (b : Bool). if b then false else fails_crash w lucks.calls c.args.node) (sym is)) refl refl
     (down_refused g.D.Disk.state w c.args.node (λ lucks. crashed w c.args.calls lucks.calls c.args.node) c.refuse.result c.args.self.now h is c.refuse.ensures.lines)
 
 pub crash_up-requires-clause-up : goal.crash_up-requires-clause-up

@@ -1,6 +1,5 @@
 use Rattle.std.proofs.Common.{refl}
 use Rattle.step_tables.specs.Facts as facts
-use Rattle.step_tables.specs.Lines.{answer_of}
 use Rattle.world_tables.specs.World.{crashed, the_store, owner, store_crashes}
 use Rattle.world_tables.specs.Faults.{fails_crash}
 use Rattle.world_steps.specs.Calls.{with_calls}
@@ -16,7 +15,7 @@ returns-clause-done g c w h =
     let k = c.crash-answer.ensures.crashed w h.store in
     counted_done g.D.Disk.state w (λ lucks. crashed w c.args.calls lucks.calls the_store) (λ lucks. crashed w c.args.calls lucks.calls the_store) (λ lucks. fails_crash w lucks.calls the_store)
     (λ lucks. fails_crash w lucks.calls the_store) c.tell.result c.args.self.now c.tell.new.self (with_calls k.0) c.crash-answer.new.store _
-    (told_done g.D.Disk.state w c.args.self.now h (store_crashes owner c.args.calls k.0 w) (crashes_goes c.args.calls k.0 w h.fair.tables) facts.Done _ _ c.tell.result c.tell.new.self
+    (told_done g.D.Disk.state w c.args.self.now h (store_crashes owner c.args.calls k.0 w) (crashes_goes c.args.calls k.0 w) facts.Done _ _ c.tell.result c.tell.new.self
     (λ lucks. crashed w c.args.calls lucks.calls the_store) (with_calls k.0) refl k.1 c.tell.ensures.told) c.tell.ensures.told (cut_counted g.D.Disk.state w _ _ k.0 k.2)
 
 pub returns-clause-rows : goal.returns-clause-rows

@@ -1,6 +1,6 @@
 use Rattle.std.proofs.Common.{◌∷◌, sym, ◌∙◌}
 use Rattle.step_tables.specs.Facts as facts
-use Rattle.world_tables.specs.World.{answered, without_node}
+use Rattle.world_tables.specs.World.{answered}
 use Rattle.world_steps.proofs.Done.{down_refused, up_goes_on}
 use Rattle.world_steps.proofs.world.World.hold.Goals as goal
 

@@ -1,10 +1,20 @@
-use Rattle.std.proofs.Common.{refl}
-use Rattle.world_steps.proofs.Declared.{has_schemas, has_joined}
+use Rattle.std.proofs.Common.{List, sym, ◌∙◌, subst}
+use Rattle.table_model.specs.declared.event.Event.TheVariants as events
+use Rattle.table_model.specs.declared.line.TextLine.{TextLine}
+use Rattle.world_tables.specs.Passed.{first_part}
+use Rattle.world_steps.specs.Steps.{IsStep}
+use Rattle.world_steps.proofs.Declared.{stays_joined, nothing_at}
+use Rattle.world_steps.proofs.Rows.{none_left, over_first, stay_over}
 use Rattle.world_steps.proofs.world.World.join.Goals as goal
 
-pub returns-in-Ok-clause-done : goal.returns-in-Ok-clause-done
-returns-in-Ok-clause-done g c w h = (
-  c.new.ensures,
-  has_joined g.D.Disk.state w c.args.self.now c.args.client c.args.tables.now c.join.new.self h (record { least = c.requires.least; most = c.requires.most })
-      (c.in-Ok.ensures.joined w h.clients (has_schemas g.D.Disk.state w c.args.self.now h)),
-)
+pub returns-then-has-clause-done : goal.returns-then-has-clause-done
+returns-then-has-clause-done g c w gate reached h out =
+    let event = events.Client c.args.client gate c.args.tables.now in
+    let tables = c.args.self.now.store.tables in
+    subst (λ (ls : List TextLine). IsStep g.D.Disk.state g.D.Disk.images w event ls (g.P.Depot.state c.args.depot.now).is_out c.args.self.now c.args.self.now) (sym c.new.ensures)
+    (stays_joined g.D.Disk.state g.D.Disk.images w c.args.client gate c.args.tables.now (g.P.Depot.state c.args.depot.now).is_out c.args.self.now h out (sym c.if-has.true ∙ c.has.ensures.held w h.clients)
+    (λ lucks. stay_over g.D.Disk.state g.D.Disk.images w reached event lucks c.args.self.now c.args.self.now (over_first g.D.Disk.state g.D.Disk.images w (first_part w event lucks) tables tables
+    (none_left g.D.Disk.state g.D.Disk.images g.met.D.Disk.only_now w c.args.self.now.store h.store))))
+
+pub add_client-requires-clause-absent : goal.add_client-requires-clause-absent
+add_client-requires-clause-absent g c = nothing_at _ (sym c.has.ensures.there ∙ c.if-has.false)

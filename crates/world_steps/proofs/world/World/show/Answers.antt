@@ -1,23 +1,35 @@
-use Rattle.std.proofs.Common.{[], refl}
-use Rattle.stab_base.specs.declared.node.Node.TheVariants as nodes
+use Rattle.std.proofs.Common.{suc}
 use Rattle.step_tables.specs.ClientMoves as moves
-use Rattle.world_tables.specs.World.{call, client_at}
 use Rattle.table_model.specs.declared.event.Event.TheVariants as events
-use Rattle.world_tables.specs.World.{step, no_lucks}
-use Rattle.fault_laws.proofs.Well.{fine_step}
-use Rattle.world_steps.proofs.Counted.{only_counted}
-use Rattle.world_steps.proofs.Called.{called_fine, comes_called, call_same, call_none, sent_nothing}
+use Rattle.world_tables.specs.World.{call, step}
+use Rattle.world_steps.proofs.Keeping.{call_keeps}
+use Rattle.world_steps.proofs.Clients.{client_comes, client_counts, limit_spent, left_spent, plans_told}
 use Rattle.world_steps.proofs.world.World.show.Goals as goal
 
-pub returns-in-Ok-clause-done : goal.returns-in-Ok-clause-done
-returns-in-Ok-clause-done g c w h =
-    comes_called g.D.Disk.state w c.args.self.now h c.args.client (call w c.args.client (moves.Show c.args.table c.args.row) moves.no_shape []) c.args.self.now.clients _ _
-    (c.in-Ok.ensures.called w h.clients)
-    (call_same w c.args.client (moves.Show c.args.table c.args.row) [] (client_at w c.args.client))
-    (call_none w c.args.client (moves.Show c.args.table c.args.row) []) (λ lucks. call w c.args.client (moves.Show c.args.table c.args.row) lucks.shape lucks.calls) refl c.args.self.now c.only.result
-    (sent_nothing c.args.self.now (nodes.Client c.args.client) _ c.only.result c.only.ensures.lines)
+pub show-found-requires : goal.show-found-requires
+show-found-requires g c = let k = c.requires.held in (k.0, k.1.clients)
 
-pub returns-in-Ok-clause-counted : goal.returns-in-Ok-clause-counted
-returns-in-Ok-clause-counted g c w h =
-    only_counted g.D.Disk.state c.only.result _ c.args.self.now c.args.self.now (called_fine w c.args.client (step w (events.Show c.args.client c.args.table c.args.row) no_lucks) _ _ _
-    (c.in-Ok.ensures.called w h.clients) (fine_step w (events.Show c.args.client c.args.table c.args.row) no_lucks)) refl c.only.ensures.lines
+pub returns-clause-done : goal.returns-clause-done
+returns-clause-done g c w h =
+    client_comes g.D.Disk.state w c.args.self.now h c.show-found.new.clients (call w c.args.client (moves.Show c.args.table c.args.row))
+    (call_keeps w c.args.client (moves.Show c.args.table c.args.row)) c.end.new.self c.show-found.result c.end.result (c.show-found.ensures.called w h.clients (c.is_held-is_held.ensures w h)) c.end.ensures.told
+
+pub returns-clause-counted : goal.returns-clause-counted
+returns-clause-counted g c =
+    let k = c.requires.held in
+    client_counts g.D.Disk.state k.0 (step k.0 (events.Show c.args.client c.args.table c.args.row)) c.args.self.now c.show-found.new.clients c.args.client c.end.new.self
+    c.show-found.result c.end.result c.show-found.ensures.cause c.end.ensures.told (returns-clause-done g c k.0 k.1)
+
+pub returns-clause-left : goal.returns-clause-left
+returns-clause-left g c w h =
+    left_spent g.D.Disk.state c.args.self.now c.show-found.new.clients c.args.client c.end.new.self c.show-found.result c.end.result c.end.ensures.spent w h
+    (c.show-found.ensures.kept w h.clients) c.show-found.ensures.cause c.end.ensures.only
+
+pub returns-clause-limit : goal.returns-clause-limit
+returns-clause-limit g c w n h plans =
+    limit_spent g.D.Disk.state c.args.self.now c.show-found.new.clients c.args.client c.end.new.self c.show-found.result c.end.result c.end.ensures.spent w n
+    (c.show-found.ensures.spent w n h.clients plans)
+
+pub returns-clause-plans : goal.returns-clause-plans
+returns-clause-plans g c n plans =
+    plans_told g.D.Disk.state c.show-found.new.clients c.end.new.self (suc n) c.end.ensures.nodes (c.show-found.ensures.plans n plans)

@@ -22,7 +22,7 @@ returns-clause-done g c w hosted h at =
 
 pub returns-then-is_down-clause-counted : goal.returns-then-is_down-clause-counted
 returns-then-is_down-clause-counted g c =
-    only_counted g.D.Disk.state c.refuse.result _ c.args.self.now c.args.self.now refl refl c.refuse.ensures.lines
+    only_counted g.D.Disk.state c.refuse.result _ c.args.self.now c.args.self.now refl refl refl c.refuse.ensures.lines
 
 pub returns-then-is_down-clause-rows : goal.returns-then-is_down-clause-rows
 returns-then-is_down-clause-rows g c w h =

@@ -28,4 +28,4 @@ returns-clause-done g c w h =
 
 pub returns-clause-counted : goal.returns-clause-counted
 returns-clause-counted g c =
-    only_counted g.D.Disk.state c.only.result _ c.args.self.now c.args.self.now refl refl c.only.ensures.lines
+    only_counted g.D.Disk.state c.only.result _ c.args.self.now c.args.self.now refl refl refl c.only.ensures.lines

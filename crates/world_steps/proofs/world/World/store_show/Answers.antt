@@ -1,5 +1,5 @@
 use Rattle.std.proofs.Common.{sym, ◌∙◌, refl}
-use Rattle.world_tables.specs.World.{store_shows, chunk_names}
+use Rattle.world_tables.specs.World.{store_shows}
 use Rattle.world_steps.proofs.Counted.{only_counted}
 use Rattle.world_steps.proofs.Showing.{comes_there, comes_not_there, there_now}
 use Rattle.store_host.specs.Holds.{AreLeft}
@@ -22,7 +22,7 @@ returns-clause-done g c w h =
 
 pub returns-clause-counted : goal.returns-clause-counted
 returns-clause-counted g c =
-    only_counted g.D.Disk.state c.only.result _ c.args.self.now c.args.self.now refl refl c.only.ensures.lines
+    only_counted g.D.Disk.state c.only.result _ c.args.self.now c.args.self.now refl refl refl c.only.ensures.lines
 
 pub returns-clause-rows : goal.returns-clause-rows
 returns-clause-rows g c w h =

@@ -1,26 +1,35 @@
-use Rattle.std.proofs.Common.{[], refl}
-use Rattle.stab_base.specs.declared.node.Node.TheVariants as nodes
+use Rattle.std.proofs.Common.{suc}
 use Rattle.step_tables.specs.ClientMoves as moves
-use Rattle.world_tables.specs.World.{call, client_at}
 use Rattle.table_model.specs.declared.event.Event.TheVariants as events
-use Rattle.world_tables.specs.World.{step, no_lucks}
-use Rattle.fault_laws.proofs.Well.{fine_step}
-use Rattle.world_steps.proofs.Counted.{sent_counted}
-use Rattle.world_steps.proofs.Called.{called_fine, comes_called, call_same, call_none, sent_nothing}
-use Rattle.world_steps.proofs.Rows.{sent_same}
+use Rattle.world_tables.specs.World.{call, step}
+use Rattle.world_steps.proofs.Keeping.{call_keeps}
+use Rattle.world_steps.proofs.Clients.{client_comes, client_counts, limit_spent, left_spent, plans_told}
 use Rattle.world_steps.proofs.world.World.sync.Goals as goal
 
-pub returns-in-Ok-clause-done : goal.returns-in-Ok-clause-done
-returns-in-Ok-clause-done g c w h =
-    comes_called g.D.Disk.state w c.args.self.now h c.args.client (call w c.args.client (moves.Sync c.args.table) moves.no_shape []) c.sync.new.self _ _ (c.in-Ok.ensures.called w h.clients)
-    (call_same w c.args.client (moves.Sync c.args.table) [] (client_at w c.args.client))
-    (call_none w c.args.client (moves.Sync c.args.table) []) (λ lucks. call w c.args.client (moves.Sync c.args.table) lucks.shape lucks.calls) refl c.send.new.self c.send.result c.send.ensures.sent
+pub sync-found-requires : goal.sync-found-requires
+sync-found-requires g c = let k = c.requires.held in (k.0, k.1.clients)
 
-pub returns-in-Ok-clause-counted : goal.returns-in-Ok-clause-counted
-returns-in-Ok-clause-counted g c w h =
-    sent_counted g.D.Disk.state c.send.result _ c.args.self.now (record c.args.self.now { clients = c.sync.new.self }) c.send.new.self (nodes.Client c.args.client) _
-    (called_fine w c.args.client (step w (events.Sync c.args.client c.args.table) no_lucks) _ _ _ (c.in-Ok.ensures.called w h.clients) (fine_step w (events.Sync c.args.client c.args.table) no_lucks)) refl c.send.ensures.sent
+pub returns-clause-done : goal.returns-clause-done
+returns-clause-done g c w h =
+    client_comes g.D.Disk.state w c.args.self.now h c.sync-found.new.clients (call w c.args.client (moves.Sync c.args.table))
+    (call_keeps w c.args.client (moves.Sync c.args.table)) c.end.new.self c.sync-found.result c.end.result (c.sync-found.ensures.called w h.clients (c.is_held-is_held.ensures w h)) c.end.ensures.told
 
-pub returns-in-Ok-clause-same : goal.returns-in-Ok-clause-same
-returns-in-Ok-clause-same g c =
-    sent_same c.send.result _ c.args.self.now (record c.args.self.now { clients = c.sync.new.self }) c.send.new.self (nodes.Client c.args.client) _ refl c.send.ensures.sent
+pub returns-clause-counted : goal.returns-clause-counted
+returns-clause-counted g c =
+    let k = c.requires.held in
+    client_counts g.D.Disk.state k.0 (step k.0 (events.Sync c.args.client c.args.table)) c.args.self.now c.sync-found.new.clients c.args.client c.end.new.self
+    c.sync-found.result c.end.result c.sync-found.ensures.cause c.end.ensures.told (returns-clause-done g c k.0 k.1)
+
+pub returns-clause-left : goal.returns-clause-left
+returns-clause-left g c w h =
+    left_spent g.D.Disk.state c.args.self.now c.sync-found.new.clients c.args.client c.end.new.self c.sync-found.result c.end.result c.end.ensures.spent w h
+    (c.sync-found.ensures.kept w h.clients) c.sync-found.ensures.cause c.end.ensures.only
+
+pub returns-clause-limit : goal.returns-clause-limit
+returns-clause-limit g c w n h plans =
+    limit_spent g.D.Disk.state c.args.self.now c.sync-found.new.clients c.args.client c.end.new.self c.sync-found.result c.end.result c.end.ensures.spent w n
+    (c.sync-found.ensures.spent w n h.clients plans)
+
+pub returns-clause-plans : goal.returns-clause-plans
+returns-clause-plans g c n plans =
+    plans_told g.D.Disk.state c.sync-found.new.clients c.end.new.self (suc n) c.end.ensures.nodes (c.sync-found.ensures.plans n plans)

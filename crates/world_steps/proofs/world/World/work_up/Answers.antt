@@ -1,12 +1,9 @@
-use Rattle.std.proofs.Common.{refl, sym, ◌∙◌}
-use Rattle.step_tables.specs.Facts as facts
-use Rattle.stab_base.specs.declared.step.Step.TheVariants as steps
-use Rattle.world_tables.specs.World.{answered, worked}
-use Rattle.world_steps.proofs.Counted.{only_counted}
-use Rattle.world_steps.proofs.Done.{stays, comes_as, owner_comes}
-use Rattle.world_steps.proofs.Others.{other_worked}
+use Rattle.std.proofs.Common.{sym, ◌∙◌}
+use Rattle.world_tables.specs.World.{worked}
 use Rattle.store_host.specs.Holds.{AreLeft}
-use Rattle.world_steps.proofs.Rows.{any_ok, none_left}
+use Rattle.world_steps.proofs.Clients.{plans_same}
+use Rattle.world_steps.proofs.Done.{owner_comes}
+use Rattle.world_steps.proofs.Rows.{any_ok, none_left, same_tables}
 use Rattle.world_steps.proofs.world.World.work_up.Goals as goal
 
 pub returns-then-is_owner-clause-done : goal.returns-then-is_owner-clause-done
@@ -17,17 +14,15 @@ pub work_store-requires-clause-up : goal.work_store-requires-clause-up
 work_store-requires-clause-up g c =
     c.requires.up (sym c.is_owner.ensures ∙ c.if-is_owner.true)
 
-pub returns-clause-done : goal.returns-clause-done
-returns-clause-done g c w h =
-    comes_as g.D.Disk.state w (λ lucks. worked w lucks.calls c.args.node) (λ lucks. answered w (facts.Did steps.Idle)) c.only.result c.args.self.now
-    (λ lucks. other_worked g.D.Disk.state w c.args.self.now h c.args.node (sym c.is_owner.ensures ∙ c.if-is_owner.false) lucks.calls)
-    (stays g.D.Disk.state w c.args.self.now h (facts.Did steps.Idle) c.only.result c.only.ensures.lines)
+pub work_other-requires-clause-other : goal.work_other-requires-clause-other
+work_other-requires-clause-other g c =
+    sym c.is_owner.ensures ∙ c.if-is_owner.false
 
-pub returns-clause-counted : goal.returns-clause-counted
-returns-clause-counted g c =
-    only_counted g.D.Disk.state c.only.result _ c.args.self.now c.args.self.now refl refl c.only.ensures.lines
+pub returns-then-is_owner-clause-plans : goal.returns-then-is_owner-clause-plans
+returns-then-is_owner-clause-plans g c n plans =
+    plans_same g.D.Disk.state c.args.self.now c.work_store.new.self n c.work_store.ensures.clients plans
 
 pub returns-clause-rows : goal.returns-clause-rows
 returns-clause-rows g c w h =
-    any_ok c.only.result (AreLeft g.D.Disk.state g.D.Disk.images w c.args.self.now.store.tables c.args.self.now.store.tables)
-    (none_left g.D.Disk.state g.D.Disk.images g.met.D.Disk.only_now w c.args.self.now.store h.store)
+    same_tables (AreLeft g.D.Disk.state g.D.Disk.images w c.args.self.now.store.tables) c.work_other.result c.args.self.now c.work_other.new.self
+    (none_left g.D.Disk.state g.D.Disk.images g.met.D.Disk.only_now w c.args.self.now.store h.store) (any_ok c.work_other.result _ c.work_other.ensures.store)

@@ -1,43 +1,35 @@
-use Rattle.std.proofs.Common.{[], refl}
-use Rattle.stab_base.specs.declared.node.Node.TheVariants as nodes
+use Rattle.std.proofs.Common.{suc}
 use Rattle.step_tables.specs.ClientMoves as moves
-use Rattle.world_tables.specs.World.{call, client_at}
 use Rattle.table_model.specs.declared.event.Event.TheVariants as events
-use Rattle.world_tables.specs.World.{step, no_lucks}
-use Rattle.fault_laws.proofs.Well.{fine_step}
-use Rattle.world_steps.proofs.Counted.{sent_counted}
-use Rattle.world_steps.proofs.Called.{called_fine, other_clients, comes_called, call_same, call_none, spent_at, spent_cause}
-use Rattle.world_steps.proofs.Rows.{sent_same}
+use Rattle.world_tables.specs.World.{call, step}
+use Rattle.world_steps.proofs.Keeping.{call_keeps}
+use Rattle.world_steps.proofs.Clients.{client_comes, client_counts, limit_spent, left_spent, plans_told}
 use Rattle.world_steps.proofs.world.World.write.Goals as goal
 
-pub returns-in-Ok-clause-done : goal.returns-in-Ok-clause-done
-returns-in-Ok-clause-done g c w h =
-    comes_called g.D.Disk.state w c.args.self.now h c.args.client (call w c.args.client (moves.Write c.args.table c.args.row c.args.content.now) moves.no_shape []) c.write.new.self _ _
-    (c.in-Ok.ensures.called w h.clients) (call_same w c.args.client (moves.Write c.args.table c.args.row c.args.content.now) [] (client_at w c.args.client))
-    (call_none w c.args.client (moves.Write c.args.table c.args.row c.args.content.now) [])
-    (λ lucks. call w c.args.client (moves.Write c.args.table c.args.row c.args.content.now) lucks.shape lucks.calls) refl
-    c.send.new.self c.send.result c.send.ensures.sent
+pub write-found-requires : goal.write-found-requires
+write-found-requires g c = let k = c.requires.held in (k.0, k.1.clients)
 
-pub returns-in-Err-Spent-clause-limit : goal.returns-in-Err-Spent-clause-limit
-returns-in-Err-Spent-clause-limit g c w h code count e = (
-  cc,
-  spent_at w c.args.client (moves.Write c.args.table c.args.row c.args.content.now)
-      (spent_cause w c.args.client (moves.Write c.args.table c.args.row c.args.content.now) c.in-Err-Spent.field-0 c.in-Err-Spent.field-0-is (c.in-Err-Spent.ensures.cause w h.clients)),
-)
+pub returns-clause-done : goal.returns-clause-done
+returns-clause-done g c w h =
+    client_comes g.D.Disk.state w c.args.self.now h c.write-found.new.clients (call w c.args.client (moves.Write c.args.table c.args.row c.args.content))
+    (call_keeps w c.args.client (moves.Write c.args.table c.args.row c.args.content)) c.end.new.self c.write-found.result c.end.result (c.write-found.ensures.called w h.clients (c.is_held-is_held.ensures w h)) c.end.ensures.told
 
-pub returns-in-Ok-clause-counted : goal.returns-in-Ok-clause-counted
-returns-in-Ok-clause-counted g c w h =
-    sent_counted g.D.Disk.state c.send.result _ c.args.self.now (record c.args.self.now { clients = c.write.new.self }) c.send.new.self (nodes.Client c.args.client) _
-    (called_fine w c.args.client (step w (events.Write c.args.client c.args.table c.args.row c.args.content.now) no_lucks) _ _ _ (c.in-Ok.ensures.called w h.clients) (fine_step w (events.Write c.args.client c.args.table c.args.row c.args.content.now) no_lucks)) refl c.send.ensures.sent
+pub returns-clause-counted : goal.returns-clause-counted
+returns-clause-counted g c =
+    let k = c.requires.held in
+    client_counts g.D.Disk.state k.0 (step k.0 (events.Write c.args.client c.args.table c.args.row c.args.content)) c.args.self.now c.write-found.new.clients c.args.client c.end.new.self
+    c.write-found.result c.end.result c.write-found.ensures.cause c.end.ensures.told (returns-clause-done g c k.0 k.1)
 
-pub returns-in-Err-Spent-clause-left : goal.returns-in-Err-Spent-clause-left
-returns-in-Err-Spent-clause-left g c w h =
-    λ no. (other_clients g.D.Disk.state w c.args.self.now c.write.new.self h (c.in-Err-Spent.ensures.kept w h.clients), refl)
+pub returns-clause-left : goal.returns-clause-left
+returns-clause-left g c w h =
+    left_spent g.D.Disk.state c.args.self.now c.write-found.new.clients c.args.client c.end.new.self c.write-found.result c.end.result c.end.ensures.spent w h
+    (c.write-found.ensures.kept w h.clients) c.write-found.ensures.cause c.end.ensures.only
 
-pub returns-in-Err-Memory-clause-left : goal.returns-in-Err-Memory-clause-left
-returns-in-Err-Memory-clause-left g c w h =
-    λ no. absurd (no refl)
+pub returns-clause-limit : goal.returns-clause-limit
+returns-clause-limit g c w n h plans =
+    limit_spent g.D.Disk.state c.args.self.now c.write-found.new.clients c.args.client c.end.new.self c.write-found.result c.end.result c.end.ensures.spent w n
+    (c.write-found.ensures.spent w n h.clients plans)
 
-pub returns-in-Ok-clause-same : goal.returns-in-Ok-clause-same
-returns-in-Ok-clause-same g c =
-    sent_same c.send.result _ c.args.self.now (record c.args.self.now { clients = c.write.new.self }) c.send.new.self (nodes.Client c.args.client) _ refl c.send.ensures.sent
+pub returns-clause-plans : goal.returns-clause-plans
+returns-clause-plans g c n plans =
+    plans_told g.D.Disk.state c.write-found.new.clients c.end.new.self (suc n) c.end.ensures.nodes (c.write-found.ensures.plans n plans)

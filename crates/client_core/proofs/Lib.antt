@@ -1,4 +1,0 @@
-pub mod Exits
-pub mod Indexes
-pub mod Responses
-pub mod SortedEntries

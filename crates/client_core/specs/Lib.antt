@@ -1,9 +1,0 @@
-pub mod Causes
-pub mod Changes
-pub mod Faults
-pub mod Index
-pub mod Marks
-pub mod NextNumber
-pub mod Plans
-pub mod Receipts
-pub mod State

@@ -1,3 +1,0 @@
-pub mod Lift
-pub mod Holds
-pub mod Calls

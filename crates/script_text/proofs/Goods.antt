@@ -24,7 +24,7 @@ use Rattle.script_text.proofs.Steps.{ok_err, bind-ok, word_in-ok, end-ok}
 use Rattle.script_text.proofs.Numbers.{number_at-ok, number_to-ok}
 use Rattle.script_text.proofs.Distinct.{new-distinct}
 use Rattle.script_text.proofs.ColumnLemmas.{some_columns-ok, same_count}
-use Rattle.script_text.proofs.PlaceLemmas.{client_at-ok, ready_client_at-ok, party_at-ok, table_at-ok, new_store_at-ok, new_store_at-within}
+use Rattle.script_text.proofs.PlaceLemmas.{client_at-ok, party_at-ok, table_at-ok, new_store_at-ok, new_store_at-within}
 use Rattle.script_text.proofs.PlaceLemmas.{new_store_at-limit, new_table_at-ok, new_table_at-within, new_table_at-limit}
 use Rattle.script_text.proofs.PlaceLemmas.{new_client_at-ok, new_client_at-within, new_client_at-limit, gate_at-ok, new_name_at-ok, scheme_at-ok, chunk_at-ok, row_at-ok}
 use Rattle.script_words.specs.Columns.{column_word}
@@ -271,7 +271,7 @@ module _ (names : Names) (ws : List (List ℕ)) where
         let a = word_in-ok _ _ _ ws e h in
         let b = word_in-ok _ _ _ a.1 e a.5 in
         let r = end-ok 3 (events.Link a.2 b.2) b.1 e b.5 in
-        let u = ready_client_at-ok names a.0 a.2 a.4 in
+        let u = client_at-ok names a.0 a.2 a.4 in
         let v = direction_at-ok b.0 b.2 b.4 in
         let is : ws ≡ client_word a.2 ∷ cond b.2 (codes "up") (codes "down") ∷ [] = cc (a.3, b.3, r.0, u.0, v) in
         subst (λ (x : Event). SpelledBy names (codes "link" ∷ ws) x) r.1 (ap (λ (t : List (List ℕ)). codes "link" ∷ t) is, u.1)
@@ -282,7 +282,7 @@ module _ (names : Names) (ws : List (List ℕ)) where
         let a = word_in-ok _ _ _ ws e h in
         let b = word_in-ok _ _ _ a.1 e a.5 in
         let c = word_in-ok _ _ _ b.1 e b.5 in
-        let p = ready_client_at-ok names a.0 a.2 a.4 in
+        let p = client_at-ok names a.0 a.2 a.4 in
         let q = table_at-ok names b.0 b.2 b.4 in
         let r = bind-ok (change_in verb (columns_of names b.2) c.1) (λ edit. Ok (events.Edit a.2 b.2 c.2 edit)) e c.5 in
         let v = change_in-ok (columns_of names b.2) verb c.1 r.0 r.1 in

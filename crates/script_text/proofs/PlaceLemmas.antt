@@ -16,9 +16,9 @@ use Rattle.script_words.specs.declared.code.Code.TheVariants.{NoNumber, NoName, 
 use Rattle.script_text.specs.Names.{Names, has_store, has_table, has_name, has_client}
 use Rattle.script_words.specs.Words.{is_name}
 use Rattle.script_text.specs.Places.{◌>>=◌, node_at, built, known, limited_at, passed, fresh, opened, opened_at, client_at, store_at}
-use Rattle.script_text.specs.Places.{begins_with, ready_client_at, party_at, table_at, store_number, table_number}
+use Rattle.script_text.specs.Places.{begins_with, party_at, table_at, store_number, table_number}
 use Rattle.script_text.specs.Places.{client_number, new_store_at, new_table_at, new_client_at, gate_at, new_name_at, scheme_at, chunk_at, row_at, found_row}
-use Rattle.script_text.specs.Grammar.{IsChunk, IsUpTo, client_word, table_word, node_word, IsClient, IsReady, IsTable, IsNode}
+use Rattle.script_text.specs.Grammar.{IsChunk, IsUpTo, client_word, table_word, node_word, IsClient, IsTable, IsNode}
 use Rattle.script_text.proofs.Steps.{ok_err, bind-ok}
 use Rattle.script_text.proofs.Numbers.{if-ok, unless-ok, some_same, ok_same, none_some, node-some, limited-some}
 
@@ -116,16 +116,10 @@ module _ (names : Names) (word : List ℕ) where
       let p = bind-ok (store_at names word) (λ number. Ok (nodes.Store number)) node e in
       subst (λ (x : Node). (word ≡ node_word x) × IsNode names x) (ok_same _ _ p.2) (store_at-ok p.0 p.1)
 
-  pub ready_client_at-ok : (n : ℕ) → ready_client_at names word ≡ Ok n → (word ≡ client_word n) × IsReady names n
-  unfolding ready_client_at
-  ready_client_at-ok n e =
-      let p = bind-ok (client_at names word) (λ number. Err Unbuilt) n e in
-      absurd (ok_err n Unbuilt (sym p.2))
-
-  client-ok : (node : Node) → (ready_client_at names word >>= λ number. Ok (nodes.Client number)) ≡ Ok node → (word ≡ node_word node) × IsNode names node
+  client-ok : (node : Node) → (client_at names word >>= λ number. Ok (nodes.Client number)) ≡ Ok node → (word ≡ node_word node) × IsNode names node
   client-ok node e =
-      let p = bind-ok (ready_client_at names word) (λ number. Ok (nodes.Client number)) node e in
-      subst (λ (x : Node). (word ≡ node_word x) × IsNode names x) (ok_same _ _ p.2) (ready_client_at-ok p.0 p.1)
+      let p = bind-ok (client_at names word) (λ number. Ok (nodes.Client number)) node e in
+      subst (λ (x : Node). (word ≡ node_word x) × IsNode names x) (ok_same _ _ p.2) (client_at-ok names word p.0 p.1)
 
   gate-ok : (node : Node) → (node_at 71 word >>= λ number. Err NotDeclared) ≡ Ok node → ⊥
   gate-ok node e =

@@ -17,9 +17,9 @@ use Rattle.row_value.specs.declared.schema.Scheme.TheVariants as schemes
 use Rattle.script_text.specs.Names.{Names, has_store, has_table, has_name, has_client}
 use Rattle.script_words.specs.Words.{is_number, is_name}
 use Rattle.script_text.specs.Places.{small, node_at, limited_at, store_number, is_comma, parts_at, opened_at, tables_in, client_at, store_at}
-use Rattle.script_text.specs.Places.{ready_client_at, party_at, table_at, new_store_at, new_table_at}
+use Rattle.script_text.specs.Places.{party_at, table_at, new_store_at, new_table_at}
 use Rattle.script_text.specs.Places.{new_client_at, gate_at, tables_at, new_name_at, scheme_at, chunk_at, row_at, found_row}
-use Rattle.script_text.specs.Grammar.{IsChunk, IsUpTo, client_word, table_word, tables_word, node_word, IsClient, IsReady, IsTable, IsNode}
+use Rattle.script_text.specs.Grammar.{IsChunk, IsUpTo, client_word, table_word, tables_word, node_word, IsClient, IsTable, IsNode}
 use Rattle.script_text.proofs.Numbers.{node-right, limited-right}
 use Rattle.script_text.proofs.Distinct.{NewTo, distinct-new, distinct-words}
 use Rattle.script_text.proofs.PlaceLemmas.{text-64, text-1024, text-65536}
@@ -49,14 +49,11 @@ store_at-right : (names : Names) (n : ℕ) → IsNode names (nodes.Store n) → 
 unfolding store_at
 store_at-right names n h = rw (node-right 83 n h.0 h.1, h.2) refl
 
-pub ready_client_at-right : (names : Names) (n : ℕ) → IsReady names n → ready_client_at names (client_word n) ≡ Ok n
-ready_client_at-right names n h = absurd h
-
 pub party_at-right : (names : Names) (node : Node) → IsNode names node → party_at names (node_word node) ≡ Ok node
 unfolding party_at
 party_at-right names (nodes.Store n) h = rw (store_at-right names n h) refl
 party_at-right names (nodes.Gate n) h = absurd h
-party_at-right names (nodes.Client n) h = rw (ready_client_at-right names n h) refl
+party_at-right names (nodes.Client n) h = rw (client_at-right names n h) refl
 
 store-number : store_number (codes "S1") ≡ Ok (Some 1)
 unfolding limited_at node_at is_number small

@@ -33,7 +33,7 @@ use Rattle.script_text.proofs.EditLemmas.{direction_at-right, change_in-right}
 use Rattle.script_text.proofs.ColumnLemmas.{some_columns_in-right}
 use Rattle.script_text.proofs.ContentLemmas.{content-right}
 use Rattle.script_text.proofs.VerbWords.{verb-again}
-use Rattle.script_text.proofs.Rights.{client_at-right, ready_client_at-right, party_at-right, table_at-right, new_store_at-right, new_table_at-right}
+use Rattle.script_text.proofs.Rights.{client_at-right, party_at-right, table_at-right, new_store_at-right, new_table_at-right}
 use Rattle.script_text.proofs.Rights.{new_client_at-right, tables_at-right, new_name_at-right}
 use Rattle.script_text.proofs.Rights.{gate_at-right, scheme_at-right}
 use Rattle.script_text.proofs.Rights.{chunk_at-right, row_at-right}
@@ -160,7 +160,7 @@ module _ (names : Names) where
   unfolding link_in
   link-right ws client up h =
       let read : link_in names (client_word client ∷ cond up (codes "up") (codes "down") ∷ []) ≡ Ok (events.Link client up) =
-      (word_in-right 1 _ (client_word client) _ _ client (ready_client_at-right names client h.1)
+      (word_in-right 1 _ (client_word client) _ _ client (client_at-right names client h.1)
       ∙ word_in-right 2 _ (cond up (codes "up") (codes "down")) _ _ up (direction_at-right up)
       ∙ rw (end_in-right 3) refl)
       in
@@ -171,7 +171,7 @@ module _ (names : Names) where
   unfolding edit_in
   edit-right ws client table row edit h =
       let read : edit_in names (verb_for edit) (client_word client ∷ table_word table ∷ h.0 ∷ h.1) ≡ Ok (events.Edit client table row edit) =
-      (word_in-right 1 _ (client_word client) _ _ client (ready_client_at-right names client h.3)
+      (word_in-right 1 _ (client_word client) _ _ client (client_at-right names client h.3)
       ∙ word_in-right 2 _ (table_word table) _ _ table (table_at-right names table h.4)
       ∙ word_in-right 3 _ h.0 _ _ row (row_at-right h.0 row h.5)
       ∙ rw (change_in-right (columns_of names table) h.1 edit h.6) refl)

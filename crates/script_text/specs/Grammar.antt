@@ -40,7 +40,7 @@ use Rattle.script_text.specs.Verbs.{edit_name, name_of, is_unbuilt}
 use Rattle.script_text.specs.Places.{client_at, table_at, new_store_at, new_table_at, new_client_at, gate_at, tables_at}
 use Rattle.script_text.specs.Places.{new_name_at, scheme_at, chunk_at, names_of, new_column_at, with_column, row_at}
 use Rattle.script_text.specs.Places.{value_behind, with_value, number_at, party_at, calls_at, passed, or_else}
-use Rattle.script_text.specs.Places.{store_number, table_number, ready_client_at, direction_at, column_at, place_at}
+use Rattle.script_text.specs.Places.{store_number, table_number, direction_at, column_at, place_at}
 use Rattle.script_text.specs.Places.{next_change, with_change}
 use Rattle.script_text.specs.Places.{client_number, tables_passed, parts_at}
 pub use Rattle.script_text.specs.Names.{Names, no_names, with_event, has_store, has_table, has_name, has_client}
@@ -133,10 +133,6 @@ SpellsWrite names words client table row content =
     × (words ≡ codes "write" ∷ client_word client ∷ table_word table ∷ place ∷ values)
     × IsClient names client × IsTable names table × (row_of place ≡ Some row) × SpellsContent values content
 
--- a client that is declared, on a line of its devices, its link or its edits; these lines aren't built yet
-abbrev pub IsReady : Names → ℕ → Type 0
-IsReady names client = ⊥
-
 -- the name of the column of this number among these
 abbrev pub IsColumn : List Column → List ℕ → ℕ → Type 0
 IsColumn columns name column = (is_name name ≡ true) × (column_number columns name ≡ Some column)
@@ -170,14 +166,14 @@ abbrev pub SpellsEdited : Names → List (List ℕ) → ℕ → ℕ → List ℕ
 SpellsEdited names words client table row edit =
     (place : List ℕ) × (more : List (List ℕ))
     × (words ≡ edit_name (verb_for edit) ∷ client_word client ∷ table_word table ∷ place ∷ more)
-    × IsReady names client × IsTable names table × (row_of place ≡ Some row)
+    × IsClient names client × IsTable names table × (row_of place ≡ Some row)
     × SpellsEdit (columns_of names table) more edit
 
 -- `link C up` and `link C down`
 abbrev pub SpellsLink : Names → List (List ℕ) → ℕ → Bool → Type 0
 SpellsLink names words client up =
     (words ≡ codes "link" ∷ client_word client ∷ (if up then codes "up" else codes "down") ∷ [])
-    × IsReady names client
+    × IsClient names client
 
 -- `VERB C T ROW`
 abbrev pub SpellsClientRow : List ℕ → Names → List (List ℕ) → ℕ → ℕ → List ℕ → Type 0
@@ -231,7 +227,7 @@ node_word (nodes.Client client) = client_word client
 abbrev pub IsNode : Names → Node → Type 0
 IsNode names (nodes.Store store) = (1 ≤ store) × (store < 2 ^ 32) × (has_store names store ≡ true)
 IsNode names (nodes.Gate gate) = ⊥
-IsNode names (nodes.Client client) = IsReady names client
+IsNode names (nodes.Client client) = IsClient names client
 
 -- `VERB N`
 abbrev pub SpellsNode : List ℕ → Names → List (List ℕ) → Node → Type 0
@@ -349,10 +345,10 @@ places_of names verbs.Write =
     (λ word. fault_of (client_at names word)) ∷ (λ word. fault_of (table_at names word))
     ∷ (λ word. fault_of (row_at word)) ∷ []
 places_of names (verbs.Edit verb) =
-    (λ word. fault_of (ready_client_at names word)) ∷ (λ word. fault_of (table_at names word))
+    (λ word. fault_of (client_at names word)) ∷ (λ word. fault_of (table_at names word))
     ∷ (λ word. fault_of (row_at word)) ∷ []
 places_of names verbs.Link =
-    (λ word. fault_of (ready_client_at names word)) ∷ (λ word. fault_of (direction_at word)) ∷ []
+    (λ word. fault_of (client_at names word)) ∷ (λ word. fault_of (direction_at word)) ∷ []
 places_of names verbs.Show =
     (λ word. fault_of (client_at names word)) ∷ (λ word. fault_of (table_at names word))
     ∷ (λ word. fault_of (row_at word)) ∷ []

@@ -98,16 +98,12 @@ abbrev pub begins_with : ℕ → List ℕ → Bool
 begins_with letter [] = false
 begins_with letter (b ∷ bytes) = b == letter
 
--- a client that is declared, on a line of its devices, its link or its edits; these lines aren't built yet
-unfoldable pub ready_client_at : Names → List ℕ → Result ℕ Code
-ready_client_at names word = client_at names word >>= λ number. Err Unbuilt
-
 -- a Store or a client that is declared; no gateway can be yet
 unfoldable pub party_at : Names → List ℕ → Result Node Code
 party_at names word =
     if begins_with 83 word then (store_at names word >>= λ number. Ok (nodes.Store number))
     else if begins_with 71 word then (node_at 71 word >>= λ number. Err NotDeclared)
-    else (ready_client_at names word >>= λ number. Ok (nodes.Client number))
+    else (client_at names word >>= λ number. Ok (nodes.Client number))
 
 unfoldable pub table_at : Names → List ℕ → Result ℕ Code
 table_at names word = node_at 84 word >>= known (has_table names)

@@ -29,7 +29,7 @@ use Rattle.std.specs.Borrow.{Bor}
 use Rattle.script_words.specs.Words.{texts, words_of, is_comment}
 use Rattle.script_text.specs.Places.{◌>>=◌, client_at, table_at, new_store_at, new_table_at, new_client_at, gate_at}
 use Rattle.script_text.specs.Places.{tables_at, new_name_at, scheme_at, chunk_at, new_column_at, with_column, row_at}
-use Rattle.script_text.specs.Places.{Values, value_behind, with_value, number_at, party_at, calls_at, ready_client_at}
+use Rattle.script_text.specs.Places.{Values, value_behind, with_value, number_at, party_at, calls_at}
 use Rattle.script_text.specs.Places.{direction_at, column_at, place_at, next_change, with_change}
 use Rattle.script_words.specs.Values.{bytes_at}
 
@@ -189,7 +189,7 @@ crash_in names words =
 
 unfoldable pub link_in : Names → List (List ℕ) → Result Event BadLine
 link_in names words =
-    word_in 1 (ready_client_at names) words (λ client a.
+    word_in 1 (client_at names) words (λ client a.
     word_in 2 direction_at a (λ up b.
     end_in 3 b >>= λ done. Ok (events.Link client up)))
 
@@ -219,7 +219,7 @@ change_in changes.Delete columns words = delete_in words
 
 unfoldable pub edit_in : Names → EditVerb → List (List ℕ) → Result Event BadLine
 edit_in names verb words =
-    word_in 1 (ready_client_at names) words (λ client a.
+    word_in 1 (client_at names) words (λ client a.
     word_in 2 (table_at names) a (λ table b.
     word_in 3 row_at b (λ row c.
     change_in verb (columns_of names table) c >>= λ edit. Ok (events.Edit client table row edit))))

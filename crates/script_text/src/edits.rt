@@ -11,7 +11,7 @@ ghost use Rattle.script_text.specs.Reading.{change_in, edit_in};
 use crate::declared::Declared;
 use crate::fault::{BadLine, MOST_PLACE, ScriptFault, bad};
 use crate::next::{end, next_word, placed};
-use crate::places::{column_at, number_to, ready_client_at, row_at, table_at};
+use crate::places::{client_at, column_at, number_to, row_at, table_at};
 use crate::verb::EditVerb;
 use row_edits::{Changes, ColumnValue, Edit, Patch, Value};
 use row_value::SharedBytes;
@@ -160,7 +160,7 @@ pub(crate) fn edit_line(
     ensures { Reads result (edit_in names.now verb (texts words.now)) }
 {
     let (word, rest) = next_word(words, 1)?;
-    let client = placed(1, ready_client_at(names, word))?;
+    let client = placed(1, client_at(names, word))?;
     let (word, rest) = next_word(rest, 2)?;
     let table = placed(2, table_at(names, word))?;
     let (word, rest) = next_word(rest, 3)?;

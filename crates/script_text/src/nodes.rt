@@ -7,7 +7,7 @@ ghost use Rattle.script_text.specs.Reading.{link_in};
 use crate::declared::Declared;
 use crate::fault::{BadLine, MOST_CALLS};
 use crate::next::{end, next_word, placed};
-use crate::places::{direction_at, number_at, number_to, party_at, ready_client_at};
+use crate::places::{client_at, direction_at, number_at, number_to, party_at};
 use stab_base::Node;
 use table_model::Event;
 
@@ -75,7 +75,7 @@ pub(crate) fn link_line(names: &Declared, words: &[&str]) -> Result<Event, BadLi
     ensures { result ≡ link_in names.now (texts words.now) }
 {
     let (word, rest) = next_word(words, 1)?;
-    let client = placed(1, ready_client_at(names, word))?;
+    let client = placed(1, client_at(names, word))?;
     let (word, rest) = next_word(rest, 2)?;
     let up = placed(2, direction_at(word))?;
     end(rest, 3)?;

@@ -5,7 +5,7 @@ ghost use Rattle.script_words.specs.Codes.{Judges};
 ghost use Rattle.script_text.specs.Places.{small, node_at, limited_at, built, opened_at, joined, alone, client_at};
 ghost use Rattle.script_text.specs.Places.{table_at, new_store_at, new_table_at, new_client_at, gate_at, tables_in};
 ghost use Rattle.script_text.specs.Places.{tables_at, is_comma, seen, new_name_at, scheme_at, chunk_at, row_at};
-ghost use Rattle.script_text.specs.Places.{number_at, number_to, store_at, begins_with, party_at, ready_client_at};
+ghost use Rattle.script_text.specs.Places.{number_at, number_to, store_at, begins_with, party_at};
 ghost use Rattle.script_text.specs.Places.{direction_at, column_at};
 ghost use Rattle.script_text.specs.Names.{columns_of};
 
@@ -80,15 +80,6 @@ fn names_a_gateway(word: &str) -> bool
     matches!(word.as_bytes(), [b'G', ..])
 }
 
-// A client that is declared, on a line of its devices, its link or its edits. These lines aren't built yet.
-#[tactic(auto, unfolding(crate::specs::Places::ready_client_at))]
-pub(crate) fn ready_client_at(names: &Declared, word: &str) -> Result<u32, Code>
-    ensures { result ≡ ready_client_at names.now word.now }
-{
-    let _client = client_at(names, word)?;
-    Err(Code::Unbuilt)
-}
-
 // A Store or a client that is declared; no gateway can be yet.
 #[tactic(auto, unfolding(crate::specs::Places::party_at))]
 pub(crate) fn party_at(names: &Declared, word: &str) -> Result<Node, Code>
@@ -102,7 +93,7 @@ pub(crate) fn party_at(names: &Declared, word: &str) -> Result<Node, Code>
         let _number = node_at('G', word)?;
         return Err(Code::NotDeclared);
     }
-    let client = ready_client_at(names, word)?;
+    let client = client_at(names, word)?;
     Ok(Node::Client(client))
 }
 

@@ -377,7 +377,7 @@ fn refusals_of_nodes_at_the_start(rt: HostRuntime) -> Result<(), Fail> {
     check(&rt, rt.alloc(), &names, &OF_NODES_AT_THE_START)
 }
 
-const OF_NODES: [(&str, u32, usize); 57] = [
+const OF_NODES: [(&str, u32, usize); 64] = [
     ("chunks T1", 0, 0),
     ("chunks T2", 0, 0),
     ("chunks T3", 8, 1),
@@ -385,7 +385,8 @@ const OF_NODES: [(&str, u32, usize); 57] = [
     ("chunks S1", 5, 1),
     ("chunks T1 T2", 3, 2),
     ("hold S1", 0, 0),
-    ("hold C1", 12, 1),
+    ("hold C1", 0, 0),
+    ("hold C1 C1", 3, 2),
     ("hold G1", 8, 1),
     ("hold G17", 8, 1),
     ("hold S2", 8, 1),
@@ -405,20 +406,26 @@ const OF_NODES: [(&str, u32, usize); 57] = [
     ("hold -", 5, 1),
     ("hold S1 C1", 3, 2),
     ("hold G1 C1", 8, 1),
-    ("free C1", 12, 1),
+    ("free C1", 0, 0),
     ("free S1 x", 3, 2),
     ("work S1", 0, 0),
     ("work S1 1", 3, 2),
     ("do S1", 0, 0),
+    ("work C1", 0, 0),
+    ("do C1", 0, 0),
     ("do C2", 8, 1),
     ("do S1 S1", 3, 2),
-    ("start C1", 12, 1),
+    ("start C1", 0, 0),
+    ("start C1 0", 3, 2),
     ("start S1 0", 3, 2),
     ("crash S1", 2, 2),
     ("crash S1 0", 2, 3),
     ("crash S1 0 0", 0, 0),
     ("crash S1 4 18446744073709551615", 0, 0),
-    ("crash C1 5 x", 12, 1),
+    ("crash C1 5 x", 4, 2),
+    ("crash C1 4 x", 4, 3),
+    ("crash C1 4 18446744073709551615", 0, 0),
+    ("crash C2 5 x", 8, 1),
     ("crash S1 5 0", 4, 2),
     ("crash S1 04 0", 4, 2),
     ("crash S1 00 0", 4, 2),
@@ -475,6 +482,8 @@ fn each_event_ends_the_declarations(rt: HostRuntime) -> Result<(), Fail> {
         "do S1",
         "crash S1 0 0",
         "start S1",
+        "hold C1",
+        "crash C1 0 0",
     ] {
         let names = behind(alloc, &[STORE, TABLE, CLIENT, event])?;
         assert_eq!(rt;
@@ -678,6 +687,26 @@ fn is_done_to_a_node(index: usize, event: &Event) -> bool {
             },
         ) => true,
         (7, Event::Chunks { table: 2 }) => true,
+        (
+            8,
+            Event::Hold {
+                node: Node::Client(1),
+            },
+        ) => true,
+        (
+            9,
+            Event::Crash {
+                node: Node::Client(64),
+                calls: 4,
+                pick: 1,
+            },
+        ) => true,
+        (
+            10,
+            Event::Start {
+                node: Node::Client(64),
+            },
+        ) => true,
         _ => false,
     }
 }
@@ -685,7 +714,7 @@ fn is_done_to_a_node(index: usize, event: &Event) -> bool {
 #[test]
 fn lines_say_what_is_done_to_a_node(rt: HostRuntime) -> Result<(), Fail> {
     let alloc = rt.alloc();
-    let names = behind(alloc, &[STORE, TABLE, SECOND, CLIENT])?;
+    let names = behind(alloc, &[STORE, TABLE, SECOND, CLIENT, "client C64 - -"])?;
     let lines = [
         "hold S1",
         "free S1",
@@ -695,6 +724,9 @@ fn lines_say_what_is_done_to_a_node(rt: HostRuntime) -> Result<(), Fail> {
         "crash S1 0 18446744073709551615",
         "start S1",
         "chunks T2",
+        "hold C1",
+        "crash C64 4 1",
+        "start C64",
     ];
     for (index, line) in lines.iter().enumerate() {
         let event = parse_line(alloc, line.as_bytes(), &names)?.ok_or("passed over")?;

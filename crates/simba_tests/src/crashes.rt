@@ -1,6 +1,7 @@
 //! A Store that crashes inside each device write of an update and of its recovery. Expected are the rules that the guide
 //! states: of a write's four calls the first two and less leave it undone, but where a byte of the third lands.
-use crate::runs::{ends, texts};
+use crate::runs::texts;
+use crate::stops::{Played, STOPS, Stop, add, lands};
 use std::alloc::Global;
 use std::process::Abort;
 use std::test::Fail;
@@ -99,46 +100,7 @@ fn is_new(found: Found) -> bool {
     }
 }
 
-/// Of the disk of the next write so many calls pass, and so many bytes of the next land.
-#[derive(Clone, Copy)]
-struct Stop {
-    calls: u32,
-    pick: u64,
-}
-
-const STOPS: [Stop; 9] = [
-    Stop { calls: 0, pick: 0 },
-    Stop { calls: 0, pick: 9 },
-    Stop { calls: 1, pick: 0 },
-    Stop { calls: 1, pick: 9 },
-    Stop { calls: 2, pick: 0 },
-    Stop { calls: 2, pick: 1 },
-    Stop { calls: 3, pick: 0 },
-    Stop { calls: 3, pick: 1 },
-    Stop { calls: 4, pick: 0 },
-];
-
-// Whether the write is done: with three calls or more, or with two and a byte of the third.
-fn lands(stop: Stop) -> usize {
-    match stop {
-        Stop { calls: 0 | 1, .. } | Stop { calls: 2, pick: 0 } => 0,
-        _ => 1,
-    }
-}
-
 const ROW: &str = "00000000-0000-4000-8000-000000000001";
-
-/// A script, and beside it the transcript that is expected of it.
-#[derive(Drop)]
-struct Played {
-    script: Vec<u8>,
-    transcript: Vec<u8>,
-}
-
-fn add(text: &mut Vec<u8>, part: &str) -> Result<(), Fail> {
-    text.extend_from_slice(part.as_bytes())?;
-    Ok(())
-}
 
 impl Played {
     // Up to the update, of which no write is done.
@@ -210,14 +172,6 @@ impl Played {
         } else {
             add(&mut self.transcript, "ok 1 1.0\nok 1 h:00\n")
         }
-    }
-
-    fn check(self, rt: &impl Abort, alloc: Global) -> Result<(), Fail> {
-        let Played { script, transcript } = self;
-        let (status, written) = ends(alloc, "run", script, &[], &[])?;
-        assert_eq!(rt; status, 0);
-        assert!(rt; written.as_slice() == transcript.as_slice());
-        Ok(())
     }
 }
 

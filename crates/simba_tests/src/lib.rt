@@ -2,6 +2,10 @@
 #![tactic(auto)]
 
 #[cfg(test)]
+mod client_crashes;
+#[cfg(test)]
+mod client_plans;
+#[cfg(test)]
 mod crashes;
 #[cfg(test)]
 mod disks;
@@ -9,6 +13,8 @@ mod disks;
 mod limits;
 #[cfg(test)]
 mod runs;
+#[cfg(test)]
+mod stops;
 #[cfg(test)]
 mod tests;
 #[cfg(test)]

@@ -109,11 +109,11 @@ fn a_disk_that_fails_loses_nothing(rt: HostRuntime) -> Result<(), Fail> {
 // Where the depot has no disk the run ends, with nothing written.
 #[test]
 fn a_depot_that_fails_ends_the_run(rt: HostRuntime) -> Result<(), Fail> {
-    for call in 0..4 {
+    for call in 0..7 {
         let mut depot = MemDepot::new(rt.alloc(), vec![in rt.alloc(); call]?);
         let (status, written) = ends_on(rt.alloc(), SCRIPT, &mut depot)?;
-        assert_eq!(rt; status == 8, call < 3, "{call}");
-        assert_eq!(rt; written.is_empty(), call < 3, "{call}");
+        assert_eq!(rt; status == 8, call < 6, "{call}");
+        assert_eq!(rt; written.is_empty(), call < 6, "{call}");
     }
     Ok(())
 }

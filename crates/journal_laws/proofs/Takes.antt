@@ -83,18 +83,17 @@ module _ (c : ℕ) (meaning : LocalName → List ℕ) (d : ClientDisk) (table : 
 
   placed_takes : (g : Scheme) (m0 : Option HeldMain) (s : Option HeldShadow) (o0 : Option HeldOut) (k : Option HeldShadow) (m : Option HeldMain) (o : Option HeldOut) (told : List Tell)
       (before : List ClientFact) → Said told before
-      → (is_eventual g ≡ true → k ≡ None)
       → Takes (held_of m0 s o0 k) (held_placed g (held_of m0 s o0 k) (record { main = m; out = o; tells = told }) yours x)
       (placed g c table header (whole_slots meaning (held_of m s o k)) before (option_map (whole_main meaning) m) (option_map (whole_shadow meaning) k))
-  placed_takes g m0 s o0 k None o told before says free = reads m0 s o0 None o told before says k
-  placed_takes Strong m0 s o0 (Some y) (Some main) o told before says free = conflicts m0 s o0 main o told before says (Some y)
-  placed_takes Causal m0 s o0 (Some y) (Some main) o told before says free = conflicts m0 s o0 main o told before says (Some y)
-  placed_takes Eventual m0 s o0 (Some y) (Some main) o told before says free = let none = free refl in absurd cc
-  placed_takes Strong m0 s o0 None (Some main) o told before says free = own_or_not m0 s o0 main o told before says (yours.version == x.version)
-  placed_takes Causal m0 s o0 None (Some main) o told before says free = own_or_not m0 s o0 main o told before says (yours.version == x.version)
-  placed_takes Eventual m0 s o0 None (Some main) o told before says free = reads m0 s o0 (Some main) o told before says None
+  placed_takes g m0 s o0 k None o told before says = reads m0 s o0 None o told before says k
+  placed_takes Strong m0 s o0 (Some y) (Some main) o told before says = conflicts m0 s o0 main o told before says (Some y)
+  placed_takes Causal m0 s o0 (Some y) (Some main) o told before says = conflicts m0 s o0 main o told before says (Some y)
+  placed_takes Eventual m0 s o0 (Some y) (Some main) o told before says = reads m0 s o0 (Some main) o told before says (Some y)
+  placed_takes Strong m0 s o0 None (Some main) o told before says = own_or_not m0 s o0 main o told before says (yours.version == x.version)
+  placed_takes Causal m0 s o0 None (Some main) o told before says = own_or_not m0 s o0 main o told before says (yours.version == x.version)
+  placed_takes Eventual m0 s o0 None (Some main) o told before says = reads m0 s o0 (Some main) o told before says None
 
-  module _ (m : Option HeldMain) (s : Option HeldShadow) (k : Option HeldShadow) (free : is_eventual scheme ≡ true → k ≡ None) where
+  module _ (m : Option HeldMain) (s : Option HeldShadow) (k : Option HeldShadow) where
     abbrev om : Option HeldMain → Option Main
     om main = option_map (whole_main meaning) main
 
@@ -112,24 +111,24 @@ module _ (c : ℕ) (meaning : LocalName → List ℕ) (d : ClientDisk) (table : 
         let before : List ClientFact = facts.Acked c out.number table row yours.version ∷ [] in
         subst (λ (n : Option Main). Takes slots (held_placed scheme slots (record { main = held_without out.number m; out = None; tells = told }) yours x)
         (placed scheme c table header (record w { main = n; out = None }) before n w.conflict))
-        (sym (without_whole c meaning d table row out.number m)) (placed_takes scheme m s (Some out) k (held_without out.number m) None told before (λ q. refl) free)
-    waiting out false = placed_takes scheme m s (Some out) k m (Some out) [] [] (λ q. refl) free
+        (sym (without_whole c meaning d table row out.number m)) (placed_takes scheme m s (Some out) k (held_without out.number m) None told before (λ q. refl))
+    waiting out false = placed_takes scheme m s (Some out) k m (Some out) [] [] (λ q. refl)
 
     acks : (o : Option HeldOut) → let slots : HeldSlots = held_of m s o k in
         Takes slots (held_placed scheme slots (acknowledged yours slots) yours x) (row_placed scheme c table header (whole_slots meaning slots) (whole_slots meaning slots).out)
-    acks None = placed_takes scheme m s None k m None [] [] (λ q. refl) free
+    acks None = placed_takes scheme m s None k m None [] [] (λ q. refl)
     acks (Some out) = waiting out (nat_le out.number yours.number)
 
   module _ (slots : HeldSlots) where
     abbrev made : Placed
     made = row_placed scheme c table header (whole_slots meaning slots) (whole_slots meaning slots).out
 
-    pub row_plans : (position : ℕ) → nat_le x.version (seen_in slots.conflict slots.shadow) ≡ false → (is_eventual scheme ≡ true → slots.conflict ≡ None)
+    pub row_plans : (position : ℕ) → nat_le x.version (seen_in slots.conflict slots.shadow) ≡ false
         → Plans meaning c row (after slots (taken scheme slots yours x)) ((taken scheme slots yours x).tells ++ tell.Position position ∷ []) (row_plan c d table row position made)
-    row_plans position newer free =
+    row_plans position newer =
         let change : Change = held_placed scheme slots (acknowledged yours slots) yours x in
         let taken_is : change ≡ taken scheme slots yours x = ap (λ (b : Bool). if b then unchanged send.Nothing else change) (sym newer) in
-        let t : Takes slots change made = acks slots.main slots.shadow slots.conflict free slots.out in
+        let t : Takes slots change made = acks slots.main slots.shadow slots.conflict slots.out in
         subst (λ (y : Change). Plans meaning c row (after slots y) (y.tells ++ tell.Position position ∷ []) (row_plan c d table row position made)) taken_is
         (record {
           put = ap (λ (q : Slots). Some (record { row = row; slots = q })) (sym t.behind);

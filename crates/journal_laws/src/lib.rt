@@ -24,7 +24,7 @@ ghost use Rattle.held_value.specs.declared.tell.Tell.TheVariants as tell;
 ghost use Rattle.client_tables.specs.declared.resolving.HeldChoice.{HeldChoice};
 ghost use Rattle.client_tables.specs.declared.resolving.HeldChoice.TheVariants as choices;
 ghost use Rattle.client_tables.specs.Change.{after, seen_in};
-ghost use Rattle.client_tables.specs.Transitions.{written, written_strong, can_send, sent, answered, is_eventual};
+ghost use Rattle.client_tables.specs.Transitions.{written, written_strong, can_send, sent, answered};
 ghost use Rattle.client_tables.specs.Transitions.{taken, resolved};
 ghost use Rattle.slot_store.specs.Data.{slots_of};
 ghost use Rattle.client_tables.specs.Held.{held_pieces, brought};
@@ -211,7 +211,6 @@ pub fn transitions_agree()
     ensures row { (c : ℕ) (meaning : LocalName → List ℕ) (d : ClientDisk) (table : ℕ) (row : List ℕ) (scheme : Scheme)
         (yours : Yours) (x : HeldShadow) (slots : HeldSlots) (position : ℕ)
         → nat_le x.version (seen_in slots.conflict slots.shadow) ≡ false
-        → (is_eventual scheme ≡ true → slots.conflict ≡ None)
         → let w = whole_slots meaning slots in
         Plans meaning c row (after slots (taken scheme slots yours x))
         ((taken scheme slots yours x).tells ++ tell.Position position ∷ [])

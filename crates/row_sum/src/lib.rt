@@ -3,7 +3,7 @@
 
 mod sums;
 
-pub use sums::{clean_sum, mine_sum};
+pub use sums::{clean_sum, conflict_sum, mine_sum};
 
 #[cfg(test)]
 mod tests;

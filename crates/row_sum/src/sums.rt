@@ -71,3 +71,27 @@ pub fn mine_sum(alloc: Global, number: WriteNo, content: &Content) -> Result<Ans
         })),
     }
 }
+
+/// The answer to a `sum` of a row that the client's own write of this number gave this content, and that is in conflict
+/// with the Store's row at this version. Where the content has objects, none of them is copied.
+pub fn conflict_sum(
+    alloc: Global,
+    number: WriteNo,
+    version: Version,
+    content: &Content,
+) -> Result<Answer, AllocError>
+    ensures { IfOk result (λ answer. answer ≡ sum_answer (Shown.Conflict number version content.now)) }
+{
+    match row_sum(alloc, content)? {
+        Some(row) => Ok(Answer::Sums(ShownSum::Conflict {
+            number,
+            version,
+            row,
+        })),
+        None => Ok(Answer::Shown(Shown::Conflict {
+            number,
+            version,
+            content: content.copy()?,
+        })),
+    }
+}

@@ -1,8 +1,8 @@
-use crate::{clean_sum, mine_sum};
+use crate::{clean_sum, conflict_sum, mine_sum};
 use row_value::{Cell, Content, Sequence, SharedBytes};
 use std::alloc::Global;
 use std::test::Fail;
-use table_model::{Answer, ShownSum};
+use table_model::{Answer, Shown, ShownSum};
 
 const OF_ABC: [u8; 32] = [
     0xba, 0x78, 0x16, 0xbf, 0x8f, 0x01, 0xcf, 0xea, 0x41, 0x41, 0x40, 0xde, 0x5d, 0xae, 0x22, 0x23,
@@ -33,6 +33,7 @@ fn first_of(answer: &Answer) -> Option<(usize, [u8; 32])> {
     let row = match answer {
         Answer::Sums(ShownSum::Clean { row, .. }) => row,
         Answer::Sums(ShownSum::Mine { row, .. }) => row,
+        Answer::Sums(ShownSum::Conflict { row, .. }) => row,
         _ => return None,
     };
     row.objects.get(0).map(|object| (object.len, object.sha256))
@@ -55,5 +56,38 @@ fn a_row_without_objects_is_shown_as_it_is(rt: HostRuntime) -> Result<(), Fail> 
     assert!(rt; matches!(&plain, Answer::Shown(_)));
     let gone = mine_sum(alloc, 1, &Content::Gone)?;
     assert!(rt; matches!(&gone, Answer::Shown(_)));
+    Ok(())
+}
+
+/// The number of the write and the version of the Store's row, where the answer shows a row in conflict.
+fn conflict_of(answer: &Answer) -> Option<(u64, u64)> {
+    match answer {
+        Answer::Shown(
+            Shown::Conflict {
+                number,
+                version,
+                ..
+            },
+        ) => Some((*number, *version)),
+        Answer::Sums(
+            ShownSum::Conflict {
+                number,
+                version,
+                ..
+            },
+        ) => Some((*number, *version)),
+        _ => None,
+    }
+}
+
+#[test]
+fn a_row_in_conflict_has_its_write_and_its_version(rt: HostRuntime) -> Result<(), Fail> {
+    let alloc = rt.alloc();
+    let abc = conflict_sum(alloc, 1, 4, &row_of(alloc, &[b"abc"])?)?;
+    assert_eq!(rt; first_of(&abc), Some((3, OF_ABC)));
+    assert_eq!(rt; conflict_of(&abc), Some((1, 4)));
+    let gone = conflict_sum(alloc, 2, 5, &Content::Gone)?;
+    assert!(rt; matches!(&gone, Answer::Shown(_)));
+    assert_eq!(rt; conflict_of(&gone), Some((2, 5)));
     Ok(())
 }

@@ -1,7 +1,7 @@
 -- A client's step table: what a move makes of it, what it answers, and what is told and sent. Its state is what its
 -- devices stand for, and the device writes that it has begun.
 use Rattle.std.specs.Prelude.{ℕ, ◌+◌, ◌==◌, nat_lt, nat_le, Bool, true, false, not, ◌&&◌, ◌||◌, List, [], ◌∷◌, ◌++◌}
-use Rattle.std.specs.Prelude.{length, map, Option, Some}
+use Rattle.std.specs.Prelude.{length, map, filter, slice_get, Option, Some}
 use Rattle.std.specs.Prelude.{None, option_map, option_to_list, Result, Ok, Err, if◌then◌else◌}
 use Rattle.std.specs.Ordering.{nat_cmp}
 use Rattle.std.specs.Map.{lookup}
@@ -13,8 +13,17 @@ use Rattle.row_value.specs.declared.content.Content.TheVariants.{Gone, Row}
 use Rattle.row_value.specs.declared.schema.Schema.{Schema}
 use Rattle.row_value.specs.declared.schema.Scheme.{Scheme}
 use Rattle.row_value.specs.declared.schema.Scheme.TheVariants.{Strong, Causal, Eventual}
+use Rattle.row_value.specs.declared.schema.Column.{Column}
+use Rattle.row_value.specs.declared.schema.ColumnKind.{ColumnKind}
+use Rattle.row_value.specs.declared.schema.ColumnKind.TheVariants as kinds
 use Rattle.row_value.specs.declared.fit.FitFault.{FitFault}
+use Rattle.row_value.specs.declared.fit.FitFault.TheVariants as faults
+use Rattle.table_model.specs.declared.line.RowPair.{RowPair}
 use Rattle.row_value.specs.Fit.{fit_of}
+use Rattle.conflicts.specs.declared.pair.Choice.{Choice}
+use Rattle.conflicts.specs.declared.pair.Choice.TheVariants.{Mine, Theirs, New}
+use Rattle.conflicts.specs.declared.stored.Stored.{Stored}
+use Rattle.conflicts.specs.declared.stored.Stored.TheVariants as resolvers
 use Rattle.row_edits.specs.declared.change.Edit.{Edit}
 use Rattle.row_edits.specs.Edit.{edited_to}
 use Rattle.step_tables.specs.declared.slots.Main.{Main}
@@ -95,12 +104,6 @@ pub record Client : Type 0 where
   pub disk : ClientDisk
   pub agenda : Option (List ClientTask)
 
--- how a conflict is resolved: by the client's own write, by the Store's row, or by another content
-pub data Choice : Type 0 where
-  Mine : Choice
-  Theirs : Choice
-  Another : (content : Content) → Choice
-
 pub data ClientMove : Type 0 where
   Write : (table : ℕ) → (row : List ℕ) → (content : Content) → ClientMove
   Change : (table : ℕ) → (row : List ℕ) → (edit : Edit) → ClientMove
@@ -108,7 +111,11 @@ pub data ClientMove : Type 0 where
   Sum : (table : ℕ) → (row : List ℕ) → ClientMove
   Sync : (table : ℕ) → ClientMove
   Next : (table : ℕ) → ClientMove
+  BeginCr : (table : ℕ) → ClientMove
+  Conflicts : (table : ℕ) → ClientMove
+  EndCr : (table : ℕ) → ClientMove
   Resolve : (table : ℕ) → (row : List ℕ) → (seen : ℕ) → (choice : Choice) → ClientMove
+  ResolveAll : (table : ℕ) → (by : Stored) → ClientMove
   Take : (message : Message) → ClientMove
   Work : (luck : Luck) → ClientMove
   Crash : (luck : Luck) → ClientMove
@@ -581,7 +588,7 @@ choose c shape d table row schema slots main x Mine =
     begun shape d (facts.Number (d.last + 1)) (over_plan c d table row slots main x main.content) []
 choose c shape d table row schema slots main x Theirs =
     begun shape d (facts.Number 0) (theirs_plan c d table row slots main x) []
-choose c shape d table row schema slots main x (Another content) =
+choose c shape d table row schema slots main x (New content) =
     over_fitting c shape d table row slots main x content (fit_of schema content)
 
 abbrev pub resolve_over : ℕ → Shape → ClientDisk → ℕ → List ℕ → Schema → Slots → ℕ → Choice → Option Main
@@ -606,6 +613,70 @@ abbrev pub resolve_step : ℕ → Shape → ClientDisk → Option (List ClientTa
 resolve_step c shape d None table row version choice = down d
 resolve_step c shape d (Some agenda) table row version choice =
     resolve_in c shape d agenda table row version choice (table_at (seen d) table)
+
+-- ---- the rows in conflict
+
+abbrev pub pair_of : List ℕ → Option Main → Option Shadow → Option RowPair
+pair_of row None conflict = None
+pair_of row (Some main) None = None
+pair_of row (Some main) (Some x) = Some (record { row = row; number = main.number; version = x.version })
+
+-- by rising row
+abbrev pub pairs_of : List (List ℕ × Slots) → List RowPair
+pairs_of [] = []
+pairs_of (entry ∷ rows) = option_to_list (pair_of entry.0 entry.1.main entry.1.conflict) ++ pairs_of rows
+
+abbrev pub conflicts_in : ClientDisk → List ClientTask → Option TableDisk → ClientStep
+conflicts_in d agenda None = quiet d (Some agenda) (facts.Refuses facts.NoTable)
+conflicts_in d agenda (Some opened) = quiet d (Some agenda) (facts.Pairs (pairs_of opened.rows))
+
+abbrev pub conflicts_step : ClientDisk → Option (List ClientTask) → ℕ → ClientStep
+conflicts_step d None table = down d
+conflicts_step d (Some agenda) table = conflicts_in d agenda (table_at (seen d) table)
+
+-- ---- a phase of a table begins or ends: what it allows is said below
+
+abbrev pub phase_in : ClientDisk → List ClientTask → Option TableDisk → ClientStep
+phase_in d agenda None = quiet d (Some agenda) (facts.Refuses facts.NoTable)
+phase_in d agenda (Some opened) = quiet d (Some agenda) facts.Done
+
+abbrev pub phase_step : ClientDisk → Option (List ClientTask) → ℕ → ClientStep
+phase_step d None table = down d
+phase_step d (Some agenda) table = phase_in d agenda (table_at (seen d) table)
+
+-- ---- all conflicts of a table: how many there are to be resolved. Only numbers are compared
+
+abbrev pub is_int : Option Column → Bool
+is_int None = false
+is_int (Some column) = is_int_kind column.kind
+  where
+    is_int_kind : ColumnKind → Bool
+    is_int_kind kinds.Int = true
+    is_int_kind kinds.Bool = false
+    is_int_kind kinds.Text = false
+    is_int_kind kinds.Object = false
+
+abbrev pub can_resolve : Schema → Stored → Result (Unit {0}) FitFault
+can_resolve schema resolvers.Mine = Ok tt
+can_resolve schema resolvers.Theirs = Ok tt
+can_resolve schema (resolvers.Larger column) =
+    if is_int (slice_get schema.columns column) then Ok tt else Err (faults.BadCell column)
+
+abbrev pub all_idle : Shape → ClientDisk → List ClientTask → TableDisk → ClientStep
+all_idle shape d (task ∷ more) opened = quiet d (Some (task ∷ more)) (facts.Refuses (facts.Busy shape.plan))
+all_idle shape d [] opened = quiet d (Some []) (facts.Number (length (pairs_of opened.rows)))
+
+abbrev pub all_fitting : Shape → ClientDisk → List ClientTask → TableDisk → Result (Unit {0}) FitFault → ClientStep
+all_fitting shape d agenda opened (Ok fits) = all_idle shape d agenda opened
+all_fitting shape d agenda opened (Err fault) = quiet d (Some agenda) (facts.Refuses (facts.Unfit fault))
+
+abbrev pub all_in : Shape → ClientDisk → List ClientTask → Stored → Option TableDisk → ClientStep
+all_in shape d agenda by None = quiet d (Some agenda) (facts.Refuses facts.NoTable)
+all_in shape d agenda by (Some opened) = all_fitting shape d agenda opened (can_resolve opened.schema by)
+
+abbrev pub all_step : Shape → ClientDisk → Option (List ClientTask) → ℕ → Stored → ClientStep
+all_step shape d None table by = down d
+all_step shape d (Some agenda) table by = all_in shape d agenda by (table_at (seen d) table)
 
 -- ---- the answer to a request
 
@@ -680,9 +751,16 @@ reads_over Strong yours version = yours == version
 reads_over Causal yours version = yours == version
 reads_over Eventual yours version = true
 
+-- whether every row is
+abbrev pub is_weak : Scheme → Bool
+is_weak Strong = false
+is_weak Causal = false
+is_weak Eventual = true
+
 abbrev pub placed : Scheme → ℕ → ℕ → Header → Slots → List ClientFact → Option Main → Option Shadow → Placed
 placed g c table header slots before None conflict = read_new c table header slots before
-placed g c table header slots before (Some main) (Some x) = read_conflict c table header slots before main
+placed g c table header slots before (Some main) (Some x) =
+    if is_weak g then read_new c table header slots before else read_conflict c table header slots before main
 placed g c table header slots before (Some main) None =
     if reads_over g header.yours.version header.version
     then read_new c table header slots before
@@ -758,8 +836,12 @@ client_step c shape s (Show table row) = show_step s.disk s.agenda table row
 client_step c shape s (Sum table row) = sum_step s.disk s.agenda table row
 client_step c shape s (Sync table) = sync_step c shape s.disk s.agenda table
 client_step c shape s (Next table) = next_step c shape s.disk s.agenda table
+client_step c shape s (BeginCr table) = phase_step s.disk s.agenda table
+client_step c shape s (Conflicts table) = conflicts_step s.disk s.agenda table
+client_step c shape s (EndCr table) = phase_step s.disk s.agenda table
 client_step c shape s (Resolve table row version choice) =
     resolve_step c shape s.disk s.agenda table row version choice
+client_step c shape s (ResolveAll table by) = all_step shape s.disk s.agenda table by
 client_step c shape s (Take message) = take_step c shape s.disk s.agenda message
 client_step c shape s (Work luck) = worked s.disk s.agenda luck
 client_step c shape s (Crash luck) = crashed s.disk s.agenda luck
@@ -777,6 +859,7 @@ is_before_link (facts.Sums sum) = false
 is_before_link (facts.Stores version content) = false
 is_before_link (facts.Did step) = false
 is_before_link (facts.Names names) = false
+is_before_link (facts.Pairs pairs) = false
 is_before_link (facts.Refuses refusal) = is_before refusal
   where
     is_before : Refusal → Bool
@@ -808,3 +891,50 @@ is_taking other = false
 abbrev pub is_cut_off : ℕ → Shape → Client → ClientMove → Bool
 is_cut_off c shape s move =
     needs_link s.disk move && (is_taking move || not (is_before_link (client_step c shape s move).answer))
+
+-- ---- while a phase of a table is open, its conflicts are resolved and its rows aren't written; while none is, none is
+-- resolved. What a client refuses before it looks at the phase, it refuses all the same
+
+-- whether a write is refused before: for what is to be written, or since a plan is at work
+abbrev pub is_before_write : Answer → Bool
+is_before_write (facts.Refuses refusal) = is_before refusal
+  where
+    is_before : Refusal → Bool
+    is_before (facts.Conflicted version) = false
+    is_before (facts.Outstanding number) = false
+    is_before other = true
+is_before_write other = false
+
+-- whether another call is
+abbrev pub is_before_phase : ClientMove → Answer → Bool
+is_before_phase move (facts.Refuses facts.NoTable) = true
+is_before_phase move (facts.Refuses (facts.Busy with)) = true
+is_before_phase move (facts.Refuses facts.Down) = true
+is_before_phase (ResolveAll table by) (facts.Refuses (facts.Unfit fault)) = true
+is_before_phase move other = false
+
+abbrev pub if_open : Bool → Bool → Option Refusal
+if_open before is_open = if is_open && not before then Some facts.InResolution else None
+
+abbrev pub if_closed : Bool → Bool → Option Refusal
+if_closed before is_open = if not (is_open || before) then Some facts.NotInResolution else None
+
+-- the refusal for the phases that are open, of a move that would be answered so
+abbrev pub kept_out : (ℕ → Bool) → ClientMove → Answer → Option Refusal
+kept_out phase (Write table row content) answer = if_open (is_before_write answer) (phase table)
+kept_out phase (Change table row edit) answer = if_open (is_before_write answer) (phase table)
+kept_out phase (BeginCr table) answer = if_open (is_before_phase (BeginCr table) answer) (phase table)
+kept_out phase (Conflicts table) answer = if_closed (is_before_phase (Conflicts table) answer) (phase table)
+kept_out phase (EndCr table) answer = if_closed (is_before_phase (EndCr table) answer) (phase table)
+kept_out phase (Resolve table row seen choice) answer =
+    if_closed (is_before_phase (Resolve table row seen choice) answer) (phase table)
+kept_out phase (ResolveAll table by) answer = if_closed (is_before_phase (ResolveAll table by) answer) (phase table)
+kept_out phase move answer = None
+
+-- the phases behind a move that isn't kept out, of each client with its table: one that is down has none
+abbrev pub phases_by : ℕ → ClientMove → Answer → Option (List ClientTask) → List (ℕ × ℕ) → List (ℕ × ℕ)
+phases_by c move answer None phases = filter (λ (phase : ℕ × ℕ). not (phase.0 == c)) phases
+phases_by c (BeginCr table) facts.Done (Some agenda) phases = (c, table) ∷ phases
+phases_by c (EndCr table) facts.Done (Some agenda) phases =
+    filter (λ (phase : ℕ × ℕ). not (phase.0 == c && phase.1 == table)) phases
+phases_by c move answer (Some agenda) phases = phases

@@ -4,6 +4,7 @@ use Rattle.row_value.specs.declared.content.Content.{Content}
 use Rattle.row_value.specs.declared.fit.FitFault.{FitFault}
 use Rattle.table_model.specs.declared.entry.Entry.{Entry}
 use Rattle.table_model.specs.declared.line.Write.{Write}
+use Rattle.table_model.specs.declared.line.RowPair.{RowPair}
 use Rattle.table_model.specs.declared.sum.RowSum.{RowSum}
 use Rattle.table_model.specs.declared.message_name.MessageName.{MessageName}
 use Rattle.stab_base.specs.declared.chunk_name.ChunkName.{ChunkName}
@@ -54,6 +55,8 @@ pub data Refusal : Type 0 where
   Unfit : (fault : FitFault) → Refusal
   Busy : (with : ℕ) → Refusal
   NoTable : Refusal
+  NotInResolution : Refusal
+  InResolution : Refusal
   NoConflict : Refusal
   Moved : (seen now : ℕ) → Refusal
   Offline : Refusal
@@ -72,10 +75,12 @@ pub data Answer : Type 0 where
   Stores : (version : ℕ) → (content : Content) → Answer
   Did : (step : Step) → Answer
   Names : (names : List ChunkName) → Answer
+  Pairs : (pairs : List RowPair) → Answer
   Refuses : (refusal : Refusal) → Answer
 
--- a line of a transcript: an answer, an entry that an answer counts, or a fact
+-- a line of a transcript: an answer, an entry or a row in conflict that an answer counts, or a fact
 pub data Line : Type 0 where
   AnswerLine : (answer : Answer) → Line
   EntryLine : (table : ℕ) → (entry : Entry) → Line
+  PairLine : (pair : RowPair) → Line
   FactLine : (fact : Fact) → Line

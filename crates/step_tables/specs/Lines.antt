@@ -26,16 +26,24 @@ refusal_of (refusals.RowTooLarge len) = facts.Unfit (faults.RowTooLarge len)
 refusal_of (refusals.TooManyChunks count) = facts.Unfit (faults.TooManyChunks count)
 refusal_of refusals.NoTable = facts.NoTable
 refusal_of refusals.NoRow = facts.NoRow
+refusal_of refusals.NotInResolution = facts.NotInResolution
+refusal_of refusals.InResolution = facts.InResolution
+refusal_of refusals.NoConflict = facts.NoConflict
+refusal_of (refusals.Moved seen now) = facts.Moved seen now
 refusal_of refusals.Offline = facts.Offline
+refusal_of (refusals.Outstanding number) = facts.Outstanding number
+refusal_of (refusals.Conflicted version) = facts.Conflicted version
 refusal_of (refusals.NoPacket sent) = facts.NoPacket sent
 
 abbrev pub shown_of : Shown → facts.Shown
 shown_of (shown.Clean version content) = facts.Clean version content
 shown_of (shown.Mine number content) = facts.Mine number content
+shown_of (shown.Conflict number version content) = facts.Contended number version content
 
 abbrev pub sum_of : ShownSum → facts.ShownSum
 sum_of (sums.Clean version row) = facts.CleanSum version row
 sum_of (sums.Mine number row) = facts.MineSum number row
+sum_of (sums.Conflict number version row) = facts.ContendedSum number version row
 
 abbrev pub answer_of : Answer → facts.Answer
 answer_of answers.Done = facts.Done
@@ -70,4 +78,5 @@ fact_of (told.StoreRecovered store table) = facts.StoreRecovered store table
 abbrev pub line_of : TextLine → facts.Line
 line_of (lines.Answer answer) = facts.AnswerLine (answer_of answer)
 line_of (lines.Entry table entry) = facts.EntryLine table entry
+line_of (lines.Pair pair) = facts.PairLine pair
 line_of (lines.Fact fact) = facts.FactLine (fact_of fact)

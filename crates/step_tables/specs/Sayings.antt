@@ -7,7 +7,7 @@ use Rattle.row_value.specs.declared.schema.Scheme.{Scheme}
 use Rattle.row_value.specs.declared.schema.Scheme.TheVariants.{Strong, Causal, Eventual}
 use Rattle.table_model.specs.declared.entry.Entry.{Entry}
 use Rattle.table_model.specs.declared.line.Write.{Write}
-use Rattle.step_tables.specs.Facts.{ClientFact, Fact, Line, AnswerLine, EntryLine, FactLine}
+use Rattle.step_tables.specs.Facts.{ClientFact, Fact, Line, AnswerLine, EntryLine, PairLine, FactLine}
 use Rattle.step_tables.specs.Facts as facts
 use Rattle.step_tables.specs.Members.{put, put_at}
 
@@ -47,6 +47,7 @@ saying (facts.Sent packet from to name) = SaysNothing
 abbrev pub says : Line → Saying
 says (AnswerLine answer) = SaysNothing
 says (EntryLine table entry) = SaysNothing
+says (PairLine pair) = SaysNothing
 says (FactLine fact) = saying fact
 
 -- ---- one client

@@ -14,6 +14,8 @@ abbrev pub outcome_of : Outcome → messages.Outcome
 outcome_of (outcomes.Accepted version) = messages.Accepted version
 outcome_of (outcomes.Again version) = messages.Again version
 outcome_of (outcomes.Late last) = messages.Late last
+outcome_of (outcomes.Stale latest) = messages.Stale latest
+outcome_of (outcomes.Conflict latest) = messages.Conflict latest
 
 abbrev pub header_of : RowHeader → messages.Header
 header_of h = record {

@@ -10,4 +10,4 @@ pub use message::{
     Message, Outcome, PullRequest, PullResponse, RowHeader, SyncRequest, SyncResponse, Yours,
 };
 pub use out::{Addressed, Out};
-pub use slots::{InFlight, Main, Shadow, Slots};
+pub use slots::{InFlight, Main, Shadow};

@@ -71,6 +71,10 @@ pub enum Outcome {
     Again { version: Version },
     /// A later write of the client on the row was accepted before, of this number.
     Late { last: WriteNo },
+    /// Refused, in a strong table: the row's version, `latest`, is no longer the one that the write rests on.
+    Stale { latest: Version },
+    /// In conflict, in a causal table: the row's version, `latest`, is no longer the one that the write rests on.
+    Conflict { latest: Version },
 }
 
 /// The Store's answer to a `SyncRequest`.

@@ -27,11 +27,3 @@ pub struct InFlight {
     pub base: Version,
     pub content: Content,
 }
-
-/// What a client keeps of a row.
-#[derive(Debug, Drop, Clone)]
-pub struct Slots {
-    pub main: Option<Main>,
-    pub shadow: Option<Shadow>,
-    pub out: Option<InFlight>,
-}

@@ -25,6 +25,7 @@ row_sum (Row cells (object ∷ objects)) = Some (record { cells = cells; objects
 abbrev pub sum_of : Shown → Option ShownSum
 sum_of (shown.Clean version content) = option_map (sums.Clean version) (row_sum content)
 sum_of (shown.Mine number content) = option_map (sums.Mine number) (row_sum content)
+sum_of (shown.Conflict number version content) = option_map (sums.Conflict number version) (row_sum content)
 
 abbrev pub or_whole : Shown → Option ShownSum → Answer
 or_whole what None = answers.Shown what

@@ -1,5 +1,6 @@
+use conflicts::{Choice, Stored};
 use row_edits::Edit;
-use row_value::{ClientNo, Content, GateNo, RowId, Schema, Sequence, StoreNo, TableNo};
+use row_value::{ClientNo, Content, GateNo, RowId, Schema, Sequence, StoreNo, TableNo, Version};
 use stab_base::Node;
 
 /// The tables that a client opens, in the order in which it names them.
@@ -63,6 +64,35 @@ pub enum Event {
     Pull {
         client: ClientNo,
         table: TableNo,
+    },
+    /// From now on the client resolves the conflicts of a table, and writes none of its rows.
+    BeginCr {
+        client: ClientNo,
+        table: TableNo,
+    },
+    /// The client lists the conflicts of a table that it resolves.
+    Conflicts {
+        client: ClientNo,
+        table: TableNo,
+    },
+    /// The client has resolved the conflicts of a table, as far as it does.
+    EndCr {
+        client: ClientNo,
+        table: TableNo,
+    },
+    /// The client resolves the conflict of a row with the version that it has seen.
+    Resolve {
+        client: ClientNo,
+        table: TableNo,
+        row: RowId,
+        seen: Version,
+        choice: Choice,
+    },
+    /// The client resolves each conflict of a table in one way.
+    ResolveAll {
+        client: ClientNo,
+        table: TableNo,
+        by: Stored,
     },
     /// The network delivers a packet, counted from 0 over all that were ever sent.
     Deliver {

@@ -13,7 +13,9 @@ mod sum;
 pub use allowed::entry_allowed;
 pub use entry::{Entry, History, current};
 pub use event::{Event, Tables};
-pub use line::{Answer, ClientFact, Fact, Facts, Refusal, Shown, TextLine, Write};
+pub use line::{
+    Answer, ClientFact, Fact, Facts, Refusal, RowPair, RowPairs, Shown, TextLine, Write,
+};
 pub use message::{
     CreateTable, DropTable, Message, Notify, ObjectFragment, OperationResponse, Outcome,
     PullRequest, PullResponse, RegisterDevice, RestoreClientSubscriptions, RowHeader,

@@ -23,9 +23,21 @@ pub struct Write {
 #[derive(Debug, Drop, Clone)]
 pub enum Shown {
     /// The row as the Store had it at this version.
-    Clean { version: Version, content: Content },
+    Clean {
+        version: Version,
+        content: Content,
+    },
     /// The client's own write of this number, which the Store isn't known to have accepted.
-    Mine { number: WriteNo, content: Content },
+    Mine {
+        number: WriteNo,
+        content: Content,
+    },
+    /// The client's own write of this number, which is in conflict with the Store's row at this version.
+    Conflict {
+        number: WriteNo,
+        version: Version,
+        content: Content,
+    },
 }
 
 impl Shown {
@@ -54,8 +66,20 @@ pub enum Refusal {
     Busy { with: u64 },
     /// 18: the client hasn't opened the table.
     NoTable,
+    /// 20: the client doesn't resolve the table's conflicts.
+    NotInResolution,
+    /// 21: the client resolves the table's conflicts.
+    InResolution,
+    /// 22: the row isn't in conflict.
+    NoConflict,
+    /// 23: the row is in conflict with another version than the one that was seen.
+    Moved { seen: Version, now: Version },
     /// 24: the client's link is down.
     Offline,
+    /// 25: the client's write of this number, in the same strong table, waits for its answer.
+    Outstanding { number: WriteNo },
+    /// 26: the row is in conflict with this version.
+    Conflicted { version: Version },
     /// 27: nothing is shown of the row.
     NoRow,
     /// 29: no packet of this number was sent yet, but so many.
@@ -63,6 +87,17 @@ pub enum Refusal {
     /// 30: the node is down.
     Down { node: Node },
 }
+
+/// A row in conflict: the client's write, by its number, and the version of the Store's row.
+#[derive(Debug, Clone, Copy, PartialEq, Eq)]
+pub struct RowPair {
+    pub row: RowId,
+    pub number: WriteNo,
+    pub version: Version,
+}
+
+/// Rows in conflict, by rising id.
+pub type RowPairs = Sequence<RowPair>;
 
 /// The answer to a line of the script.
 #[derive(Debug, Drop)]
@@ -192,5 +227,7 @@ pub enum TextLine {
     Answer(Answer),
     /// One line of a history, behind the answer that counts them.
     Entry { table: TableNo, entry: Entry },
+    /// A row in conflict, behind the answer that counts them.
+    Pair(RowPair),
     Fact(Fact),
 }

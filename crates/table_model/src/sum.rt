@@ -21,7 +21,19 @@ pub struct RowSum {
 #[derive(Debug, Drop)]
 pub enum ShownSum {
     /// The row as the Store had it at this version.
-    Clean { version: Version, row: RowSum },
+    Clean {
+        version: Version,
+        row: RowSum,
+    },
     /// The client's own write of this number, which the Store isn't known to have accepted.
-    Mine { number: WriteNo, row: RowSum },
+    Mine {
+        number: WriteNo,
+        row: RowSum,
+    },
+    /// The client's own write of this number, which is in conflict with the Store's row at this version.
+    Conflict {
+        number: WriteNo,
+        version: Version,
+        row: RowSum,
+    },
 }

@@ -2,6 +2,7 @@
 use Rattle.std.specs.Prelude.{◌≡◌, ◌≢◌, ◌⊎◌, ℕ, ◌+◌, ◌<◌, ◌≤◌, ◌==◌, Bool, true, false, List, [], ◌∷◌, ◌++◌, length}
 use Rattle.std.specs.Prelude.{map, Option, Some, None, option_map, if◌then◌else◌, MatchBool}
 use Rattle.std.specs.List.{find}
+use Rattle.std.specs.List.Sorted.{IsStrictlySortedBy}
 use Rattle.row_value.specs.declared.content.Content.{Content}
 use Rattle.row_value.specs.declared.schema.Scheme.{Scheme}
 use Rattle.row_value.specs.declared.schema.Scheme.TheVariants.{Strong, Causal, Eventual}
@@ -10,7 +11,9 @@ use Rattle.table_model.specs.declared.event.Event.{Event}
 use Rattle.table_model.specs.declared.event.Event.TheVariants as events
 use Rattle.table_model.specs.declared.line.Write.{Write}
 use Rattle.table_model.specs.History.{current}
-use Rattle.step_tables.specs.Facts.{Fact, Answer, Shown, Line, AnswerLine, EntryLine, FactLine}
+use Rattle.table_model.specs.declared.line.RowPair.{RowPair}
+use Rattle.step_tables.specs.Client.{row_cmp}
+use Rattle.step_tables.specs.Facts.{Fact, Answer, Shown, Line, AnswerLine, EntryLine, PairLine, FactLine}
 use Rattle.step_tables.specs.Facts as facts
 use Rattle.step_tables.specs.Sums.{sum_answer}
 use Rattle.step_tables.specs.Members.{Among}
@@ -194,6 +197,17 @@ IsStored s table row (facts.Stores version content) =
 IsStored s table row (facts.Refuses facts.NoRow) = current (s.history table) row ≡ 0
 IsStored s table row other = Unit {0}
 
+-- the rows that a client shows in a conflict, each once, with the write and the version that it is shown with
+pub record ArePairs (g : ℕ → Scheme) (s : Said) (client table : ℕ) (counted : List Line) : Type 0 where
+  pub pairs : List RowPair
+  pub lines_are : counted ≡ map PairLine pairs
+  pub rising : IsStrictlySortedBy row_cmp (map (λ (pair : RowPair). pair.row) pairs)
+  pub shown : (pair : RowPair) → Among pairs pair
+      → (content : Content) × (shown_of g s client table pair.row ≡ Some (facts.Contended pair.number pair.version content))
+  pub all : (row : List ℕ) (number version : ℕ) (content : Content)
+      → shown_of g s client table row ≡ Some (facts.Contended number version content)
+      → Among pairs (record { row = row; number = number; version = version })
+
 -- an answer with the lines that it counts: a `show` gives what the client's lines make it show, a `sum` gives it by
 -- digests, the Store gives its rows and histories as its lines make them
 abbrev pub IsAnswer : (ℕ → Scheme) → Said → Event → Answer → List Line → Type 0
@@ -202,6 +216,7 @@ IsAnswer g s (events.Sum client table row) answer counted = IsSum (shown_of g s 
 IsAnswer g s (events.StoreShow table row) answer counted = IsStored s table row answer
 IsAnswer g s (events.History table) (facts.Number number) counted =
     (number ≡ length (s.history table)) × (counted ≡ entry_lines table (s.history table))
+IsAnswer g s (events.Conflicts client table) (facts.Number number) counted = ArePairs g s client table counted
 IsAnswer g s event answer counted = Unit {0}
 
 -- ---- Shape: a declaration writes nothing; every other event has one answer, in a form of its command, the lines that
@@ -223,6 +238,11 @@ IsForm (events.Sum client table row) (facts.Shows what) = Unit {0}
 IsForm (events.Sum client table row) (facts.Sums sum) = Unit {0}
 IsForm (events.Sync client table) (facts.Number number) = Unit {0}
 IsForm (events.Pull client table) facts.Done = Unit {0}
+IsForm (events.BeginCr client table) facts.Done = Unit {0}
+IsForm (events.Conflicts client table) (facts.Number number) = Unit {0}
+IsForm (events.EndCr client table) facts.Done = Unit {0}
+IsForm (events.Resolve client table row seen choice) (facts.Number number) = Unit {0}
+IsForm (events.ResolveAll client table by) (facts.Number number) = Unit {0}
 IsForm (events.Deliver packet) facts.Done = Unit {0}
 IsForm (events.StoreShow table row) (facts.Stores version content) = Unit {0}
 IsForm (events.History table) (facts.Number number) = Unit {0}
@@ -239,6 +259,8 @@ IsForm event answer = ⊥
 abbrev pub IsCounted : Event → Answer → List Line → Type 0
 IsCounted (events.History table) (facts.Number number) counted =
     (history : List Entry) × (counted ≡ entry_lines table history) × (length history ≡ number)
+IsCounted (events.Conflicts client table) (facts.Number number) counted =
+    (pairs : List RowPair) × (counted ≡ map PairLine pairs) × (length pairs ≡ number)
 IsCounted event answer counted = counted ≡ []
 
 -- where the Store is asked, nothing is told, and neither where a node is held or freed, or crashes

@@ -15,12 +15,21 @@ use Rattle.row_value.specs.declared.schema.Schema.{Schema}
 use Rattle.row_value.specs.declared.schema.Scheme.{Scheme}
 use Rattle.row_value.specs.declared.schema.Scheme.TheVariants.{Eventual}
 use Rattle.table_model.specs.declared.entry.Entry.{Entry}
+use Rattle.conflicts.specs.declared.pair.Choice.{Choice}
+use Rattle.conflicts.specs.declared.pair.Choice.TheVariants as choices
+use Rattle.conflicts.specs.declared.stored.Stored.{Stored}
+use Rattle.conflicts.specs.Stored.{chosen}
+use Rattle.table_model.specs.declared.line.RowPair.{RowPair}
 use Rattle.table_model.specs.declared.event.Event.{Event}
 use Rattle.table_model.specs.declared.event.Event.TheVariants as events
 use Rattle.table_model.specs.History.{same_row}
-use Rattle.step_tables.specs.Store.{Stored, current_of}
+use Rattle.step_tables.specs.declared.slots.Main.{Main}
+use Rattle.step_tables.specs.declared.slots.Shadow.{Shadow}
+use Rattle.step_tables.specs.Store.{current_of}
+use Rattle.step_tables.specs.Store as items
 use Rattle.step_tables.specs.Chunks.{chunks_of, names_of, rising}
-use Rattle.step_tables.specs.Facts.{Fact, Answer, Refusal, Line, AnswerLine, EntryLine, FactLine}
+use Rattle.step_tables.specs.Facts.{Fact, Answer, Refusal, Line, AnswerLine, EntryLine, PairLine}
+use Rattle.step_tables.specs.Facts.{FactLine}
 use Rattle.step_tables.specs.Facts as facts
 use Rattle.step_tables.specs.Messages.{Message, Send, Luck, name_of, table_of}
 use Rattle.step_tables.specs.Messages as messages
@@ -28,8 +37,8 @@ use Rattle.step_tables.specs.Sayings.{Saying, SaysEntry, saying, entered}
 use Rattle.step_tables.specs.StoreMoves as store
 use Rattle.step_tables.specs.StoreMoves.{TableStore, StoreDisk, StoreTask, StoreMove, StoreStep, store_step}
 use Rattle.step_tables.specs.ClientMoves as client
-use Rattle.step_tables.specs.ClientMoves.{TableDisk, Client, ClientTask, ClientMove, ClientStep, Shape, no_shape}
-use Rattle.step_tables.specs.ClientMoves.{client_step, is_cut_off}
+use Rattle.step_tables.specs.ClientMoves.{Slots, TableDisk, Client, ClientTask, ClientMove, ClientStep, Shape}
+use Rattle.step_tables.specs.ClientMoves.{no_shape, client_step, is_cut_off, kept_out, phases_by}
 
 -- a message that was sent
 pub record Packet : Type 0 where
@@ -45,7 +54,8 @@ pub record Hosted : Type 0 where
   pub made : Bool
 
 -- the declared tables with their schemas, the clients, every packet that was ever sent, in order: each may be delivered
--- at any time, again, or never; the nodes on hold, the Stores that are down, and the clients whose link is down
+-- at any time, again, or never; the nodes on hold, the Stores that are down, the clients whose link is down, and the
+-- phases that are open, each of a client with its table
 pub record World : Type 0 where
   pub schemas : List (ℕ × Schema)
   pub tables : List (ℕ × Hosted)
@@ -54,9 +64,10 @@ pub record World : Type 0 where
   pub holds : List Node
   pub downs : List Node
   pub cuts : List Node
+  pub phases : List (ℕ × ℕ)
 
 abbrev pub start : World
-start = record { schemas = []; tables = []; clients = []; packets = []; holds = []; downs = []; cuts = [] }
+start = record { schemas = []; tables = []; clients = []; packets = []; holds = []; downs = []; cuts = []; phases = [] }
 
 abbrev pub schema_at : World → ℕ → Option Schema
 schema_at w table = lookup (is_at (nat_cmp table)) w.schemas
@@ -123,6 +134,10 @@ abbrev pub with_link : ℕ → Bool → World → World
 with_link c true w = record w { cuts = without_node w.cuts (nodes.Client c) }
 with_link c false w = record w { cuts = nodes.Client c ∷ w.cuts }
 
+-- whether a client resolves the conflicts of a table
+abbrev pub is_resolving : World → ℕ → ℕ → Bool
+is_resolving w c table = list_any (λ (phase : ℕ × ℕ). phase.0 == c && phase.1 == table) w.phases
+
 -- ---- what moves tell and send, and the lines of it
 
 -- of one move
@@ -179,6 +194,7 @@ is_fault (facts.Sums sum) = false
 is_fault (facts.Stores version content) = false
 is_fault (facts.Did step) = false
 is_fault (facts.Names names) = false
+is_fault (facts.Pairs pairs) = false
 is_fault (facts.Refuses refusal) = is_device refusal
   where
     is_device : Refusal → Bool
@@ -239,9 +255,16 @@ after_client w c s =
       failed = is_fault s.answer;
     }
 
+-- the phases that a step leaves open
+abbrev pub with_phases : World → ℕ → ClientMove → ClientStep → World
+with_phases w c move s = record w { phases = phases_by c move s.answer s.client.agenda w.phases }
+
+abbrev pub moved_client : World → ℕ → ClientMove → ClientStep → Moved
+moved_client w c move s = after_client (with_phases w c move s) c s
+
 abbrev pub move_there : World → ℕ → ClientMove → Shape → Option Client → Moved
 move_there w c move shape None = still w
-move_there w c move shape (Some node) = after_client w c (client_step c shape node move)
+move_there w c move shape (Some node) = moved_client w c move (client_step c shape node move)
 
 abbrev pub move_client : ℕ → ClientMove → Shape → World → Moved
 move_client c move shape w = move_there w c move shape (client_at w c)
@@ -528,16 +551,88 @@ calls w c move shape lucks node =
 abbrev pub unless_cut : World → Bool → WorldStep → WorldStep
 unless_cut w cut s = if cut then refused w facts.Offline else s
 
+-- nor what the phases that are open keep it from
+abbrev pub unless_kept : World → Option Refusal → WorldStep → WorldStep
+unless_kept w None s = s
+unless_kept w (Some refusal) s = refused w refusal
+
 abbrev pub call_there : World → ℕ → ClientMove → Shape → List Luck → Option Client → WorldStep
 call_there w c move shape lucks None = refused w facts.NoTable
 call_there w c move shape lucks (Some node) =
     unless_down w (nodes.Client c)
     (reads w c (first_luck lucks)
-    (unless_cut w (is_cut w c && is_cut_off c shape node move) (calls w c move shape (other_lucks lucks) node)))
+    (unless_kept w (kept_out (is_resolving w c) move (client_step c shape node move).answer)
+    (unless_cut w (is_cut w c && is_cut_off c shape node move) (calls w c move shape (other_lucks lucks) node))))
 
 -- a client's move, and the work that follows
 abbrev pub call : World → ℕ → ClientMove → Shape → List Luck → WorldStep
 call w c move shape lucks = call_there w c move shape lucks (client_at w c)
+
+-- the rows in conflict that an answer has, each on a line of its own
+abbrev pub listed : WorldStep → WorldStep
+listed s = by_answer s.answer
+  where
+    by_answer : Option Answer → WorldStep
+    by_answer (Some (facts.Pairs pairs)) =
+        record s { answer = Some (facts.Number (length pairs)); counted = map PairLine pairs }
+    by_answer other = s
+
+-- ---- all conflicts of a table, by rising row: each is resolved in one way, and the plan of it worked to its end, also
+-- on hold
+
+abbrev pub first_shape : List Shape → Shape
+first_shape [] = no_shape
+first_shape (shape ∷ shapes) = shape
+
+abbrev pub other_shapes : List Shape → List Shape
+other_shapes [] = []
+other_shapes (shape ∷ shapes) = shapes
+
+abbrev pub chosen_in : Stored → List ℕ → Option Main → Option Shadow → Choice
+chosen_in by row (Some main) (Some x) = chosen by
+    (record { row = row; number = main.number; version = x.version; mine = main.content; theirs = x.content })
+chosen_in by row (Some main) None = choices.Mine
+chosen_in by row None conflict = choices.Mine
+
+abbrev pub chosen_of : Stored → List ℕ → Option Client → ℕ → Choice
+chosen_of by row None table = choices.Mine
+chosen_of by row (Some node) table = let slots : Slots = client.slots_of (client.seen node.disk) table row in
+    chosen_in by row slots.main slots.conflict
+
+abbrev pub client_pairs : Option Client → ℕ → List RowPair
+client_pairs None table = []
+client_pairs (Some node) table = pairs_in (client.table_at (client.seen node.disk) table)
+  where
+    pairs_in : Option TableDisk → List RowPair
+    pairs_in None = []
+    pairs_in (Some opened) = client.pairs_of opened.rows
+
+-- a row in conflict is read, which may fail, and resolved
+abbrev pub resolve_by : ℕ → ℕ → Stored → Shape → RowPair → Luck → World → Moved
+resolve_by c table by shape pair messages.Done w =
+    move_client c (client.Resolve table pair.row pair.version (chosen_of by pair.row (client_at w c) table)) shape w
+resolve_by c table by shape pair messages.FailedBefore w = failing (client_falls c w)
+resolve_by c table by shape pair messages.FailedAfter w = failing (client_falls c w)
+
+-- how many device writes its plan has
+abbrev pub plan_size : ℕ → World → ℕ
+plan_size c w = length (client_tasks (client_at w c))
+
+abbrev pub resolve_each : ℕ → ℕ → Stored → List Shape → List Luck → List RowPair → World → Moved
+resolve_each c table by shapes lucks [] w = still w
+resolve_each c table by shapes lucks (pair ∷ pairs) w =
+    let resolved : Moved = resolve_by c table by (first_shape shapes) pair (first_luck lucks) w in
+    and_unless (and_unless resolved (client_until_idle c (other_lucks lucks)))
+    (resolve_each c table by (other_shapes shapes) (drop (1 + plan_size c resolved.world) lucks) pairs)
+
+-- where the client may resolve them
+abbrev pub resolve_all : World → ℕ → ℕ → Stored → List Shape → List Luck → WorldStep → WorldStep
+resolve_all w c table by shapes lucks s = by_answer s.answer
+  where
+    by_answer : Option Answer → WorldStep
+    by_answer (Some (facts.Number count)) =
+        answering (facts.Number count) (resolve_each c table by shapes lucks (client_pairs (client_at w c) table) w)
+    by_answer other = s
 
 -- a table that has no writes to do reads its disks for a message, which may fail; any other refuses
 abbrev pub take_read : World → ℕ → Hosted → StoreMove → List Luck → Luck → WorldStep
@@ -572,7 +667,7 @@ abbrev pub delivered : World → Shape → List Luck → Option Packet → World
 delivered w shape lucks None = refused w (facts.NoPacket (length w.packets))
 delivered w shape lucks (Some packet) = carried w packet shape lucks packet.to
 
-abbrev pub row_shown : Option Stored → Answer
+abbrev pub row_shown : Option items.Stored → Answer
 row_shown None = facts.Refuses facts.NoRow
 row_shown (Some item) = facts.Stores item.entry.version item.content
 
@@ -587,7 +682,7 @@ store_shows w row lucks None = refused w facts.NoTable
 store_shows w row lucks (Some hosted) = unless_down w the_store (row_read w hosted row (first_luck lucks))
 
 -- each row that the items are of, once
-abbrev pub rows_in : List Stored → List (List ℕ)
+abbrev pub rows_in : List items.Stored → List (List ℕ)
 rows_in [] = []
 rows_in (item ∷ items) =
     item.entry.row ∷ filter (λ row. not (same_row item.entry.row row)) (rows_in items)
@@ -672,14 +767,15 @@ linked w c up None = answered w facts.Done
 linked w c up (Some node) = unless_down w (nodes.Client c) (answered (with_link c up w) facts.Done)
 
 -- What isn't in the script: how the device calls of an event go, one after the other, and which device writes a client
--- has in it beside those that change what its devices stand for.
+-- has in it beside those that change what its devices stand for; for each of its plans where it may begin many.
 pub record Lucks : Type 0 where
   pub calls : List Luck
   pub shape : Shape
+  pub shapes : List Shape
 
 -- where all goes well, and no client has such writes
 abbrev pub no_lucks : Lucks
-no_lucks = record { calls = []; shape = no_shape }
+no_lucks = record { calls = []; shape = no_shape; shapes = [] }
 
 -- what an event makes of the world, where its device calls go so
 abbrev pub step : World → Event → Lucks → WorldStep
@@ -694,6 +790,14 @@ step w (events.Show c table row) lucks = call w c (client.Show table row) lucks.
 step w (events.Sum c table row) lucks = call w c (client.Sum table row) lucks.shape lucks.calls
 step w (events.Sync c table) lucks = call w c (client.Sync table) lucks.shape lucks.calls
 step w (events.Pull c table) lucks = call w c (client.Next table) lucks.shape lucks.calls
+step w (events.BeginCr c table) lucks = call w c (client.BeginCr table) lucks.shape lucks.calls
+step w (events.Conflicts c table) lucks = listed (call w c (client.Conflicts table) lucks.shape lucks.calls)
+step w (events.EndCr c table) lucks = call w c (client.EndCr table) lucks.shape lucks.calls
+step w (events.Resolve c table row seen choice) lucks =
+    call w c (client.Resolve table row seen choice) lucks.shape lucks.calls
+step w (events.ResolveAll c table by) lucks =
+    resolve_all w c table by lucks.shapes (other_lucks lucks.calls)
+    (call w c (client.ResolveAll table by) lucks.shape lucks.calls)
 step w (events.Link c up) lucks = linked w c up (client_at w c)
 step w (events.Deliver packet) lucks = delivered w lucks.shape lucks.calls (slice_get w.packets packet)
 step w (events.StoreShow table row) lucks = store_shows w row lucks.calls (hosted_at w table)

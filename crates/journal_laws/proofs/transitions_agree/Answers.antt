@@ -25,7 +25,7 @@ pub returns-clause-refused : goal.returns-clause-refused
 returns-clause-refused k = λ c meaning d table row slots out latest waits. lost_plans c meaning d table row slots out waits latest
 
 pub returns-clause-row : goal.returns-clause-row
-returns-clause-row k = λ c meaning d table row scheme yours x slots position newer free. row_plans c meaning d table row scheme yours x slots position newer free
+returns-clause-row k = λ c meaning d table row scheme yours x slots position newer. row_plans c meaning d table row scheme yours x slots position newer
 
 pub returns-clause-mine : goal.returns-clause-mine
 returns-clause-mine k = mine_plans

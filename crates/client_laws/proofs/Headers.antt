@@ -18,7 +18,7 @@ use Rattle.step_tables.specs.Members.{Among, put, put_at}
 use Rattle.step_tables.specs.Messages.{Header, Pair}
 use Rattle.step_tables.specs.Sayings.{Saying, SaysAck, SaysRead, SaysConflict, SaysPosition, RowHeard, Heard, saying, write_of, row_acked, row_met, row_saw, at_row, own, own_all, open_of, open_in}
 use Rattle.step_tables.specs.ClientMoves.{Slots, TableDisk, Plan, ClientDisk, slots_at, slots_in, slots_of, table_at, position_in, position_of, applied, top, slots_plan, freed, without, shadow_of}
-use Rattle.step_tables.specs.ClientMoves.{reads_over, Placed, placed, row_placed, row_plan, position_plan, read_new, read_conflict}
+use Rattle.step_tables.specs.ClientMoves.{reads_over, is_weak, Placed, placed, row_placed, row_plan, position_plan, read_new, read_conflict}
 use Rattle.step_tables.specs.Items.{latest, IsItemOf, IsItemAt, IsYours, IsChange}
 use Rattle.step_tables.proofs.Lists.{same_row_tells}
 use Rattle.step_tables.proofs.Maps.{place_here, place_twice, put_twice}
@@ -294,7 +294,8 @@ module _ (g : ℕ → Scheme) (c : ℕ) (h : Items) (sent : List Sending) (t : H
         by_slots None at None none = N none (raised none (λ causal m now. absurd cc))
         by_slots (Some m) at (Some q) full =
             let z = fit.conflict q full in
-            C z.causal m at (λ client.
+            subst (λ (s : Scheme). P (if is_weak s then read_new c table header base before else read_conflict c table header base before m)) (sym z.causal)
+            (C z.causal m at (λ client.
             let v = change.is.version_is in
             let at_item = z.content.1 in
             let up : q.version < w = (let e = ap (λ (s : Option Shadow). top s base.shadow) full in omega (arith, over, e)) in
@@ -303,7 +304,7 @@ module _ (g : ℕ → Scheme) (c : ℕ) (h : Items) (sent : List Sending) (t : H
             let same : z.content.0 ≡ i = own_only (g table) c (h table) table row t.writes y sent of (λ no. absurd (let e = z.causal in cc)) base fit i z.content.0 change.is.stands client change.is.row_is
             at_item.stands at_item.row_is (omega (arith, low, q_version)) (omega (arith, up, q_version, v)) in
             let e = ap (λ (s : Stored). s.entry.version) same in
-            omega (arith, e, up, q_version, v))
+            omega (arith, e, up, q_version, v)))
         by_slots (Some m) at None none = by_test (reads_over (g table) header.yours.version w) refl
           where
             by_test : (b : Bool) → reads_over (g table) header.yours.version w ≡ b

@@ -21,8 +21,12 @@ use Rattle.step_tables.specs.Members.{Among}
 use Rattle.step_tables.specs.Messages.{Send, Message, Luck, Response, Pulled, Header, Outcome, SyncRequest, SyncResponse, PullRequest, PullResponse}
 use Rattle.step_tables.specs.Messages as messages
 use Rattle.step_tables.specs.Sayings.{Heard, own_all}
-use Rattle.step_tables.specs.ClientMoves.{Slots, TableDisk, Plan, ClientDisk, ClientTask, Client, Choice, Mine, Theirs, Another, ClientMove}
-use Rattle.step_tables.specs.ClientMoves.{Write, Change, Show, Sum, Sync, Next, Resolve, Take, Work}
+use Rattle.conflicts.specs.declared.pair.Choice.{Choice}
+use Rattle.conflicts.specs.declared.pair.Choice.TheVariants.{Mine, Theirs, New}
+use Rattle.conflicts.specs.declared.stored.Stored as resolvers
+use Rattle.step_tables.specs.ClientMoves.{Slots, TableDisk, Plan, ClientDisk, ClientTask, Client, ClientMove}
+use Rattle.step_tables.specs.ClientMoves.{Write, Change, Show, Sum, Sync, Next, BeginCr, Conflicts, EndCr, Resolve, ResolveAll, Take, Work}
+use Rattle.step_tables.specs.ClientMoves.{phase_in, phase_step, conflicts_in, conflicts_step, can_resolve, all_idle, all_fitting, all_in, all_step}
 use Rattle.step_tables.specs.ClientMoves.{Crash, Start, quiet, refused, ignored, seen, planned_in, slots_at, slots_in, slots_of, table_at, put_row, changed, applied, done, crashed}
 use Rattle.step_tables.specs.ClientMoves.{worked, told, Shape, keeps, rest_of, ending, opening, told_at_start, told_without, begun, slots_plan, resumed, started, request_for, pull_from, main_of, out_of}
 use Rattle.step_tables.specs.ClientMoves.{write_plan, strong_plan, first_out, write_strong}
@@ -266,12 +270,12 @@ module _ (g : ℕ → Scheme) (c : ℕ) (h : Items) (sent : List Sending) (t : H
     choice_law table row version o is m at y full Theirs =
         silent_law (Resolve table row version Theirs) d _ (theirs_plan c d table row (slots_at o row) m y) [] tt idle
         (theirs_is_plan g c h sent t ours d tied table row o is m y at full) tt refl
-    choice_law table row version o is m at y full (Another content) = by_fit (fit_of o.schema content)
+    choice_law table row version o is m at y full (New content) = by_fit (fit_of o.schema content)
       where
         by_fit : (fit : Result (Unit {0}) FitFault)
-            → ClientLaw g c h sent t (Resolve table row version (Another content)) (over_fitting c shape d table row (slots_at o row) m y content fit)
-        by_fit (Ok fits) = over_law table row version (Another content) o is content m at y full
-        by_fit (Err fault) = quiet_law (Resolve table row version (Another content)) d (Some []) _ tt idle
+            → ClientLaw g c h sent t (Resolve table row version (New content)) (over_fitting c shape d table row (slots_at o row) m y content fit)
+        by_fit (Ok fits) = over_law table row version (New content) o is content m at y full
+        by_fit (Err fault) = quiet_law (Resolve table row version (New content)) d (Some []) _ tt idle
 
     conflict_law : (table : ℕ) (row : List ℕ) (version : ℕ) (choice : Choice) (o : TableDisk) → table_at d table ≡ Some o
         → (m : Option Main) → (slots_at o row).main ≡ m → (q : Option Shadow) → (slots_at o row).conflict ≡ q
@@ -469,6 +473,42 @@ module _ (g : ℕ → Scheme) (c : ℕ) (h : Items) (sent : List Sending) (t : H
       by_table [] p (Some o) is =
           conflict_law d p table row version choice o (in_disk d p table (Some o) is) (slots_at o row).main refl (slots_at o row).conflict refl
 
+  -- a phase begins or ends, and the rows in conflict are listed: nothing of the client changes
+  phase_law : (move : ClientMove) (d : ClientDisk) (agenda : Option (List ClientTask)) (table : ℕ) → ((answer : Answer) → IsAnswer g c h sent t move answer)
+      → IsAt g c h sent d t agenda → ClientLaw g c h sent t move (phase_step d agenda table)
+  phase_law move d None table a p = quiet_law move d None _ (a _) p
+  phase_law move d (Some agenda) table a p = by_table (table_at (seen d) table)
+    where
+      by_table : (m : Option TableDisk) → ClientLaw g c h sent t move (phase_in d agenda m)
+      by_table None = quiet_law move d (Some agenda) _ (a _) p
+      by_table (Some o) = quiet_law move d (Some agenda) _ (a _) p
+
+  pairs_law : (d : ClientDisk) (agenda : Option (List ClientTask)) (table : ℕ) → IsAt g c h sent d t agenda
+      → ClientLaw g c h sent t (Conflicts table) (conflicts_step d agenda table)
+  pairs_law d None table p = quiet_law (Conflicts table) d None _ tt p
+  pairs_law d (Some agenda) table p = by_table (table_at (seen d) table)
+    where
+      by_table : (m : Option TableDisk) → ClientLaw g c h sent t (Conflicts table) (conflicts_in d agenda m)
+      by_table None = quiet_law (Conflicts table) d (Some agenda) _ tt p
+      by_table (Some o) = quiet_law (Conflicts table) d (Some agenda) _ tt p
+
+  all_law : (d : ClientDisk) (agenda : Option (List ClientTask)) (table : ℕ) (by : resolvers.Stored) → IsAt g c h sent d t agenda
+      → ClientLaw g c h sent t (ResolveAll table by) (all_step shape d agenda table by)
+  all_law d None table by p = quiet_law (ResolveAll table by) d None _ tt p
+  all_law d (Some agenda) table by p = by_table (table_at (seen d) table)
+    where
+      by_work : (agenda : List ClientTask) → Runs g c h sent d t agenda → (o : TableDisk) → ClientLaw g c h sent t (ResolveAll table by) (all_idle shape d agenda o)
+      by_work (task ∷ more) p o = quiet_law (ResolveAll table by) d (Some (task ∷ more)) _ tt p
+      by_work [] p o = quiet_law (ResolveAll table by) d (Some []) _ tt p
+
+      by_fit : (o : TableDisk) (fit : Result (Unit {0}) FitFault) → ClientLaw g c h sent t (ResolveAll table by) (all_fitting shape d agenda o fit)
+      by_fit o (Ok fits) = by_work agenda p o
+      by_fit o (Err fault) = quiet_law (ResolveAll table by) d (Some agenda) _ tt p
+
+      by_table : (m : Option TableDisk) → ClientLaw g c h sent t (ResolveAll table by) (all_in shape d agenda by m)
+      by_table None = quiet_law (ResolveAll table by) d (Some agenda) _ tt p
+      by_table (Some o) = by_fit o (can_resolve o.schema by)
+
   take_law : (d : ClientDisk) (agenda : Option (List ClientTask)) (message : Message) → IsMessage g c h sent message → IsAt g c h sent d t agenda
       → ClientLaw g c h sent t (Take message) (take_step c shape d agenda message)
   take_law d None message f p = quiet_law (Take message) d None _ tt p
@@ -493,7 +533,11 @@ module _ (g : ℕ → Scheme) (c : ℕ) (h : Items) (sent : List Sending) (t : H
   client_laws s (Sum table row) f p = sum_law s.disk s.agenda table row p
   client_laws s (Sync table) f p = sync_law s.disk s.agenda table p
   client_laws s (Next table) f p = next_law s.disk s.agenda table p
+  client_laws s (BeginCr table) f p = phase_law (BeginCr table) s.disk s.agenda table (λ answer. tt) p
+  client_laws s (Conflicts table) f p = pairs_law s.disk s.agenda table p
+  client_laws s (EndCr table) f p = phase_law (EndCr table) s.disk s.agenda table (λ answer. tt) p
   client_laws s (Resolve table row version choice) f p = resolve_law s.disk s.agenda table row version choice p
+  client_laws s (ResolveAll table by) f p = all_law s.disk s.agenda table by p
   client_laws s (Take message) f p = take_law s.disk s.agenda message f p
   client_laws s (Work luck) f p = work_law s.disk s.agenda luck p
   client_laws s (Crash luck) f p = crash_law (Crash luck) s.disk s.agenda luck (λ answer. tt) p

@@ -1,24 +1,27 @@
 -- What a client's moves keep of a world: each row is one of its table, and each request is its client's own.
 use Rattle.std.proofs.Common.{◌≡◌, ⊎_elim, ℕ, Bool, true, false, List, [], ◌∷◌, Option, Some, None, refl, sym, ◌∙◌, ap, subst}
-use Rattle.std.specs.Prelude.{if◌then◌else◌, is_some, ◌&&◌}
+use Rattle.std.specs.Prelude.{◌+◌, if◌then◌else◌, is_some, ◌&&◌, drop}
+use Rattle.conflicts.specs.declared.stored.Stored.{Stored}
 use Rattle.stab_base.specs.declared.node.Node.{Node}
 use Rattle.stab_base.specs.declared.node.Node.TheVariants as nodes
 use Rattle.row_value.specs.declared.schema.Schema.{Schema}
 use Rattle.row_store.specs.Spelling.{IsClient}
+use Rattle.table_model.specs.declared.line.RowPair.{RowPair}
 use Rattle.step_tables.specs.Facts as facts
+use Rattle.step_tables.specs.Facts.{Answer, Refusal}
 use Rattle.step_tables.specs.Members.{Among}
 use Rattle.step_tables.specs.Messages.{Message, Send, Luck, SyncRequest, SyncResponse, PullRequest, PullResponse}
 use Rattle.step_tables.specs.Messages as messages
 use Rattle.step_tables.specs.ClientMoves as client
-use Rattle.step_tables.specs.ClientMoves.{Client, ClientTask, ClientMove, ClientStep, Shape, no_shape, client_step, is_cut_off}
+use Rattle.step_tables.specs.ClientMoves.{Client, ClientTask, ClientMove, ClientStep, Shape, no_shape, client_step, is_cut_off, kept_out, phases_by}
 use Rattle.step_tables.proofs.Lists.{among_none, among_cons, among_either}
 use Rattle.world_tables.specs.World.{World, Packet, WorldStep, has_node, schema_at, client_at, still, is_down, is_cut, packets_from, after_client, move_there, move_client, first_luck, other_lucks}
 use Rattle.world_tables.specs.World.{client_works, client_tasks, client_until_idle, client_follows, client_writes, starts_by, client_starts, client_falls, unless_down, refused, gets_tasks}
-use Rattle.world_tables.specs.World.{unless_cut, calls, call_there, reads}
+use Rattle.world_tables.specs.World.{is_resolving, unless_cut, unless_kept, calls, call_there, reads, with_phases, and_then, and_unless, Moved, listed, first_shape, other_shapes, chosen_of, client_pairs, resolve_by, plan_size, resolve_each, resolve_all}
 use Rattle.fair_laws.specs.Fair.{IsFairRequest, AreFairSends, IsFairClient, IsFairStep}
 use Rattle.fair_laws.specs.Worlds.{IsFairMessage, IsFair}
 use Rattle.fair_laws.proofs.Fairness.{step_fair}
-use Rattle.fair_laws.proofs.Hosting.{some_after, all_after}
+use Rattle.fair_laws.proofs.Hosting.{beside_fair, some_after, all_after}
 
 -- ---- one move
 
@@ -51,7 +54,10 @@ client_fair w c move shape f = go (client_at w c) refl
   where
     go : (o : Option Client) → client_at w c ≡ o → IsFair (move_there w c move shape o).world
     go None at = f
-    go (Some node) at = after_fair w c node (client_step c shape node move) at f (step_fair (schema_at w) c shape node move (f.clients c node at))
+    go (Some node) at =
+        let s : ClientStep = client_step c shape node move in
+        after_fair (with_phases w c move s) c node s at (beside_fair w w.holds w.downs w.cuts (phases_by c move s.answer s.client.agenda w.phases) f)
+        (step_fair (schema_at w) c shape node move (f.clients c node at))
 
 -- ---- the work that follows, and a start
 
@@ -109,7 +115,74 @@ call_fair w f c move shape lucks (Some node) = unless_down_fair w f (nodes.Clien
     by_link true = f
     by_link false = follows (gets_tasks node.agenda v c)
 
-    read : (luck : Luck) → IsFair (reads w c luck (unless_cut w (is_cut w c && is_cut_off c shape node move) (calls w c move shape (other_lucks lucks) node))).world
-    read messages.Done = by_link (is_cut w c && is_cut_off c shape node move)
+    linked : WorldStep
+    linked = unless_cut w (is_cut w c && is_cut_off c shape node move) (calls w c move shape (other_lucks lucks) node)
+
+    by_phase : (out : Option Refusal) → IsFair (unless_kept w out linked).world
+    by_phase None = by_link (is_cut w c && is_cut_off c shape node move)
+    by_phase (Some refusal) = f
+
+    read : (luck : Luck) → IsFair (reads w c luck (unless_kept w (kept_out (is_resolving w c) move (client_step c shape node move).answer) linked)).world
+    read messages.Done = by_phase (kept_out (is_resolving w c) move (client_step c shape node move).answer)
     read messages.FailedBefore = client_falls_fair c w f
     read messages.FailedAfter = client_falls_fair c w f
+
+-- ---- conflicts
+
+-- a step whose answer is another one
+abbrev with_answer : WorldStep → Option Answer → WorldStep
+with_answer s o = record s { answer = o }
+
+pub listed_fair : (s : WorldStep) → IsFair s.world → IsFair (listed s).world
+listed_fair s f = go s.answer
+  where
+    go : (o : Option Answer) → IsFair (listed (with_answer s o)).world
+    go None = f
+    go (Some facts.Done) = f
+    go (Some (facts.Number count)) = f
+    go (Some (facts.Shows what)) = f
+    go (Some (facts.Sums sum)) = f
+    go (Some (facts.Stores version content)) = f
+    go (Some (facts.Did did)) = f
+    go (Some (facts.Names names)) = f
+    go (Some (facts.Pairs pairs)) = f
+    go (Some (facts.Refuses refusal)) = f
+
+unless_fair : (m : Moved) (next : World → Moved) → IsFair m.world → ((x : World) → IsFair x → IsFair (next x).world) → IsFair (and_unless m next).world
+unless_fair m next f goes = by_failure m.failed
+  where
+    by_failure : (failed : Bool) → IsFair (if failed then m else and_then m next).world
+    by_failure true = f
+    by_failure false = goes m.world f
+
+module _ (c table : ℕ) (by : Stored) where
+  resolve_by_fair : (shape : Shape) (pair : RowPair) (luck : Luck) (w : World) → IsFair w → IsFair (resolve_by c table by shape pair luck w).world
+  resolve_by_fair shape pair messages.Done w f = client_fair w c (client.Resolve table pair.row pair.version (chosen_of by pair.row (client_at w c) table)) shape f
+  resolve_by_fair shape pair messages.FailedBefore w f = client_falls_fair c w f
+  resolve_by_fair shape pair messages.FailedAfter w f = client_falls_fair c w f
+
+  resolve_each_fair : (shapes : List Shape) (lucks : List Luck) (pairs : List RowPair) (w : World) → IsFair w → IsFair (resolve_each c table by shapes lucks pairs w).world
+  resolve_each_fair shapes lucks [] w f = f
+  resolve_each_fair shapes lucks (pair ∷ pairs) w f =
+      unless_fair (and_unless resolved (client_until_idle c (other_lucks lucks))) (resolve_each c table by (other_shapes shapes) (drop (1 + plan_size c resolved.world) lucks) pairs)
+      (unless_fair resolved (client_until_idle c (other_lucks lucks)) (resolve_by_fair (first_shape shapes) pair (first_luck lucks) w f)
+      (λ x k. client_works_fair c (client_tasks (client_at x c)) (other_lucks lucks) x k))
+      (resolve_each_fair (other_shapes shapes) (drop (1 + plan_size c resolved.world) lucks) pairs)
+    where
+      resolved : Moved
+      resolved = resolve_by c table by (first_shape shapes) pair (first_luck lucks) w
+
+  pub resolve_all_fair : (w : World) → IsFair w → (shapes : List Shape) (lucks : List Luck) (s : WorldStep) → IsFair s.world → IsFair (resolve_all w c table by shapes lucks s).world
+  resolve_all_fair w f shapes lucks s k = go s.answer
+    where
+      go : (o : Option Answer) → IsFair (resolve_all w c table by shapes lucks (with_answer s o)).world
+      go None = k
+      go (Some facts.Done) = k
+      go (Some (facts.Number count)) = resolve_each_fair shapes lucks (client_pairs (client_at w c) table) w f
+      go (Some (facts.Shows what)) = k
+      go (Some (facts.Sums sum)) = k
+      go (Some (facts.Stores version content)) = k
+      go (Some (facts.Did did)) = k
+      go (Some (facts.Names names)) = k
+      go (Some (facts.Pairs pairs)) = k
+      go (Some (facts.Refuses refusal)) = k

@@ -17,13 +17,13 @@ use Rattle.step_tables.specs.ClientMoves.{Client, Shape, no_shape}
 use Rattle.step_tables.proofs.Lists.{among_none, among_get}
 use Rattle.world_tables.specs.World.{World, Packet, Hosted, Lucks, start, schema_at, hosted_at, client_at, owner, the_store, is_down, without_node, with_link, move_table, first_luck, other_lucks}
 use Rattle.world_tables.specs.World.{client_tasks, client_starts, busy_table, tasks_of, store_starts, crash_luck, answering, answered, linked}
-use Rattle.world_tables.specs.World.{take_read, take_at, to_hosted, to_there, carried, delivered, row_read, store_shows, chunk_names, history_lines, worked, all_worked, crashed, started, step}
+use Rattle.world_tables.specs.World.{take_read, take_at, to_hosted, to_there, call, carried, delivered, row_read, store_shows, chunk_names, history_lines, worked, all_worked, crashed, started, step}
 use Rattle.world_tables.specs.Turns.{Happening, world_from}
 use Rattle.fair_laws.specs.Reached.{IsBuilt}
 use Rattle.fair_laws.specs.Worlds.{IsFairMessage, IsFair}
 use Rattle.fair_laws.proofs.Stores.{TakesFair}
 use Rattle.fair_laws.proofs.Hosting.{beside_fair, table_fair, store_falls_fair, write_fair, works_fair, table_follows_fair, crashes_fair, store_starts_fair}
-use Rattle.fair_laws.proofs.Calling.{client_fair, client_works_fair, client_writes_fair, client_starts_fair, unless_down_fair, call_fair}
+use Rattle.fair_laws.proofs.Calling.{client_fair, client_works_fair, client_writes_fair, client_starts_fair, unless_down_fair, call_fair, listed_fair, resolve_all_fair}
 use Rattle.fair_laws.proofs.Declaring.{declared_fair, joined_fair}
 
 module _ (w : World) (f : IsFair w) where
@@ -73,8 +73,8 @@ module _ (w : World) (f : IsFair w) where
   linked_fair c up (Some node) = unless_down_fair w f (nodes.Client c) _ (go up)
     where
       go : (b : Bool) → IsFair (with_link c b w)
-      go true = beside_fair w w.holds w.downs (without_node w.cuts (nodes.Client c)) f
-      go false = beside_fair w w.holds w.downs (nodes.Client c ∷ w.cuts) f
+      go true = beside_fair w w.holds w.downs (without_node w.cuts (nodes.Client c)) w.phases f
+      go false = beside_fair w w.holds w.downs (nodes.Client c ∷ w.cuts) w.phases f
 
   shows_fair : (row : List ℕ) (lucks : List Luck) (o : Option Hosted) → IsFair (store_shows w row lucks o).world
   shows_fair row lucks None = f
@@ -136,12 +136,20 @@ module _ (w : World) (f : IsFair w) where
   step_fair (events.Sum c table row) built lucks = call_fair w f c (client.Sum table row) lucks.shape lucks.calls (client_at w c)
   step_fair (events.Sync c table) built lucks = call_fair w f c (client.Sync table) lucks.shape lucks.calls (client_at w c)
   step_fair (events.Pull c table) built lucks = call_fair w f c (client.Next table) lucks.shape lucks.calls (client_at w c)
+  step_fair (events.BeginCr c table) built lucks = call_fair w f c (client.BeginCr table) lucks.shape lucks.calls (client_at w c)
+  step_fair (events.Conflicts c table) built lucks =
+      listed_fair (call w c (client.Conflicts table) lucks.shape lucks.calls) (call_fair w f c (client.Conflicts table) lucks.shape lucks.calls (client_at w c))
+  step_fair (events.EndCr c table) built lucks = call_fair w f c (client.EndCr table) lucks.shape lucks.calls (client_at w c)
+  step_fair (events.Resolve c table row seen choice) built lucks = call_fair w f c (client.Resolve table row seen choice) lucks.shape lucks.calls (client_at w c)
+  step_fair (events.ResolveAll c table by) built lucks =
+      resolve_all_fair c table by w f lucks.shapes (other_lucks lucks.calls) (call w c (client.ResolveAll table by) lucks.shape lucks.calls)
+      (call_fair w f c (client.ResolveAll table by) lucks.shape lucks.calls (client_at w c))
   step_fair (events.Deliver packet) built lucks = delivered_fair lucks.shape lucks.calls packet (slice_get w.packets packet) refl
   step_fair (events.StoreShow table row) built lucks = shows_fair row lucks.calls (hosted_at w table)
   step_fair (events.History table) built lucks = history_fair table (hosted_at w table)
   step_fair (events.Chunks table) built lucks = chunks_fair table (hosted_at w table)
-  step_fair (events.Hold node) built lucks = unless_down_fair w f node _ (beside_fair w (node ∷ w.holds) w.downs w.cuts f)
-  step_fair (events.Free node) built lucks = unless_down_fair w f node _ (beside_fair w (without_node w.holds node) w.downs w.cuts f)
+  step_fair (events.Hold node) built lucks = unless_down_fair w f node _ (beside_fair w (node ∷ w.holds) w.downs w.cuts w.phases f)
+  step_fair (events.Free node) built lucks = unless_down_fair w f node _ (beside_fair w (without_node w.holds node) w.downs w.cuts w.phases f)
   step_fair (events.Work node) built lucks = unless_down_fair w f node _ (worked_fair lucks.calls node)
   step_fair (events.WorkAll node) built lucks = unless_down_fair w f node _ (all_worked_fair lucks.calls node)
   step_fair (events.Crash node calls pick) built lucks = unless_down_fair w f node _ (crashed_fair calls lucks.calls node)

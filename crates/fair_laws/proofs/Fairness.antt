@@ -8,6 +8,9 @@ use Rattle.std.specs.Ordering.{nat_cmp, match_ordering}
 use Rattle.std.specs.Cmp.{nat_cmp_total}
 use Rattle.std.specs.BTreeMap.{is_at, insert_entry}
 use Rattle.std.specs.Map.{lookup}
+use Rattle.conflicts.specs.declared.pair.Choice.{Choice}
+use Rattle.conflicts.specs.declared.pair.Choice.TheVariants.{Mine, Theirs, New}
+use Rattle.conflicts.specs.declared.stored.Stored.{Stored}
 use Rattle.stab_base.specs.declared.step.Step.{Step}
 use Rattle.row_edits.specs.declared.change.Edit.{Edit}
 use Rattle.row_edits.specs.Edit.{edited_to}
@@ -26,11 +29,11 @@ use Rattle.step_tables.specs.Facts.{Fact, ClientFact, Answer}
 use Rattle.step_tables.specs.Facts as facts
 use Rattle.step_tables.specs.Messages.{Response, Pulled, Header, Outcome, Message, Send, Luck, SyncRequest, SyncResponse, PullRequest, PullResponse}
 use Rattle.step_tables.specs.Messages as messages
-use Rattle.step_tables.specs.ClientMoves.{Slots, TableDisk, RowPut, Plan, ClientDisk, ClientChange, ClientTask, Client, ClientMove, ClientStep, Shape, Choice, Mine, Theirs, Another, Placed, RowOut, Commit, PutRow, PutTable, Finish, Keep}
+use Rattle.step_tables.specs.ClientMoves.{Slots, TableDisk, RowPut, Plan, ClientDisk, ClientChange, ClientTask, Client, ClientMove, ClientStep, Shape, Placed, RowOut, Commit, PutRow, PutTable, Finish, Keep}
 use Rattle.step_tables.specs.ClientMoves.{no_slots, or_none, slots_at, table_at, with_table, put_row, put_position, row_put, table_put, planned_in, seen, changed, quiet, done, crashed, failed, worked, only, row_task, table_task, keeps, rest_of, planning, begun, slots_plan}
 use Rattle.step_tables.specs.ClientMoves.{ending, opening, resumed, started, request_for, pull_from, main_of, write_plan, out_of, strong_plan, first_out, write_strong, write_by, write_free, write_idle, write_fitting, write_to, write_step, edit_made, edit_over, edit_in, content_of, shown_in, edit_step}
 use Rattle.step_tables.specs.ClientMoves.{resent, to_send, or_later, first_to_send, send_plan, sync_first, sync_in, sync_step, next_in, next_step, over_plan, theirs_plan, over_fitting, choose, resolve_over, resolve_in, resolve_step, without, freed, ack_plan, lost_plan, outcome_taken, response_taken, response_in}
-use Rattle.step_tables.specs.ClientMoves.{read_new, read_conflict, reads_over, placed, row_placed, next_pull, row_plan, position_plan, row_taken, top, pulled_taken, pulled_in, take_step, client_step}
+use Rattle.step_tables.specs.ClientMoves.{conflicts_in, phase_in, can_resolve, all_idle, all_fitting, all_in, pairs_of, read_new, read_conflict, reads_over, is_weak, placed, row_placed, next_pull, row_plan, position_plan, row_taken, top, pulled_taken, pulled_in, take_step, client_step}
 use Rattle.step_tables.specs.ClientMoves as client
 use Rattle.step_tables.proofs.Lists.{lookup-insert}
 use Rattle.std.proofs.lemmas.Bool.{eqb-true}
@@ -274,7 +277,7 @@ module _ (known : ℕ → Option Schema) (c : ℕ) where
               ) tt
       choose_fair main x is Theirs =
           begun_fair shape d (facts.Number 0) (theirs_plan c d table row here main x) [] k (t.schema, h.schema, record { main = λ n e. absurd cc; out = slots_here.out }) tt
-      choose_fair main x is (Another content) = go (fit_of t.schema content) refl
+      choose_fair main x is (New content) = go (fit_of t.schema content) refl
         where
           go : (r : Result (Unit {0}) FitFault) → fit_of t.schema content ≡ r → IsFairStep known c (over_fitting c shape d table row here main x content r)
           go (Err fault) e = idle_fair (facts.Refuses (facts.Unfit fault))
@@ -337,12 +340,15 @@ module _ (known : ℕ → Option Schema) (c : ℕ) where
       placed_fair : (g : Scheme) (header : Header) (slots : Slots) (before : List ClientFact) (m : Option Main) (x : Option Shadow) → IsFairSlots t.schema slots
           → IsFairSlots t.schema (placed g c table header slots before m x).slots
       placed_fair g header slots before None x s = record { main = s.main; out = s.out }
-      placed_fair g header slots before (Some main) (Some x) s = conflict_fair header slots before main s
-      placed_fair g header slots before (Some main) None s = go (reads_over g header.yours.version header.version)
+      placed_fair g header slots before (Some main) x s = by_conflict x
         where
           go : (b : Bool) → IsFairSlots t.schema (if b then read_new c table header slots before else read_conflict c table header slots before main).slots
           go true = record { main = s.main; out = s.out }
           go false = conflict_fair header slots before main s
+
+          by_conflict : (y : Option Shadow) → IsFairSlots t.schema (placed g c table header slots before (Some main) y).slots
+          by_conflict (Some y) = go (is_weak g)
+          by_conflict None = go (reads_over g header.yours.version header.version)
 
       row_placed_fair : (g : Scheme) (header : Header) (o : Option InFlight) → IsFairSlots t.schema (row_placed g c table header here o).slots
       row_placed_fair g header None = placed_fair g header here [] here.main here.conflict slots_here
@@ -439,6 +445,26 @@ module _ (known : ℕ → Option Schema) (c : ℕ) where
     resolve_in_fair (task ∷ more) a table row version choice (Some t) f = quiet_fair d (Some (task ∷ more)) (facts.Refuses (facts.Busy shape.plan)) k a
     resolve_in_fair [] a table row version choice (Some t) f = let slots : Slots = slots_at t row in resolve_fair table t row (f t refl) version choice slots.main slots.conflict refl
 
+    conflicts_in_fair : (agenda : List ClientTask) → AreFairTasks agenda → (o : Option TableDisk) → IsFairStep known c (conflicts_in d agenda o)
+    conflicts_in_fair agenda a None = quiet_fair d (Some agenda) (facts.Refuses facts.NoTable) k a
+    conflicts_in_fair agenda a (Some t) = quiet_fair d (Some agenda) (facts.Pairs (pairs_of t.rows)) k a
+
+    phase_in_fair : (agenda : List ClientTask) → AreFairTasks agenda → (o : Option TableDisk) → IsFairStep known c (phase_in d agenda o)
+    phase_in_fair agenda a None = quiet_fair d (Some agenda) (facts.Refuses facts.NoTable) k a
+    phase_in_fair agenda a (Some t) = quiet_fair d (Some agenda) facts.Done k a
+
+    all_in_fair : (agenda : List ClientTask) → AreFairTasks agenda → (by : Stored) (o : Option TableDisk) → IsFairStep known c (all_in shape d agenda by o)
+    all_in_fair agenda a by None = quiet_fair d (Some agenda) (facts.Refuses facts.NoTable) k a
+    all_in_fair agenda a by (Some t) = fits (can_resolve t.schema by)
+      where
+        idle : (tasks : List ClientTask) → AreFairTasks tasks → IsFairStep known c (all_idle shape d tasks t)
+        idle [] a = idle_fair (facts.Number (length (pairs_of t.rows)))
+        idle (task ∷ more) a = quiet_fair d (Some (task ∷ more)) (facts.Refuses (facts.Busy shape.plan)) k a
+
+        fits : (r : Result (Unit {0}) FitFault) → IsFairStep known c (all_fitting shape d agenda t r)
+        fits (Ok it) = idle agenda a
+        fits (Err fault) = quiet_fair d (Some agenda) (facts.Refuses (facts.Unfit fault)) k a
+
     response_fair : (response : Response) (o : Option TableDisk) → ((t : TableDisk) → o ≡ Some t → IsFairTable known response.table t) → IsFairStep known c (response_in c shape d response o)
     response_fair response None f = idle_fair facts.Done
     response_fair response (Some t) f = taken (slots_at t response.row).out
@@ -524,6 +550,10 @@ module _ (known : ℕ → Option Schema) (c : ℕ) where
     up_fair agenda a (client.Sum table row) = quiet_fair d (Some agenda) _ k a
     up_fair agenda a (client.Sync table) = sync_in_fair shape d k agenda a table (table_at (seen d) table) (λ t e. tables_seen d k table t e)
     up_fair agenda a (client.Next table) = next_in_fair shape d k agenda a table (table_at (seen d) table)
+    up_fair agenda a (client.BeginCr table) = phase_in_fair shape d k agenda a (table_at (seen d) table)
+    up_fair agenda a (client.Conflicts table) = conflicts_in_fair shape d k agenda a (table_at (seen d) table)
+    up_fair agenda a (client.EndCr table) = phase_in_fair shape d k agenda a (table_at (seen d) table)
+    up_fair agenda a (client.ResolveAll table by) = all_in_fair shape d k agenda a by (table_at (seen d) table)
     up_fair agenda a (client.Resolve table row version choice) = resolve_in_fair shape d k agenda a table row version choice (table_at (seen d) table) (λ t e. tables_seen d k table t e)
     up_fair agenda a (client.Take m) = take_fair shape d k agenda a m
     up_fair agenda a (client.Work luck) = worked_fair shape d k (Some agenda) a luck
@@ -537,6 +567,10 @@ module _ (known : ℕ → Option Schema) (c : ℕ) where
     down_fair (client.Sum table row) = quiet_fair d None (facts.Refuses facts.Down) k tt
     down_fair (client.Sync table) = quiet_fair d None (facts.Refuses facts.Down) k tt
     down_fair (client.Next table) = quiet_fair d None (facts.Refuses facts.Down) k tt
+    down_fair (client.BeginCr table) = quiet_fair d None (facts.Refuses facts.Down) k tt
+    down_fair (client.Conflicts table) = quiet_fair d None (facts.Refuses facts.Down) k tt
+    down_fair (client.EndCr table) = quiet_fair d None (facts.Refuses facts.Down) k tt
+    down_fair (client.ResolveAll table by) = quiet_fair d None (facts.Refuses facts.Down) k tt
     down_fair (client.Resolve table row version choice) = quiet_fair d None (facts.Refuses facts.Down) k tt
     down_fair (client.Take m) = quiet_fair d None (facts.Refuses facts.Down) k tt
     down_fair (client.Work luck) = worked_fair shape d k None tt luck

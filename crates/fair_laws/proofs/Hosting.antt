@@ -23,9 +23,9 @@ use Rattle.fair_laws.specs.Worlds.{IsFromStore, IsFairMessage, AreStoreSends, Is
 use Rattle.fair_laws.proofs.Fairness.{at_same}
 use Rattle.fair_laws.proofs.Stores.{IsFairMove, IsFairStep, move_fair, late_fair}
 
--- holds, Stores that are down and links that are down beside it
-pub beside_fair : (w : World) (holds downs cuts : List Node) → IsFair w → IsFair (record w { holds = holds; downs = downs; cuts = cuts })
-beside_fair w holds downs cuts f = record { both = f.both; made = f.made; numbers = f.numbers; tables = f.tables; clients = f.clients; packets = f.packets }
+-- holds, Stores and links that are down, and phases that are open beside it
+pub beside_fair : (w : World) (holds downs cuts : List Node) (phases : List (ℕ × ℕ)) → IsFair w → IsFair (record w { holds = holds; downs = downs; cuts = cuts; phases = phases })
+beside_fair w holds downs cuts phases f = record { both = f.both; made = f.made; numbers = f.numbers; tables = f.tables; clients = f.clients; packets = f.packets }
 
 -- ---- one value of a map changed
 
@@ -95,7 +95,7 @@ falls_fair (table ∷ tables) w f =
 pub store_falls_fair : (number : ℕ) (w : World) → IsFair w → IsFair (store_falls number w).world
 store_falls_fair number w f =
     let x : World = (tables_fall (tables_of w number) w).world in
-    beside_fair x x.holds (nodes.Store number ∷ x.downs) x.cuts (falls_fair (tables_of w number) w f)
+    beside_fair x x.holds (nodes.Store number ∷ x.downs) x.cuts x.phases (falls_fair (tables_of w number) w f)
 
 or_falls_fair : (number : ℕ) (m : Moved) → IsFair m.world → IsFair (or_falls number m).world
 or_falls_fair number m f = go m.failed
@@ -183,4 +183,4 @@ store_starts_fair number lucks w f = go m.failed
 
     go : (failed : Bool) → IsFair (if failed then and_then m (tables_fall tables) else and_then m (λ x. store_follows number (drop (length tables) lucks) (without_down (nodes.Store number) x))).world
     go true = falls_fair tables m.world there
-    go false = follows_fair number (drop (length tables) lucks) up (beside_fair m.world m.world.holds up.downs m.world.cuts there)
+    go false = follows_fair number (drop (length tables) lucks) up (beside_fair m.world m.world.holds up.downs m.world.cuts m.world.phases there)

@@ -2,7 +2,6 @@
 use Rattle.std.specs.Prelude.{◌≡◌, ℕ, ◌+◌, ◌<◌, ◌≤◌, List, length}
 use Rattle.std.specs.List.{AllByRecursion}
 use Rattle.row_value.specs.declared.schema.Schema.{Schema}
-use Rattle.row_value.specs.declared.schema.Scheme.TheVariants.{Eventual}
 use Rattle.value_codec.specs.SchemaSpelling.{HasSchemaSpelling, schema_spelling}
 use Rattle.vault.specs.Limit.{payload_most}
 use Rattle.row_store.specs.Spelling.{IsClient}
@@ -16,14 +15,15 @@ use Rattle.world_tables.specs.World.{World, start}
 pub record IsMade (table : ℕ) (schema : Schema) : Type 0 where
   pub least : 1 ≤ table
   pub most : table ≤ 64
-  pub eventual : schema.scheme ≡ Eventual
   pub size : 0 < schema.chunk
   pub spelled : HasSchemaSpelling schema
   pub short : length (schema_spelling schema) + 14 ≤ payload_most
 
+-- not all conflicts of a table are resolved at once yet
 abbrev pub IsBuilt : Event → Type 0
 IsBuilt (events.Table table schema) = IsMade table schema
 IsBuilt (events.Client client gate tables) = IsClient client
+IsBuilt (events.ResolveAll client table by) = ⊥
 IsBuilt other = Unit {0}
 
 -- such events lead to this world, with some lucks

@@ -1,20 +1,22 @@
 -- Each event but a declaration has an answer, whatever its lucks are.
-use Rattle.std.proofs.Common.{◌≡◌, ℕ, Bool, true, false, List, [], ◌∷◌, Option, Some, None, refl}
+use Rattle.std.proofs.Common.{arith, ◌≡◌, ℕ, Bool, true, false, List, [], ◌∷◌, Option, Some, None, refl}
 use Rattle.std.specs.Prelude.{◌&&◌, is_some, slice_get, if◌then◌else◌}
+use Rattle.conflicts.specs.declared.stored.Stored.{Stored}
 use Rattle.stab_base.specs.declared.node.Node.{Node}
 use Rattle.stab_base.specs.declared.node.Node.TheVariants as nodes
 use Rattle.table_model.specs.declared.event.Event.{Event}
 use Rattle.table_model.specs.declared.event.Event.TheVariants as events
 use Rattle.step_tables.specs.Facts as facts
+use Rattle.step_tables.specs.Facts.{Answer, Refusal}
 use Rattle.step_tables.specs.Messages.{Message, Luck, table_of}
 use Rattle.step_tables.specs.Messages as messages
 use Rattle.step_tables.specs.StoreMoves as store
 use Rattle.step_tables.specs.StoreMoves.{StoreMove, StoreTask}
 use Rattle.step_tables.specs.ClientMoves as client
-use Rattle.step_tables.specs.ClientMoves.{Client, ClientMove, Shape, is_cut_off}
+use Rattle.step_tables.specs.ClientMoves.{Client, ClientMove, Shape, client_step, is_cut_off, kept_out}
 use Rattle.world_tables.specs.World.{World, Packet, Hosted, Moved, WorldStep, hosted_at, client_at, the_store, is_down, refused, unless_down, call_there, take_read, take_at, to_hosted, to_there, carried}
 use Rattle.world_tables.specs.World.{delivered, row_read, store_shows, chunk_names, history_lines, worked, all_worked, crashed, started, first_luck, other_lucks, answering, still, store_starts, client_starts, step}
-use Rattle.world_tables.specs.World.{Lucks, is_cut, unless_cut, calls, linked}
+use Rattle.world_tables.specs.World.{Lucks, is_cut, is_resolving, unless_cut, unless_kept, calls, call, linked, listed, resolve_all}
 use Rattle.world_tables.specs.World as world
 
 abbrev IsAnswered : WorldStep → Type 0
@@ -35,14 +37,39 @@ call_answered w c move shape lucks (Some node) = up_answered w (nodes.Client c) 
     by_link true = refl
     by_link false = refl
 
-    reads : (luck : Luck) → IsAnswered (world.reads w c luck (unless_cut w (is_cut w c && is_cut_off c shape node move) (calls w c move shape (other_lucks lucks) node)))
-    reads messages.Done = by_link (is_cut w c && is_cut_off c shape node move)
+    linked : WorldStep
+    linked = unless_cut w (is_cut w c && is_cut_off c shape node move) (calls w c move shape (other_lucks lucks) node)
+
+    by_phase : (out : Option Refusal) → IsAnswered (unless_kept w out linked)
+    by_phase None = by_link (is_cut w c && is_cut_off c shape node move)
+    by_phase (Some refusal) = refl
+
+    reads : (luck : Luck) → IsAnswered (world.reads w c luck (unless_kept w (kept_out (is_resolving w c) move (client_step c shape node move).answer) linked))
+    reads messages.Done = by_phase (kept_out (is_resolving w c) move (client_step c shape node move).answer)
     reads messages.FailedBefore = refl
     reads messages.FailedAfter = refl
 
 to_there_answered : (w : World) (c : ℕ) (m : Message) (shape : Shape) (lucks : List Luck) (o : Option Client) → IsAnswered (to_there w c m shape lucks o)
 to_there_answered w c m shape lucks None = refl
 to_there_answered w c m shape lucks (Some node) = call_answered w c (client.Take m) shape lucks (Some node)
+
+-- a step whose answer is another one
+abbrev with_answer : WorldStep → Option Answer → WorldStep
+with_answer s o = record s { answer = o }
+
+listed_answered : (s : WorldStep) → IsAnswered s → IsAnswered (listed s)
+listed_answered s k = go s.answer k
+  where
+    go : (o : Option Answer) → is_some o ≡ true → IsAnswered (listed (with_answer s o))
+    go None k = k
+    go (Some answer) k = grind (arith, k)
+
+all_answered : (w : World) (c table : ℕ) (by : Stored) (shapes : List Shape) (lucks : List Luck) (s : WorldStep) → IsAnswered s → IsAnswered (resolve_all w c table by shapes lucks s)
+all_answered w c table by shapes lucks s k = go s.answer k
+  where
+    go : (o : Option Answer) → is_some o ≡ true → IsAnswered (resolve_all w c table by shapes lucks (with_answer s o))
+    go None k = k
+    go (Some answer) k = grind (arith, k)
 
 linked_answered : (w : World) (c : ℕ) (up : Bool) (o : Option Client) → IsAnswered (linked w c up o)
 linked_answered w c up None = refl
@@ -133,6 +160,14 @@ step_answered w (events.Show c table row) lucks e = call_answered w c (client.Sh
 step_answered w (events.Sum c table row) lucks e = call_answered w c (client.Sum table row) lucks.shape lucks.calls (client_at w c)
 step_answered w (events.Sync c table) lucks e = call_answered w c (client.Sync table) lucks.shape lucks.calls (client_at w c)
 step_answered w (events.Pull c table) lucks e = call_answered w c (client.Next table) lucks.shape lucks.calls (client_at w c)
+step_answered w (events.BeginCr c table) lucks e = call_answered w c (client.BeginCr table) lucks.shape lucks.calls (client_at w c)
+step_answered w (events.Conflicts c table) lucks e =
+    listed_answered (call w c (client.Conflicts table) lucks.shape lucks.calls) (call_answered w c (client.Conflicts table) lucks.shape lucks.calls (client_at w c))
+step_answered w (events.EndCr c table) lucks e = call_answered w c (client.EndCr table) lucks.shape lucks.calls (client_at w c)
+step_answered w (events.Resolve c table row seen choice) lucks e = call_answered w c (client.Resolve table row seen choice) lucks.shape lucks.calls (client_at w c)
+step_answered w (events.ResolveAll c table by) lucks e =
+    all_answered w c table by lucks.shapes (other_lucks lucks.calls) (call w c (client.ResolveAll table by) lucks.shape lucks.calls)
+    (call_answered w c (client.ResolveAll table by) lucks.shape lucks.calls (client_at w c))
 step_answered w (events.Deliver packet) lucks e = delivered_answered w lucks.shape lucks.calls (slice_get w.packets packet)
 step_answered w (events.StoreShow table row) lucks e = shows_answered w row lucks.calls (hosted_at w table)
 step_answered w (events.History table) lucks e = history_answered w table (hosted_at w table)

@@ -1,24 +1,26 @@
 -- Where nothing failed, all lucks that were used were Done: so it is what it is without lucks.
-use Rattle.std.proofs.Common.{◌≡◌, ℕ, zero, suc, Bool, true, false, List, [], ◌∷◌, ◌++◌, length, Option, Some, None, refl, sym, ◌∙◌, ap}
-use Rattle.std.specs.Prelude.{◌&&◌, ◌||◌, drop, slice_get, if◌then◌else◌}
+use Rattle.std.proofs.Common.{arith, ◌≡◌, ℕ, zero, suc, Bool, true, false, List, [], ◌∷◌, ◌++◌, length, Option, Some, None, refl, sym, ◌∙◌, ap}
+use Rattle.std.specs.Prelude.{◌+◌, ◌&&◌, ◌||◌, drop, slice_get, if◌then◌else◌}
+use Rattle.conflicts.specs.declared.stored.Stored.{Stored}
 use Rattle.stab_base.specs.declared.node.Node.{Node}
 use Rattle.stab_base.specs.declared.node.Node.TheVariants as nodes
+use Rattle.table_model.specs.declared.line.RowPair.{RowPair}
 use Rattle.table_model.specs.declared.event.Event.{Event}
 use Rattle.table_model.specs.declared.event.Event.TheVariants as events
 use Rattle.step_tables.specs.Facts as facts
-use Rattle.step_tables.specs.Facts.{Answer}
+use Rattle.step_tables.specs.Facts.{Answer, Refusal}
 use Rattle.step_tables.specs.Messages.{Message, Luck, table_of}
 use Rattle.step_tables.specs.Messages as messages
 use Rattle.step_tables.specs.StoreMoves as store
 use Rattle.step_tables.specs.StoreMoves.{StoreMove, StoreTask}
 use Rattle.step_tables.specs.ClientMoves as client
-use Rattle.step_tables.specs.ClientMoves.{Client, ClientTask, ClientMove, Shape, client_step, is_cut_off}
+use Rattle.step_tables.specs.ClientMoves.{Client, ClientTask, ClientMove, ClientStep, Shape, client_step, is_cut_off, kept_out}
 use Rattle.world_tables.specs.World.{World, Packet, Hosted, Moved, WorldStep, hosted_at, client_at, owner, the_store, tables_of, has_node, is_down, still, and_then, and_unless, is_fault}
-use Rattle.world_tables.specs.World.{move_hosted, move_table, move_there, move_client, after_client, tasks_in, first_luck, other_lucks, client_works, client_tasks, client_until_idle, client_follows, client_writes, client_starts, tables_fall, without_down, store_falls}
+use Rattle.world_tables.specs.World.{move_hosted, move_table, move_there, move_client, moved_client, tasks_in, first_luck, other_lucks, client_works, client_tasks, client_until_idle, client_follows, client_writes, client_starts, tables_fall, without_down, store_falls}
 use Rattle.world_tables.specs.World.{or_falls, is_at_work, busy_table, write_next, store_works, tasks_of, store_until_idle, store_follows, table_follows, table_starts, tables_start, store_starts}
 use Rattle.world_tables.specs.World.{luck_of, crash_luck, table_crashes, client_crashes, answering, refused, silent, unless_down, gets_tasks, client_follows_from, call_there, take_read, take_at, to_hosted}
 use Rattle.world_tables.specs.World.{to_there, carried, delivered, row_read, store_shows, crashed, started, worked, all_worked, declared, made_with, table_step, step}
-use Rattle.world_tables.specs.World.{Lucks, starts_by, is_cut, unless_cut, calls, joined}
+use Rattle.world_tables.specs.World.{Lucks, starts_by, is_cut, is_resolving, unless_cut, unless_kept, calls, call, joined, listed, first_shape, other_shapes, resolve_by, plan_size, resolve_each, resolve_all, client_pairs}
 use Rattle.world_tables.specs.World as world
 use Rattle.world_tables.specs.Faults.{is_failure, fails_new, fails_joined, fails_cut, fails_write, fails_crash, is_fault_answer, is_device_fault, quiet_lucks}
 
@@ -117,8 +119,14 @@ call_there_same w c move shape lucks (Some node) e =
     cut : Bool
     cut = is_cut w c && is_cut_off c shape node move
 
+    kept : Option Refusal
+    kept = kept_out (is_resolving w c) move (client_step c shape node move).answer
+
+    linked : List Luck → WorldStep
+    linked more = unless_cut w cut (calls w c move shape more node)
+
     read : Luck → List Luck → WorldStep
-    read luck more = world.reads w c luck (unless_cut w cut (calls w c move shape more node))
+    read luck more = world.reads w c luck (unless_kept w kept (linked more))
 
     by_link : (b : Bool) (more : List Luck) → is_fault_answer (unless_cut w b (calls w c move shape more node)).answer ≡ false
         → unless_cut w b (calls w c move shape more node) ≡ unless_cut w b (calls w c move shape [] node)
@@ -129,8 +137,12 @@ call_there_same w c move shape lucks (Some node) e =
         (λ none. then_same (move_client c move shape w) (move_client c move shape w) (client_follows_from node.agenda c more) (client_follows_from node.agenda c []) none (λ is. refl)
         (λ x. follows_from_same node.agenda c more x))
 
+    by_phase : (o : Option Refusal) (more : List Luck) → is_fault_answer (unless_kept w o (linked more)).answer ≡ false → unless_kept w o (linked more) ≡ unless_kept w o (linked [])
+    by_phase None more k = by_link cut more k
+    by_phase (Some refusal) more k = refl
+
     reads_same : (luck : Luck) (more : List Luck) → is_fault_answer (read luck more).answer ≡ false → read luck more ≡ read messages.Done []
-    reads_same messages.Done more k = by_link cut more k
+    reads_same messages.Done more k = by_phase kept more k
     reads_same messages.FailedBefore more k = absurd cc
     reads_same messages.FailedAfter more k = absurd cc
 
@@ -138,6 +150,79 @@ to_there_same : (w : World) (c : ℕ) (m : Message) (shape : Shape) (lucks : Lis
     → to_there w c m shape lucks o ≡ to_there w c m shape [] o
 to_there_same w c m shape lucks None e = refl
 to_there_same w c m shape lucks (Some node) e = call_there_same w c (client.Take m) shape lucks (Some node) e
+
+-- ---- conflicts
+
+abbrev no_lucks : List Luck
+no_lucks = []
+
+drop_none : (n : ℕ) → drop n no_lucks ≡ no_lucks
+drop_none zero = refl
+drop_none (suc n) = refl
+
+-- a step whose answer is another one
+abbrev with_answer : WorldStep → Option Answer → WorldStep
+with_answer s o = record s { answer = o }
+
+listed_same : (s t : WorldStep) → is_fault_answer (listed s).answer ≡ false → (is_fault_answer s.answer ≡ false → s ≡ t) → listed s ≡ listed t
+listed_same s t e same = ap listed (same (fine s.answer e))
+  where
+    fine : (o : Option Answer) → is_fault_answer (listed (with_answer s o)).answer ≡ false → is_fault_answer o ≡ false
+    fine None e = refl
+    fine (Some answer) e = grind (arith, e)
+
+module _ (c table : ℕ) (by : Stored) where
+  resolve_by_same : (shape : Shape) (pair : RowPair) (luck : Luck) (w : World) → (resolve_by c table by shape pair luck w).failed ≡ false
+      → resolve_by c table by shape pair luck w ≡ resolve_by c table by shape pair messages.Done w
+  resolve_by_same shape pair messages.Done w e = refl
+  resolve_by_same shape pair messages.FailedBefore w e = absurd cc
+  resolve_by_same shape pair messages.FailedAfter w e = absurd cc
+
+  resolve_each_same : (shapes : List Shape) (lucks : List Luck) (pairs : List RowPair) (w : World) → (resolve_each c table by shapes lucks pairs w).failed ≡ false
+      → resolve_each c table by shapes lucks pairs w ≡ resolve_each c table by shapes [] pairs w
+  resolve_each_same shapes lucks [] w e = refl
+  resolve_each_same shapes lucks (pair ∷ pairs) w e =
+      unless_same (and_unless resolved (client_until_idle c (other_lucks lucks))) worked (rest (drop (1 + plan_size c resolved.world) lucks)) (rest []) e
+      (λ k. unless_same resolved quiet (client_until_idle c (other_lucks lucks)) (client_until_idle c []) k (resolve_by_same (first_shape shapes) pair (first_luck lucks) w)
+      (λ x. client_works_same c (client_tasks (client_at x c)) (other_lucks lucks) x))
+      (λ x. resolve_each_same (other_shapes shapes) (drop (1 + plan_size c resolved.world) lucks) pairs x)
+      ∙ ap (λ (some : List Luck). and_unless worked (rest some)) (sym (drop_none (1 + plan_size c quiet.world)))
+    where
+      resolved : Moved
+      resolved = resolve_by c table by (first_shape shapes) pair (first_luck lucks) w
+
+      quiet : Moved
+      quiet = resolve_by c table by (first_shape shapes) pair messages.Done w
+
+      worked : Moved
+      worked = and_unless quiet (client_until_idle c [])
+
+      rest : List Luck → World → Moved
+      rest some = resolve_each c table by (other_shapes shapes) some pairs
+
+  module _ (w : World) (shapes : List Shape) (lucks : List Luck) (s : WorldStep) where
+    all_fine : (o : Option Answer) → is_fault_answer (resolve_all w c table by shapes lucks (with_answer s o)).answer ≡ false → is_fault_answer o ≡ false
+    all_fine None e = refl
+    all_fine (Some answer) e = grind (arith, e)
+
+    all_lucks : (o : Option Answer) → is_fault_answer (resolve_all w c table by shapes lucks (with_answer s o)).answer ≡ false
+        → resolve_all w c table by shapes lucks (with_answer s o) ≡ resolve_all w c table by shapes [] (with_answer s o)
+    all_lucks None e = refl
+    all_lucks (Some facts.Done) e = refl
+    all_lucks (Some (facts.Number count)) e =
+        let pairs : List RowPair = client_pairs (client_at w c) table in
+        answering_same (facts.Number count) (resolve_each c table by shapes lucks pairs w) (resolve_each c table by shapes [] pairs w) e (resolve_each_same shapes lucks pairs w)
+    all_lucks (Some (facts.Shows what)) e = refl
+    all_lucks (Some (facts.Sums sum)) e = refl
+    all_lucks (Some (facts.Stores version content)) e = refl
+    all_lucks (Some (facts.Did did)) e = refl
+    all_lucks (Some (facts.Names names)) e = refl
+    all_lucks (Some (facts.Pairs pairs)) e = refl
+    all_lucks (Some (facts.Refuses refusal)) e = refl
+
+    all_same : (t : WorldStep) → is_fault_answer (resolve_all w c table by shapes lucks s).answer ≡ false → (is_fault_answer s.answer ≡ false → s ≡ t)
+        → resolve_all w c table by shapes lucks s ≡ resolve_all w c table by shapes [] t
+    all_same t e same = all_lucks s.answer e ∙ ap (resolve_all w c table by shapes []) (same (all_fine s.answer e))
 
 -- ---- the work of a Store
 
@@ -199,13 +284,6 @@ tables_start_same [] lucks w e = refl
 tables_start_same (table ∷ tables) lucks w e =
     unless_same (table_starts table (first_luck lucks) w) (table_starts table messages.Done w) (tables_start tables (other_lucks lucks)) (tables_start tables []) e
     (table_starts_same table (first_luck lucks) w) (λ x. tables_start_same tables (other_lucks lucks) x)
-
-abbrev no_lucks : List Luck
-no_lucks = []
-
-drop_none : (n : ℕ) → drop n no_lucks ≡ no_lucks
-drop_none zero = refl
-drop_none (suc n) = refl
 
 module _ (number : ℕ) (lucks : List Luck) (w : World) where
   abbrev goes : List Luck → World → Moved
@@ -321,6 +399,9 @@ cut_same : (calls : ℕ) (lucks : List Luck) (busy : Option ℕ) (w : World) →
 cut_same calls lucks None w e = refl
 cut_same calls lucks (Some table) w e = ap (λ (luck : Luck). table_crashes (crash_luck calls (other_lucks lucks) luck) (Some table) w) (done_alone (first_luck lucks) e)
 
+abbrev with_agenda : ClientStep → Option (List ClientTask) → ClientStep
+with_agenda s agenda = record s { client = record s.client { agenda = agenda } }
+
 -- beside a write the luck of a crash says nothing
 crash_move_same : (c : ℕ) (a b : Luck) (node : Client) → client_tasks (Some node) ≡ [] → client_step c client.no_shape node (client.Crash a) ≡ client_step c client.no_shape node (client.Crash b)
 crash_move_same c a b node none = go node.agenda none
@@ -344,9 +425,17 @@ client_crashes_same calls c lucks w e = at (client_at w c) e
     at None e = refl
     at (Some node) e = go (client_tasks (Some node)) refl e
       where
+        -- the luck of a crash says nothing of the phases that it leaves
+        same_phases : (s : ClientStep) → moved_client w c (client.Crash luck) s ≡ moved_client w c (client.Crash quiet) s
+        same_phases s = by_agenda s.client.agenda
+          where
+            by_agenda : (agenda : Option (List ClientTask)) → moved_client w c (client.Crash luck) (with_agenda s agenda) ≡ moved_client w c (client.Crash quiet) (with_agenda s agenda)
+            by_agenda None = refl
+            by_agenda (Some tasks) = refl
+
         go : (tasks : List ClientTask) → client_tasks (Some node) ≡ tasks → fails_write tasks lucks ≡ false
             → move_there w c (client.Crash luck) client.no_shape (Some node) ≡ move_there w c (client.Crash quiet) client.no_shape (Some node)
-        go [] none e = ap (after_client w c) (crash_move_same c luck quiet node none)
+        go [] none e = same_phases (client_step c client.no_shape node (client.Crash luck)) ∙ ap (moved_client w c (client.Crash quiet)) (crash_move_same c luck quiet node none)
         go (task ∷ tasks) is e = ap (λ (it : Luck). move_there w c (client.Crash (crash_luck calls (other_lucks lucks) it)) client.no_shape (Some node)) (done_alone (first_luck lucks) e)
 
 crashed_same : (w : World) (calls : ℕ) (lucks : List Luck) (node : Node) → fails_crash w lucks node ≡ false
@@ -388,6 +477,15 @@ step_same w (events.Show c table row) lucks e = call_there_same w c (client.Show
 step_same w (events.Sum c table row) lucks e = call_there_same w c (client.Sum table row) lucks.shape lucks.calls (client_at w c) e
 step_same w (events.Sync c table) lucks e = call_there_same w c (client.Sync table) lucks.shape lucks.calls (client_at w c) e
 step_same w (events.Pull c table) lucks e = call_there_same w c (client.Next table) lucks.shape lucks.calls (client_at w c) e
+step_same w (events.BeginCr c table) lucks e = call_there_same w c (client.BeginCr table) lucks.shape lucks.calls (client_at w c) e
+step_same w (events.Conflicts c table) lucks e =
+    listed_same (call w c (client.Conflicts table) lucks.shape lucks.calls) (call w c (client.Conflicts table) lucks.shape []) e
+    (λ k. call_there_same w c (client.Conflicts table) lucks.shape lucks.calls (client_at w c) k)
+step_same w (events.EndCr c table) lucks e = call_there_same w c (client.EndCr table) lucks.shape lucks.calls (client_at w c) e
+step_same w (events.Resolve c table row seen choice) lucks e = call_there_same w c (client.Resolve table row seen choice) lucks.shape lucks.calls (client_at w c) e
+step_same w (events.ResolveAll c table by) lucks e =
+    all_same c table by w lucks.shapes (other_lucks lucks.calls) (call w c (client.ResolveAll table by) lucks.shape lucks.calls) (call w c (client.ResolveAll table by) lucks.shape []) e
+    (λ k. call_there_same w c (client.ResolveAll table by) lucks.shape lucks.calls (client_at w c) k)
 step_same w (events.Link c up) lucks e = refl
 step_same w (events.Deliver packet) lucks e = delivered_same w lucks.shape lucks.calls (slice_get w.packets packet) e
 step_same w (events.StoreShow table row) lucks e = store_shows_same w row lucks.calls (hosted_at w table) e

@@ -1,31 +1,35 @@
 -- Where every device call is done, no move fails, and no answer is a device fault.
 use Rattle.std.proofs.Common.{◌≡◌, ℕ, zero, suc, Bool, true, false, List, [], ◌∷◌, length, Option, Some, None, refl, ◌∙◌, ap, arith}
-use Rattle.std.specs.Prelude.{◌&&◌, ◌||◌, drop, slice_get, if◌then◌else◌}
+use Rattle.std.specs.Prelude.{◌+◌, ◌&&◌, ◌||◌, drop, slice_get, if◌then◌else◌}
 use Rattle.std.proofs.lemmas.Bool.Decides.{nat_tests}
+use Rattle.conflicts.specs.declared.pair.Choice.{Choice}
+use Rattle.conflicts.specs.declared.stored.Stored.{Stored}
 use Rattle.stab_base.specs.declared.chunk_name.ChunkName.{ChunkName}
 use Rattle.row_value.specs.declared.content.Content.{Content}
 use Rattle.row_edits.specs.declared.change.Edit.{Edit}
 use Rattle.stab_base.specs.declared.node.Node.{Node}
 use Rattle.stab_base.specs.declared.node.Node.TheVariants as nodes
+use Rattle.table_model.specs.declared.line.RowPair.{RowPair}
 use Rattle.table_model.specs.declared.event.Event.{Event}
 use Rattle.table_model.specs.declared.event.Event.TheVariants as events
 use Rattle.step_tables.specs.Facts as facts
 use Rattle.step_tables.specs.Facts.{Answer, Shown, ShownSum}
 use Rattle.step_tables.specs.Sums.{by_digests, sum_of, or_whole}
-use Rattle.step_tables.specs.Store.{Stored, current_of}
+use Rattle.step_tables.specs.Store.{current_of}
+use Rattle.step_tables.specs.Store as items
 use Rattle.step_tables.specs.Messages.{Message, Luck, table_of, SyncRequest, SyncResponse, PullRequest, PullResponse}
 use Rattle.step_tables.specs.Messages as messages
 use Rattle.step_tables.specs.StoreMoves as store
 use Rattle.step_tables.specs.StoreMoves.{StoreMove, StoreTask, StoreDisk}
 use Rattle.step_tables.specs.ClientMoves as client
-use Rattle.step_tables.specs.ClientMoves.{Client, ClientDisk, ClientTask, ClientMove, Shape, client_step, is_cut_off}
+use Rattle.step_tables.specs.ClientMoves.{Client, ClientDisk, ClientTask, ClientMove, Shape, client_step, is_cut_off, kept_out}
 use Rattle.world_tables.specs.World.{World, Packet, Hosted, Moved, WorldStep, hosted_at, client_at, owner, the_store, tables_of, has_node, is_down, still, and_then, and_unless, is_fault, failing}
 use Rattle.world_tables.specs.World.{move_hosted, move_table, move_there, move_client, client_works, client_tasks, client_until_idle, client_follows, client_writes, client_starts, tables_fall, without_down, store_falls, table_falls}
 use Rattle.world_tables.specs.World.{or_falls, is_at_work, busy_table, write_next, store_works, tasks_of, store_until_idle, store_follows, table_follows, table_starts, tables_start, store_starts}
 use Rattle.world_tables.specs.World.{start_hosted, after_table, declared_late, answering, refused, unless_down, gets_tasks, client_follows_from, call_there, call, take_read, take_at}
 use Rattle.world_tables.specs.World.{to_hosted, row_shown}
 use Rattle.world_tables.specs.World.{to_there, carried, delivered, row_read, store_shows, started, worked, all_worked, table_step, step, schema_at, chunk_names, history_lines}
-use Rattle.world_tables.specs.World.{Lucks, is_cut, unless_cut, calls, linked}
+use Rattle.world_tables.specs.World.{Lucks, is_cut, is_resolving, unless_cut, unless_kept, calls, linked, listed, client_falls, first_shape, other_shapes, chosen_of, client_pairs, resolve_by, plan_size, resolve_each, resolve_all}
 use Rattle.world_tables.specs.Faults.{fails_new, fails_joined, fails_cut, fails_write, fails_crash, is_fault_answer, is_device_fault, quiet_calls, quiet_lucks}
 use Rattle.world_tables.specs.World as moves
 
@@ -78,6 +82,7 @@ digests_fine (facts.Sums sum) e = e
 digests_fine (facts.Stores version content) e = e
 digests_fine (facts.Did did) e = e
 digests_fine (facts.Names names) e = e
+digests_fine (facts.Pairs pairs) e = e
 digests_fine (facts.Refuses refusal) e = e
 
 sync_fine : (c : ℕ) (shape : Shape) (d : ClientDisk) (agenda : Option (List ClientTask)) (table : ℕ) → is_fault (client.sync_step c shape d agenda table).answer ≡ false
@@ -85,6 +90,19 @@ sync_fine c shape d agenda table = grind (arith, nat_tests)
 
 next_fine : (c : ℕ) (shape : Shape) (d : ClientDisk) (agenda : Option (List ClientTask)) (table : ℕ) → is_fault (client.next_step c shape d agenda table).answer ≡ false
 next_fine c shape d agenda table = grind (arith, nat_tests)
+
+phase_fine : (d : ClientDisk) (agenda : Option (List ClientTask)) (table : ℕ) → is_fault (client.phase_step d agenda table).answer ≡ false
+phase_fine d agenda table = grind (arith, nat_tests)
+
+conflicts_fine : (d : ClientDisk) (agenda : Option (List ClientTask)) (table : ℕ) → is_fault (client.conflicts_step d agenda table).answer ≡ false
+conflicts_fine d agenda table = grind (arith, nat_tests)
+
+resolve_fine : (c : ℕ) (shape : Shape) (d : ClientDisk) (agenda : Option (List ClientTask)) (table : ℕ) (row : List ℕ) (version : ℕ) (choice : Choice)
+    → is_fault (client.resolve_step c shape d agenda table row version choice).answer ≡ false
+resolve_fine c shape d agenda table row version choice = grind (arith, nat_tests)
+
+all_fine : (shape : Shape) (d : ClientDisk) (agenda : Option (List ClientTask)) (table : ℕ) (by : Stored) → is_fault (client.all_step shape d agenda table by).answer ≡ false
+all_fine shape d agenda table by = grind (arith, nat_tests)
 
 pub take_fine : (c : ℕ) (shape : Shape) (d : ClientDisk) (agenda : Option (List ClientTask)) (m : Message) → is_fault (client.take_step c shape d agenda m).answer ≡ false
 take_fine c shape d agenda m = grind (arith, nat_tests)
@@ -135,10 +153,41 @@ follows_from_well agenda c w = go (gets_tasks agenda w c)
     go true = client_follows_well c w
     go false = refl
 
+-- what the phases that are open keep a call from
+module _ (w : World) (s : WorldStep) (fine : IsFine s) where
+  if_open_fine : (before is_open : Bool) → IsFine (unless_kept w (client.if_open before is_open) s)
+  if_open_fine before false = fine
+  if_open_fine true true = fine
+  if_open_fine false true = refl
+
+  if_closed_fine : (before is_open : Bool) → IsFine (unless_kept w (client.if_closed before is_open) s)
+  if_closed_fine before true = fine
+  if_closed_fine true false = fine
+  if_closed_fine false false = refl
+
+  kept_fine : (phase : ℕ → Bool) (move : ClientMove) (answer : Answer) → IsFine (unless_kept w (kept_out phase move answer) s)
+  kept_fine phase (client.Write table row content) answer = if_open_fine (client.is_before_write answer) (phase table)
+  kept_fine phase (client.Change table row edit) answer = if_open_fine (client.is_before_write answer) (phase table)
+  kept_fine phase (client.Show table row) answer = fine
+  kept_fine phase (client.Sum table row) answer = fine
+  kept_fine phase (client.Sync table) answer = fine
+  kept_fine phase (client.Next table) answer = fine
+  kept_fine phase (client.BeginCr table) answer = if_open_fine (client.is_before_phase (client.BeginCr table) answer) (phase table)
+  kept_fine phase (client.Conflicts table) answer = if_closed_fine (client.is_before_phase (client.Conflicts table) answer) (phase table)
+  kept_fine phase (client.EndCr table) answer = if_closed_fine (client.is_before_phase (client.EndCr table) answer) (phase table)
+  kept_fine phase (client.Resolve table row seen choice) answer = if_closed_fine (client.is_before_phase (client.Resolve table row seen choice) answer) (phase table)
+  kept_fine phase (client.ResolveAll table by) answer = if_closed_fine (client.is_before_phase (client.ResolveAll table by) answer) (phase table)
+  kept_fine phase (client.Take message) answer = fine
+  kept_fine phase (client.Work luck) answer = fine
+  kept_fine phase (client.Crash luck) answer = fine
+  kept_fine phase client.Start answer = fine
+
 call_there_fine : (w : World) (c : ℕ) (move : ClientMove) (shape : Shape) (o : Option Client) → ((node : Client) → is_fault (client_step c shape node move).answer ≡ false)
     → IsFine (call_there w c move shape [] o)
 call_there_fine w c move shape None fine = refl
-call_there_fine w c move shape (Some node) fine = up_fine w (nodes.Client c) _ (by_link (is_cut w c && is_cut_off c shape node move))
+call_there_fine w c move shape (Some node) fine = up_fine w (nodes.Client c) _
+    (kept_fine w (unless_cut w (is_cut w c && is_cut_off c shape node move) (calls w c move shape [] node)) (by_link (is_cut w c && is_cut_off c shape node move))
+    (is_resolving w c) move (client_step c shape node move).answer)
   where
     by_link : (cut : Bool) → IsFine (unless_cut w cut (calls w c move shape [] node))
     by_link true = refl
@@ -152,6 +201,58 @@ call_fine w c move shape fine = call_there_fine w c move shape (client_at w c) f
 pub to_there_fine : (w : World) (c : ℕ) (m : Message) (shape : Shape) (o : Option Client) → IsFine (to_there w c m shape [] o)
 to_there_fine w c m shape None = refl
 to_there_fine w c m shape (Some node) = call_there_fine w c (client.Take m) shape (Some node) (λ it. take_fine c shape it.disk it.agenda m)
+
+-- ---- conflicts
+
+-- a step whose answer is another one
+abbrev with_answer : WorldStep → Option Answer → WorldStep
+with_answer s o = record s { answer = o }
+
+listed_fine : (s : WorldStep) → IsFine s → IsFine (listed s)
+listed_fine s fine = go s.answer fine
+  where
+    go : (o : Option Answer) → is_fault_answer o ≡ false → IsFine (listed (with_answer s o))
+    go None fine = refl
+    go (Some answer) fine = grind (arith, fine)
+
+abbrev no_lucks : List Luck
+no_lucks = []
+
+drop_none : (n : ℕ) → drop n no_lucks ≡ no_lucks
+drop_none zero = refl
+drop_none (suc n) = refl
+
+module _ (c table : ℕ) (by : Stored) where
+  resolve_by_well : (shape : Shape) (pair : RowPair) (w : World) → IsWell (resolve_by c table by shape pair messages.Done w)
+  resolve_by_well shape pair w =
+      let choice : Choice = chosen_of by pair.row (client_at w c) table in
+      client_move_well c (client.Resolve table pair.row pair.version choice) shape w (λ node. resolve_fine c shape node.disk node.agenda table pair.row pair.version choice)
+
+  resolve_each_well : (shapes : List Shape) (pairs : List RowPair) (w : World) → IsWell (resolve_each c table by shapes [] pairs w)
+  resolve_each_well shapes [] w = refl
+  resolve_each_well shapes (pair ∷ pairs) w =
+      let resolved : Moved = resolve_by c table by (first_shape shapes) pair messages.Done w in
+      unless_well (and_unless resolved (client_until_idle c [])) (resolve_each c table by (other_shapes shapes) (drop (1 + plan_size c resolved.world) []) pairs)
+      (unless_well resolved (client_until_idle c []) (resolve_by_well (first_shape shapes) pair w) (λ x. client_works_well c (client_tasks (client_at x c)) x))
+      (λ x. ap (λ (some : List Luck). (resolve_each c table by (other_shapes shapes) some pairs x).failed) (drop_none (1 + plan_size c resolved.world))
+      ∙ resolve_each_well (other_shapes shapes) pairs x)
+
+  resolve_all_fine : (w : World) (shapes : List Shape) (s : WorldStep) → IsFine s → IsFine (resolve_all w c table by shapes [] s)
+  resolve_all_fine w shapes s fine = go s.answer fine
+    where
+      go : (o : Option Answer) → is_fault_answer o ≡ false → IsFine (resolve_all w c table by shapes [] (with_answer s o))
+      go None fine = refl
+      go (Some facts.Done) fine = fine
+      go (Some (facts.Number count)) fine =
+          let pairs : List RowPair = client_pairs (client_at w c) table in
+          answering_fine (facts.Number count) (resolve_each c table by shapes [] pairs w) refl (resolve_each_well shapes pairs w)
+      go (Some (facts.Shows what)) fine = fine
+      go (Some (facts.Sums sum)) fine = fine
+      go (Some (facts.Stores version content)) fine = fine
+      go (Some (facts.Did did)) fine = fine
+      go (Some (facts.Names names)) fine = fine
+      go (Some (facts.Pairs pairs)) fine = fine
+      go (Some (facts.Refuses refusal)) fine = fine
 
 -- ---- a table's moves
 
@@ -227,13 +328,6 @@ tables_start_well : (tables : List ℕ) (w : World) → IsWell (tables_start tab
 tables_start_well [] w = refl
 tables_start_well (table ∷ tables) w = unless_well (table_starts table messages.Done w) (tables_start tables []) (table_starts_well table w) (tables_start_well tables)
 
-abbrev no_lucks : List Luck
-no_lucks = []
-
-drop_none : (n : ℕ) → drop n no_lucks ≡ no_lucks
-drop_none zero = refl
-drop_none (suc n) = refl
-
 store_starts_well : (number : ℕ) (w : World) → IsWell (store_starts number [] w)
 store_starts_well number w =
     let m : Moved = tables_start (tables_of w number) [] w in
@@ -271,7 +365,7 @@ delivered_fine : (w : World) (shape : Shape) (o : Option Packet) → IsFine (del
 delivered_fine w shape None = refl
 delivered_fine w shape (Some packet) = carried_fine w packet shape packet.to
 
-shown_fine : (o : Option Stored) → is_fault (row_shown o) ≡ false
+shown_fine : (o : Option items.Stored) → is_fault (row_shown o) ≡ false
 shown_fine None = refl
 shown_fine (Some item) = refl
 
@@ -304,6 +398,15 @@ fine_step w (events.Sum c table row) lucks =
     call_fine w c (client.Sum table row) lucks.shape (λ node. digests_fine (client.show_step node.disk node.agenda table row).answer (show_fine node.disk node.agenda table row))
 fine_step w (events.Sync c table) lucks = call_fine w c (client.Sync table) lucks.shape (λ node. sync_fine c lucks.shape node.disk node.agenda table)
 fine_step w (events.Pull c table) lucks = call_fine w c (client.Next table) lucks.shape (λ node. next_fine c lucks.shape node.disk node.agenda table)
+fine_step w (events.BeginCr c table) lucks = call_fine w c (client.BeginCr table) lucks.shape (λ node. phase_fine node.disk node.agenda table)
+fine_step w (events.Conflicts c table) lucks =
+    listed_fine (call w c (client.Conflicts table) lucks.shape []) (call_fine w c (client.Conflicts table) lucks.shape (λ node. conflicts_fine node.disk node.agenda table))
+fine_step w (events.EndCr c table) lucks = call_fine w c (client.EndCr table) lucks.shape (λ node. phase_fine node.disk node.agenda table)
+fine_step w (events.Resolve c table row seen choice) lucks =
+    call_fine w c (client.Resolve table row seen choice) lucks.shape (λ node. resolve_fine c lucks.shape node.disk node.agenda table row seen choice)
+fine_step w (events.ResolveAll c table by) lucks =
+    resolve_all_fine c table by w lucks.shapes (call w c (client.ResolveAll table by) lucks.shape [])
+    (call_fine w c (client.ResolveAll table by) lucks.shape (λ node. all_fine lucks.shape node.disk node.agenda table by))
 fine_step w (events.Link c up) lucks = go (client_at w c)
   where
     go : (o : Option Client) → IsFine (linked w c up o)

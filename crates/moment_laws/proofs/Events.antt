@@ -1,25 +1,29 @@
 -- What is kept of every table along the moves of each event.
 use Rattle.std.proofs.Common.{◌≡◌, ⊎_elim, ℕ, Bool, true, false, List, [], ◌∷◌, length, Option, Some, None, refl, sym, ◌∙◌, subst}
-use Rattle.std.specs.Prelude.{◌&&◌, not, slice_get, if◌then◌else◌}
+use Rattle.std.specs.Prelude.{◌+◌, ◌&&◌, not, drop, slice_get, if◌then◌else◌}
+use Rattle.conflicts.specs.declared.stored.Stored.{Stored}
 use Rattle.stab_base.specs.declared.node.Node.{Node}
 use Rattle.stab_base.specs.declared.node.Node.TheVariants as nodes
 use Rattle.row_value.specs.declared.schema.Schema.{Schema}
+use Rattle.table_model.specs.declared.line.RowPair.{RowPair}
 use Rattle.table_model.specs.declared.event.Event.{Event}
 use Rattle.table_model.specs.declared.event.Event.TheVariants as events
 use Rattle.step_tables.specs.Facts as facts
+use Rattle.step_tables.specs.Facts.{Answer, Refusal}
 use Rattle.step_tables.specs.Messages.{Luck, Message, table_of}
 use Rattle.step_tables.specs.Messages as messages
 use Rattle.step_tables.specs.StoreMoves as store
 use Rattle.step_tables.specs.StoreMoves.{StoreTask, StoreMove, StoreStep}
 use Rattle.step_tables.specs.ClientMoves as client
-use Rattle.step_tables.specs.ClientMoves.{Client, ClientTask, ClientMove, Shape, is_cut_off}
+use Rattle.step_tables.specs.ClientMoves.{Client, ClientTask, ClientMove, Shape, client_step, is_cut_off, kept_out}
 use Rattle.world_tables.specs.World.{World, Packet, Hosted, WorldStep, owner, the_store, hosted_at, client_at, tables_of, has_node, is_down, still}
 use Rattle.world_tables.specs.World.{table_step, move_table, move_there, move_client, first_luck, other_lucks, client_works, client_tasks, client_until_idle, client_follows, client_writes, client_starts, store_falls, busy_table, tasks_of}
 use Rattle.world_tables.specs.World.{crash_luck, declared_late, store_starts}
 use Rattle.world_tables.specs.World.{answering, answered, refused, unless_down, agenda_of, with_table, declared, joined, gets_tasks}
 use Rattle.world_tables.specs.World.{call_there, take_read, take_at, to_hosted, to_there, carried, delivered, row_read, store_shows, chunk_names, history_lines, worked, all_worked, crashed}
 use Rattle.world_tables.specs.World.{started, step}
-use Rattle.world_tables.specs.World.{Lucks, starts_by, client_falls, is_cut, with_link, unless_cut, calls, linked}
+use Rattle.world_tables.specs.World.{Lucks, starts_by, client_falls, is_cut, with_link, unless_cut, unless_kept, is_resolving, calls, call, linked}
+use Rattle.world_tables.specs.World.{Moved, and_then, and_unless, listed, first_shape, other_shapes, chosen_of, client_pairs, resolve_by, plan_size, resolve_each, resolve_all}
 use Rattle.world_tables.specs.World as world
 use Rattle.world_tables.specs.Passed.{taken_by, taken_from, taken_part, started_at, first_part}
 use Rattle.world_laws.proofs.Looks.{look_cases}
@@ -33,6 +37,10 @@ new_hosted made up = record { store = record { disk = record { items = []; pendi
 -- what a table is that this event declares
 abbrev pub Fresh : (ℕ → Hosted → Type 0) → World → Type 0
 Fresh P w = (table : ℕ) → hosted_at w table ≡ None → ((up : Bool) → P table (new_hosted true up)) × P table (new_hosted false false)
+
+-- a step whose answer is another one
+abbrev with_answer : WorldStep → Option Answer → WorldStep
+with_answer s o = record s { answer = o }
 
 module _ (P : ℕ → Hosted → Type 0)
     (works : (w : World) (table : ℕ) (hosted : Hosted) (luck : Luck) → P table hosted → P table (behind_step hosted (table_step w table hosted (store.Work luck))))
@@ -96,10 +104,73 @@ module _ (P : ℕ → Hosted → Type 0)
       fallen : All P (client_falls c w).world
       fallen = client_all w c (client.Crash messages.FailedBefore) client.no_shape all
 
-      reads : (luck : Luck) → All P (world.reads w c luck (unless_cut w (is_cut w c && is_cut_off c shape node move) (calls w c move shape (other_lucks lucks) node))).world
-      reads messages.Done = by_link (is_cut w c && is_cut_off c shape node move)
+      linked : WorldStep
+      linked = unless_cut w (is_cut w c && is_cut_off c shape node move) (calls w c move shape (other_lucks lucks) node)
+
+      by_phase : (out : Option Refusal) → All P (unless_kept w out linked).world
+      by_phase None = by_link (is_cut w c && is_cut_off c shape node move)
+      by_phase (Some refusal) = all
+
+      reads : (luck : Luck) → All P (world.reads w c luck (unless_kept w (kept_out (is_resolving w c) move (client_step c shape node move).answer) linked)).world
+      reads messages.Done = by_phase (kept_out (is_resolving w c) move (client_step c shape node move).answer)
       reads messages.FailedBefore = fallen
       reads messages.FailedAfter = fallen
+
+  -- ---- conflicts
+
+  listed_all : (s : WorldStep) → All P s.world → All P (listed s).world
+  listed_all s all = go s.answer
+    where
+      go : (o : Option Answer) → All P (listed (with_answer s o)).world
+      go None = all
+      go (Some facts.Done) = all
+      go (Some (facts.Number count)) = all
+      go (Some (facts.Shows what)) = all
+      go (Some (facts.Sums sum)) = all
+      go (Some (facts.Stores version content)) = all
+      go (Some (facts.Did did)) = all
+      go (Some (facts.Names names)) = all
+      go (Some (facts.Pairs pairs)) = all
+      go (Some (facts.Refuses refusal)) = all
+
+  unless_all : (m : Moved) (next : World → Moved) → All P m.world → ((x : World) → All P x → All P (next x).world) → All P (and_unless m next).world
+  unless_all m next all goes = by_failure m.failed
+    where
+      by_failure : (failed : Bool) → All P (if failed then m else and_then m next).world
+      by_failure true = all
+      by_failure false = goes m.world all
+
+  module _ (c table : ℕ) (by : Stored) where
+    resolve_by_all : (shape : Shape) (pair : RowPair) (luck : Luck) (w : World) → All P w → All P (resolve_by c table by shape pair luck w).world
+    resolve_by_all shape pair messages.Done w all = client_all w c (client.Resolve table pair.row pair.version (chosen_of by pair.row (client_at w c) table)) shape all
+    resolve_by_all shape pair messages.FailedBefore w all = client_all w c (client.Crash messages.FailedBefore) client.no_shape all
+    resolve_by_all shape pair messages.FailedAfter w all = client_all w c (client.Crash messages.FailedBefore) client.no_shape all
+
+    resolve_each_all : (shapes : List Shape) (lucks : List Luck) (pairs : List RowPair) (w : World) → All P w → All P (resolve_each c table by shapes lucks pairs w).world
+    resolve_each_all shapes lucks [] w all = all
+    resolve_each_all shapes lucks (pair ∷ pairs) w all =
+        unless_all (and_unless resolved (client_until_idle c (other_lucks lucks))) (resolve_each c table by (other_shapes shapes) (drop (1 + plan_size c resolved.world) lucks) pairs)
+        (unless_all resolved (client_until_idle c (other_lucks lucks)) (resolve_by_all (first_shape shapes) pair (first_luck lucks) w all)
+        (λ x k. client_works_all c (client_tasks (client_at x c)) (other_lucks lucks) x k))
+        (resolve_each_all (other_shapes shapes) (drop (1 + plan_size c resolved.world) lucks) pairs)
+      where
+        resolved : Moved
+        resolved = resolve_by c table by (first_shape shapes) pair (first_luck lucks) w
+
+    resolve_all_all : (w : World) → All P w → (shapes : List Shape) (lucks : List Luck) (s : WorldStep) → All P s.world → All P (resolve_all w c table by shapes lucks s).world
+    resolve_all_all w all shapes lucks s k = go s.answer
+      where
+        go : (o : Option Answer) → All P (resolve_all w c table by shapes lucks (with_answer s o)).world
+        go None = k
+        go (Some facts.Done) = k
+        go (Some (facts.Number count)) = resolve_each_all shapes lucks (client_pairs (client_at w c) table) w all
+        go (Some (facts.Shows what)) = k
+        go (Some (facts.Sums sum)) = k
+        go (Some (facts.Stores version content)) = k
+        go (Some (facts.Did did)) = k
+        go (Some (facts.Names names)) = k
+        go (Some (facts.Pairs pairs)) = k
+        go (Some (facts.Refuses refusal)) = k
 
   -- ---- messages
 
@@ -222,6 +293,15 @@ module _ (P : ℕ → Hosted → Type 0)
   step_all w (events.Sum c table row) lucks all first f = call_all w c (client.Sum table row) lucks.shape lucks.calls all (client_at w c)
   step_all w (events.Sync c table) lucks all first f = call_all w c (client.Sync table) lucks.shape lucks.calls all (client_at w c)
   step_all w (events.Pull c table) lucks all first f = call_all w c (client.Next table) lucks.shape lucks.calls all (client_at w c)
+  step_all w (events.BeginCr c table) lucks all first f = call_all w c (client.BeginCr table) lucks.shape lucks.calls all (client_at w c)
+  step_all w (events.Conflicts c table) lucks all first f =
+      listed_all (call w c (client.Conflicts table) lucks.shape lucks.calls) (call_all w c (client.Conflicts table) lucks.shape lucks.calls all (client_at w c))
+  step_all w (events.EndCr c table) lucks all first f = call_all w c (client.EndCr table) lucks.shape lucks.calls all (client_at w c)
+  step_all w (events.Resolve c table row seen choice) lucks all first f =
+      call_all w c (client.Resolve table row seen choice) lucks.shape lucks.calls all (client_at w c)
+  step_all w (events.ResolveAll c table by) lucks all first f =
+      resolve_all_all c table by w all lucks.shapes (other_lucks lucks.calls) (call w c (client.ResolveAll table by) lucks.shape lucks.calls)
+      (call_all w c (client.ResolveAll table by) lucks.shape lucks.calls all (client_at w c))
   step_all w (events.Deliver n) lucks all first f = delivered_all w lucks.shape lucks.calls all (slice_get w.packets n) first
   step_all w (events.StoreShow table row) lucks all first f = shows_all w row lucks.calls all (hosted_at w table)
   step_all w (events.History table) lucks all first f = history_all w table all (hosted_at w table)

@@ -16,14 +16,14 @@ use Rattle.step_tables.proofs.Lists.{among_none, among_cons, among_either}
 use Rattle.world_tables.specs.World.{client_until_idle, client_writes}
 use Rattle.world_tables.specs.World.{World, Packet, Hosted, Outbox, Moved, owner, the_store, tables_of, schema_at, scheme_in, chunk_in, hosted_at, client_at, has_node, still, and_then}
 use Rattle.world_tables.specs.World.{and_unless, failing, packets_from}
-use Rattle.world_tables.specs.World.{history_on, after_table, table_step, move_hosted, move_table, after_client, move_there, move_client, first_luck, other_lucks, client_works, client_tasks}
+use Rattle.world_tables.specs.World.{history_on, after_table, table_step, move_hosted, move_table, moved_client, move_there, move_client, first_luck, other_lucks, client_works, client_tasks}
 use Rattle.world_tables.specs.World.{client_follows}
 use Rattle.world_tables.specs.World.{table_falls, tables_fall, with_down, without_down, store_falls, or_falls, is_at_work, busy_table, write_next, store_works, tasks_of, store_until_idle}
 use Rattle.world_tables.specs.World.{store_follows, table_follows}
 use Rattle.world_tables.specs.World.{declared_late, start_hosted, table_starts, tables_start, store_starts, crash_luck, table_crashes, store_crashes, gets_tasks, client_follows_from}
 use Rattle.world_laws.proofs.Looks.{look_cases}
 use Rattle.name_laws.proofs.Left.{IsClean, move_clean}
-use Rattle.name_laws.proofs.Plain.{ArePlainFacts, IsPlace, ToPlaces, IsPlainAgenda, IsWorldly, IsPlainStep, client_plain, HasPlainWrites, IsPlainMove, IsFrom, move_plain}
+use Rattle.name_laws.proofs.Plain.{ArePlainFacts, IsPlace, ToPlaces, IsPlainAgenda, IsPlainStep, client_plain, HasPlainWrites, IsPlainMove, IsFrom, move_plain}
 use Rattle.name_laws.proofs.Keys.{AreRising, insert_keys_rise}
 
 pub record IsFineTable (s : TableStore) : Type 0 where
@@ -123,14 +123,14 @@ table_went w table move from f = go (hosted_at w table) refl
         (move_plain owner (scheme_in (schema_at w table)) (chunk_in (schema_at w table)) table hosted.store move from x.writes)
         (move_clean owner (scheme_in (schema_at w table)) (chunk_in (schema_at w table)) table hosted.store move x.clean)
 
-pub client_went : (w : World) (c : ℕ) (move : ClientMove) (shape : Shape) → IsWorldly move → IsFine w → Went w (move_client c move shape w)
-client_went w c move shape worldly f = go (client_at w c) refl
+pub client_went : (w : World) (c : ℕ) (move : ClientMove) (shape : Shape) → IsFine w → Went w (move_client c move shape w)
+client_went w c move shape f = go (client_at w c) refl
   where
     go : (o : Option Client) → client_at w c ≡ o → Went w (move_there w c move shape o)
     go None at = still_went w f
-    go (Some node) at = went (client_plain c shape node move worldly (f.clients c node at))
+    go (Some node) at = went (client_plain c shape node move (f.clients c node at))
       where
-        went : IsPlainStep (client_step c shape node move) → Went w (after_client w c (client_step c shape node move))
+        went : IsPlainStep (client_step c shape node move) → Went w (moved_client w c move (client_step c shape node move))
         went p = record {
           fine = record {
             keys = f.keys;
@@ -154,7 +154,7 @@ pub works_went : (c : ℕ) (tasks : List ClientTask) (lucks : List Luck) (w : Wo
 works_went c [] lucks w f = still_went w f
 works_went c (task ∷ tasks) lucks w f =
     let m : Moved = move_client c (client.Work (first_luck lucks)) no_shape w in
-    then_went w m (client_works c tasks (other_lucks lucks)) (client_went w c (client.Work (first_luck lucks)) no_shape tt f) (λ x. works_went c tasks (other_lucks lucks) m.world x)
+    then_went w m (client_works c tasks (other_lucks lucks)) (client_went w c (client.Work (first_luck lucks)) no_shape f) (λ x. works_went c tasks (other_lucks lucks) m.world x)
 
 pub client_follows_went : (c : ℕ) (lucks : List Luck) (w : World) → IsFine w → Went w (client_follows c lucks w)
 client_follows_went c lucks w f = go (has_node w.holds (nodes.Client c))
@@ -165,7 +165,7 @@ client_follows_went c lucks w f = go (has_node w.holds (nodes.Client c))
 
 pub client_writes_went : (c : ℕ) (luck : Luck) (tasks : List ClientTask) (w : World) → IsFine w → Went w (client_writes c luck tasks w)
 client_writes_went c luck [] w f = still_went w f
-client_writes_went c luck (task ∷ tasks) w f = client_went w c (client.Work luck) no_shape tt f
+client_writes_went c luck (task ∷ tasks) w f = client_went w c (client.Work luck) no_shape f
 
 pub follows_from_went : (agenda : Option (List ClientTask)) (c : ℕ) (lucks : List Luck) (w : World) → IsFine w → Went w (client_follows_from agenda c lucks w)
 follows_from_went agenda c lucks w f = go (gets_tasks agenda w c)

@@ -1,18 +1,23 @@
 -- No move tells that a packet was sent, and what moves send goes to clients, gateways and the one Store.
 use Rattle.std.proofs.Common.{◌≡◌, ℕ, Bool, true, false, List, [], ◌∷◌, ◌++◌, Option, Some, None, Result, Ok, Err, refl, sym, subst, append-nil}
 use Rattle.std.specs.Prelude.{map, if◌then◌else◌, ◌==◌, nat_le, nat_lt, option_map, option_to_list}
+use Rattle.conflicts.specs.declared.pair.Choice.{Choice}
+use Rattle.conflicts.specs.declared.pair.Choice.TheVariants as choices
+use Rattle.conflicts.specs.declared.stored.Stored as resolvers
 use Rattle.stab_base.specs.declared.node.Node.{Node}
 use Rattle.stab_base.specs.declared.step.Step.{Step}
 use Rattle.stab_base.specs.declared.node.Node.TheVariants as nodes
 use Rattle.stab_base.specs.declared.chunk_name.ChunkName.{ChunkName}
 use Rattle.row_value.specs.declared.content.Content.{Content}
 use Rattle.row_value.specs.declared.content.Content.TheVariants.{Gone, Row}
+use Rattle.row_value.specs.declared.schema.Schema.{Schema}
 use Rattle.row_value.specs.declared.schema.Scheme.{Scheme}
 use Rattle.row_value.specs.declared.schema.Scheme.TheVariants.{Strong, Causal, Eventual}
 use Rattle.row_value.specs.declared.fit.FitFault.{FitFault}
 use Rattle.row_value.specs.Fit.{fit_of}
 use Rattle.row_edits.specs.declared.change.Edit.{Edit}
 use Rattle.row_edits.specs.Edit.{edited_to}
+use Rattle.step_tables.specs.declared.slots.Main.{Main}
 use Rattle.step_tables.specs.declared.slots.InFlight.{InFlight}
 use Rattle.step_tables.specs.declared.slots.Shadow.{Shadow}
 use Rattle.step_tables.specs.Facts.{Fact, ClientFact, Answer}
@@ -186,6 +191,73 @@ module _ (c : ℕ) (shape : Shape) (d : ClientDisk) where
   next_plain None table p = quiet_plain d None _ tt
   next_plain (Some agenda) table p = next_in_plain agenda table (client.table_at (client.seen d) table) p
 
+  -- ---- conflicts
+
+  choose_plain : (table : ℕ) (row : List ℕ) (schema : Schema) (slots : Slots) (main : Main) (x : Shadow) (choice : Choice) → IsPlainStep (client.choose c shape d table row schema slots main x choice)
+  choose_plain table row schema slots main x choices.Mine = begun_plain shape d _ _ [] tt
+  choose_plain table row schema slots main x choices.Theirs = begun_plain shape d _ _ [] tt
+  choose_plain table row schema slots main x (choices.New content) = fits (fit_of schema content)
+    where
+      fits : (fit : Result (Unit {0}) FitFault) → IsPlainStep (client.over_fitting c shape d table row slots main x content fit)
+      fits (Ok it) = begun_plain shape d _ _ [] tt
+      fits (Err fault) = quiet_plain d (Some []) _ tt
+
+  resolve_over_plain : (table : ℕ) (row : List ℕ) (schema : Schema) (slots : Slots) (version : ℕ) (choice : Choice) (main : Option Main) (conflict : Option Shadow)
+      → IsPlainStep (client.resolve_over c shape d table row schema slots version choice main conflict)
+  resolve_over_plain table row schema slots version choice None conflict = quiet_plain d (Some []) _ tt
+  resolve_over_plain table row schema slots version choice (Some main) None = quiet_plain d (Some []) _ tt
+  resolve_over_plain table row schema slots version choice (Some main) (Some x) = go (x.version == version)
+    where
+      go : (b : Bool) → IsPlainStep (if b then client.choose c shape d table row schema slots main x choice else client.refused d (facts.Moved version x.version))
+      go true = choose_plain table row schema slots main x choice
+      go false = quiet_plain d (Some []) _ tt
+
+  resolve_in_plain : (agenda : List ClientTask) (table : ℕ) (row : List ℕ) (version : ℕ) (choice : Choice) (o : Option TableDisk) → ArePlainTasks agenda
+      → IsPlainStep (client.resolve_in c shape d agenda table row version choice o)
+  resolve_in_plain agenda table row version choice None p = quiet_plain d (Some agenda) _ p
+  resolve_in_plain (task ∷ more) table row version choice (Some opened) p = quiet_plain d (Some (task ∷ more)) _ p
+  resolve_in_plain [] table row version choice (Some opened) p =
+      let slots : Slots = client.slots_at opened row in resolve_over_plain table row opened.schema slots version choice slots.main slots.conflict
+
+  resolve_plain : (agenda : Option (List ClientTask)) (table : ℕ) (row : List ℕ) (version : ℕ) (choice : Choice) → IsPlainAgenda agenda
+      → IsPlainStep (client.resolve_step c shape d agenda table row version choice)
+  resolve_plain None table row version choice p = quiet_plain d None _ tt
+  resolve_plain (Some agenda) table row version choice p = resolve_in_plain agenda table row version choice (client.table_at (client.seen d) table) p
+
+  conflicts_in_plain : (agenda : List ClientTask) (o : Option TableDisk) → ArePlainTasks agenda → IsPlainStep (client.conflicts_in d agenda o)
+  conflicts_in_plain agenda None p = quiet_plain d (Some agenda) _ p
+  conflicts_in_plain agenda (Some opened) p = quiet_plain d (Some agenda) _ p
+
+  conflicts_plain : (agenda : Option (List ClientTask)) (table : ℕ) → IsPlainAgenda agenda → IsPlainStep (client.conflicts_step d agenda table)
+  conflicts_plain None table p = quiet_plain d None _ tt
+  conflicts_plain (Some agenda) table p = conflicts_in_plain agenda (client.table_at (client.seen d) table) p
+
+  phase_in_plain : (agenda : List ClientTask) (o : Option TableDisk) → ArePlainTasks agenda → IsPlainStep (client.phase_in d agenda o)
+  phase_in_plain agenda None p = quiet_plain d (Some agenda) _ p
+  phase_in_plain agenda (Some opened) p = quiet_plain d (Some agenda) _ p
+
+  phase_plain : (agenda : Option (List ClientTask)) (table : ℕ) → IsPlainAgenda agenda → IsPlainStep (client.phase_step d agenda table)
+  phase_plain None table p = quiet_plain d None _ tt
+  phase_plain (Some agenda) table p = phase_in_plain agenda (client.table_at (client.seen d) table) p
+
+  all_in_plain : (agenda : List ClientTask) (by : resolvers.Stored) (o : Option TableDisk) → ArePlainTasks agenda → IsPlainStep (client.all_in shape d agenda by o)
+  all_in_plain agenda by None p = quiet_plain d (Some agenda) _ p
+  all_in_plain agenda by (Some opened) p = fits (client.can_resolve opened.schema by)
+    where
+      idle : (tasks : List ClientTask) → ArePlainTasks tasks → IsPlainStep (client.all_idle shape d tasks opened)
+      idle [] q = quiet_plain d (Some []) _ tt
+      idle (task ∷ more) q = quiet_plain d (Some (task ∷ more)) _ q
+
+      fits : (fit : Result (Unit {0}) FitFault) → IsPlainStep (client.all_fitting shape d agenda opened fit)
+      fits (Ok it) = idle agenda p
+      fits (Err fault) = quiet_plain d (Some agenda) _ p
+
+  all_plain : (agenda : Option (List ClientTask)) (table : ℕ) (by : resolvers.Stored) → IsPlainAgenda agenda → IsPlainStep (client.all_step shape d agenda table by)
+  all_plain None table by p = quiet_plain d None _ tt
+  all_plain (Some agenda) table by p = all_in_plain agenda by (client.table_at (client.seen d) table) p
+
+  -- ---- answers and rows from the Store
+
   outcome_plain : (table : ℕ) (row : List ℕ) (opened : TableDisk) (slots : Slots) (out : InFlight) (o : Outcome) → IsPlainStep (client.outcome_taken c shape d table row opened slots out o)
   outcome_plain table row opened slots out (messages.Accepted v) = begun_plain shape d _ _ [] tt
   outcome_plain table row opened slots out (messages.Again v) = begun_plain shape d _ _ [] tt
@@ -286,23 +358,22 @@ module _ (c : ℕ) (shape : Shape) (d : ClientDisk) where
   start_plain (Some agenda) p = quiet_plain d (Some agenda) _ p
   start_plain None p = record { facts = over_plain_facts _ (client.opening shape d.plan) (told_at_start_plain shape.torn d.plan); sends = tt; agenda = ending_plain (client.opening shape d.plan) (opening_plain d.plan) }
 
--- the moves that the world makes of a client: all but one that resolves a conflict
-abbrev pub IsWorldly : ClientMove → Type 0
-IsWorldly (client.Resolve table row version choice) = ⊥
-IsWorldly other = Unit {0}
-
-pub client_plain : (c : ℕ) (shape : Shape) (s : Client) (move : ClientMove) → IsWorldly move → IsPlainAgenda s.agenda → IsPlainStep (client_step c shape s move)
-client_plain c shape s (client.Write table row x) f p = write_plain c shape s.disk s.agenda table row x p
-client_plain c shape s (client.Change table row edit) f p = edit_plain c shape s.disk s.agenda table row edit p
-client_plain c shape s (client.Show table row) f p = show_plain c shape s.disk s.agenda table row p
-client_plain c shape s (client.Sum table row) f p = sum_plain c shape s.disk s.agenda table row p
-client_plain c shape s (client.Sync table) f p = sync_plain c shape s.disk s.agenda table p
-client_plain c shape s (client.Next table) f p = next_plain c shape s.disk s.agenda table p
-client_plain c shape s (client.Take m) f p = take_plain c shape s.disk s.agenda m p
-client_plain c shape s (client.Work luck) f p = work_plain c shape s.disk s.agenda luck p
-client_plain c shape s (client.Resolve table row version choice) f p = absurd f
-client_plain c shape s (client.Crash luck) f p = crash_plain c shape s.disk s.agenda luck
-client_plain c shape s client.Start f p = start_plain c shape s.disk s.agenda p
+pub client_plain : (c : ℕ) (shape : Shape) (s : Client) (move : ClientMove) → IsPlainAgenda s.agenda → IsPlainStep (client_step c shape s move)
+client_plain c shape s (client.Write table row x) p = write_plain c shape s.disk s.agenda table row x p
+client_plain c shape s (client.Change table row edit) p = edit_plain c shape s.disk s.agenda table row edit p
+client_plain c shape s (client.Show table row) p = show_plain c shape s.disk s.agenda table row p
+client_plain c shape s (client.Sum table row) p = sum_plain c shape s.disk s.agenda table row p
+client_plain c shape s (client.Sync table) p = sync_plain c shape s.disk s.agenda table p
+client_plain c shape s (client.Next table) p = next_plain c shape s.disk s.agenda table p
+client_plain c shape s (client.Take m) p = take_plain c shape s.disk s.agenda m p
+client_plain c shape s (client.Work luck) p = work_plain c shape s.disk s.agenda luck p
+client_plain c shape s (client.BeginCr table) p = phase_plain c shape s.disk s.agenda table p
+client_plain c shape s (client.Conflicts table) p = conflicts_plain c shape s.disk s.agenda table p
+client_plain c shape s (client.EndCr table) p = phase_plain c shape s.disk s.agenda table p
+client_plain c shape s (client.Resolve table row version choice) p = resolve_plain c shape s.disk s.agenda table row version choice p
+client_plain c shape s (client.ResolveAll table by) p = all_plain c shape s.disk s.agenda table by p
+client_plain c shape s (client.Crash luck) p = crash_plain c shape s.disk s.agenda luck
+client_plain c shape s client.Start p = start_plain c shape s.disk s.agenda p
 
 -- ---- tables at the Store
 

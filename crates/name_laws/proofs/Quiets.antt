@@ -1,22 +1,24 @@
 -- Where the Store is quiet, none of its tables has writes to do.
 use Rattle.std.proofs.Common.{◌≡◌, ◌⊎◌, inl, inr, ⊎_elim, ℕ, zero, suc, Bool, true, false, List, [], ◌∷◌, ◌++◌, length, Option, Some, None, refl, sym, ◌∙◌, ap, subst, arith, true≢false}
-use Rattle.std.specs.Prelude.{map, not, drop, ◌==◌, ◌&&◌, ◌||◌, slice_get, option_map, if◌then◌else◌}
+use Rattle.std.specs.Prelude.{◌+◌, map, not, drop, ◌==◌, ◌&&◌, ◌||◌, slice_get, option_map, if◌then◌else◌}
 use Rattle.std.specs.List.{flat_map, find}
 use Rattle.std.specs.Map.{keys_of}
 use Rattle.std.proofs.lemmas.Bool.Decides.{nat_tests}
+use Rattle.conflicts.specs.declared.stored.Stored.{Stored}
 use Rattle.stab_base.specs.declared.node.Node.{Node}
 use Rattle.stab_base.specs.declared.node.Node.TheVariants as nodes
 use Rattle.row_value.specs.declared.schema.Schema.{Schema}
+use Rattle.table_model.specs.declared.line.RowPair.{RowPair}
 use Rattle.table_model.specs.declared.event.Event.{Event}
 use Rattle.table_model.specs.declared.event.Event.TheVariants as events
-use Rattle.step_tables.specs.Facts.{Answer}
+use Rattle.step_tables.specs.Facts.{Answer, Refusal}
 use Rattle.step_tables.specs.Facts as facts
 use Rattle.step_tables.specs.Messages.{Message, Luck, table_of}
 use Rattle.step_tables.specs.Messages as messages
 use Rattle.step_tables.specs.StoreMoves as store
 use Rattle.step_tables.specs.StoreMoves.{StoreTask}
 use Rattle.step_tables.specs.ClientMoves as client
-use Rattle.step_tables.specs.ClientMoves.{Client, ClientTask, ClientMove, Shape, no_shape, client_step, is_cut_off}
+use Rattle.step_tables.specs.ClientMoves.{Client, ClientTask, ClientMove, Shape, no_shape, client_step, is_cut_off, kept_out}
 use Rattle.step_tables.proofs.Lists.{among_get}
 use Rattle.world_tables.specs.Quiet.{Quiet, sent_in, comes_to, if_done, held_after, loud_after, after, at_first}
 use Rattle.world_tables.specs.World.{client_until_idle, client_writes, client_starts, client_crashes}
@@ -28,7 +30,8 @@ use Rattle.world_tables.specs.World.{store_follows, table_crashes, crash_luck, s
 use Rattle.world_tables.specs.World.{answering, answered, refused, unless_down, agenda_of, with_table, declared, joined}
 use Rattle.world_tables.specs.World.{call_there, call, take_read, take_at, to_hosted, to_there, carried, delivered, row_read, store_shows, chunk_names, history_lines, worked, all_worked}
 use Rattle.world_tables.specs.World.{crashed, started, step}
-use Rattle.world_tables.specs.World.{Lucks, starts_by, client_falls, is_cut, with_link, unless_cut, calls, linked}
+use Rattle.world_tables.specs.World.{Lucks, starts_by, client_falls, is_cut, is_resolving, with_link, unless_cut, unless_kept, calls, linked}
+use Rattle.world_tables.specs.World.{and_unless, listed, first_shape, other_shapes, chosen_of, client_pairs, resolve_by, plan_size, resolve_each, resolve_all}
 use Rattle.world_tables.specs.World as world
 use Rattle.world_laws.proofs.Looks.{look_cases}
 use Rattle.name_laws.proofs.Plain.{IsPlace}
@@ -83,8 +86,15 @@ call_tables w c move shape lucks (Some node) = down_tables w (nodes.Client c) _ 
     by_link true = refl
     by_link false = follows_tables node.agenda c (other_lucks lucks) (move_client c move shape w).world ∙ client_tables w c move shape
 
-    reads : (luck : Luck) → (world.reads w c luck (unless_cut w (is_cut w c && is_cut_off c shape node move) (calls w c move shape (other_lucks lucks) node))).world.tables ≡ w.tables
-    reads messages.Done = by_link (is_cut w c && is_cut_off c shape node move)
+    linked : WorldStep
+    linked = unless_cut w (is_cut w c && is_cut_off c shape node move) (calls w c move shape (other_lucks lucks) node)
+
+    by_phase : (out : Option Refusal) → (unless_kept w out linked).world.tables ≡ w.tables
+    by_phase None = by_link (is_cut w c && is_cut_off c shape node move)
+    by_phase (Some refusal) = refl
+
+    reads : (luck : Luck) → (world.reads w c luck (unless_kept w (kept_out (is_resolving w c) move (client_step c shape node move).answer) linked)).world.tables ≡ w.tables
+    reads messages.Done = by_phase (kept_out (is_resolving w c) move (client_step c shape node move).answer)
     reads messages.FailedBefore = client_tables w c (client.Crash messages.FailedBefore) no_shape
     reads messages.FailedAfter = client_tables w c (client.Crash messages.FailedBefore) no_shape
 
@@ -92,6 +102,69 @@ starts_tables : (c : ℕ) (shape : Shape) (luck : Luck) (more : List Luck) (w : 
 starts_tables c shape messages.Done more w = client_follows_tables c more (move_client c client.Start shape w).world ∙ client_tables w c client.Start shape
 starts_tables c shape messages.FailedBefore more w = refl
 starts_tables c shape messages.FailedAfter more w = refl
+
+-- a step whose answer is another one
+abbrev with_answer : WorldStep → Option Answer → WorldStep
+with_answer s o = record s { answer = o }
+
+listed_tables : (s : WorldStep) → (listed s).world.tables ≡ s.world.tables
+listed_tables s = go s.answer
+  where
+    go : (o : Option Answer) → (listed (with_answer s o)).world.tables ≡ s.world.tables
+    go None = refl
+    go (Some facts.Done) = refl
+    go (Some (facts.Number count)) = refl
+    go (Some (facts.Shows what)) = refl
+    go (Some (facts.Sums sum)) = refl
+    go (Some (facts.Stores version content)) = refl
+    go (Some (facts.Did did)) = refl
+    go (Some (facts.Names names)) = refl
+    go (Some (facts.Pairs pairs)) = refl
+    go (Some (facts.Refuses refusal)) = refl
+
+unless_tables : (m : Moved) (next : World → Moved) → ((x : World) → (next x).world.tables ≡ x.tables) → (and_unless m next).world.tables ≡ m.world.tables
+unless_tables m next same = go m.failed
+  where
+    go : (b : Bool) → (if b then m else and_then m next).world.tables ≡ m.world.tables
+    go true = refl
+    go false = same m.world
+
+module _ (c table : ℕ) (by : Stored) where
+  resolve_by_tables : (shape : Shape) (pair : RowPair) (luck : Luck) (w : World) → (resolve_by c table by shape pair luck w).world.tables ≡ w.tables
+  resolve_by_tables shape pair messages.Done w = client_tables w c (client.Resolve table pair.row pair.version (chosen_of by pair.row (client_at w c) table)) shape
+  resolve_by_tables shape pair messages.FailedBefore w = client_tables w c (client.Crash messages.FailedBefore) no_shape
+  resolve_by_tables shape pair messages.FailedAfter w = client_tables w c (client.Crash messages.FailedBefore) no_shape
+
+  resolve_each_tables : (shapes : List Shape) (lucks : List Luck) (pairs : List RowPair) (w : World) → (resolve_each c table by shapes lucks pairs w).world.tables ≡ w.tables
+  resolve_each_tables shapes lucks [] w = refl
+  resolve_each_tables shapes lucks (pair ∷ pairs) w =
+      unless_tables worked (resolve_each c table by (other_shapes shapes) more pairs) (resolve_each_tables (other_shapes shapes) more pairs)
+      ∙ (unless_tables resolved (client_until_idle c (other_lucks lucks)) (λ x. works_tables c (client_tasks (client_at x c)) (other_lucks lucks) x)
+      ∙ resolve_by_tables (first_shape shapes) pair (first_luck lucks) w)
+    where
+      resolved : Moved
+      resolved = resolve_by c table by (first_shape shapes) pair (first_luck lucks) w
+
+      worked : Moved
+      worked = and_unless resolved (client_until_idle c (other_lucks lucks))
+
+      more : List Luck
+      more = drop (1 + plan_size c resolved.world) lucks
+
+  resolve_all_tables : (w : World) (shapes : List Shape) (lucks : List Luck) (s : WorldStep) → s.world.tables ≡ w.tables → (resolve_all w c table by shapes lucks s).world.tables ≡ w.tables
+  resolve_all_tables w shapes lucks s same = go s.answer
+    where
+      go : (o : Option Answer) → (resolve_all w c table by shapes lucks (with_answer s o)).world.tables ≡ w.tables
+      go None = same
+      go (Some facts.Done) = same
+      go (Some (facts.Number count)) = resolve_each_tables shapes lucks (client_pairs (client_at w c) table) w
+      go (Some (facts.Shows what)) = same
+      go (Some (facts.Sums sum)) = same
+      go (Some (facts.Stores version content)) = same
+      go (Some (facts.Did did)) = same
+      go (Some (facts.Names names)) = same
+      go (Some (facts.Pairs pairs)) = same
+      go (Some (facts.Refuses refusal)) = same
 
 same_idle : (w x : World) → x.tables ≡ w.tables → Idle w → Idle x
 same_idle w x same idle q hosted at = idle q hosted (ap (λ ts. hosted_at (record w { tables = ts }) q) (sym same) ∙ at)
@@ -273,6 +346,17 @@ module _ (w : World) (f : IsFine w) where
   call_idle : (c : ℕ) (move : ClientMove) (shape : Shape) (lucks : List Luck) → Idle w → Idle (call w c move shape lucks).world
   call_idle c move shape lucks idle = same_idle w (call w c move shape lucks).world (call_tables w c move shape lucks (client_at w c)) idle
 
+  conflicts_idle : (c : ℕ) (move : ClientMove) (shape : Shape) (lucks : List Luck) → Idle w → Idle (listed (call w c move shape lucks)).world
+  conflicts_idle c move shape lucks idle =
+      same_idle w (listed (call w c move shape lucks)).world (listed_tables (call w c move shape lucks) ∙ call_tables w c move shape lucks (client_at w c)) idle
+
+  all_idle : (c table : ℕ) (by : Stored) (lucks : Lucks) → Idle w
+      → Idle (resolve_all w c table by lucks.shapes (other_lucks lucks.calls) (call w c (client.ResolveAll table by) lucks.shape lucks.calls)).world
+  all_idle c table by lucks idle =
+      let s : WorldStep = call w c (client.ResolveAll table by) lucks.shape lucks.calls in
+      same_idle w (resolve_all w c table by lucks.shapes (other_lucks lucks.calls) s).world
+      (resolve_all_tables c table by w lucks.shapes (other_lucks lucks.calls) s (call_tables w c (client.ResolveAll table by) lucks.shape lucks.calls (client_at w c))) idle
+
   -- ---- what is done to a node
 
   worked_idle : (lucks : List Luck) → Idle w → (node : Node) → Idle (worked w lucks node).world
@@ -389,6 +473,11 @@ module _ (w : World) (f : IsFine w) where
   step_idle q held sent (events.Sum c table row) lucks idle quiet = call_idle c (client.Sum table row) lucks.shape lucks.calls (idle quiet)
   step_idle q held sent (events.Sync c table) lucks idle quiet = call_idle c (client.Sync table) lucks.shape lucks.calls (idle quiet)
   step_idle q held sent (events.Pull c table) lucks idle quiet = call_idle c (client.Next table) lucks.shape lucks.calls (idle quiet)
+  step_idle q held sent (events.BeginCr c table) lucks idle quiet = call_idle c (client.BeginCr table) lucks.shape lucks.calls (idle quiet)
+  step_idle q held sent (events.Conflicts c table) lucks idle quiet = conflicts_idle c (client.Conflicts table) lucks.shape lucks.calls (idle quiet)
+  step_idle q held sent (events.EndCr c table) lucks idle quiet = call_idle c (client.EndCr table) lucks.shape lucks.calls (idle quiet)
+  step_idle q held sent (events.Resolve c table row seen choice) lucks idle quiet = call_idle c (client.Resolve table row seen choice) lucks.shape lucks.calls (idle quiet)
+  step_idle q held sent (events.ResolveAll c table by) lucks idle quiet = all_idle c table by lucks (idle quiet)
   step_idle q held sent (events.Deliver n) lucks idle quiet = delivered_idle q held sent n lucks.shape lucks.calls idle quiet
   step_idle q held sent (events.StoreShow table row) lucks idle quiet = shows_idle row lucks.calls (idle quiet) (hosted_at w table)
   step_idle q held sent (events.History table) lucks idle quiet = history_idle table (idle quiet) (hosted_at w table)

@@ -1,24 +1,26 @@
 -- What each event keeps of the tables, the packets and the nodes on hold.
 use Rattle.std.proofs.Common.{◌≡◌, ⊎_elim, ℕ, ◌+◌, Bool, true, false, List, [], ◌∷◌, ◌++◌, length, Option, Some, None, refl, sym, ◌∙◌, ap, subst, append-nil}
-use Rattle.std.specs.Prelude.{map, ◌&&◌, not, slice_get, option_to_list, if◌then◌else◌}
+use Rattle.std.specs.Prelude.{map, ◌&&◌, not, drop, slice_get, option_to_list, if◌then◌else◌}
+use Rattle.conflicts.specs.declared.stored.Stored.{Stored}
 use Rattle.stab_base.specs.declared.node.Node.{Node}
 use Rattle.stab_base.specs.declared.node.Node.TheVariants as nodes
 use Rattle.row_value.specs.declared.schema.Schema.{Schema}
 use Rattle.table_model.specs.declared.entry.Entry.{Entry}
+use Rattle.table_model.specs.declared.line.RowPair.{RowPair}
 use Rattle.table_model.specs.declared.event.Event.{Event}
 use Rattle.table_model.specs.declared.event.Event.TheVariants as events
-use Rattle.step_tables.specs.Facts.{Fact, Answer, Line, AnswerLine, EntryLine, FactLine}
+use Rattle.step_tables.specs.Facts.{Fact, Answer, Refusal, Line, AnswerLine, EntryLine, PairLine, FactLine}
 use Rattle.step_tables.specs.Facts as facts
 use Rattle.step_tables.specs.Messages.{Message, Luck, table_of, name_of}
 use Rattle.step_tables.specs.Messages as messages
 use Rattle.step_tables.specs.StoreMoves as store
 use Rattle.step_tables.specs.StoreMoves.{StoreTask}
 use Rattle.step_tables.specs.ClientMoves as client
-use Rattle.step_tables.specs.ClientMoves.{Client, ClientTask, ClientMove, Shape, no_shape, client_step, is_cut_off}
+use Rattle.step_tables.specs.ClientMoves.{Client, ClientTask, ClientMove, Shape, no_shape, client_step, is_cut_off, kept_out}
 use Rattle.step_tables.proofs.Lists.{among_get, among_none}
 use Rattle.world_tables.specs.Quiet.{Quiet, sent_in, answer_in, held_after}
 use Rattle.world_tables.specs.World.{crash_luck, client_tasks, client_until_idle, client_follows, client_writes, client_starts, client_crashes, next_write}
-use Rattle.world_tables.specs.World.{World, Packet, Hosted, Outbox, Moved, WorldStep, start, owner, the_store, hosted_at, client_at, without_node, is_down, still, and_then, failing, lines_of}
+use Rattle.world_tables.specs.World.{World, Packet, Hosted, Outbox, Moved, WorldStep, start, owner, the_store, hosted_at, client_at, without_node, is_down, still, and_then, and_unless, failing, lines_of}
 use Rattle.world_tables.specs.World.{lines_from, sent_lines}
 use Rattle.world_tables.specs.World.{move_table, move_client, table_step, other_lucks, first_luck, busy_table, busy_step, write_next, tasks_of, store_falls, table_follows, store_until_idle}
 use Rattle.world_tables.specs.World.{store_crashes, store_starts}
@@ -26,15 +28,16 @@ use Rattle.world_tables.specs.World.{answering, answered, refused, silent, unles
 use Rattle.world_tables.specs.World.{joined, client_follows_from}
 use Rattle.world_tables.specs.World.{call_there, take_read, take_at, to_hosted, to_there, carried, delivered, row_read, row_shown, store_shows, names_on, names_answer, chunk_names}
 use Rattle.world_tables.specs.World.{entry_lines, history_lines, worked, all_worked, crashed, started, step}
-use Rattle.world_tables.specs.World.{Lucks, starts_by, client_falls, first_agenda, is_cut, with_link, unless_cut, calls, linked}
+use Rattle.world_tables.specs.World.{Lucks, starts_by, client_falls, first_agenda, is_cut, is_resolving, with_link, unless_cut, unless_kept, calls, call, linked}
+use Rattle.world_tables.specs.World.{listed, first_shape, other_shapes, chosen_of, client_pairs, resolve_by, plan_size, resolve_each, resolve_all}
 use Rattle.world_tables.specs.World as world
 use Rattle.step_tables.specs.Store.{current_of}
 use Rattle.world_tables.specs.World.{new_client, open_all, schema_at, chunk_in}
 use Rattle.world_laws.proofs.Looks.{look_cases}
 use Rattle.world_laws.proofs.StoreWorks.{AreSilent, store_falls_silent}
 use Rattle.name_laws.proofs.Keys.{insert_keys_rise}
-use Rattle.name_laws.proofs.Plain.{IsPlainFact, ArePlainFacts, IsPlace, IsPlainAgenda, IsWorldly}
-use Rattle.name_laws.proofs.Moves.{IsFineTable, IsFine, packets_in, ArePlainOuts, Went, still_went, then_went, failing_went, table_went, client_went, works_went, client_follows_went}
+use Rattle.name_laws.proofs.Plain.{IsPlainFact, ArePlainFacts, IsPlace, IsPlainAgenda}
+use Rattle.name_laws.proofs.Moves.{IsFineTable, IsFine, packets_in, ArePlainOuts, Went, still_went, then_went, unless_went, failing_went, table_went, client_went, works_went, client_follows_went}
 use Rattle.name_laws.proofs.Moves.{client_writes_went, follows_from_went, store_falls_went}
 use Rattle.name_laws.proofs.Moves.{write_went, store_works_went, table_follows_went, crashes_went, starts_went}
 
@@ -126,10 +129,10 @@ fallen_stepped w f = answering_stepped w facts.Done (failing (store_falls owner 
 
 -- ---- events
 
-call_stepped : (w : World) (c : ℕ) (move : ClientMove) (shape : Shape) (lucks : List Luck) → IsWorldly move → IsFine w → (o : Option Client)
+call_stepped : (w : World) (c : ℕ) (move : ClientMove) (shape : Shape) (lucks : List Luck) → IsFine w → (o : Option Client)
     → Stepped w w.holds w.schemas (call_there w c move shape lucks o)
-call_stepped w c move shape lucks worldly f None = answered_stepped w (facts.Refuses facts.NoTable) f
-call_stepped w c move shape lucks worldly f (Some node) = down_stepped w (nodes.Client c) _ f (reads (first_luck lucks))
+call_stepped w c move shape lucks f None = answered_stepped w (facts.Refuses facts.NoTable) f
+call_stepped w c move shape lucks f (Some node) = down_stepped w (nodes.Client c) _ f (reads (first_luck lucks))
   where
     m : Moved
     m = move_client c move shape w
@@ -137,15 +140,98 @@ call_stepped w c move shape lucks worldly f (Some node) = down_stepped w (nodes.
     by_link : (cut : Bool) → Stepped w w.holds w.schemas (unless_cut w cut (calls w c move shape (other_lucks lucks) node))
     by_link true = answered_stepped w (facts.Refuses facts.Offline) f
     by_link false = answering_stepped w (client_step c shape node move).answer (and_then m (client_follows_from node.agenda c (other_lucks lucks)))
-        (then_went w m (client_follows_from node.agenda c (other_lucks lucks)) (client_went w c move shape worldly f) (λ x. follows_from_went node.agenda c (other_lucks lucks) m.world x))
+        (then_went w m (client_follows_from node.agenda c (other_lucks lucks)) (client_went w c move shape f) (λ x. follows_from_went node.agenda c (other_lucks lucks) m.world x))
 
     fallen : Stepped w w.holds w.schemas (answering facts.Done (failing (client_falls c w)))
-    fallen = answering_stepped w facts.Done (failing (client_falls c w)) (failing_went w (client_falls c w) (client_went w c (client.Crash messages.FailedBefore) no_shape tt f))
+    fallen = answering_stepped w facts.Done (failing (client_falls c w)) (failing_went w (client_falls c w) (client_went w c (client.Crash messages.FailedBefore) no_shape f))
 
-    reads : (luck : Luck) → Stepped w w.holds w.schemas (world.reads w c luck (unless_cut w (is_cut w c && is_cut_off c shape node move) (calls w c move shape (other_lucks lucks) node)))
-    reads messages.Done = by_link (is_cut w c && is_cut_off c shape node move)
+    linked : WorldStep
+    linked = unless_cut w (is_cut w c && is_cut_off c shape node move) (calls w c move shape (other_lucks lucks) node)
+
+    by_phase : (out : Option Refusal) → Stepped w w.holds w.schemas (unless_kept w out linked)
+    by_phase None = by_link (is_cut w c && is_cut_off c shape node move)
+    by_phase (Some refusal) = answered_stepped w (facts.Refuses refusal) f
+
+    reads : (luck : Luck) → Stepped w w.holds w.schemas (world.reads w c luck (unless_kept w (kept_out (is_resolving w c) move (client_step c shape node move).answer) linked))
+    reads messages.Done = by_phase (kept_out (is_resolving w c) move (client_step c shape node move).answer)
     reads messages.FailedBefore = fallen
     reads messages.FailedAfter = fallen
+
+-- ---- conflicts
+
+-- a step whose answer is another one
+abbrev with_answer : WorldStep → Option Answer → WorldStep
+with_answer s o = record s { answer = o }
+
+pairs_sent : (pairs : List RowPair) (rest : List Line) → sent_in (map PairLine pairs ++ rest) ≡ sent_in rest
+pairs_sent [] rest = refl
+pairs_sent (pair ∷ pairs) rest = pairs_sent pairs rest
+
+listed_stepped : (w : World) (s : WorldStep) → Stepped w w.holds w.schemas s → Stepped w w.holds w.schemas (listed s)
+listed_stepped w s k = go s.answer k
+  where
+    go : (o : Option Answer) → Stepped w w.holds w.schemas (with_answer s o) → Stepped w w.holds w.schemas (listed (with_answer s o))
+    go None k = k
+    go (Some facts.Done) k = k
+    go (Some (facts.Number count)) k = k
+    go (Some (facts.Shows what)) k = k
+    go (Some (facts.Sums sum)) k = k
+    go (Some (facts.Stores version content)) k = k
+    go (Some (facts.Did did)) k = k
+    go (Some (facts.Names names)) k = k
+    go (Some (facts.Refuses refusal)) k = k
+    go (Some (facts.Pairs pairs)) k = record {
+      fine = k.fine;
+      packets = k.packets;
+      plain = k.plain;
+      holds_are = k.holds_are;
+      schemas_are = k.schemas_are;
+      counted = pairs_sent pairs;
+      unanswered = λ none. absurd cc;
+    }
+
+module _ (c table : ℕ) (by : Stored) where
+  resolve_by_went : (shape : Shape) (pair : RowPair) (luck : Luck) (w : World) → IsFine w → Went w (resolve_by c table by shape pair luck w)
+  resolve_by_went shape pair messages.Done w f = client_went w c (client.Resolve table pair.row pair.version (chosen_of by pair.row (client_at w c) table)) shape f
+  resolve_by_went shape pair messages.FailedBefore w f = failing_went w (client_falls c w) (client_went w c (client.Crash messages.FailedBefore) no_shape f)
+  resolve_by_went shape pair messages.FailedAfter w f = failing_went w (client_falls c w) (client_went w c (client.Crash messages.FailedBefore) no_shape f)
+
+  resolve_each_went : (shapes : List Shape) (lucks : List Luck) (pairs : List RowPair) (w : World) → IsFine w → Went w (resolve_each c table by shapes lucks pairs w)
+  resolve_each_went shapes lucks [] w f = still_went w f
+  resolve_each_went shapes lucks (pair ∷ pairs) w f =
+      unless_went w worked (resolve_each c table by (other_shapes shapes) more pairs)
+      (unless_went w resolved (client_until_idle c (other_lucks lucks)) (resolve_by_went (first_shape shapes) pair (first_luck lucks) w f)
+      (λ k. works_went c (client_tasks (client_at resolved.world c)) (other_lucks lucks) resolved.world k))
+      (λ k. resolve_each_went (other_shapes shapes) more pairs worked.world k)
+    where
+      resolved : Moved
+      resolved = resolve_by c table by (first_shape shapes) pair (first_luck lucks) w
+
+      worked : Moved
+      worked = and_unless resolved (client_until_idle c (other_lucks lucks))
+
+      more : List Luck
+      more = drop (1 + plan_size c resolved.world) lucks
+
+  resolve_all_stepped : (w : World) → IsFine w → (shapes : List Shape) (lucks : List Luck) (s : WorldStep) → Stepped w w.holds w.schemas s
+      → Stepped w w.holds w.schemas (resolve_all w c table by shapes lucks s)
+  resolve_all_stepped w f shapes lucks s k = go s.answer k
+    where
+      go : (o : Option Answer) → Stepped w w.holds w.schemas (with_answer s o) → Stepped w w.holds w.schemas (resolve_all w c table by shapes lucks (with_answer s o))
+      go None k = k
+      go (Some facts.Done) k = k
+      go (Some (facts.Number count)) k =
+          let pairs : List RowPair = client_pairs (client_at w c) table in
+          answering_stepped w (facts.Number count) (resolve_each c table by shapes lucks pairs w) (resolve_each_went shapes lucks pairs w f)
+      go (Some (facts.Shows what)) k = k
+      go (Some (facts.Sums sum)) k = k
+      go (Some (facts.Stores version content)) k = k
+      go (Some (facts.Did did)) k = k
+      go (Some (facts.Names names)) k = k
+      go (Some (facts.Pairs pairs)) k = k
+      go (Some (facts.Refuses refusal)) k = k
+
+-- ---- messages, and what the Store has
 
 hosted_stepped : (w : World) (table : ℕ) (from : Node) (m : Message) (lucks : List Luck) → IsPlace from → IsFine w → (o : Option Hosted)
     → Stepped w w.holds w.schemas (to_hosted w table (store.Take from m) lucks o)
@@ -180,7 +266,7 @@ carried_stepped w p shape lucks place f (nodes.Client c) = go (client_at w c)
   where
     go : (o : Option Client) → Stepped w w.holds w.schemas (to_there w c p.message shape lucks o)
     go None = answered_stepped w facts.Done f
-    go (Some node) = call_stepped w c (client.Take p.message) shape lucks tt f (Some node)
+    go (Some node) = call_stepped w c (client.Take p.message) shape lucks f (Some node)
 
 delivered_stepped : (w : World) (n : ℕ) (shape : Shape) (lucks : List Luck) → IsFine w → (o : Option Packet) → slice_get w.packets n ≡ o
     → Stepped w w.holds w.schemas (delivered w shape lucks o)
@@ -304,7 +390,7 @@ all_worked_stepped w lucks f (nodes.Gate gate) = answered_stepped w _ f
 crashed_stepped : (w : World) (calls : ℕ) (lucks : List Luck) → IsFine w → (node : Node) → Stepped w w.holds w.schemas (crashed w calls lucks node)
 crashed_stepped w calls lucks f (nodes.Store number) = answering_stepped w facts.Done (store_crashes number calls lucks w) (crashes_went number calls lucks w f)
 crashed_stepped w calls lucks f (nodes.Client c) = answering_stepped w facts.Done (client_crashes c calls lucks w)
-    (client_went w c (client.Crash (crash_luck calls (other_lucks lucks) (first_luck lucks))) no_shape tt f)
+    (client_went w c (client.Crash (crash_luck calls (other_lucks lucks) (first_luck lucks))) no_shape f)
 crashed_stepped w calls lucks f (nodes.Gate gate) = answered_stepped w _ f
 
 started_stepped : (w : World) (shape : Shape) (lucks : List Luck) → IsFine w → (node : Node) → Stepped w w.holds w.schemas (started w shape lucks node)
@@ -319,7 +405,7 @@ started_stepped w shape lucks f (nodes.Client c) = go (is_down w (nodes.Client c
     first = move_client c client.Start shape w
 
     started_by : (luck : Luck) (more : List Luck) → Went w (starts_by c shape luck more w)
-    started_by messages.Done more = then_went w first (client_follows c more) (client_went w c client.Start shape tt f) (λ x. client_follows_went c more first.world x)
+    started_by messages.Done more = then_went w first (client_follows c more) (client_went w c client.Start shape f) (λ x. client_follows_went c more first.world x)
     started_by messages.FailedBefore more = failing_went w (still w) (still_went w f)
     started_by messages.FailedAfter more = failing_went w (still w) (still_went w f)
 
@@ -402,13 +488,21 @@ pub step_stepped : (w : World) (event : Event) (lucks : Lucks) → IsFine w → 
 step_stepped w (events.Store number) lucks f = silent_stepped w w f refl refl
 step_stepped w (events.Table table schema) lucks f = declared_stepped w table schema (first_luck lucks.calls) f (hosted_at w table)
 step_stepped w (events.Client c gate tables) lucks f = joined_stepped w c tables (first_luck lucks.calls) f (client_at w c)
-step_stepped w (events.Write c table row x) lucks f = call_stepped w c (client.Write table row x) lucks.shape lucks.calls tt f (client_at w c)
-step_stepped w (events.Edit c table row x) lucks f = call_stepped w c (client.Change table row x) lucks.shape lucks.calls tt f (client_at w c)
+step_stepped w (events.Write c table row x) lucks f = call_stepped w c (client.Write table row x) lucks.shape lucks.calls f (client_at w c)
+step_stepped w (events.Edit c table row x) lucks f = call_stepped w c (client.Change table row x) lucks.shape lucks.calls f (client_at w c)
 step_stepped w (events.Link c up) lucks f = linked_stepped w c up f (client_at w c)
-step_stepped w (events.Show c table row) lucks f = call_stepped w c (client.Show table row) lucks.shape lucks.calls tt f (client_at w c)
-step_stepped w (events.Sum c table row) lucks f = call_stepped w c (client.Sum table row) lucks.shape lucks.calls tt f (client_at w c)
-step_stepped w (events.Sync c table) lucks f = call_stepped w c (client.Sync table) lucks.shape lucks.calls tt f (client_at w c)
-step_stepped w (events.Pull c table) lucks f = call_stepped w c (client.Next table) lucks.shape lucks.calls tt f (client_at w c)
+step_stepped w (events.Show c table row) lucks f = call_stepped w c (client.Show table row) lucks.shape lucks.calls f (client_at w c)
+step_stepped w (events.Sum c table row) lucks f = call_stepped w c (client.Sum table row) lucks.shape lucks.calls f (client_at w c)
+step_stepped w (events.Sync c table) lucks f = call_stepped w c (client.Sync table) lucks.shape lucks.calls f (client_at w c)
+step_stepped w (events.Pull c table) lucks f = call_stepped w c (client.Next table) lucks.shape lucks.calls f (client_at w c)
+step_stepped w (events.BeginCr c table) lucks f = call_stepped w c (client.BeginCr table) lucks.shape lucks.calls f (client_at w c)
+step_stepped w (events.Conflicts c table) lucks f =
+    listed_stepped w (call w c (client.Conflicts table) lucks.shape lucks.calls) (call_stepped w c (client.Conflicts table) lucks.shape lucks.calls f (client_at w c))
+step_stepped w (events.EndCr c table) lucks f = call_stepped w c (client.EndCr table) lucks.shape lucks.calls f (client_at w c)
+step_stepped w (events.Resolve c table row seen choice) lucks f = call_stepped w c (client.Resolve table row seen choice) lucks.shape lucks.calls f (client_at w c)
+step_stepped w (events.ResolveAll c table by) lucks f =
+    resolve_all_stepped c table by w f lucks.shapes (other_lucks lucks.calls) (call w c (client.ResolveAll table by) lucks.shape lucks.calls)
+    (call_stepped w c (client.ResolveAll table by) lucks.shape lucks.calls f (client_at w c))
 step_stepped w (events.Deliver n) lucks f = delivered_stepped w n lucks.shape lucks.calls f (slice_get w.packets n) refl
 step_stepped w (events.StoreShow table row) lucks f = shows_stepped w row lucks.calls f (hosted_at w table)
 step_stepped w (events.History table) lucks f = history_stepped w table f (hosted_at w table)

@@ -1,7 +1,8 @@
--- The versions of a table, and the numbers of a client's writes, are no more than the events of a run.
+-- The versions of a table are no more than the events of a run, and the numbers of a client's writes no more than the
+-- writes that these may begin.
 use Rattle.std.proofs.Common.{◌≡◌, ⊎_elim, ℕ, zero, suc, ◌+◌, ◌≤◌, Bool, true, false, List, [], ◌∷◌, ◌++◌, length, Option, Some, None, Result, Ok, Err, refl, sym, ◌∙◌, subst, arith, length-append}
 use Rattle.std.proofs.Common.{append-nil}
-use Rattle.std.specs.Prelude.{◌==◌, ◌&&◌, option_map, not, nat_le, nat_lt, drop, slice_get, if◌then◌else◌}
+use Rattle.std.specs.Prelude.{◌==◌, option_map, not, nat_le, nat_lt, drop, slice_get, if◌then◌else◌}
 use Rattle.std.specs.Ordering.{nat_cmp}
 use Rattle.std.specs.Map.{lookup}
 use Rattle.std.specs.BTreeMap.{is_at, insert_entry}
@@ -20,6 +21,11 @@ use Rattle.row_value.specs.declared.schema.Scheme.TheVariants.{Strong, Causal, E
 use Rattle.row_value.specs.Fit.{fit_of}
 use Rattle.table_model.specs.declared.event.Event.{Event}
 use Rattle.table_model.specs.declared.event.Event.TheVariants as events
+use Rattle.table_model.specs.declared.line.RowPair.{RowPair}
+use Rattle.conflicts.specs.declared.pair.Choice.{Choice}
+use Rattle.conflicts.specs.declared.pair.Choice.TheVariants as choices
+use Rattle.conflicts.specs.declared.stored.Stored as resolvers
+use Rattle.step_tables.specs.declared.slots.Main.{Main}
 use Rattle.step_tables.specs.declared.slots.InFlight.{InFlight}
 use Rattle.step_tables.specs.declared.slots.Shadow.{Shadow}
 use Rattle.step_tables.specs.Store.{Stored, current_of}
@@ -31,9 +37,9 @@ use Rattle.step_tables.specs.Messages as messages
 use Rattle.step_tables.specs.StoreMoves as store
 use Rattle.step_tables.specs.StoreMoves.{StoreDisk, StoreChange, StoreTask, TableStore, StoreMove, store_step}
 use Rattle.step_tables.specs.ClientMoves as client
-use Rattle.step_tables.specs.ClientMoves.{Slots, TableDisk, RowPut, Plan, ClientDisk, ClientChange, ClientTask, Client, ClientMove, Shape, RowOut, no_shape, slots_at, table_at, seen, client_step, is_cut_off}
-use Rattle.world_tables.specs.World.{client_until_idle, client_writes, starts_by, client_starts, client_falls, Lucks, first_agenda, is_cut, with_link, unless_cut, calls, linked}
-use Rattle.world_tables.specs.World as world
+use Rattle.step_tables.specs.ClientMoves.{Slots, TableDisk, RowPut, Plan, ClientDisk, ClientChange, ClientTask, Client, ClientMove, Shape, RowOut, no_shape, slots_at, table_at, seen, client_step}
+use Rattle.world_tables.specs.World.{client_until_idle, client_writes, starts_by, client_starts, client_falls, Lucks, first_agenda, with_link, linked, listed, resolve_by}
+use Rattle.world_tables.specs.World.{resolve_each, resolve_all, chosen_of, client_pairs, first_shape, other_shapes, plan_size}
 use Rattle.world_tables.specs.World.{World, Packet, Hosted, Moved, WorldStep, start, hosted_at, client_at, schema_at, scheme_in, chunk_in, owner, the_store, is_down, has_node, tables_of}
 use Rattle.world_tables.specs.World.{still, and_then, and_unless, tasks_in, after_table, move_hosted, move_table, move_there, move_client, first_luck, other_lucks, client_works}
 use Rattle.world_tables.specs.World.{client_tasks, client_follows, tables_fall, without_down, store_falls, or_falls, is_at_work, busy_table, write_next, store_works, tasks_of}
@@ -42,7 +48,9 @@ use Rattle.world_tables.specs.World.{store_crashes, answering, answered, refused
 use Rattle.world_tables.specs.World.{take_read, take_at, to_hosted, to_there, carried, delivered, row_read, store_shows, chunk_names, history_lines, worked, all_worked, crashed, started}
 use Rattle.world_tables.specs.World.{step}
 use Rattle.world_tables.specs.Turns.{Happening, world_from}
+use Rattle.world_laws.specs.Begun.{begun_by, begun_from, begun_in, IsSingle, AreSingle}
 use Rattle.world_laws.proofs.Looks.{look_cases}
+use Rattle.world_laws.proofs.Calls.{call_is}
 
 -- ---- a table: the versions that it has, and those that it is about to put
 
@@ -407,6 +415,75 @@ module _ (n c : ℕ) (shape : Shape) (d : ClientDisk) (few : DiskUpTo n d) where
   take_up_to (Some []) tasks (SyncResponse r) = response_up_to r (table_at (seen d) r.table)
   take_up_to (Some []) tasks (PullResponse q) = pulled_up_to q (table_at (seen d) q.table)
 
+  -- a conflict that is resolved
+
+  over_up_to : (table : ℕ) (row : List ℕ) (slots : Slots) (main : Main) (x : Shadow) (content : Content) (fit : Result (Unit {0}) FitFault)
+      → IsUpTo (n + 1) (client.over_fitting c shape d table row slots main x content fit).client
+  over_up_to table row slots main x content (Ok fits) = begun_up_to (n + 1) shape d facts.Done _ _ later next
+  over_up_to table row slots main x content (Err fault) = (later, tt)
+
+  choose_up_to : (table : ℕ) (row : List ℕ) (schema : Schema) (slots : Slots) (main : Main) (x : Shadow) (choice : Choice)
+      → IsUpTo (n + 1) (client.choose c shape d table row schema slots main x choice).client
+  choose_up_to table row schema slots main x choices.Mine = begun_up_to (n + 1) shape d facts.Done _ _ later next
+  choose_up_to table row schema slots main x choices.Theirs = begun_up_to (n + 1) shape d facts.Done _ _ later same
+  choose_up_to table row schema slots main x (choices.New content) = over_up_to table row slots main x content (fit_of schema content)
+
+  resolve_over_up_to : (table : ℕ) (row : List ℕ) (schema : Schema) (slots : Slots) (version : ℕ) (choice : Choice) (m : Option Main) (x : Option Shadow)
+      → IsUpTo (n + 1) (client.resolve_over c shape d table row schema slots version choice m x).client
+  resolve_over_up_to table row schema slots version choice None x = (later, tt)
+  resolve_over_up_to table row schema slots version choice (Some main) None = (later, tt)
+  resolve_over_up_to table row schema slots version choice (Some main) (Some x) = go (x.version == version)
+    where
+      go : (b : Bool) → IsUpTo (n + 1) (if b then client.choose c shape d table row schema slots main x choice else client.refused d (facts.Moved version x.version)).client
+      go true = choose_up_to table row schema slots main x choice
+      go false = (later, tt)
+
+  resolve_in_up_to : (agenda : List ClientTask) → TasksUpTo n agenda → (table : ℕ) (row : List ℕ) (version : ℕ) (choice : Choice) (o : Option TableDisk)
+      → IsUpTo (n + 1) (client.resolve_in c shape d agenda table row version choice o).client
+  resolve_in_up_to agenda tasks table row version choice None = (later, later_tasks agenda tasks)
+  resolve_in_up_to (task ∷ more) tasks table row version choice (Some opened) = (later, later_tasks (task ∷ more) tasks)
+  resolve_in_up_to [] tasks table row version choice (Some opened) =
+      let slots : Slots = slots_at opened row in resolve_over_up_to table row opened.schema slots version choice slots.main slots.conflict
+
+  resolve_up_to : (agenda : Option (List ClientTask)) → TasksUpTo n (tasks_in agenda) → (table : ℕ) (row : List ℕ) (version : ℕ) (choice : Choice)
+      → IsUpTo (n + 1) (client.resolve_step c shape d agenda table row version choice).client
+  resolve_up_to None tasks table row version choice = (later, tt)
+  resolve_up_to (Some agenda) tasks table row version choice = resolve_in_up_to agenda tasks table row version choice (table_at (seen d) table)
+
+-- what a client is asked of its conflicts alone draws no number
+module _ (n c : ℕ) (shape : Shape) (d : ClientDisk) (few : DiskUpTo n d) where
+  phase_up_to : (agenda : Option (List ClientTask)) → TasksUpTo n (tasks_in agenda) → (table : ℕ) → IsUpTo n (client.phase_step d agenda table).client
+  phase_up_to None tasks table = (few, tt)
+  phase_up_to (Some agenda) tasks table = there (table_at (seen d) table)
+    where
+      there : (o : Option TableDisk) → IsUpTo n (client.phase_in d agenda o).client
+      there None = (few, tasks)
+      there (Some opened) = (few, tasks)
+
+  conflicts_up_to : (agenda : Option (List ClientTask)) → TasksUpTo n (tasks_in agenda) → (table : ℕ) → IsUpTo n (client.conflicts_step d agenda table).client
+  conflicts_up_to None tasks table = (few, tt)
+  conflicts_up_to (Some agenda) tasks table = there (table_at (seen d) table)
+    where
+      there : (o : Option TableDisk) → IsUpTo n (client.conflicts_in d agenda o).client
+      there None = (few, tasks)
+      there (Some opened) = (few, tasks)
+
+  all_up_to : (agenda : Option (List ClientTask)) → TasksUpTo n (tasks_in agenda) → (table : ℕ) (by : resolvers.Stored) → IsUpTo n (client.all_step shape d agenda table by).client
+  all_up_to None tasks table by = (few, tt)
+  all_up_to (Some agenda) tasks table by = there (table_at (seen d) table)
+    where
+      idle : (agenda : List ClientTask) → TasksUpTo n agenda → (opened : TableDisk) → IsUpTo n (client.all_idle shape d agenda opened).client
+      idle (task ∷ more) tasks opened = (few, tasks)
+      idle [] tasks opened = (few, tt)
+
+      fitting : (opened : TableDisk) (fit : Result (Unit {0}) FitFault) → IsUpTo n (client.all_fitting shape d agenda opened fit).client
+      fitting opened (Ok fits) = idle agenda tasks opened
+      fitting opened (Err fault) = (few, tasks)
+
+      there : (o : Option TableDisk) → IsUpTo n (client.all_in shape d agenda by o).client
+      there None = (few, tasks)
+      there (Some opened) = fitting opened (client.can_resolve opened.schema by)
+
 -- a device write, a crash and a start draw no number
 abbrev IsNoCall : ClientMove → Type 0
 IsNoCall (client.Work luck) = Unit {0}
@@ -438,7 +515,11 @@ module _ (n c : ℕ) (shape : Shape) where
   no_call_up_to s (client.Sum table row) none few = absurd none
   no_call_up_to s (client.Sync table) none few = absurd none
   no_call_up_to s (client.Next table) none few = absurd none
+  no_call_up_to s (client.BeginCr table) none few = absurd none
+  no_call_up_to s (client.Conflicts table) none few = absurd none
+  no_call_up_to s (client.EndCr table) none few = absurd none
   no_call_up_to s (client.Resolve table row seen choice) none few = absurd none
+  no_call_up_to s (client.ResolveAll table by) none few = absurd none
   no_call_up_to s (client.Take message) none few = absurd none
 
 -- ---- a world whose tables have at most so many versions, and whose clients have drawn numbers up to this one
@@ -449,12 +530,14 @@ TablesFew n tables = (q : ℕ) (hosted : Hosted) → lookup (is_at (nat_cmp q)) 
 abbrev ClientsFew : ℕ → List (ℕ × Client) → Type 0
 ClientsFew n clients = (q : ℕ) (node : Client) → lookup (is_at (nat_cmp q)) clients ≡ Some node → IsUpTo n node
 
-abbrev AreFew : ℕ → World → Type 0
-AreFew n w = TablesFew n w.tables × ClientsFew n w.clients
+abbrev AreFew : ℕ → ℕ → World → Type 0
+AreFew n m w = TablesFew n w.tables × ClientsFew m w.clients
 
-more_few : (n m : ℕ) → n ≤ m → (w : World) → AreFew n w → AreFew m w
-more_few n m less w few =
-    (λ q hosted at. let here = few.0 q hosted at in omega (arith, here, less), λ q node at. more_up_to n m less node (few.1 q node at))
+tables_few : (n k : ℕ) → n ≤ k → (w : World) → TablesFew n w.tables → TablesFew k w.tables
+tables_few n k less w few q hosted at = let here = few q hosted at in omega (arith, here, less)
+
+clients_few : (m k : ℕ) → m ≤ k → (w : World) → ClientsFew m w.clients → ClientsFew k w.clients
+clients_few m k less w few q node at = more_up_to m k less node (few q node at)
 
 put_table : (n : ℕ) (tables : List (ℕ × Hosted)) (t : ℕ) (x : Hosted) → TablesFew n tables → versions_of x.store ≤ n → TablesFew n (insert_entry nat_cmp tables t x)
 put_table n tables t x few here q found at = ⊎_elim
@@ -468,336 +551,428 @@ put_client n clients c x few here q found at = ⊎_elim
 
 -- ---- moves
 
-move_few : (n m : ℕ) (w : World) (table : ℕ) (move : StoreMove) → n + brings move ≤ m → AreFew n w → AreFew m (move_table table move w).world
-move_few n m w table move less few = go (hosted_at w table) refl
+move_few : (n k m : ℕ) (w : World) (table : ℕ) (move : StoreMove) → n + brings move ≤ k → AreFew n m w → AreFew k m (move_table table move w).world
+move_few n k m w table move less few = go (hosted_at w table) refl
   where
-    all : AreFew m w
-    all = more_few n m (omega (arith, less)) w few
+    all : AreFew k m w
+    all = (tables_few n k (omega (arith, less)) w few.0, few.1)
 
-    go : (o : Option Hosted) → hosted_at w table ≡ o → AreFew m (move_hosted w table move o).world
+    go : (o : Option Hosted) → hosted_at w table ≡ o → AreFew k m (move_hosted w table move o).world
     go None at = all
     go (Some hosted) at = (
-      put_table m w.tables table _ all.0
+      put_table k w.tables table _ all.0
           (let old = few.0 table hosted at in
           let now = table_few (scheme_in (schema_at w table)) (chunk_in (schema_at w table)) table hosted.store move in
           omega (arith, less, old, now)),
       all.1,
     )
 
-module _ (n : ℕ) where
-  work_few : (w : World) (table : ℕ) (luck : Luck) → AreFew n w → AreFew n (move_table table (store.Work luck) w).world
-  work_few w table luck few = move_few n n w table (store.Work luck) (omega arith) few
+module _ (n m : ℕ) where
+  work_few : (w : World) (table : ℕ) (luck : Luck) → AreFew n m w → AreFew n m (move_table table (store.Work luck) w).world
+  work_few w table luck few = move_few n n m w table (store.Work luck) (omega arith) few
 
-  crash_few : (w : World) (table : ℕ) (luck : Luck) → AreFew n w → AreFew n (move_table table (store.Crash luck) w).world
-  crash_few w table luck few = move_few n n w table (store.Crash luck) (omega arith) few
+  crash_few : (w : World) (table : ℕ) (luck : Luck) → AreFew n m w → AreFew n m (move_table table (store.Crash luck) w).world
+  crash_few w table luck few = move_few n n m w table (store.Crash luck) (omega arith) few
 
   -- a move of a client that draws no number
-  client_few : (w : World) (c : ℕ) (move : ClientMove) (shape : Shape) → IsNoCall move → AreFew n w → AreFew n (move_client c move shape w).world
+  client_few : (w : World) (c : ℕ) (move : ClientMove) (shape : Shape) → IsNoCall move → AreFew n m w → AreFew n m (move_client c move shape w).world
   client_few w c move shape none few = go (client_at w c) refl
     where
-      go : (o : Option Client) → client_at w c ≡ o → AreFew n (move_there w c move shape o).world
+      go : (o : Option Client) → client_at w c ≡ o → AreFew n m (move_there w c move shape o).world
       go None at = few
-      go (Some node) at = (few.0, put_client n w.clients c _ few.1 (no_call_up_to n c shape node move none (few.1 c node at)))
+      go (Some node) at = (few.0, put_client m w.clients c _ few.1 (no_call_up_to m c shape node move none (few.1 c node at)))
 
-  client_works_few : (c : ℕ) (tasks : List ClientTask) (lucks : List Luck) (w : World) → AreFew n w → AreFew n (client_works c tasks lucks w).world
+  client_works_few : (c : ℕ) (tasks : List ClientTask) (lucks : List Luck) (w : World) → AreFew n m w → AreFew n m (client_works c tasks lucks w).world
   client_works_few c [] lucks w few = few
   client_works_few c (task ∷ tasks) lucks w few =
       client_works_few c tasks (other_lucks lucks) (move_client c (client.Work (first_luck lucks)) no_shape w).world (client_few w c (client.Work (first_luck lucks)) no_shape tt few)
 
-  client_follows_few : (c : ℕ) (lucks : List Luck) (w : World) → AreFew n w → AreFew n (client_follows c lucks w).world
+  client_follows_few : (c : ℕ) (lucks : List Luck) (w : World) → AreFew n m w → AreFew n m (client_follows c lucks w).world
   client_follows_few c lucks w few = go (has_node w.holds (nodes.Client c))
     where
-      go : (held : Bool) → AreFew n (if held then still w else client_until_idle c lucks w).world
+      go : (held : Bool) → AreFew n m (if held then still w else client_until_idle c lucks w).world
       go true = few
       go false = client_works_few c (client_tasks (client_at w c)) lucks w few
 
-  client_writes_few : (c : ℕ) (luck : Luck) (tasks : List ClientTask) (w : World) → AreFew n w → AreFew n (client_writes c luck tasks w).world
+  client_writes_few : (c : ℕ) (luck : Luck) (tasks : List ClientTask) (w : World) → AreFew n m w → AreFew n m (client_writes c luck tasks w).world
   client_writes_few c luck [] w few = few
   client_writes_few c luck (task ∷ tasks) w few = client_few w c (client.Work luck) no_shape tt few
 
   -- ---- a Store's tables
 
-  unless_few : (m : Moved) (f : World → Moved) → AreFew n m.world → (AreFew n m.world → AreFew n (f m.world).world) → AreFew n (and_unless m f).world
-  unless_few m f a b = go m.failed
+  unless_few : (x : Moved) (f : World → Moved) → AreFew n m x.world → (AreFew n m x.world → AreFew n m (f x.world).world) → AreFew n m (and_unless x f).world
+  unless_few x f a b = go x.failed
     where
-      go : (failed : Bool) → AreFew n (if failed then m else and_then m f).world
+      go : (failed : Bool) → AreFew n m (if failed then x else and_then x f).world
       go true = a
       go false = b a
 
-  falls_few : (tables : List ℕ) (w : World) → AreFew n w → AreFew n (tables_fall tables w).world
+  falls_few : (tables : List ℕ) (w : World) → AreFew n m w → AreFew n m (tables_fall tables w).world
   falls_few [] w few = few
   falls_few (table ∷ tables) w few = falls_few tables (move_table table (store.Crash messages.FailedBefore) w).world (crash_few w table messages.FailedBefore few)
 
-  store_falls_few : (node : ℕ) (w : World) → AreFew n w → AreFew n (store_falls node w).world
+  store_falls_few : (node : ℕ) (w : World) → AreFew n m w → AreFew n m (store_falls node w).world
   store_falls_few node w few = falls_few (tables_of w node) w few
 
-  or_falls_few : (node : ℕ) (m : Moved) → AreFew n m.world → AreFew n (or_falls node m).world
-  or_falls_few node m a = go m.failed
+  or_falls_few : (node : ℕ) (x : Moved) → AreFew n m x.world → AreFew n m (or_falls node x).world
+  or_falls_few node x a = go x.failed
     where
-      go : (failed : Bool) → AreFew n (if failed then and_then m (store_falls node) else m).world
-      go true = store_falls_few node m.world a
+      go : (failed : Bool) → AreFew n m (if failed then and_then x (store_falls node) else x).world
+      go true = store_falls_few node x.world a
       go false = a
 
-  write_few : (node : ℕ) (luck : Luck) (o : Option ℕ) (w : World) → AreFew n w → AreFew n (write_next node luck o w).world
+  write_few : (node : ℕ) (luck : Luck) (o : Option ℕ) (w : World) → AreFew n m w → AreFew n m (write_next node luck o w).world
   write_few node luck None w few = few
   write_few node luck (Some table) w few = or_falls_few node (move_table table (store.Work luck) w) (work_few w table luck few)
 
-  works_few : (node count : ℕ) (lucks : List Luck) (w : World) → AreFew n w → AreFew n (store_works node count lucks w).world
+  works_few : (node count : ℕ) (lucks : List Luck) (w : World) → AreFew n m w → AreFew n m (store_works node count lucks w).world
   works_few node zero lucks w few = few
   works_few node (suc more) lucks w few =
-      let m : Moved = write_next node (first_luck lucks) (busy_table w node) w in
-      unless_few m (store_works node more (other_lucks lucks)) (write_few node (first_luck lucks) (busy_table w node) w few)
-      (λ there. works_few node more (other_lucks lucks) m.world there)
+      let x : Moved = write_next node (first_luck lucks) (busy_table w node) w in
+      unless_few x (store_works node more (other_lucks lucks)) (write_few node (first_luck lucks) (busy_table w node) w few)
+      (λ there. works_few node more (other_lucks lucks) x.world there)
 
-  follows_few : (node : ℕ) (lucks : List Luck) (w : World) → AreFew n w → AreFew n (store_follows node lucks w).world
+  follows_few : (node : ℕ) (lucks : List Luck) (w : World) → AreFew n m w → AreFew n m (store_follows node lucks w).world
   follows_few node lucks w few = go (has_node w.holds (nodes.Store node))
     where
-      go : (held : Bool) → AreFew n (if held then still w else store_until_idle node lucks w).world
+      go : (held : Bool) → AreFew n m (if held then still w else store_until_idle node lucks w).world
       go true = few
       go false = works_few node (length (tasks_of w node)) lucks w few
 
-  table_follows_few : (table : ℕ) (lucks : List Luck) (w : World) → AreFew n w → AreFew n (table_follows table lucks w).world
+  table_follows_few : (table : ℕ) (lucks : List Luck) (w : World) → AreFew n m w → AreFew n m (table_follows table lucks w).world
   table_follows_few table lucks w few = go (is_at_work w table)
     where
-      go : (busy : Bool) → AreFew n (if busy then store_follows owner lucks w else still w).world
+      go : (busy : Bool) → AreFew n m (if busy then store_follows owner lucks w else still w).world
       go true = follows_few owner lucks w few
       go false = few
 
-  start_few : (w : World) (table : ℕ) → AreFew n w → AreFew n (start_hosted w table (hosted_at w table)).world
+  start_few : (w : World) (table : ℕ) → AreFew n m w → AreFew n m (start_hosted w table (hosted_at w table)).world
   start_few w table few = go (hosted_at w table)
     where
-      go : (o : Option Hosted) → AreFew n (start_hosted w table o).world
+      go : (o : Option Hosted) → AreFew n m (start_hosted w table o).world
       go None = few
       go (Some hosted) = made hosted.made
         where
-          made : (b : Bool) → AreFew n (if b then move_table table store.Start w else after_table w table (record hosted { made = true }) (declared_late table)).world
-          made true = move_few n n w table store.Start (omega arith) few
+          made : (b : Bool) → AreFew n m (if b then move_table table store.Start w else after_table w table (record hosted { made = true }) (declared_late table)).world
+          made true = move_few n n m w table store.Start (omega arith) few
           made false = (put_table n w.tables table _ few.0 (omega arith), few.1)
 
-  starts_few : (tables : List ℕ) (lucks : List Luck) (w : World) → AreFew n w → AreFew n (tables_start tables lucks w).world
+  starts_few : (tables : List ℕ) (lucks : List Luck) (w : World) → AreFew n m w → AreFew n m (tables_start tables lucks w).world
   starts_few [] lucks w few = few
   starts_few (table ∷ tables) lucks w few =
       unless_few (table_starts table (first_luck lucks) w) (tables_start tables (other_lucks lucks)) (one (first_luck lucks))
       (λ there. starts_few tables (other_lucks lucks) (table_starts table (first_luck lucks) w).world there)
     where
-      one : (luck : Luck) → AreFew n (table_starts table luck w).world
+      one : (luck : Luck) → AreFew n m (table_starts table luck w).world
       one messages.Done = start_few w table few
       one messages.FailedBefore = few
       one messages.FailedAfter = few
 
-  store_starts_few : (node : ℕ) (lucks : List Luck) (w : World) → AreFew n w → AreFew n (store_starts node lucks w).world
-  store_starts_few node lucks w few = go m.failed
+  store_starts_few : (node : ℕ) (lucks : List Luck) (w : World) → AreFew n m w → AreFew n m (store_starts node lucks w).world
+  store_starts_few node lucks w few = go x.failed
     where
       tables : List ℕ
       tables = tables_of w node
 
-      m : Moved
-      m = tables_start tables lucks w
+      x : Moved
+      x = tables_start tables lucks w
 
-      there : AreFew n m.world
+      there : AreFew n m x.world
       there = starts_few tables lucks w few
 
-      go : (failed : Bool) → AreFew n (if failed then and_then m (tables_fall tables) else and_then m (λ x. store_follows node (drop (length tables) lucks) (without_down (nodes.Store node) x))).world
-      go true = falls_few tables m.world there
-      go false = follows_few node (drop (length tables) lucks) (without_down (nodes.Store node) m.world) there
+      go : (failed : Bool) → AreFew n m (if failed then and_then x (tables_fall tables) else and_then x (λ v. store_follows node (drop (length tables) lucks) (without_down (nodes.Store node) v))).world
+      go true = falls_few tables x.world there
+      go false = follows_few node (drop (length tables) lucks) (without_down (nodes.Store node) x.world) there
 
-  crashes_few : (node calls : ℕ) (lucks : List Luck) (w : World) → AreFew n w → AreFew n (store_crashes node calls lucks w).world
+  crashes_few : (node calls : ℕ) (lucks : List Luck) (w : World) → AreFew n m w → AreFew n m (store_crashes node calls lucks w).world
   crashes_few node calls lucks w few = store_falls_few node (table_crashes luck (busy_table w node) w).world (one (busy_table w node))
     where
       luck : Luck
       luck = crash_luck calls (other_lucks lucks) (first_luck lucks)
 
-      one : (o : Option ℕ) → AreFew n (table_crashes luck o w).world
+      one : (o : Option ℕ) → AreFew n m (table_crashes luck o w).world
       one None = few
       one (Some table) = crash_few w table luck few
 
+-- ---- calls of a client
+
+module _ (n m : ℕ) (w : World) (few : AreFew n m w) where
+  fallen_few : (c : ℕ) → AreFew n m (client_falls c w).world
+  fallen_few c = client_few n m w c (client.Crash messages.FailedBefore) no_shape tt few
+
+  -- a move of a client that draws numbers up to this one, and the work that follows
+  moved_few : (c : ℕ) (move : ClientMove) (shape : Shape) → ((node : Client) → client_at w c ≡ Some node → IsUpTo m (client_step c shape node move).client)
+      → AreFew n m (move_client c move shape w).world
+  moved_few c move shape most = go (client_at w c) refl
+    where
+      go : (o : Option Client) → client_at w c ≡ o → AreFew n m (move_there w c move shape o).world
+      go None at = few
+      go (Some node) at = (few.0, put_client m w.clients c _ few.1 (most node at))
+
+  call_few : (c : ℕ) (move : ClientMove) (shape : Shape) (lucks : List Luck) → ((node : Client) → client_at w c ≡ Some node → IsUpTo m (client_step c shape node move).client)
+      → (o : Option Client) → client_at w c ≡ o → AreFew n m (call_there w c move shape lucks o).world
+  call_few c move shape lucks most o at =
+      call_is (λ (x : WorldStep). AreFew n m x.world) w c move shape lucks (λ r before. few) (fallen_few c)
+      (λ node is. follows (gets_tasks node.agenda (move_client c move shape w).world c)) o at
+    where
+      follows : (b : Bool) → AreFew n m (if b then client_follows c (other_lucks lucks) (move_client c move shape w).world else still (move_client c move shape w).world).world
+      follows true = client_follows_few n m c (other_lucks lucks) (move_client c move shape w).world (moved_few c move shape most)
+      follows false = moved_few c move shape most
+
+  listed_few : (s : WorldStep) → AreFew n m s.world → AreFew n m (listed s).world
+  listed_few s there = go s.answer
+    where
+      go : (o : Option Answer) → AreFew n m (listed (record s { answer = o })).world
+      go None = there
+      go (Some facts.Done) = there
+      go (Some (facts.Number number)) = there
+      go (Some (facts.Shows y)) = there
+      go (Some (facts.Sums y)) = there
+      go (Some (facts.Stores v y)) = there
+      go (Some (facts.Did y)) = there
+      go (Some (facts.Names y)) = there
+      go (Some (facts.Pairs pairs)) = there
+      go (Some (facts.Refuses r)) = there
+
+-- ---- all conflicts of a table: each may draw a number
+
+resolve_by_few : (n m c table : ℕ) (by : resolvers.Stored) (shape : Shape) (pair : RowPair) (luck : Luck) (w : World) → AreFew n m w
+    → AreFew n (m + 1) (resolve_by c table by shape pair luck w).world
+resolve_by_few n m c table by shape pair messages.Done w few =
+    moved_few n (m + 1) w (few.0, clients_few m (m + 1) (omega arith) w few.1) c
+    (client.Resolve table pair.row pair.version (chosen_of by pair.row (client_at w c) table)) shape
+    (λ node at. let old : IsUpTo m node = few.1 c node at in
+    resolve_up_to m c shape node.disk old.0 node.agenda old.1 table pair.row pair.version (chosen_of by pair.row (client_at w c) table))
+resolve_by_few n m c table by shape pair messages.FailedBefore w few = fallen_few n (m + 1) w (few.0, clients_few m (m + 1) (omega arith) w few.1) c
+resolve_by_few n m c table by shape pair messages.FailedAfter w few = fallen_few n (m + 1) w (few.0, clients_few m (m + 1) (omega arith) w few.1) c
+
+resolve_each_few : (n m c table : ℕ) (by : resolvers.Stored) (shapes : List Shape) (lucks : List Luck) (pairs : List RowPair) (w : World) → AreFew n m w
+    → AreFew n (m + length pairs) (resolve_each c table by shapes lucks pairs w).world
+resolve_each_few n m c table by shapes lucks [] w few = (few.0, clients_few m (m + 0) (omega arith) w few.1)
+resolve_each_few n m c table by shapes lucks (pair ∷ pairs) w few =
+    let all : ℕ = m + length (pair ∷ pairs) in
+    let first : Moved = resolve_by c table by (first_shape shapes) pair (first_luck lucks) w in
+    let more : List Luck = drop (1 + plan_size c first.world) lucks in
+    let worked : Moved = and_unless first (client_until_idle c (other_lucks lucks)) in
+    let there : AreFew n (m + 1) worked.world =
+    unless_few n (m + 1) first (client_until_idle c (other_lucks lucks)) (resolve_by_few n m c table by (first_shape shapes) pair (first_luck lucks) w few)
+    (λ now. client_works_few n (m + 1) c (client_tasks (client_at first.world c)) (other_lucks lucks) first.world now) in
+    let rest : AreFew n (m + 1 + length pairs) (resolve_each c table by (other_shapes shapes) more pairs worked.world).world =
+    resolve_each_few n (m + 1) c table by (other_shapes shapes) more pairs worked.world there in
+    unless_few n all worked (resolve_each c table by (other_shapes shapes) more pairs)
+    (there.0, clients_few (m + 1) all (omega arith) worked.world there.1)
+    (λ now. subst (λ (k : ℕ). AreFew n k (resolve_each c table by (other_shapes shapes) more pairs worked.world).world) (omega arith) rest)
+
+resolve_all_few : (n m : ℕ) (w : World) → AreFew n m w → (c table : ℕ) (by : resolvers.Stored) (shapes : List Shape) (lucks : List Luck) (s : WorldStep) → AreFew n m s.world
+    → AreFew n (m + length (client_pairs (client_at w c) table)) (resolve_all w c table by shapes lucks s).world
+resolve_all_few n m w few c table by shapes lucks s there = go s.answer
+  where
+    pairs : List RowPair
+    pairs = client_pairs (client_at w c) table
+
+    none : AreFew n (m + length pairs) s.world
+    none = (there.0, clients_few m (m + length pairs) (omega arith) s.world there.1)
+
+    go : (o : Option Answer) → AreFew n (m + length pairs) (resolve_all w c table by shapes lucks (record s { answer = o })).world
+    go None = none
+    go (Some facts.Done) = none
+    go (Some (facts.Number number)) = resolve_each_few n m c table by shapes lucks pairs w few
+    go (Some (facts.Shows y)) = none
+    go (Some (facts.Sums y)) = none
+    go (Some (facts.Stores v y)) = none
+    go (Some (facts.Did y)) = none
+    go (Some (facts.Names y)) = none
+    go (Some (facts.Pairs some)) = none
+    go (Some (facts.Refuses r)) = none
+
 -- ---- events
 
-module _ (n : ℕ) (w : World) (few : AreFew n w) where
-  after : AreFew (n + 1) w
-  after = more_few n (n + 1) (omega arith) w few
+module _ (n m : ℕ) (w : World) (few : AreFew n m w) where
+  later_tables : AreFew (n + 1) m w
+  later_tables = (tables_few n (n + 1) (omega arith) w few.0, few.1)
 
-  down_few : (node : Node) (s : WorldStep) → AreFew (n + 1) s.world → AreFew (n + 1) (unless_down w node s).world
+  after : AreFew (n + 1) (m + 1) w
+  after = (later_tables.0, clients_few m (m + 1) (omega arith) w few.1)
+
+  down_few : (node : Node) (s : WorldStep) → AreFew (n + 1) (m + 1) s.world → AreFew (n + 1) (m + 1) (unless_down w node s).world
   down_few node s there = go (is_down w node)
     where
-      go : (b : Bool) → AreFew (n + 1) (if b then refused w (facts.NodeDown node) else s).world
+      go : (b : Bool) → AreFew (n + 1) (m + 1) (if b then refused w (facts.NodeDown node) else s).world
       go true = after
       go false = there
 
-  -- a move of a client that draws one number at most, and the work that follows
-  call_few : (c : ℕ) (move : ClientMove) (shape : Shape) (lucks : List Luck) → ((node : Client) → client_at w c ≡ Some node → IsUpTo (n + 1) (client_step c shape node move).client)
-      → (o : Option Client) → client_at w c ≡ o → AreFew (n + 1) (call_there w c move shape lucks o).world
-  call_few c move shape lucks most None at = after
-  call_few c move shape lucks most (Some node) at = down_few (nodes.Client c) _ (reads (first_luck lucks))
-    where
-      v : World
-      v = (move_client c move shape w).world
+  -- a call draws one number at most
+  write_event : (c table : ℕ) (row : List ℕ) (x : Content) (shape : Shape) (lucks : List Luck) → AreFew (n + 1) (m + 1) (call w c (client.Write table row x) shape lucks).world
+  write_event c table row x shape lucks = call_few (n + 1) (m + 1) w after c (client.Write table row x) shape lucks
+      (λ node at. let old : IsUpTo m node = few.1 c node at in write_up_to m c shape node.disk old.0 node.agenda old.1 table row x) (client_at w c) refl
 
-      moved : (o : Option Client) → client_at w c ≡ o → AreFew (n + 1) (move_there w c move shape o).world
-      moved None is = after
-      moved (Some x) is = (after.0, put_client (n + 1) w.clients c _ after.1 (most x is))
+  edit_event : (c table : ℕ) (row : List ℕ) (x : Edit) (shape : Shape) (lucks : List Luck) → AreFew (n + 1) (m + 1) (call w c (client.Change table row x) shape lucks).world
+  edit_event c table row x shape lucks = call_few (n + 1) (m + 1) w after c (client.Change table row x) shape lucks
+      (λ node at. let old : IsUpTo m node = few.1 c node at in edit_up_to m c shape node.disk old.0 node.agenda old.1 table row x) (client_at w c) refl
 
-      follows : (b : Bool) → AreFew (n + 1) (if b then client_follows c (other_lucks lucks) v else still v).world
-      follows true = client_follows_few (n + 1) c (other_lucks lucks) v (moved (client_at w c) refl)
-      follows false = moved (client_at w c) refl
+  show_event : (c table : ℕ) (row : List ℕ) (shape : Shape) (lucks : List Luck) → AreFew (n + 1) (m + 1) (call w c (client.Show table row) shape lucks).world
+  show_event c table row shape lucks = call_few (n + 1) (m + 1) w after c (client.Show table row) shape lucks
+      (λ node at. let old : IsUpTo m node = few.1 c node at in show_up_to m c shape node.disk old.0 node.agenda old.1 table row) (client_at w c) refl
 
-      by_link : (cut : Bool) → AreFew (n + 1) (unless_cut w cut (calls w c move shape (other_lucks lucks) node)).world
-      by_link true = after
-      by_link false = follows (gets_tasks node.agenda v c)
+  sum_event : (c table : ℕ) (row : List ℕ) (shape : Shape) (lucks : List Luck) → AreFew (n + 1) (m + 1) (call w c (client.Sum table row) shape lucks).world
+  sum_event c table row shape lucks = call_few (n + 1) (m + 1) w after c (client.Sum table row) shape lucks
+      (λ node at. let old : IsUpTo m node = few.1 c node at in show_up_to m c shape node.disk old.0 node.agenda old.1 table row) (client_at w c) refl
 
-      fallen : AreFew (n + 1) (client_falls c w).world
-      fallen = client_few (n + 1) w c (client.Crash messages.FailedBefore) no_shape tt after
+  sync_event : (c table : ℕ) (shape : Shape) (lucks : List Luck) → AreFew (n + 1) (m + 1) (call w c (client.Sync table) shape lucks).world
+  sync_event c table shape lucks = call_few (n + 1) (m + 1) w after c (client.Sync table) shape lucks
+      (λ node at. let old : IsUpTo m node = few.1 c node at in sync_up_to m c shape node.disk old.0 node.agenda old.1 table) (client_at w c) refl
 
-      reads : (luck : Luck) → AreFew (n + 1) (world.reads w c luck (unless_cut w (is_cut w c && is_cut_off c shape node move) (calls w c move shape (other_lucks lucks) node))).world
-      reads messages.Done = by_link (is_cut w c && is_cut_off c shape node move)
-      reads messages.FailedBefore = fallen
-      reads messages.FailedAfter = fallen
+  next_event : (c table : ℕ) (shape : Shape) (lucks : List Luck) → AreFew (n + 1) (m + 1) (call w c (client.Next table) shape lucks).world
+  next_event c table shape lucks = call_few (n + 1) (m + 1) w after c (client.Next table) shape lucks
+      (λ node at. let old : IsUpTo m node = few.1 c node at in next_up_to m c shape node.disk old.0 node.agenda old.1 table) (client_at w c) refl
 
-  write_event : (c table : ℕ) (row : List ℕ) (x : Content) (shape : Shape) (lucks : List Luck) → AreFew (n + 1) (call w c (client.Write table row x) shape lucks).world
-  write_event c table row x shape lucks = call_few c (client.Write table row x) shape lucks
-      (λ node at. let old : IsUpTo n node = few.1 c node at in write_up_to n c shape node.disk old.0 node.agenda old.1 table row x) (client_at w c) refl
+  begin_event : (c table : ℕ) (shape : Shape) (lucks : List Luck) → AreFew (n + 1) (m + 1) (call w c (client.BeginCr table) shape lucks).world
+  begin_event c table shape lucks = call_few (n + 1) (m + 1) w after c (client.BeginCr table) shape lucks
+      (λ node at. let old : IsUpTo (m + 1) node = after.1 c node at in phase_up_to (m + 1) c shape node.disk old.0 node.agenda old.1 table) (client_at w c) refl
 
-  edit_event : (c table : ℕ) (row : List ℕ) (x : Edit) (shape : Shape) (lucks : List Luck) → AreFew (n + 1) (call w c (client.Change table row x) shape lucks).world
-  edit_event c table row x shape lucks = call_few c (client.Change table row x) shape lucks
-      (λ node at. let old : IsUpTo n node = few.1 c node at in edit_up_to n c shape node.disk old.0 node.agenda old.1 table row x) (client_at w c) refl
+  conflicts_event : (c table : ℕ) (shape : Shape) (lucks : List Luck) → AreFew (n + 1) (m + 1) (listed (call w c (client.Conflicts table) shape lucks)).world
+  conflicts_event c table shape lucks = listed_few (n + 1) (m + 1) w after (call w c (client.Conflicts table) shape lucks)
+      (call_few (n + 1) (m + 1) w after c (client.Conflicts table) shape lucks
+      (λ node at. let old : IsUpTo (m + 1) node = after.1 c node at in conflicts_up_to (m + 1) c shape node.disk old.0 node.agenda old.1 table) (client_at w c) refl)
 
-  show_event : (c table : ℕ) (row : List ℕ) (shape : Shape) (lucks : List Luck) → AreFew (n + 1) (call w c (client.Show table row) shape lucks).world
-  show_event c table row shape lucks = call_few c (client.Show table row) shape lucks
-      (λ node at. let old : IsUpTo n node = few.1 c node at in show_up_to n c shape node.disk old.0 node.agenda old.1 table row) (client_at w c) refl
+  end_event : (c table : ℕ) (shape : Shape) (lucks : List Luck) → AreFew (n + 1) (m + 1) (call w c (client.EndCr table) shape lucks).world
+  end_event c table shape lucks = call_few (n + 1) (m + 1) w after c (client.EndCr table) shape lucks
+      (λ node at. let old : IsUpTo (m + 1) node = after.1 c node at in phase_up_to (m + 1) c shape node.disk old.0 node.agenda old.1 table) (client_at w c) refl
 
-  sum_event : (c table : ℕ) (row : List ℕ) (shape : Shape) (lucks : List Luck) → AreFew (n + 1) (call w c (client.Sum table row) shape lucks).world
-  sum_event c table row shape lucks = call_few c (client.Sum table row) shape lucks
-      (λ node at. let old : IsUpTo n node = few.1 c node at in show_up_to n c shape node.disk old.0 node.agenda old.1 table row) (client_at w c) refl
+  resolve_event : (c table : ℕ) (row : List ℕ) (version : ℕ) (choice : Choice) (shape : Shape) (lucks : List Luck)
+      → AreFew (n + 1) (m + 1) (call w c (client.Resolve table row version choice) shape lucks).world
+  resolve_event c table row version choice shape lucks = call_few (n + 1) (m + 1) w after c (client.Resolve table row version choice) shape lucks
+      (λ node at. let old : IsUpTo m node = few.1 c node at in resolve_up_to m c shape node.disk old.0 node.agenda old.1 table row version choice) (client_at w c) refl
 
-  sync_event : (c table : ℕ) (shape : Shape) (lucks : List Luck) → AreFew (n + 1) (call w c (client.Sync table) shape lucks).world
-  sync_event c table shape lucks = call_few c (client.Sync table) shape lucks
-      (λ node at. let old : IsUpTo n node = few.1 c node at in sync_up_to n c shape node.disk old.0 node.agenda old.1 table) (client_at w c) refl
-
-  next_event : (c table : ℕ) (shape : Shape) (lucks : List Luck) → AreFew (n + 1) (call w c (client.Next table) shape lucks).world
-  next_event c table shape lucks = call_few c (client.Next table) shape lucks
-      (λ node at. let old : IsUpTo n node = few.1 c node at in next_up_to n c shape node.disk old.0 node.agenda old.1 table) (client_at w c) refl
+  -- all conflicts of a table draw a number each
+  resolve_all_event : (c table : ℕ) (by : resolvers.Stored) (shape : Shape) (shapes : List Shape) (lucks more : List Luck)
+      → AreFew (n + 1) (m + length (client_pairs (client_at w c) table)) (resolve_all w c table by shapes more (call w c (client.ResolveAll table by) shape lucks)).world
+  resolve_all_event c table by shape shapes lucks more =
+      resolve_all_few (n + 1) m w later_tables c table by shapes more (call w c (client.ResolveAll table by) shape lucks)
+      (call_few (n + 1) m w later_tables c (client.ResolveAll table by) shape lucks
+      (λ node at. let old : IsUpTo m node = few.1 c node at in all_up_to m c shape node.disk old.0 node.agenda old.1 table by) (client_at w c) refl)
 
   -- ---- deliveries
 
-  hosted_few : (table : ℕ) (from : Node) (m : Message) (lucks : List Luck) (o : Option Hosted) → AreFew (n + 1) (to_hosted w table (store.Take from m) lucks o).world
-  hosted_few table from m lucks None = after
-  hosted_few table from m lucks (Some hosted) = go hosted.store.agenda
+  hosted_few : (table : ℕ) (from : Node) (message : Message) (lucks : List Luck) (o : Option Hosted) → AreFew (n + 1) (m + 1) (to_hosted w table (store.Take from message) lucks o).world
+  hosted_few table from message lucks None = after
+  hosted_few table from message lucks (Some hosted) = go hosted.store.agenda
     where
-      first : AreFew (n + 1) (move_table table (store.Take from m) w).world
-      first = move_few n (n + 1) w table (store.Take from m) (omega arith) few
+      first : AreFew (n + 1) (m + 1) (move_table table (store.Take from message) w).world
+      first = move_few n (n + 1) (m + 1) w table (store.Take from message) (omega arith) (few.0, after.1)
 
-      reads : (luck : Luck) → AreFew (n + 1) (take_read w table hosted (store.Take from m) (other_lucks lucks) luck).world
-      reads messages.FailedBefore = store_falls_few (n + 1) owner w after
-      reads messages.FailedAfter = store_falls_few (n + 1) owner w after
-      reads messages.Done = table_follows_few (n + 1) table (other_lucks lucks) (move_table table (store.Take from m) w).world first
+      reads : (luck : Luck) → AreFew (n + 1) (m + 1) (take_read w table hosted (store.Take from message) (other_lucks lucks) luck).world
+      reads messages.FailedBefore = store_falls_few (n + 1) (m + 1) owner w after
+      reads messages.FailedAfter = store_falls_few (n + 1) (m + 1) owner w after
+      reads messages.Done = table_follows_few (n + 1) (m + 1) table (other_lucks lucks) (move_table table (store.Take from message) w).world first
 
-      go : (o : Option (List StoreTask)) → AreFew (n + 1) (take_at w table hosted (store.Take from m) lucks o).world
+      go : (o : Option (List StoreTask)) → AreFew (n + 1) (m + 1) (take_at w table hosted (store.Take from message) lucks o).world
       go None = first
       go (Some (task ∷ more)) = first
       go (Some []) = reads (first_luck lucks)
 
-  carried_few : (p : Packet) (shape : Shape) (lucks : List Luck) (to : Node) → AreFew (n + 1) (carried w p shape lucks to).world
+  carried_few : (p : Packet) (shape : Shape) (lucks : List Luck) (to : Node) → AreFew (n + 1) (m + 1) (carried w p shape lucks to).world
   carried_few p shape lucks (nodes.Store number) = down_few (nodes.Store number) _ (hosted_few (table_of p.message) p.from p.message lucks (hosted_at w (table_of p.message)))
   carried_few p shape lucks (nodes.Gate gate) = after
   carried_few p shape lucks (nodes.Client c) = go (client_at w c) refl
     where
-      go : (o : Option Client) → client_at w c ≡ o → AreFew (n + 1) (to_there w c p.message shape lucks o).world
+      go : (o : Option Client) → client_at w c ≡ o → AreFew (n + 1) (m + 1) (to_there w c p.message shape lucks o).world
       go None at = after
-      go (Some node) at = call_few c (client.Take p.message) shape lucks
-          (λ x is. let old : IsUpTo n x = few.1 c x is in take_up_to n c shape x.disk old.0 x.agenda old.1 p.message) (Some node) at
+      go (Some node) at = call_few (n + 1) (m + 1) w after c (client.Take p.message) shape lucks
+          (λ x is. let old : IsUpTo m x = few.1 c x is in take_up_to m c shape x.disk old.0 x.agenda old.1 p.message) (Some node) at
 
-  delivered_few : (shape : Shape) (lucks : List Luck) (o : Option Packet) → AreFew (n + 1) (delivered w shape lucks o).world
+  delivered_few : (shape : Shape) (lucks : List Luck) (o : Option Packet) → AreFew (n + 1) (m + 1) (delivered w shape lucks o).world
   delivered_few shape lucks None = after
   delivered_few shape lucks (Some p) = carried_few p shape lucks p.to
 
   -- ---- declarations, and what the Store has
 
-  declared_few : (table : ℕ) (schema : Schema) (luck : Luck) (o : Option Hosted) → AreFew (n + 1) (declared w table schema luck o)
+  declared_few : (table : ℕ) (schema : Schema) (luck : Luck) (o : Option Hosted) → AreFew (n + 1) (m + 1) (declared w table schema luck o)
   declared_few table schema luck (Some hosted) = after
   declared_few table schema luck None = go luck
     where
-      with_new : (made up : Bool) → AreFew (n + 1) (with_table w table schema made up)
+      with_new : (made up : Bool) → AreFew (n + 1) (m + 1) (with_table w table schema made up)
       with_new made up = (put_table (n + 1) w.tables table _ after.0 (none up), after.1)
         where
           none : (b : Bool) → versions_of (record { disk = record { items = []; pending = None; left = [] }; agenda = agenda_of b }) ≤ n + 1
           none true = omega arith
           none false = omega arith
 
-      go : (x : Luck) → AreFew (n + 1) (declared w table schema x None)
+      go : (x : Luck) → AreFew (n + 1) (m + 1) (declared w table schema x None)
       go messages.Done = with_new true (not (is_down w the_store))
-      go messages.FailedBefore = store_falls_few (n + 1) owner (with_table w table schema false false) (with_new false false)
-      go messages.FailedAfter = store_falls_few (n + 1) owner (with_table w table schema false false) (with_new false false)
+      go messages.FailedBefore = store_falls_few (n + 1) (m + 1) owner (with_table w table schema false false) (with_new false false)
+      go messages.FailedAfter = store_falls_few (n + 1) (m + 1) owner (with_table w table schema false false) (with_new false false)
 
-  joined_few : (c : ℕ) (tables : List ℕ) (luck : Luck) (o : Option Client) → AreFew (n + 1) (joined w c tables luck o)
+  joined_few : (c : ℕ) (tables : List ℕ) (luck : Luck) (o : Option Client) → AreFew (n + 1) (m + 1) (joined w c tables luck o)
   joined_few c tables luck (Some node) = after
-  joined_few c tables luck None = (after.0, put_client (n + 1) w.clients c (new_client (open_all w [] tables) (first_agenda luck)) after.1 (fresh luck))
+  joined_few c tables luck None = (after.0, put_client (m + 1) w.clients c (new_client (open_all w [] tables) (first_agenda luck)) after.1 (fresh luck))
     where
-      fresh : (x : Luck) → IsUpTo (n + 1) (new_client (open_all w [] tables) (first_agenda x))
+      fresh : (x : Luck) → IsUpTo (m + 1) (new_client (open_all w [] tables) (first_agenda x))
       fresh messages.Done = ((omega arith, tt), tt)
       fresh messages.FailedBefore = ((omega arith, tt), tt)
       fresh messages.FailedAfter = ((omega arith, tt), tt)
 
-  linked_few : (c : ℕ) (up : Bool) (o : Option Client) → AreFew (n + 1) (linked w c up o).world
+  linked_few : (c : ℕ) (up : Bool) (o : Option Client) → AreFew (n + 1) (m + 1) (linked w c up o).world
   linked_few c up None = after
   linked_few c up (Some node) = down_few (nodes.Client c) _ (moved up)
     where
-      moved : (b : Bool) → AreFew (n + 1) (with_link c b w)
+      moved : (b : Bool) → AreFew (n + 1) (m + 1) (with_link c b w)
       moved true = after
       moved false = after
 
-  shows_few : (row : List ℕ) (lucks : List Luck) (o : Option Hosted) → AreFew (n + 1) (store_shows w row lucks o).world
+  shows_few : (row : List ℕ) (lucks : List Luck) (o : Option Hosted) → AreFew (n + 1) (m + 1) (store_shows w row lucks o).world
   shows_few row lucks None = after
   shows_few row lucks (Some hosted) = down_few the_store _ (read (first_luck lucks))
     where
-      read : (luck : Luck) → AreFew (n + 1) (row_read w hosted row luck).world
+      read : (luck : Luck) → AreFew (n + 1) (m + 1) (row_read w hosted row luck).world
       read messages.Done = after
-      read messages.FailedBefore = store_falls_few (n + 1) owner w after
-      read messages.FailedAfter = store_falls_few (n + 1) owner w after
+      read messages.FailedBefore = store_falls_few (n + 1) (m + 1) owner w after
+      read messages.FailedAfter = store_falls_few (n + 1) (m + 1) owner w after
 
-  history_few : (table : ℕ) (o : Option Hosted) → AreFew (n + 1) (history_lines w table o).world
+  history_few : (table : ℕ) (o : Option Hosted) → AreFew (n + 1) (m + 1) (history_lines w table o).world
   history_few table None = after
   history_few table (Some hosted) = after
 
-  chunks_few : (table : ℕ) (o : Option Hosted) → AreFew (n + 1) (chunk_names w table o).world
+  chunks_few : (table : ℕ) (o : Option Hosted) → AreFew (n + 1) (m + 1) (chunk_names w table o).world
   chunks_few table None = after
   chunks_few table (Some hosted) = down_few the_store _ after
 
   -- ---- what is done to a node
 
-  worked_node_few : (lucks : List Luck) (node : Node) → AreFew (n + 1) (worked w lucks node).world
-  worked_node_few lucks (nodes.Store number) = write_few (n + 1) number (first_luck lucks) (busy_table w number) w after
-  worked_node_few lucks (nodes.Client c) = client_writes_few (n + 1) c (first_luck lucks) (client_tasks (client_at w c)) w after
+  worked_node_few : (lucks : List Luck) (node : Node) → AreFew (n + 1) (m + 1) (worked w lucks node).world
+  worked_node_few lucks (nodes.Store number) = write_few (n + 1) (m + 1) number (first_luck lucks) (busy_table w number) w after
+  worked_node_few lucks (nodes.Client c) = client_writes_few (n + 1) (m + 1) c (first_luck lucks) (client_tasks (client_at w c)) w after
   worked_node_few lucks (nodes.Gate gate) = after
 
-  all_worked_few : (lucks : List Luck) (node : Node) → AreFew (n + 1) (all_worked w lucks node).world
-  all_worked_few lucks (nodes.Store number) = works_few (n + 1) number (length (tasks_of w number)) lucks w after
-  all_worked_few lucks (nodes.Client c) = client_works_few (n + 1) c (client_tasks (client_at w c)) lucks w after
+  all_worked_few : (lucks : List Luck) (node : Node) → AreFew (n + 1) (m + 1) (all_worked w lucks node).world
+  all_worked_few lucks (nodes.Store number) = works_few (n + 1) (m + 1) number (length (tasks_of w number)) lucks w after
+  all_worked_few lucks (nodes.Client c) = client_works_few (n + 1) (m + 1) c (client_tasks (client_at w c)) lucks w after
   all_worked_few lucks (nodes.Gate gate) = after
 
-  crashed_node_few : (calls : ℕ) (lucks : List Luck) (node : Node) → AreFew (n + 1) (crashed w calls lucks node).world
-  crashed_node_few calls lucks (nodes.Store number) = crashes_few (n + 1) number calls lucks w after
-  crashed_node_few calls lucks (nodes.Client c) = client_few (n + 1) w c (client.Crash (crash_luck calls (other_lucks lucks) (first_luck lucks))) no_shape tt after
+  crashed_node_few : (calls : ℕ) (lucks : List Luck) (node : Node) → AreFew (n + 1) (m + 1) (crashed w calls lucks node).world
+  crashed_node_few calls lucks (nodes.Store number) = crashes_few (n + 1) (m + 1) number calls lucks w after
+  crashed_node_few calls lucks (nodes.Client c) = client_few (n + 1) (m + 1) w c (client.Crash (crash_luck calls (other_lucks lucks) (first_luck lucks))) no_shape tt after
   crashed_node_few calls lucks (nodes.Gate gate) = after
 
-  started_node_few : (shape : Shape) (lucks : List Luck) (node : Node) → AreFew (n + 1) (started w shape lucks node).world
+  started_node_few : (shape : Shape) (lucks : List Luck) (node : Node) → AreFew (n + 1) (m + 1) (started w shape lucks node).world
   started_node_few shape lucks (nodes.Client c) = go (is_down w (nodes.Client c))
     where
-      started_by : (luck : Luck) (more : List Luck) → AreFew (n + 1) (starts_by c shape luck more w).world
-      started_by messages.Done more = client_follows_few (n + 1) c more (move_client c client.Start shape w).world (client_few (n + 1) w c client.Start shape tt after)
+      started_by : (luck : Luck) (more : List Luck) → AreFew (n + 1) (m + 1) (starts_by c shape luck more w).world
+      started_by messages.Done more = client_follows_few (n + 1) (m + 1) c more (move_client c client.Start shape w).world (client_few (n + 1) (m + 1) w c client.Start shape tt after)
       started_by messages.FailedBefore more = after
       started_by messages.FailedAfter more = after
 
-      go : (b : Bool) → AreFew (n + 1) (if b then answering facts.Done (client_starts c shape lucks w) else answered w facts.Done).world
+      go : (b : Bool) → AreFew (n + 1) (m + 1) (if b then answering facts.Done (client_starts c shape lucks w) else answered w facts.Done).world
       go true = started_by (first_luck lucks) (other_lucks lucks)
       go false = after
   started_node_few shape lucks (nodes.Gate gate) = after
   started_node_few shape lucks (nodes.Store number) = go (is_down w (nodes.Store number))
     where
-      go : (b : Bool) → AreFew (n + 1) (if b then answering facts.Done (store_starts number lucks w) else answered w facts.Done).world
-      go true = store_starts_few (n + 1) number lucks w after
+      go : (b : Bool) → AreFew (n + 1) (m + 1) (if b then answering facts.Done (store_starts number lucks w) else answered w facts.Done).world
+      go true = store_starts_few (n + 1) (m + 1) number lucks w after
       go false = after
 
-  step_few : (event : Event) (lucks : Lucks) → AreFew (n + 1) (step w event lucks).world
+  step_few : (event : Event) (lucks : Lucks) → AreFew (n + 1) (m + begun_by w event) (step w event lucks).world
   step_few (events.Store number) lucks = after
   step_few (events.Table table schema) lucks = declared_few table schema (first_luck lucks.calls) (hosted_at w table)
   step_few (events.Client c gate tables) lucks = joined_few c tables (first_luck lucks.calls) (client_at w c)
@@ -808,6 +983,11 @@ module _ (n : ℕ) (w : World) (few : AreFew n w) where
   step_few (events.Sum c table row) lucks = sum_event c table row lucks.shape lucks.calls
   step_few (events.Sync c table) lucks = sync_event c table lucks.shape lucks.calls
   step_few (events.Pull c table) lucks = next_event c table lucks.shape lucks.calls
+  step_few (events.BeginCr c table) lucks = begin_event c table lucks.shape lucks.calls
+  step_few (events.Conflicts c table) lucks = conflicts_event c table lucks.shape lucks.calls
+  step_few (events.EndCr c table) lucks = end_event c table lucks.shape lucks.calls
+  step_few (events.Resolve c table row version choice) lucks = resolve_event c table row version choice lucks.shape lucks.calls
+  step_few (events.ResolveAll c table by) lucks = resolve_all_event c table by lucks.shape lucks.shapes lucks.calls (other_lucks lucks.calls)
   step_few (events.Deliver packet) lucks = delivered_few lucks.shape lucks.calls (slice_get w.packets packet)
   step_few (events.StoreShow table row) lucks = shows_few row lucks.calls (hosted_at w table)
   step_few (events.History table) lucks = history_few table (hosted_at w table)
@@ -821,26 +1001,46 @@ module _ (n : ℕ) (w : World) (few : AreFew n w) where
 
 -- ---- runs
 
-run_few : (n : ℕ) (w : World) (run : List Happening) → AreFew n w → AreFew (n + length run) (world_from w run)
-run_few n w [] few = subst (λ (m : ℕ). AreFew m w) (omega arith) few
-run_few n w (h ∷ more) few =
-    let rest : AreFew (n + 1 + length more) (world_from w (h ∷ more)) = run_few (n + 1) (step w h.event h.lucks).world more (step_few n w few h.event h.lucks) in
-    subst (λ (m : ℕ). AreFew m (world_from w (h ∷ more))) (omega arith) rest
+run_few : (n m : ℕ) (w : World) (run : List Happening) → AreFew n m w → AreFew (n + length run) (m + begun_from w run) (world_from w run)
+run_few n m w [] few = subst (λ (k : ℕ). AreFew (n + 0) k w) (omega arith) (subst (λ (k : ℕ). AreFew k m w) (omega arith) few)
+run_few n m w (h ∷ more) few =
+    let next : World = (step w h.event h.lucks).world in
+    let rest : AreFew (n + 1 + length more) (m + begun_by w h.event + begun_from next more) (world_from next more) =
+    run_few (n + 1) (m + begun_by w h.event) next more (step_few n m w few h.event h.lucks) in
+    subst (λ (k : ℕ). AreFew (n + length (h ∷ more)) k (world_from next more)) (omega arith)
+    (subst (λ (k : ℕ). AreFew k (m + begun_by w h.event + begun_from next more) (world_from next more)) (omega arith) rest)
 
-start_all_few : AreFew 0 start
+start_all_few : AreFew 0 0 start
 start_all_few = (λ q hosted at. absurd cc, λ q node at. absurd cc)
 
-behind_few : (run : List Happening) → AreFew (length run) (world_from start run)
-behind_few run = subst (λ (m : ℕ). AreFew m (world_from start run)) (omega arith) (run_few 0 start run start_all_few)
+behind_few : (run : List Happening) → AreFew (length run) (begun_in run) (world_from start run)
+behind_few run = subst (λ (k : ℕ). AreFew (length run) k (world_from start run)) (omega arith)
+    (subst (λ (k : ℕ). AreFew k (0 + begun_from start run) (world_from start run)) (omega arith) (run_few 0 0 start run start_all_few))
 
 pub items_few : (run : List Happening) (table : ℕ) (hosted : Hosted) → hosted_at (world_from start run) table ≡ Some hosted → length hosted.store.disk.items ≤ length run
 items_few run table hosted at = let few = (behind_few run).0 table hosted at in omega (arith, few)
 
-pub last_few : (run : List Happening) (c : ℕ) (node : Client) → client_at (world_from start run) c ≡ Some node → node.disk.last ≤ length run
-last_few run c node at = ((behind_few run).1 c node at).0.0
+pub last_begun : (run : List Happening) (c : ℕ) (node : Client) → client_at (world_from start run) c ≡ Some node → node.disk.last ≤ begun_in run
+last_begun run c node at = ((behind_few run).1 c node at).0.0
 
-pub plan_few : (run : List Happening) (c : ℕ) (node : Client) (p : Plan) → client_at (world_from start run) c ≡ Some node → node.disk.plan ≡ Some p → p.last ≤ length run
-plan_few run c node p at is = subst (PlanUpTo (length run)) is ((behind_few run).1 c node at).0.1
+pub plan_begun : (run : List Happening) (c : ℕ) (node : Client) (p : Plan) → client_at (world_from start run) c ≡ Some node → node.disk.plan ≡ Some p → p.last ≤ begun_in run
+plan_begun run c node p at is = subst (PlanUpTo (begun_in run)) is ((behind_few run).1 c node at).0.1
+
+-- ---- a run in which no event resolves all conflicts of a table begins no more writes than it has events
+
+begun_single : (w : World) (event : Event) → IsSingle event → begun_by w event ≡ 1
+begun_single w (events.ResolveAll c table by) single = absurd single
+begun_single w other single = refl
+
+begun_singles : (w : World) (run : List Happening) → AreSingle run → begun_from w run ≡ length run
+begun_singles w [] single = refl
+begun_singles w (h ∷ more) single =
+    let first = begun_single w h.event single.0 in
+    let rest = begun_singles (step w h.event h.lucks).world more single.1 in
+    omega (arith, first, rest)
+
+pub singles_begin : (run : List Happening) → AreSingle run → begun_in run ≡ length run
+singles_begin run single = begun_singles start run single
 
 -- ---- the last number as it is read, with a plan's change
 
@@ -860,5 +1060,8 @@ planned_last : (n : ℕ) (d : ClientDisk) (plan : Option Plan) → d.last ≤ n 
 planned_last n d None few new = few
 planned_last n d (Some p) few new = put_last n (client.row_put d p.last p.table p.row) p.table p.position (row_last n d p.last p.table p.row few new)
 
-pub seen_few : (run : List Happening) (c : ℕ) (node : Client) → client_at (world_from start run) c ≡ Some node → (seen node.disk).last ≤ length run
-seen_few run c node at = let few = ((behind_few run).1 c node at).0 in planned_last (length run) node.disk node.disk.plan few.0 few.1
+pub seen_begun : (run : List Happening) (c : ℕ) (node : Client) → client_at (world_from start run) c ≡ Some node → (seen node.disk).last ≤ begun_in run
+seen_begun run c node at = let few = ((behind_few run).1 c node at).0 in planned_last (begun_in run) node.disk node.disk.plan few.0 few.1
+
+pub seen_few : (run : List Happening) → AreSingle run → (c : ℕ) (node : Client) → client_at (world_from start run) c ≡ Some node → (seen node.disk).last ≤ length run
+seen_few run single c node at = subst (λ (k : ℕ). (seen node.disk).last ≤ k) (singles_begin run single) (seen_begun run c node at)

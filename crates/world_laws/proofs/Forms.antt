@@ -9,9 +9,14 @@ use Rattle.row_value.specs.declared.fit.FitFault.{FitFault}
 use Rattle.row_value.specs.Fit.{fit_of}
 use Rattle.row_edits.specs.declared.change.Edit.{Edit}
 use Rattle.row_edits.specs.Edit.{edited_to}
+use Rattle.row_value.specs.declared.schema.Schema.{Schema}
+use Rattle.conflicts.specs.declared.pair.Choice.{Choice}
+use Rattle.conflicts.specs.declared.pair.Choice.TheVariants.{Mine, Theirs, New}
+use Rattle.conflicts.specs.declared.stored.Stored as resolvers
+use Rattle.step_tables.specs.declared.slots.Main.{Main}
 use Rattle.step_tables.specs.declared.slots.InFlight.{InFlight}
 use Rattle.step_tables.specs.declared.slots.Shadow.{Shadow}
-use Rattle.step_tables.specs.Facts.{Answer, Shown, ShownSum}
+use Rattle.step_tables.specs.Facts.{Answer, Refusal, Shown, ShownSum}
 use Rattle.step_tables.specs.Facts as facts
 use Rattle.step_tables.specs.Sums.{by_digests, or_whole, sum_of}
 use Rattle.step_tables.specs.Messages.{Request, Response, Pull, Pulled, Header, Pair, Outcome, Message, Send, SyncRequest, SyncResponse, PullRequest, PullResponse}
@@ -23,6 +28,7 @@ use Rattle.step_tables.specs.StoreMoves.{StoreDisk, StoreTask}
 use Rattle.step_tables.specs.ClientMoves.{Slots, TableDisk, ClientDisk, ClientTask, Shape, RowOut, slots_at, table_at, seen, shown_in, show_answer, show_in, write_step, write_to}
 use Rattle.step_tables.specs.ClientMoves.{write_fitting, content_of, edit_made, edit_over, edit_in, edit_step}
 use Rattle.step_tables.specs.ClientMoves.{write_idle, write_free, write_by, write_strong, first_out, show_step, sync_step, sync_in, sync_first, resent, first_to_send, next_step, next_in, take_step}
+use Rattle.step_tables.specs.ClientMoves.{refused, phase_in, phase_step, choose, over_fitting, resolve_over, resolve_in, resolve_step, can_resolve, all_idle, all_fitting, all_in, all_step}
 use Rattle.step_tables.specs.ClientMoves.{response_in, response_taken, outcome_taken, pulled_in, pulled_taken, row_taken, top, begun, position_plan, row_plan, row_placed, next_pull}
 
 -- an answer with a number, or a refusal
@@ -61,6 +67,19 @@ sum_form (facts.Sums sum) f = absurd f
 sum_form (facts.Stores version content) f = absurd f
 sum_form (facts.Did step) f = absurd f
 sum_form (facts.Names names) f = absurd f
+sum_form (facts.Pairs pairs) f = absurd f
+
+-- what holds of each answer of a form
+
+pub by_number : (P : Answer → Type 0) → ((n : ℕ) → P (facts.Number n)) → ((r : Refusal) → P (facts.Refuses r)) → (a : Answer) → IsNumber a → P a
+by_number P number refuses (facts.Number n) f = number n
+by_number P number refuses (facts.Refuses r) f = refuses r
+by_number P number refuses other f = absurd f
+
+pub by_done : (P : Answer → Type 0) → P facts.Done → ((r : Refusal) → P (facts.Refuses r)) → (a : Answer) → IsDone a → P a
+by_done P done refuses facts.Done f = done
+by_done P done refuses (facts.Refuses r) f = refuses r
+by_done P done refuses other f = absurd f
 
 module _ (c : ℕ) (shape : Shape) (d : ClientDisk) where
   strong_form : (table : ℕ) (row : List ℕ) (slots : Slots) (x : Content) (o : Option InFlight) → IsNumber (write_strong c shape d table row slots x o).answer
@@ -147,6 +166,66 @@ module _ (c : ℕ) (shape : Shape) (d : ClientDisk) where
   pub next_form : (agenda : Option (List ClientTask)) (table : ℕ) → IsDone (next_step c shape d agenda table).answer
   next_form None table = tt
   next_form (Some agenda) table = next_in_form agenda table (table_at (seen d) table)
+
+  -- ---- conflicts
+
+  phase_in_form : (agenda : List ClientTask) (o : Option TableDisk) → IsDone (phase_in d agenda o).answer
+  phase_in_form agenda None = tt
+  phase_in_form agenda (Some opened) = tt
+
+  pub phase_form : (agenda : Option (List ClientTask)) (table : ℕ) → IsDone (phase_step d agenda table).answer
+  phase_form None table = tt
+  phase_form (Some agenda) table = phase_in_form agenda (table_at (seen d) table)
+
+  choose_form : (table : ℕ) (row : List ℕ) (schema : Schema) (slots : Slots) (main : Main) (x : Shadow) (choice : Choice)
+      → IsNumber (choose c shape d table row schema slots main x choice).answer
+  choose_form table row schema slots main x Mine = tt
+  choose_form table row schema slots main x Theirs = tt
+  choose_form table row schema slots main x (New content) = fitting (fit_of schema content)
+    where
+      fitting : (fit : Result (Unit {0}) FitFault) → IsNumber (over_fitting c shape d table row slots main x content fit).answer
+      fitting (Ok fits) = tt
+      fitting (Err fault) = tt
+
+  resolve_over_form : (table : ℕ) (row : List ℕ) (schema : Schema) (slots : Slots) (version : ℕ) (choice : Choice) (m : Option Main) (x : Option Shadow)
+      → IsNumber (resolve_over c shape d table row schema slots version choice m x).answer
+  resolve_over_form table row schema slots version choice None x = tt
+  resolve_over_form table row schema slots version choice (Some main) None = tt
+  resolve_over_form table row schema slots version choice (Some main) (Some x) = go (x.version == version)
+    where
+      go : (b : Bool) → IsNumber (if b then choose c shape d table row schema slots main x choice else refused d (facts.Moved version x.version)).answer
+      go true = choose_form table row schema slots main x choice
+      go false = tt
+
+  resolve_in_form : (agenda : List ClientTask) (table : ℕ) (row : List ℕ) (version : ℕ) (choice : Choice) (o : Option TableDisk)
+      → IsNumber (resolve_in c shape d agenda table row version choice o).answer
+  resolve_in_form agenda table row version choice None = tt
+  resolve_in_form (task ∷ more) table row version choice (Some opened) = tt
+  resolve_in_form [] table row version choice (Some opened) =
+      let slots : Slots = slots_at opened row in resolve_over_form table row opened.schema slots version choice slots.main slots.conflict
+
+  pub resolve_form : (agenda : Option (List ClientTask)) (table : ℕ) (row : List ℕ) (version : ℕ) (choice : Choice)
+      → IsNumber (resolve_step c shape d agenda table row version choice).answer
+  resolve_form None table row version choice = tt
+  resolve_form (Some agenda) table row version choice = resolve_in_form agenda table row version choice (table_at (seen d) table)
+
+  all_idle_form : (agenda : List ClientTask) (opened : TableDisk) → IsNumber (all_idle shape d agenda opened).answer
+  all_idle_form (task ∷ more) opened = tt
+  all_idle_form [] opened = tt
+
+  all_fitting_form : (agenda : List ClientTask) (opened : TableDisk) (fit : Result (Unit {0}) FitFault) → IsNumber (all_fitting shape d agenda opened fit).answer
+  all_fitting_form agenda opened (Ok fits) = all_idle_form agenda opened
+  all_fitting_form agenda opened (Err fault) = tt
+
+  all_in_form : (agenda : List ClientTask) (by : resolvers.Stored) (o : Option TableDisk) → IsNumber (all_in shape d agenda by o).answer
+  all_in_form agenda by None = tt
+  all_in_form agenda by (Some opened) = all_fitting_form agenda opened (can_resolve opened.schema by)
+
+  pub all_form : (agenda : Option (List ClientTask)) (table : ℕ) (by : resolvers.Stored) → IsNumber (all_step shape d agenda table by).answer
+  all_form None table by = tt
+  all_form (Some agenda) table by = all_in_form agenda by (table_at (seen d) table)
+
+  -- ---- messages
 
   outcome_form : (table : ℕ) (row : List ℕ) (opened : TableDisk) (slots : Slots) (out : InFlight) (o : Outcome) → IsDone (outcome_taken c shape d table row opened slots out o).answer
   outcome_form table row opened slots out (messages.Accepted v) = tt

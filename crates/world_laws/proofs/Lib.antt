@@ -3,6 +3,7 @@ pub mod Kept
 pub mod Lines
 pub mod Changes
 pub mod Looks
+pub mod Calls
 pub mod Orders
 pub mod Ups
 pub mod StoreWorks
@@ -10,8 +11,12 @@ pub mod ClientMoves
 pub mod TableMoves
 pub mod StoreMoves
 pub mod Showings
+pub mod Listings
 pub mod Forms
 pub mod Runs
 pub mod Fresh
 pub mod Whole
 pub mod Counts
+pub mod Working
+pub mod Resolving
+pub mod Resolutions

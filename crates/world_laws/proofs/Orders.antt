@@ -37,6 +37,25 @@ module _ (g : ℕ → Scheme) where
       → MoveSound g s w number (still (record w { holds = holds; downs = downs; cuts = cuts }))
   nodes_sound w s number holds downs cuts k = record { lines = tt; kept = nodes_kept w s holds downs cuts k; there = λ table none. none }
 
+  -- nor which phases are open
+  unfoldable pub phases_kept : (w : World) (s : Said) (phases : List (ℕ × ℕ)) → Kept g w s → Kept g (record w { phases = phases }) s
+  phases_kept w s phases k = record {
+    items = k.items;
+    sent = k.sent;
+    told = k.told;
+    history = k.history;
+    lawful = k.lawful;
+    schemes = k.schemes;
+    declared = k.declared;
+    tables = k.tables;
+    stores = k.stores;
+    unmade = k.unmade;
+    no_store = k.no_store;
+    clients = k.clients;
+    no_client = k.no_client;
+    packets = k.packets;
+  }
+
   pub both_sound : (w : World) (s : Said) (number : ℕ) (m : Moved) (f : World → Moved) → MoveSound g s w number m
       → ((x : Said) → Kept g m.world x → MoveSound g x m.world (number + sent_by g m.outs) (f m.world)) → MoveSound g s w number (and_then m f)
   both_sound w s number m f a b =

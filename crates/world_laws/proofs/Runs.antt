@@ -1,7 +1,7 @@
 -- Every event keeps the world, and every run is sound.
 use Rattle.std.proofs.Common.{◌≡◌, ℕ, ◌+◌, Bool, true, false, List, [], ◌∷◌, ◌++◌, length, Option, Some, None, refl, sym, ap, ◌∙◌, subst, arith, inl, inr, ⊎_elim, append-nil}
 use Rattle.std.proofs.Common.{true≢false}
-use Rattle.std.specs.Prelude.{map, slice_get, ◌==◌, ◌&&◌, not, if◌then◌else◌}
+use Rattle.std.specs.Prelude.{map, drop, slice_get, ◌==◌, not, if◌then◌else◌}
 use Rattle.std.proofs.lemmas.Bool.Decides.{nat_tests}
 use Rattle.std.specs.Ordering.{nat_cmp}
 use Rattle.std.specs.Map.{lookup}
@@ -17,8 +17,11 @@ use Rattle.table_model.specs.declared.event.Event.{Event}
 use Rattle.table_model.specs.declared.event.Event.TheVariants as events
 use Rattle.row_edits.specs.declared.change.Edit.{Edit}
 use Rattle.stab_base.specs.declared.step.Step.TheVariants as steps
+use Rattle.conflicts.specs.declared.pair.Choice.{Choice}
+use Rattle.conflicts.specs.declared.stored.Stored as resolvers
+use Rattle.table_model.specs.declared.line.RowPair.{RowPair}
 use Rattle.step_tables.specs.Store.{Stored, entries_of, current_of}
-use Rattle.step_tables.specs.Facts.{Fact, Answer, Refusal, Line, AnswerLine, EntryLine, FactLine}
+use Rattle.step_tables.specs.Facts.{Fact, Answer, Refusal, Line, AnswerLine, EntryLine, PairLine, FactLine}
 use Rattle.step_tables.specs.Facts as facts
 use Rattle.step_tables.specs.Sums.{by_digests}
 use Rattle.step_tables.specs.Messages.{Message, Luck, SyncRequest, SyncResponse, PullRequest, PullResponse, table_of, name_of}
@@ -27,16 +30,17 @@ use Rattle.step_tables.specs.Sayings.{Heard, nothing_heard, Said, nothing_said, 
 use Rattle.step_tables.specs.StoreMoves as store
 use Rattle.step_tables.specs.StoreMoves.{StoreDisk, StoreTask, TableStore, StoreMove, StoreStep, store_step}
 use Rattle.step_tables.specs.ClientMoves as client
-use Rattle.step_tables.specs.ClientMoves.{TableDisk, ClientDisk, Client, ClientTask, ClientMove, ClientStep, Shape, no_shape, client_step, is_cut_off}
+use Rattle.step_tables.specs.ClientMoves.{TableDisk, ClientDisk, Client, ClientTask, ClientMove, ClientStep, Shape, no_shape, client_step}
 use Rattle.step_tables.proofs.Lists.{among_get, among_none}
 use Rattle.store_laws.specs.Part.{Known, StoreLaw, StorePart, IsWayTo, Runs}
 use Rattle.store_laws.specs.Part as store_part
 use Rattle.store_laws.proofs.Law.{store_law}
 use Rattle.client_laws.specs.Part.{Items, Sending, Ours, ClientPart, ClientLaw}
 use Rattle.client_laws.specs.Part as part
+use Rattle.client_laws.proofs.PlanRuns as plan_runs
 use Rattle.world_tables.specs.World.{has_node, packets_from, crash_luck, client_until_idle, client_writes, starts_by, client_starts, client_crashes, client_falls, next_write}
-use Rattle.world_tables.specs.World.{Lucks, first_agenda, is_cut, with_link, unless_cut, calls, linked}
-use Rattle.world_tables.specs.World as world
+use Rattle.world_tables.specs.World.{Lucks, first_agenda, with_link, linked, with_phases, after_client, listed, and_unless, resolve_by, resolve_each, resolve_all, chosen_of}
+use Rattle.world_tables.specs.World.{client_pairs, first_shape, other_shapes, plan_size}
 use Rattle.world_tables.specs.World.{World, Packet, Hosted, Outbox, Moved, WorldStep, start, chunk_in, schema_at, hosted_at, client_at, scheme_in, owner, the_store, is_down, still, and_then, failing}
 use Rattle.world_tables.specs.World.{after_table, table_step, move_hosted}
 use Rattle.world_tables.specs.World.{move_table, move_there, move_client, first_luck, other_lucks, client_works, client_tasks, client_follows, table_follows, store_falls, declared_late}
@@ -47,21 +51,24 @@ use Rattle.world_tables.specs.World.{call_there, call, take_read, take_at, to_ho
 use Rattle.world_tables.specs.World.{without_node, busy_table, write_next, tasks_of, store_until_idle, store_crashes, store_starts, busy_step, worked, all_worked, crashed, started, names_on}
 use Rattle.world_tables.specs.World.{names_answer, chunk_names}
 use Rattle.world_tables.specs.World.{row_shown, row_read, store_shows, entry_lines, history_lines, step, lines_of, lines_from, sent_lines}
-use Rattle.world_tables.specs.Turns.{Happening, Turn, turns_from}
-use Rattle.world_tables.specs.Sound.{scheme_for, IsAnswer, IsForm, IsCounted, IsQuiet, IsAnswered, IsTurn, AreSaid, IsSoundFrom, IsSound, IsStored, shown_of}
+use Rattle.world_tables.specs.Turns.{Happening, Turn, turns_from, world_from}
+use Rattle.world_tables.specs.Sound.{scheme_for, ArePairs, IsAnswer, IsForm, IsCounted, IsQuiet, IsAnswered, IsTurn, AreSaid, IsSoundFrom, IsSound, IsStored, shown_of}
 use Rattle.world_laws.proofs.Told.{in_sight, nothing_told}
 use Rattle.world_laws.proofs.Kept.{KnownIn, IsFairPacket, nothing_there, Kept, MoveSound}
 use Rattle.world_laws.proofs.Kept as kept
 use Rattle.world_laws.proofs.Looks.{look_cases}
-use Rattle.world_laws.proofs.Orders.{still_sound, nodes_sound, both_sound, failing_sound}
+use Rattle.world_laws.proofs.Lines.{hear-append, said-append}
+use Rattle.world_laws.proofs.Orders.{still_sound, nodes_sound, phases_kept, both_sound, unless_sound, failing_sound}
 use Rattle.world_laws.proofs.StoreWorks.{silent_lines, store_falls_silent, crashes_silent, store_falls_there}
 use Rattle.world_laws.proofs.StoreWorks as works
 use Rattle.world_laws.proofs.Ups.{IsUp, start_up, step_up}
 use Rattle.world_laws.proofs.ClientMoves.{ours, client_moves}
 use Rattle.world_laws.proofs.TableMoves.{ClientGrows, LapsedGrows}
 use Rattle.world_laws.proofs.StoreMoves.{table_moves}
+use Rattle.world_laws.proofs.Calls.{IsBefore, call_is}
 use Rattle.world_laws.proofs.Showings.{show_sum, answer_shows, row_stored}
-use Rattle.world_laws.proofs.Forms.{IsNumber, IsDone, IsShow, IsShowOrSum, sum_form, write_form, edit_form, show_form, sync_form, next_form, take_form, taken_form}
+use Rattle.world_laws.proofs.Listings.{pairs_are}
+use Rattle.world_laws.proofs.Forms.{IsNumber, IsDone, IsShow, IsShowOrSum, by_number, by_done, phase_form, resolve_form, all_form, sum_form, write_form, edit_form, show_form, sync_form, next_form, take_form, taken_form}
 
 -- what a client's crate gives besides
 abbrev pub ClientLaws : Type 0
@@ -158,11 +165,17 @@ module _ (client_law : ClientLaws) (client_grows : ClientGrows) (lapsed_grows : 
     law_of c shape node at move fair = client_law g c k.items (k.sent c) (s.heard c) (ours g w s k c) shape node move fair (k.clients c node at)
 
     client_move : (c : ℕ) (move : ClientMove) (shape : Shape) (number : ℕ) → part.IsFair g c k.items (k.sent c) move → MoveSound g s w number (move_client c move shape w)
+    unfolding phases_kept
     client_move c move shape number fair = go (client_at w c) refl
       where
         go : (o : Option Client) → client_at w c ≡ o → MoveSound g s w number (move_there w c move shape o)
         go None at = still_sound g w s number k
-        go (Some node) at = client_moves g w s k c node at move (client_step c shape node move) (law_of c shape node at move fair) number
+        go (Some node) at =
+            let step : ClientStep = client_step c shape node move in
+            let v : World = with_phases w c move step in
+            let k' : Kept g v s = phases_kept g w s v.phases k in
+            let moved : MoveSound g s v number (after_client v c step) = client_moves g v s k' c node at move step (law_of c shape node at move fair) number in
+            record { lines = moved.lines; kept = moved.kept; there = moved.there }
 
   -- ---- work until idle
 
@@ -216,6 +229,28 @@ module _ (client_law : ClientLaws) (client_grows : ClientGrows) (lapsed_grows : 
       go None = tt
       go (Some node) = let q = quiet node.disk node.agenda luck in (q.0, ap (packets_from (nodes.Client c)) q.1, tt)
 
+  -- ---- all conflicts of a table
+
+  resolve_by_sound : (c table : ℕ) (by : resolvers.Stored) (shape : Shape) (pair : RowPair) (luck : Luck) (w : World) (s : Said) (number : ℕ) → Kept g w s
+      → MoveSound g s w number (resolve_by c table by shape pair luck w)
+  resolve_by_sound c table by shape pair messages.Done w s number k =
+      client_move w s k c (client.Resolve table pair.row pair.version (chosen_of by pair.row (client_at w c) table)) shape number tt
+  resolve_by_sound c table by shape pair messages.FailedBefore w s number k =
+      failing_sound g w s number (client_falls c w) (client_move w s k c (client.Crash messages.FailedBefore) no_shape number tt)
+  resolve_by_sound c table by shape pair messages.FailedAfter w s number k =
+      failing_sound g w s number (client_falls c w) (client_move w s k c (client.Crash messages.FailedBefore) no_shape number tt)
+
+  resolve_each_sound : (c table : ℕ) (by : resolvers.Stored) (shapes : List Shape) (lucks : List Luck) (pairs : List RowPair) (w : World) (s : Said) (number : ℕ) → Kept g w s
+      → MoveSound g s w number (resolve_each c table by shapes lucks pairs w)
+  resolve_each_sound c table by shapes lucks [] w s number k = still_sound g w s number k
+  resolve_each_sound c table by shapes lucks (pair ∷ pairs) w s number k =
+      let first : Moved = resolve_by c table by (first_shape shapes) pair (first_luck lucks) w in
+      let more : List Luck = drop (1 + plan_size c first.world) lucks in
+      unless_sound g w s number (and_unless first (client_until_idle c (other_lucks lucks))) (resolve_each c table by (other_shapes shapes) more pairs)
+      (unless_sound g w s number first (client_until_idle c (other_lucks lucks)) (resolve_by_sound c table by (first_shape shapes) pair (first_luck lucks) w s number k)
+      (λ x now. client_works_sound c (client_tasks (client_at first.world c)) (other_lucks lucks) first.world x _ now))
+      (λ x now. resolve_each_sound c table by (other_shapes shapes) more pairs _ x _ now)
+
   -- ---- events
 
   pub record StepSound (s : Said) (w : World) (event : Event) (x : WorldStep) : Type 0 where
@@ -258,23 +293,35 @@ module _ (client_law : ClientLaws) (client_grows : ClientGrows) (lapsed_grows : 
   abbrev CanTurn : Said → Event → Type 0
   CanTurn s event = (lines : List Line) → IsAnswered g s event lines → IsTurn g s (record { event = event; lines = lines })
 
+  -- an answer, and what some moves told
+  told_sound : (s : Said) (w : World) (event : Event) (answer : Answer) (m : Moved) → CanTurn s event → (told : List Fact)
+      → lines_from (length w.packets) m.outs ≡ map FactLine told → IsQuiet event told → IsGoodAnswer s event answer → MoveSound g s w (length w.packets) m
+      → StepSound s w event (record { world = m.world; answer = Some answer; counted = []; outs = m.outs })
+  told_sound s w event answer m turn told are quiet good sound = record {
+    turn = turn _ (record {
+      answer = answer;
+      counted = [];
+      told = told;
+      lines_are = ap (λ (ls : List Line). AnswerLine answer ∷ ls) are;
+      form = good.form;
+      counts = good.counts;
+      quiet = quiet;
+      is = good.is;
+    });
+    lines = (tt, sound.lines);
+    kept = sound.kept;
+    there = sound.there;
+  }
+
   -- an event's answer, and what its moves told
   telling_sound : (s : Said) (w : World) (event : Event) (answer : Answer) (m : Moved) → CanTurn s event → (told : List Fact)
       → lines_from (length w.packets) m.outs ≡ map FactLine told → IsQuiet event told
       → IsGoodAnswer s event answer → IsGoodAnswer s event (facts.Refuses facts.NoDevice) → MoveSound g s w (length w.packets) m → StepSound s w event (answering answer m)
   telling_sound s w event answer m turn told are quiet good fault sound = go m.failed
     where
-      one : (a : Answer) → IsGoodAnswer s event a → StepSound s w event (record { world = m.world; answer = Some a; counted = []; outs = m.outs })
-      one a f = record {
-        turn = turn _ (record { answer = a; counted = []; told = told; lines_are = ap (λ (ls : List Line). AnswerLine a ∷ ls) are; form = f.form; counts = f.counts; quiet = quiet; is = f.is });
-        lines = (tt, sound.lines);
-        kept = sound.kept;
-        there = sound.there;
-      }
-
       go : (b : Bool) → StepSound s w event (record { world = m.world; answer = Some (if b then facts.Refuses facts.NoDevice else answer); counted = []; outs = m.outs })
-      go true = one (facts.Refuses facts.NoDevice) fault
-      go false = one answer good
+      go true = told_sound s w event (facts.Refuses facts.NoDevice) m turn told are quiet fault sound
+      go false = told_sound s w event answer m turn told are quiet good sound
 
   answering_sound : (s : Said) (w : World) (event : Event) (answer : Answer) (m : Moved) → CanTurn s event → IsQuiet event (facts_in (length w.packets) m.outs).0
       → IsGoodAnswer s event answer → IsGoodAnswer s event (facts.Refuses facts.NoDevice) → MoveSound g s w (length w.packets) m → StepSound s w event (answering answer m)
@@ -306,149 +353,205 @@ module _ (client_law : ClientLaws) (client_grows : ClientGrows) (lapsed_grows : 
         (failing_sound g w s (length w.packets) (client_falls c w) (client_move w s k c (client.Crash messages.FailedBefore) no_shape (length w.packets) tt))
 
     -- a client's move with the work that follows
+    called_sound : (c : ℕ) (move : ClientMove) (shape : Shape) (lucks : List Luck) (node : Client) → part.IsFair g c k.items (k.sent c) move
+        → MoveSound g s w (length w.packets) (and_then (move_client c move shape w) (client_follows_from node.agenda c lucks))
+    called_sound c move shape lucks node fair =
+        both_sound g w s (length w.packets) (move_client c move shape w) (client_follows_from node.agenda c lucks) (client_move w s k c move shape (length w.packets) fair)
+        (λ x now. client_follows_from_sound node.agenda c lucks (move_client c move shape w).world x _ now)
+
+    -- what a call refuses before it looks at rows is a good answer, and so is the answer of the move
     there_sound : (event : Event) (c : ℕ) (move : ClientMove) (shape : Shape) (lucks : List Luck) → CanTurn s event → ((told : List Fact) → IsQuiet event told)
-        → IsGoodAnswer s event (facts.Refuses facts.NoDevice) → IsGoodAnswer s event (facts.Refuses facts.NoTable) → IsGoodAnswer s event (facts.Refuses (facts.NodeDown (nodes.Client c)))
-        → IsGoodAnswer s event (facts.Refuses facts.Offline)
-        → part.IsFair g c k.items (k.sent c) move
+        → ((r : Refusal) → IsBefore r → IsGoodAnswer s event (facts.Refuses r)) → part.IsFair g c k.items (k.sent c) move
         → ((node : Client) → client_at w c ≡ Some node → IsGoodAnswer s event (client_step c shape node move).answer)
         → (o : Option Client) → client_at w c ≡ o → StepSound s w event (call_there w c move shape lucks o)
-    there_sound event c move shape lucks turn quiet fault missing down offline fair good None at = answered_sound w s k event (facts.Refuses facts.NoTable) turn (quiet []) missing fault
-    there_sound event c move shape lucks turn quiet fault missing down offline fair good (Some node) at =
-        unless_down_sound w s k event (nodes.Client c) _ turn (quiet []) down fault (λ up. reads (first_luck lucks))
-      where
-        called : StepSound s w event (calls w c move shape (other_lucks lucks) node)
-        called = answering_sound s w event (client_step c shape node move).answer (and_then (move_client c move shape w) (client_follows_from node.agenda c (other_lucks lucks)))
-            turn (quiet _) (good node at) fault
-            (both_sound g w s (length w.packets) (move_client c move shape w) (client_follows_from node.agenda c (other_lucks lucks)) (client_move w s k c move shape (length w.packets) fair)
-            (λ x now. client_follows_from_sound node.agenda c (other_lucks lucks) (move_client c move shape w).world x _ now))
-
-        by_link : (cut : Bool) → StepSound s w event (unless_cut w cut (calls w c move shape (other_lucks lucks) node))
-        by_link true = answered_sound w s k event (facts.Refuses facts.Offline) turn (quiet []) offline fault
-        by_link false = called
-
-        reads : (luck : Luck) → StepSound s w event (world.reads w c luck (unless_cut w (is_cut w c && is_cut_off c shape node move) (calls w c move shape (other_lucks lucks) node)))
-        reads messages.Done = by_link (is_cut w c && is_cut_off c shape node move)
-        reads messages.FailedBefore = unread_sound event c turn (quiet []) fault
-        reads messages.FailedAfter = unread_sound event c turn (quiet []) fault
+    there_sound event c move shape lucks turn quiet refuses fair good o at =
+        call_is (λ (x : WorldStep). StepSound s w event x) w c move shape lucks
+        (λ r before. answered_sound w s k event (facts.Refuses r) turn (quiet []) (refuses r before) (refuses facts.NoDevice tt))
+        (unread_sound event c turn (quiet []) (refuses facts.NoDevice tt))
+        (λ node is. answering_sound s w event (client_step c shape node move).answer (and_then (move_client c move shape w) (client_follows_from node.agenda c (other_lucks lucks)))
+        turn (quiet _) (good node is) (refuses facts.NoDevice tt) (called_sound c move shape (other_lucks lucks) node fair)) o at
 
     write_sound : (c table : ℕ) (row : List ℕ) (x : Content) (shape : Shape) (lucks : List Luck) → StepSound s w (events.Write c table row x) (call w c (client.Write table row x) shape lucks)
     write_sound c table row x shape lucks =
-        there_sound (events.Write c table row x) c (client.Write table row x) shape lucks (λ lines a. a) (λ told. tt)
-        (record { form = tt; counts = refl; is = tt }) (record { form = tt; counts = refl; is = tt }) (record { form = tt; counts = refl; is = tt })
-        (record { form = tt; counts = refl; is = tt }) tt
-        (λ node at. good (client_step c shape node (client.Write table row x)).answer (write_form c shape node.disk node.agenda table row x)) (client_at w c) refl
-      where
-        good : (a : Answer) → IsNumber a → IsGoodAnswer s (events.Write c table row x) a
-        good (facts.Number n) f = record { form = tt; counts = refl; is = tt }
-        good (facts.Refuses r) f = record { form = tt; counts = refl; is = tt }
-        good facts.Done f = absurd f
-        good (facts.Shows y) f = absurd f
-        good (facts.Sums y) f = absurd f
-        good (facts.Stores v y) f = absurd f
-        good (facts.Did y) f = absurd f
-        good (facts.Names y) f = absurd f
+        there_sound (events.Write c table row x) c (client.Write table row x) shape lucks (λ lines a. a) (λ told. tt) (λ r before. record { form = tt; counts = refl; is = tt }) tt
+        (λ node at. by_number (λ (a : Answer). IsGoodAnswer s (events.Write c table row x) a) (λ n. record { form = tt; counts = refl; is = tt }) (λ r. record { form = tt; counts = refl; is = tt }) _ (write_form c shape node.disk node.agenda table row x)) (client_at w c) refl
 
     edit_sound : (c table : ℕ) (row : List ℕ) (x : Edit) (shape : Shape) (lucks : List Luck) → StepSound s w (events.Edit c table row x) (call w c (client.Change table row x) shape lucks)
     edit_sound c table row x shape lucks =
-        there_sound (events.Edit c table row x) c (client.Change table row x) shape lucks (λ lines a. a) (λ told. tt)
-        (record { form = tt; counts = refl; is = tt }) (record { form = tt; counts = refl; is = tt }) (record { form = tt; counts = refl; is = tt })
-        (record { form = tt; counts = refl; is = tt }) tt
-        (λ node at. good (client_step c shape node (client.Change table row x)).answer (edit_form c shape node.disk node.agenda table row x)) (client_at w c) refl
-      where
-        good : (a : Answer) → IsNumber a → IsGoodAnswer s (events.Edit c table row x) a
-        good (facts.Number n) f = record { form = tt; counts = refl; is = tt }
-        good (facts.Refuses r) f = record { form = tt; counts = refl; is = tt }
-        good facts.Done f = absurd f
-        good (facts.Shows y) f = absurd f
-        good (facts.Sums y) f = absurd f
-        good (facts.Stores v y) f = absurd f
-        good (facts.Did y) f = absurd f
-        good (facts.Names y) f = absurd f
+        there_sound (events.Edit c table row x) c (client.Change table row x) shape lucks (λ lines a. a) (λ told. tt) (λ r before. record { form = tt; counts = refl; is = tt }) tt
+        (λ node at. by_number (λ (a : Answer). IsGoodAnswer s (events.Edit c table row x) a) (λ n. record { form = tt; counts = refl; is = tt }) (λ r. record { form = tt; counts = refl; is = tt }) _ (edit_form c shape node.disk node.agenda table row x)) (client_at w c) refl
 
     show_sound : (c table : ℕ) (row : List ℕ) (shape : Shape) (lucks : List Luck) → StepSound s w (events.Show c table row) (call w c (client.Show table row) shape lucks)
     show_sound c table row shape lucks =
-        there_sound (events.Show c table row) c (client.Show table row) shape lucks (λ lines a. a) (λ told. tt)
-        (record { form = tt; counts = refl; is = tt }) (record { form = tt; counts = refl; is = tt }) (record { form = tt; counts = refl; is = tt })
-        (record { form = tt; counts = refl; is = tt }) tt
+        there_sound (events.Show c table row) c (client.Show table row) shape lucks (λ lines a. a) (λ told. tt) refuses tt
         (λ node at. good (client_step c shape node (client.Show table row)).answer (show_form c shape node.disk node.agenda table row)
         (answer_shows g w s k c table row (client_step c shape node (client.Show table row)).answer (law_of w s k c shape node at (client.Show table row) tt).answer)) (client_at w c) refl
       where
+        refuses : (r : Refusal) → IsBefore r → IsGoodAnswer s (events.Show c table row) (facts.Refuses r)
+        refuses facts.NoRow before = absurd before
+        refuses other before = record { form = tt; counts = refl; is = tt }
+
         good : (a : Answer) → IsShow a → IsAnswer g s (events.Show c table row) a [] → IsGoodAnswer s (events.Show c table row) a
         good (facts.Shows y) f is = record { form = tt; counts = refl; is = is }
         good (facts.Refuses r) f is = record { form = tt; counts = refl; is = is }
-        good (facts.Sums y) f is = absurd f
-        good facts.Done f is = absurd f
-        good (facts.Number n) f is = absurd f
-        good (facts.Stores v y) f is = absurd f
-        good (facts.Did y) f is = absurd f
-        good (facts.Names y) f is = absurd f
+        good other f is = absurd f
 
     sum_sound : (c table : ℕ) (row : List ℕ) (shape : Shape) (lucks : List Luck) → StepSound s w (events.Sum c table row) (call w c (client.Sum table row) shape lucks)
     sum_sound c table row shape lucks =
-        there_sound (events.Sum c table row) c (client.Sum table row) shape lucks (λ lines a. a) (λ told. tt)
-        (record { form = tt; counts = refl; is = tt }) (record { form = tt; counts = refl; is = tt }) (record { form = tt; counts = refl; is = tt })
-        (record { form = tt; counts = refl; is = tt }) tt
+        there_sound (events.Sum c table row) c (client.Sum table row) shape lucks (λ lines a. a) (λ told. tt) refuses tt
         (λ node at.
         let shown : Answer = (client_step c shape node (client.Show table row)).answer in
         let form : IsShow shown = show_form c shape node.disk node.agenda table row in
         good (by_digests shown) (sum_form shown form)
         (show_sum (shown_of g s c table row) shown form (answer_shows g w s k c table row shown (law_of w s k c shape node at (client.Show table row) tt).answer))) (client_at w c) refl
       where
+        refuses : (r : Refusal) → IsBefore r → IsGoodAnswer s (events.Sum c table row) (facts.Refuses r)
+        refuses facts.NoRow before = absurd before
+        refuses other before = record { form = tt; counts = refl; is = tt }
+
         good : (a : Answer) → IsShowOrSum a → IsAnswer g s (events.Sum c table row) a [] → IsGoodAnswer s (events.Sum c table row) a
         good (facts.Shows y) f is = record { form = tt; counts = refl; is = is }
         good (facts.Sums y) f is = record { form = tt; counts = refl; is = is }
         good (facts.Refuses r) f is = record { form = tt; counts = refl; is = is }
-        good facts.Done f is = absurd f
-        good (facts.Number n) f is = absurd f
-        good (facts.Stores v y) f is = absurd f
-        good (facts.Did y) f is = absurd f
-        good (facts.Names y) f is = absurd f
+        good other f is = absurd f
 
     sync_sound : (c table : ℕ) (shape : Shape) (lucks : List Luck) → StepSound s w (events.Sync c table) (call w c (client.Sync table) shape lucks)
     sync_sound c table shape lucks =
-        there_sound (events.Sync c table) c (client.Sync table) shape lucks (λ lines a. a) (λ told. tt)
-        (record { form = tt; counts = refl; is = tt }) (record { form = tt; counts = refl; is = tt }) (record { form = tt; counts = refl; is = tt })
-        (record { form = tt; counts = refl; is = tt }) tt
-        (λ node at. good (client_step c shape node (client.Sync table)).answer (sync_form c shape node.disk node.agenda table)) (client_at w c) refl
-      where
-        good : (a : Answer) → IsNumber a → IsGoodAnswer s (events.Sync c table) a
-        good (facts.Number n) f = record { form = tt; counts = refl; is = tt }
-        good (facts.Refuses r) f = record { form = tt; counts = refl; is = tt }
-        good facts.Done f = absurd f
-        good (facts.Shows y) f = absurd f
-        good (facts.Sums y) f = absurd f
-        good (facts.Stores v y) f = absurd f
-        good (facts.Did y) f = absurd f
-        good (facts.Names y) f = absurd f
+        there_sound (events.Sync c table) c (client.Sync table) shape lucks (λ lines a. a) (λ told. tt) (λ r before. record { form = tt; counts = refl; is = tt }) tt
+        (λ node at. by_number (λ (a : Answer). IsGoodAnswer s (events.Sync c table) a) (λ n. record { form = tt; counts = refl; is = tt }) (λ r. record { form = tt; counts = refl; is = tt }) _ (sync_form c shape node.disk node.agenda table)) (client_at w c) refl
 
     pull_sound : (c table : ℕ) (shape : Shape) (lucks : List Luck) → StepSound s w (events.Pull c table) (call w c (client.Next table) shape lucks)
     pull_sound c table shape lucks =
-        there_sound (events.Pull c table) c (client.Next table) shape lucks (λ lines a. a) (λ told. tt)
-        (record { form = tt; counts = refl; is = tt }) (record { form = tt; counts = refl; is = tt }) (record { form = tt; counts = refl; is = tt })
-        (record { form = tt; counts = refl; is = tt }) tt
-        (λ node at. good (client_step c shape node (client.Next table)).answer (next_form c shape node.disk node.agenda table)) (client_at w c) refl
+        there_sound (events.Pull c table) c (client.Next table) shape lucks (λ lines a. a) (λ told. tt) (λ r before. record { form = tt; counts = refl; is = tt }) tt
+        (λ node at. by_done (λ (a : Answer). IsGoodAnswer s (events.Pull c table) a) (record { form = tt; counts = refl; is = tt }) (λ r. record { form = tt; counts = refl; is = tt }) _ (next_form c shape node.disk node.agenda table)) (client_at w c) refl
+
+    -- ---- conflicts
+
+    begin_sound : (c table : ℕ) (shape : Shape) (lucks : List Luck) → StepSound s w (events.BeginCr c table) (call w c (client.BeginCr table) shape lucks)
+    begin_sound c table shape lucks =
+        there_sound (events.BeginCr c table) c (client.BeginCr table) shape lucks (λ lines a. a) (λ told. tt) (λ r before. record { form = tt; counts = refl; is = tt }) tt
+        (λ node at. by_done (λ (a : Answer). IsGoodAnswer s (events.BeginCr c table) a) (record { form = tt; counts = refl; is = tt }) (λ r. record { form = tt; counts = refl; is = tt }) _ (phase_form c shape node.disk node.agenda table)) (client_at w c) refl
+
+    end_sound : (c table : ℕ) (shape : Shape) (lucks : List Luck) → StepSound s w (events.EndCr c table) (call w c (client.EndCr table) shape lucks)
+    end_sound c table shape lucks =
+        there_sound (events.EndCr c table) c (client.EndCr table) shape lucks (λ lines a. a) (λ told. tt) (λ r before. record { form = tt; counts = refl; is = tt }) tt
+        (λ node at. by_done (λ (a : Answer). IsGoodAnswer s (events.EndCr c table) a) (record { form = tt; counts = refl; is = tt }) (λ r. record { form = tt; counts = refl; is = tt }) _ (phase_form c shape node.disk node.agenda table)) (client_at w c) refl
+
+    resolve_sound : (c table : ℕ) (row : List ℕ) (seen : ℕ) (choice : Choice) (shape : Shape) (lucks : List Luck) → StepSound s w (events.Resolve c table row seen choice) (call w c (client.Resolve table row seen choice) shape lucks)
+    resolve_sound c table row seen choice shape lucks =
+        there_sound (events.Resolve c table row seen choice) c (client.Resolve table row seen choice) shape lucks (λ lines a. a) (λ told. tt) (λ r before. record { form = tt; counts = refl; is = tt }) tt
+        (λ node at. by_number (λ (a : Answer). IsGoodAnswer s (events.Resolve c table row seen choice) a) (λ n. record { form = tt; counts = refl; is = tt }) (λ r. record { form = tt; counts = refl; is = tt }) _ (resolve_form c shape node.disk node.agenda table row seen choice)) (client_at w c) refl
+
+    -- a list of rows in conflict says nothing
+
+    pairs_say : (x : Said) (pairs : List RowPair) → hear_lines x (map PairLine pairs) ≡ x
+    pairs_say x [] = refl
+    pairs_say x (pair ∷ pairs) = pairs_say x pairs
+
+    pairs_said : (x : Said) (pairs : List RowPair) → AreSaid g x (map PairLine pairs)
+    pairs_said x [] = tt
+    pairs_said x (pair ∷ pairs) = (tt, pairs_said x pairs)
+
+    abbrev IsList : ℕ → ℕ → Answer → Type 0
+    IsList c table (facts.Pairs pairs) = ArePairs g s c table (map PairLine pairs)
+    IsList c table (facts.Refuses refusal) = Unit {0}
+    IsList c table other = ⊥
+
+    -- what a client lists, with what its move told
+    listing_sound : (c table : ℕ) (answer : Answer) (m : Moved) → IsList c table answer → MoveSound g s w (length w.packets) m
+        → StepSound s w (events.Conflicts c table) (listed (answering answer m))
+    listing_sound c table answer m is sound = by_fault m.failed answer is
       where
-        good : (a : Answer) → IsDone a → IsGoodAnswer s (events.Pull c table) a
-        good facts.Done f = record { form = tt; counts = refl; is = tt }
-        good (facts.Refuses r) f = record { form = tt; counts = refl; is = tt }
-        good (facts.Number n) f = absurd f
-        good (facts.Shows y) f = absurd f
-        good (facts.Sums y) f = absurd f
-        good (facts.Stores v y) f = absurd f
-        good (facts.Did y) f = absurd f
-        good (facts.Names y) f = absurd f
+        told : (fs : List Fact) × (lines_from (length w.packets) m.outs ≡ map FactLine fs)
+        told = facts_in (length w.packets) m.outs
+
+        refusing : (r : Refusal) → StepSound s w (events.Conflicts c table) (record { world = m.world; answer = Some (facts.Refuses r); counted = []; outs = m.outs })
+        refusing r = told_sound s w (events.Conflicts c table) (facts.Refuses r) m (λ lines a. a) told.0 told.1 tt (record { form = tt; counts = refl; is = tt }) sound
+
+        by_fault : (b : Bool) (x : Answer) → IsList c table x
+            → StepSound s w (events.Conflicts c table) (listed (record { world = m.world; answer = Some (if b then facts.Refuses facts.NoDevice else x); counted = []; outs = m.outs }))
+        by_fault true x are = refusing facts.NoDevice
+        by_fault false (facts.Refuses r) are = refusing r
+        by_fault false (facts.Pairs pairs) are = record {
+          turn = record {
+            answer = facts.Number (length pairs);
+            counted = map PairLine pairs;
+            told = told.0;
+            lines_are = ap (λ (ls : List Line). AnswerLine (facts.Number (length pairs)) ∷ (map PairLine pairs ++ ls)) told.1;
+            form = tt;
+            counts = (pairs, refl, refl);
+            quiet = tt;
+            is = are;
+          };
+          lines = (
+            tt,
+            said-append g s (map PairLine pairs) (lines_from (length w.packets) m.outs) (pairs_said s pairs)
+                (subst (λ (x : Said). AreSaid g x (lines_from (length w.packets) m.outs)) (sym (pairs_say s pairs)) sound.lines),
+          );
+          kept = subst (λ (x : Said). Kept g m.world x) (sym (hear-append g s (map PairLine pairs) (lines_from (length w.packets) m.outs)))
+              (subst (λ (x : Said). Kept g m.world (hear_lines x (lines_from (length w.packets) m.outs))) (sym (pairs_say s pairs)) sound.kept);
+          there = sound.there;
+        }
+        by_fault false other are = absurd are
+
+    -- a client lists the rows that it shows in a conflict
+    list_is : (c table : ℕ) (d : ClientDisk) (agenda : Option (List ClientTask)) → part.IsAt g c k.items (k.sent c) d (s.heard c) agenda
+        → IsList c table (client.conflicts_step d agenda table).answer
+    list_is c table d None p = tt
+    list_is c table d (Some agenda) p = by_table (client.table_at (client.seen d) table) refl
+      where
+        by_table : (o : Option TableDisk) → client.table_at (client.seen d) table ≡ o → IsList c table (client.conflicts_in d agenda o).answer
+        by_table None at = tt
+        by_table (Some o) at = pairs_are g w s k c table (client.seen d) (plan_runs.shown_of g c k.items (k.sent c) d (s.heard c) agenda p) o at
+
+    conflicts_sound : (c table : ℕ) (shape : Shape) (lucks : List Luck) → StepSound s w (events.Conflicts c table) (listed (call w c (client.Conflicts table) shape lucks))
+    conflicts_sound c table shape lucks =
+        call_is (λ (x : WorldStep). StepSound s w (events.Conflicts c table) (listed x)) w c (client.Conflicts table) shape lucks
+        (λ r before. answered_sound w s k (events.Conflicts c table) (facts.Refuses r) (λ lines a. a) tt (record { form = tt; counts = refl; is = tt }) (record { form = tt; counts = refl; is = tt }))
+        (unread_sound (events.Conflicts c table) c (λ lines a. a) tt (record { form = tt; counts = refl; is = tt }))
+        (λ node at. listing_sound c table (client_step c shape node (client.Conflicts table)).answer
+        (and_then (move_client c (client.Conflicts table) shape w) (client_follows_from node.agenda c (other_lucks lucks)))
+        (list_is c table node.disk node.agenda (k.clients c node at)) (called_sound c (client.Conflicts table) shape (other_lucks lucks) node tt))
+        (client_at w c) refl
+
+    -- all conflicts of a table are resolved, where the client may
+    all_sound : (c table : ℕ) (by : resolvers.Stored) (shape : Shape) (shapes : List Shape) (lucks more : List Luck)
+        → StepSound s w (events.ResolveAll c table by) (resolve_all w c table by shapes more (call w c (client.ResolveAll table by) shape lucks))
+    all_sound c table by shape shapes lucks more =
+        call_is (λ (x : WorldStep). StepSound s w (events.ResolveAll c table by) (resolve_all w c table by shapes more x)) w c (client.ResolveAll table by) shape lucks
+        (λ r before. answered_sound w s k (events.ResolveAll c table by) (facts.Refuses r) (λ lines a. a) tt (record { form = tt; counts = refl; is = tt }) (record { form = tt; counts = refl; is = tt }))
+        (unread_sound (events.ResolveAll c table by) c (λ lines a. a) tt (record { form = tt; counts = refl; is = tt }))
+        (λ node at. by_fault (and_then (move_client c (client.ResolveAll table by) shape w) (client_follows_from node.agenda c (other_lucks lucks)))
+        (called_sound c (client.ResolveAll table by) shape (other_lucks lucks) node tt)
+        (client_step c shape node (client.ResolveAll table by)).answer (all_form c shape node.disk node.agenda table by))
+        (client_at w c) refl
+      where
+        each : Moved
+        each = resolve_each c table by shapes more (client_pairs (client_at w c) table) w
+
+        by_answer : (m : Moved) → MoveSound g s w (length w.packets) m → (a : Answer) → IsNumber a
+            → StepSound s w (events.ResolveAll c table by) (resolve_all w c table by shapes more (record { world = m.world; answer = Some a; counted = []; outs = m.outs }))
+        by_answer m sound (facts.Number n) f =
+            answering_sound s w (events.ResolveAll c table by) (facts.Number n) each (λ lines a. a) tt (record { form = tt; counts = refl; is = tt }) (record { form = tt; counts = refl; is = tt })
+            (resolve_each_sound c table by shapes more (client_pairs (client_at w c) table) w s (length w.packets) k)
+        by_answer m sound (facts.Refuses r) f =
+            let told : (fs : List Fact) × (lines_from (length w.packets) m.outs ≡ map FactLine fs) = facts_in (length w.packets) m.outs in
+            told_sound s w (events.ResolveAll c table by) (facts.Refuses r) m (λ lines a. a) told.0 told.1 tt (record { form = tt; counts = refl; is = tt }) sound
+        by_answer m sound other f = absurd f
+
+        by_fault : (m : Moved) → MoveSound g s w (length w.packets) m → (a : Answer) → IsNumber a
+            → StepSound s w (events.ResolveAll c table by) (resolve_all w c table by shapes more (answering a m))
+        by_fault m sound a f = go m.failed
+          where
+            go : (b : Bool) → StepSound s w (events.ResolveAll c table by)
+                (resolve_all w c table by shapes more (record { world = m.world; answer = Some (if b then facts.Refuses facts.NoDevice else a); counted = []; outs = m.outs }))
+            go true = by_answer m sound (facts.Refuses facts.NoDevice) tt
+            go false = by_answer m sound a f
 
     -- ---- deliveries
 
     delivered_good : (n : ℕ) (a : Answer) → IsDone a → IsGoodAnswer s (events.Deliver n) a
-    delivered_good n facts.Done f = record { form = tt; counts = refl; is = tt }
-    delivered_good n (facts.Refuses r) f = record { form = tt; counts = refl; is = tt }
-    delivered_good n (facts.Number m) f = absurd f
-    delivered_good n (facts.Shows y) f = absurd f
-    delivered_good n (facts.Sums y) f = absurd f
-    delivered_good n (facts.Stores v y) f = absurd f
-    delivered_good n (facts.Did y) f = absurd f
-    delivered_good n (facts.Names y) f = absurd f
+    delivered_good n = by_done (λ (a : Answer). IsGoodAnswer s (events.Deliver n) a) (record { form = tt; counts = refl; is = tt }) (λ r. record { form = tt; counts = refl; is = tt })
 
     store_fair : (from to : Node) (m : Message) → kept.IsFairMessage g s.heard k.items k.sent from to m
         → store_part.IsFair (table_of m) (KnownIn s.heard k.sent (table_of m)) (k.items (table_of m)) (store.Take from m)
@@ -518,8 +621,7 @@ module _ (client_law : ClientLaws) (client_grows : ClientGrows) (lapsed_grows : 
         (delivered_good n facts.Done tt) (delivered_good n (facts.Refuses facts.NoDevice) tt) (still_sound g w s (length w.packets) k)
     taken_sound n c m shape lucks fair (Some node) at =
         there_sound (events.Deliver n) c (client.Take m) shape lucks (λ lines a. a) (λ told. tt)
-        (delivered_good n (facts.Refuses facts.NoDevice) tt) (delivered_good n (facts.Refuses facts.NoTable) tt) (delivered_good n (facts.Refuses (facts.NodeDown (nodes.Client c))) tt)
-        (delivered_good n (facts.Refuses facts.Offline) tt) fair
+        (λ r before. delivered_good n (facts.Refuses r) tt) fair
         (λ x is. delivered_good n _ (take_form c shape x.disk x.agenda m)) (Some node) at
 
     carried_sound : (n : ℕ) (p : Packet) (shape : Shape) (lucks : List Luck) → IsFairPacket g s.heard k.items k.sent p → (to : Node) → p.to ≡ to → StepSound s w (events.Deliver n) (carried w p shape lucks to)
@@ -556,6 +658,7 @@ module _ (client_law : ClientLaws) (client_grows : ClientGrows) (lapsed_grows : 
         good (facts.Sums y) f z = absurd f
         good (facts.Did y) f z = absurd f
         good (facts.Names y) f z = absurd f
+        good (facts.Pairs y) f z = absurd f
 
     failed_show : (table : ℕ) (row : List ℕ) → StepSound s w (events.StoreShow table row) (answering facts.Done (failing (store_falls owner w)))
     failed_show table row = failed_sound (events.StoreShow table row) (λ lines x. x) refl (record { form = tt; counts = refl; is = tt })
@@ -866,6 +969,11 @@ module _ (client_law : ClientLaws) (client_grows : ClientGrows) (lapsed_grows : 
     step_sound up (events.Sum c table row) lucks first = sum_sound c table row lucks.shape lucks.calls
     step_sound up (events.Sync c table) lucks first = sync_sound c table lucks.shape lucks.calls
     step_sound up (events.Pull c table) lucks first = pull_sound c table lucks.shape lucks.calls
+    step_sound up (events.BeginCr c table) lucks first = begin_sound c table lucks.shape lucks.calls
+    step_sound up (events.Conflicts c table) lucks first = conflicts_sound c table lucks.shape lucks.calls
+    step_sound up (events.EndCr c table) lucks first = end_sound c table lucks.shape lucks.calls
+    step_sound up (events.Resolve c table row seen choice) lucks first = resolve_sound c table row seen choice lucks.shape lucks.calls
+    step_sound up (events.ResolveAll c table by) lucks first = all_sound c table by lucks.shape lucks.shapes lucks.calls (other_lucks lucks.calls)
     step_sound up (events.Deliver n) lucks first = delivered_sound n lucks.shape lucks.calls (slice_get w.packets n) refl
     step_sound up (events.StoreShow table row) lucks first = shows_sound up table row lucks.calls (hosted_at w table) refl
     step_sound up (events.History table) lucks first = history_sound table (hosted_at w table) refl
@@ -934,6 +1042,13 @@ module _ (client_law : ClientLaws) (client_grows : ClientGrows) (lapsed_grows : 
         first.lines,
         run_sound hs (step w h.event h.lucks).world (hear_lines s (lines_of w (step w h.event h.lucks))) first.kept (step_up w h.event h.lucks up) then_awaits,
       )
+
+  pub run_kept : (hs : List Happening) (w : World) (s : Said) → Kept g w s → IsUp w → Awaits w (events_in hs) → (x : Said) × Kept g (world_from w hs) x
+  run_kept [] w s k up f = (s, k)
+  run_kept (h ∷ hs) w s k up f =
+      let first : StepSound s w h.event (step w h.event h.lucks) = step_sound w s k up h.event h.lucks (first_is w s k h.event (events_in hs) f) in
+      run_kept hs (step w h.event h.lucks).world (hear_lines s (lines_of w (step w h.event h.lucks))) first.kept (step_up w h.event h.lucks up)
+      (λ table none. f table (first.there table none) ∙ scheme_on w h.event h.lucks (events_in hs) table none)
 
   pub start_kept : Kept g start nothing_said
   start_kept = record {

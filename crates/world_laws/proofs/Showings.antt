@@ -1,11 +1,8 @@
 -- What a client shows, and what the Store shows, is what the lines say.
-use Rattle.std.proofs.Common.{◌≡◌, ◌≢◌, ◌⊎◌, ℕ, ◌+◌, ◌<◌, ◌≤◌, Bool, true, false, List, [], ◌∷◌, ◌++◌, length, Option, Some, None, refl, sym, ap, ◌∙◌, subst, arith, inl, inr, ⊎_elim}
-use Rattle.std.specs.Prelude.{map, option_map, ◌==◌, if◌then◌else◌}
-use Rattle.std.specs.List.{find}
+use Rattle.std.proofs.Common.{◌≡◌, ℕ, ◌+◌, ◌≤◌, List, [], ◌∷◌, Option, Some, None, refl, sym, ap, ◌∙◌, subst, arith}
+use Rattle.std.specs.Prelude.{option_map}
 use Rattle.std.proofs.lemmas.Bool.Decides.{nat_tests}
-use Rattle.row_value.specs.declared.content.Content.{Content}
 use Rattle.row_value.specs.declared.schema.Scheme.{Scheme}
-use Rattle.row_value.specs.declared.schema.Scheme.TheVariants.{Strong, Causal, Eventual}
 use Rattle.table_model.specs.declared.entry.Entry.{Entry}
 use Rattle.table_model.specs.declared.line.Write.{Write}
 use Rattle.table_model.specs.History.{current}
@@ -16,10 +13,9 @@ use Rattle.step_tables.specs.Facts.{Answer, Refusal, Shown, ShownSum}
 use Rattle.step_tables.specs.Facts as facts
 use Rattle.step_tables.specs.Sums.{by_digests, or_whole, sum_of}
 use Rattle.step_tables.specs.Members.{Among}
-use Rattle.step_tables.specs.Sayings.{RowHeard, Said, write_of, open_of, open_in}
+use Rattle.step_tables.specs.Sayings.{RowHeard, Said, open_of, open_in}
 use Rattle.step_tables.specs.StoreMoves.{version_of}
 use Rattle.step_tables.specs.ClientMoves.{Slots, shown_in}
-use Rattle.step_tables.specs.Items.{latest}
 use Rattle.step_tables.proofs.Lists.{among_none, among_cons}
 use Rattle.store_laws.specs.Part.{Counts}
 use Rattle.store_laws.proofs.Items.{above, current_is}
@@ -27,7 +23,7 @@ use Rattle.client_laws.specs.Part.{main_for, RowTied, ShowsRow}
 use Rattle.client_laws.specs.Part as part
 use Rattle.world_tables.specs.World.{World, row_shown}
 use Rattle.world_tables.specs.Sound.{entry_at, content_of, content_at, clean, mine, shown_by, shown_of, IsShown, IsSum, IsStored}
-use Rattle.world_laws.proofs.Kept.{KnownIn, Kept}
+use Rattle.world_laws.proofs.Kept.{Kept}
 use Rattle.world_laws.proofs.Changes as changes
 use Rattle.world_laws.proofs.Forms.{IsShow}
 
@@ -57,6 +53,7 @@ show_sum what (facts.Sums sum) f is = absurd f
 show_sum what (facts.Stores version content) f is = absurd f
 show_sum what (facts.Did step) f is = absurd f
 show_sum what (facts.Names names) f is = absurd f
+show_sum what (facts.Pairs pairs) f is = absurd f
 
 module _ (g : ℕ → Scheme) (w : World) (s : Said) (k : Kept g w s) where
   -- the content of an item's version

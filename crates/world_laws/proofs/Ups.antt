@@ -1,6 +1,6 @@
 -- Where the Store isn't down, each of its tables is up.
 use Rattle.std.proofs.Common.{◌≡◌, ◌≢◌, ◌⊎◌, inl, inr, ℕ, zero, suc, Bool, true, false, List, [], ◌∷◌, length, Option, Some, None, refl, sym, ap, ◌∙◌, subst, arith, ⊎_elim, true≢false}
-use Rattle.std.specs.Prelude.{◌==◌, ◌&&◌, ◌||◌, not, nat_lt, drop, slice_get, if◌then◌else◌}
+use Rattle.std.specs.Prelude.{◌+◌, ◌==◌, ◌||◌, not, nat_lt, drop, slice_get, if◌then◌else◌}
 use Rattle.std.specs.List.{find}
 use Rattle.std.proofs.lemmas.Bool.Decides.{nat_tests}
 use Rattle.std.specs.Ordering.{nat_cmp}
@@ -13,7 +13,11 @@ use Rattle.row_value.specs.declared.schema.Schema.{Schema}
 use Rattle.row_value.specs.declared.schema.Scheme.{Scheme}
 use Rattle.table_model.specs.declared.event.Event.{Event}
 use Rattle.table_model.specs.declared.event.Event.TheVariants as events
-use Rattle.step_tables.specs.Store.{Stored, current_of}
+use Rattle.conflicts.specs.declared.stored.Stored.{Stored}
+use Rattle.table_model.specs.declared.line.RowPair.{RowPair}
+use Rattle.step_tables.specs.Store as items
+use Rattle.step_tables.specs.Store.{current_of}
+use Rattle.step_tables.specs.Facts.{Answer}
 use Rattle.step_tables.specs.Facts as facts
 use Rattle.step_tables.specs.Members.{Among}
 use Rattle.step_tables.specs.Messages.{Request, Pair, Message, Luck, SyncRequest, SyncResponse, PullRequest, PullResponse, table_of}
@@ -21,10 +25,10 @@ use Rattle.step_tables.specs.Messages as messages
 use Rattle.step_tables.specs.StoreMoves as store
 use Rattle.step_tables.specs.StoreMoves.{StoreDisk, StoreTask, StoreMove, StoreStep}
 use Rattle.step_tables.specs.ClientMoves as client
-use Rattle.step_tables.specs.ClientMoves.{Client, ClientTask, ClientMove, Shape, no_shape, is_cut_off}
+use Rattle.step_tables.specs.ClientMoves.{Client, ClientTask, ClientMove, Shape, no_shape}
 use Rattle.step_tables.proofs.Lists.{among_none, among_cons, among_here, among_next}
-use Rattle.world_tables.specs.World.{client_until_idle, client_writes, starts_by, client_starts, client_falls, Lucks, is_cut, with_link, unless_cut, calls, linked}
-use Rattle.world_tables.specs.World as world
+use Rattle.world_tables.specs.World.{client_until_idle, client_writes, starts_by, client_starts, client_falls, Lucks, with_link, linked, call, listed, resolve_by, resolve_each}
+use Rattle.world_tables.specs.World.{resolve_all, chosen_of, client_pairs, first_shape, other_shapes, plan_size}
 use Rattle.world_tables.specs.World.{World, Packet, Hosted, Moved, WorldStep, start, schema_at, hosted_at, client_at, scheme_in, chunk_in, owner, the_store, tables_of, same_node, has_node}
 use Rattle.world_tables.specs.World.{without_node, is_down, still, and_then, and_unless, is_fault}
 use Rattle.world_tables.specs.World.{history_on, after_table, table_step, move_hosted, move_table, move_there, move_client, first_luck, other_lucks, client_works, client_tasks, client_follows}
@@ -35,6 +39,7 @@ use Rattle.world_tables.specs.World.{answering, answered, refused, unless_down, 
 use Rattle.world_tables.specs.World.{call_there, take_read, take_at, to_hosted, to_there, carried, delivered, row_read, store_shows, chunk_names, history_lines, worked, all_worked, crashed}
 use Rattle.world_tables.specs.World.{started, step}
 use Rattle.world_laws.proofs.Looks.{look_cases}
+use Rattle.world_laws.proofs.Calls.{call_is}
 
 abbrev pub IsUpAt : Option (List StoreTask) → Type 0
 IsUpAt o = (agenda : List StoreTask) × (o ≡ Some agenda)
@@ -95,11 +100,11 @@ module _ (x : Scheme) (size table : ℕ) (d : StoreDisk) where
   started_at (Some agenda) = (agenda, refl)
   started_at None = recover d.pending
     where
-      found : (pending : Stored) (i : Option Stored) → IsUpAt (store.recovered owner table d pending i).store.agenda
+      found : (pending : items.Stored) (i : Option items.Stored) → IsUpAt (store.recovered owner table d pending i).store.agenda
       found pending None = (_, refl)
       found pending (Some i) = (_, refl)
 
-      recover : (o : Option Stored) → IsUpAt (store.recover owner table d o).store.agenda
+      recover : (o : Option items.Stored) → IsUpAt (store.recover owner table d o).store.agenda
       recover None = (_, refl)
       recover (Some pending) = found pending (store.item_at pending.entry.version d.items)
 
@@ -402,31 +407,77 @@ unless_down_up w node s up then_up = go (is_down w node)
     go true = up
     go false = then_up
 
-call_up : (w : World) (c : ℕ) (move : ClientMove) (shape : Shape) (lucks : List Luck) → IsUp w → (o : Option Client) → IsUp (call_there w c move shape lucks o).world
-call_up w c move shape lucks up None = up
-call_up w c move shape lucks up (Some node) = unless_down_up w (nodes.Client c) _ up (reads (first_luck lucks))
+call_up : (w : World) (c : ℕ) (move : ClientMove) (shape : Shape) (lucks : List Luck) → IsUp w → (o : Option Client) → client_at w c ≡ o
+    → IsUp (call_there w c move shape lucks o).world
+call_up w c move shape lucks up o at =
+    call_is (λ (x : WorldStep). IsUp x.world) w c move shape lucks (λ r before. up)
+    (same_up w (client_falls c w).world (client_same w c (client.Crash messages.FailedBefore) no_shape) up)
+    (λ node is. follows (gets_tasks node.agenda (move_client c move shape w).world c)) o at
   where
-    v : World
-    v = (move_client c move shape w).world
+    first : IsUp (move_client c move shape w).world
+    first = same_up w (move_client c move shape w).world (client_same w c move shape) up
 
-    first : IsUp v
-    first = same_up w v (client_same w c move shape) up
-
-    follows : (b : Bool) → IsUp (if b then client_follows c (other_lucks lucks) v else still v).world
-    follows true = client_follows_up c (other_lucks lucks) v first
+    follows : (b : Bool) → IsUp (if b then client_follows c (other_lucks lucks) (move_client c move shape w).world else still (move_client c move shape w).world).world
+    follows true = client_follows_up c (other_lucks lucks) (move_client c move shape w).world first
     follows false = first
 
-    by_link : (cut : Bool) → IsUp (unless_cut w cut (calls w c move shape (other_lucks lucks) node)).world
-    by_link true = up
-    by_link false = follows (gets_tasks node.agenda v c)
+-- a client's event
+event_up : (w : World) (c : ℕ) (move : ClientMove) (shape : Shape) (lucks : List Luck) → IsUp w → IsUp (call w c move shape lucks).world
+event_up w c move shape lucks up = call_up w c move shape lucks up (client_at w c) refl
 
-    fallen : IsUp (client_falls c w).world
-    fallen = same_up w (client_falls c w).world (client_same w c (client.Crash messages.FailedBefore) no_shape) up
+-- the rows in conflict that are listed change nothing
+listed_up : (s : WorldStep) → IsUp s.world → IsUp (listed s).world
+listed_up s up = go s.answer
+  where
+    go : (o : Option Answer) → IsUp (listed (record s { answer = o })).world
+    go None = up
+    go (Some facts.Done) = up
+    go (Some (facts.Number n)) = up
+    go (Some (facts.Shows y)) = up
+    go (Some (facts.Sums y)) = up
+    go (Some (facts.Stores v y)) = up
+    go (Some (facts.Did y)) = up
+    go (Some (facts.Names y)) = up
+    go (Some (facts.Pairs pairs)) = up
+    go (Some (facts.Refuses r)) = up
 
-    reads : (luck : Luck) → IsUp (world.reads w c luck (unless_cut w (is_cut w c && is_cut_off c shape node move) (calls w c move shape (other_lucks lucks) node))).world
-    reads messages.Done = by_link (is_cut w c && is_cut_off c shape node move)
-    reads messages.FailedBefore = fallen
-    reads messages.FailedAfter = fallen
+client_unless_up : (m : Moved) (f : World → Moved) → IsUp m.world → (IsUp m.world → IsUp (f m.world).world) → IsUp (and_unless m f).world
+client_unless_up m f a b = unless_up m f a (λ is. b a)
+
+-- each row in conflict is resolved
+resolve_by_up : (c table : ℕ) (by : Stored) (shape : Shape) (pair : RowPair) (luck : Luck) (w : World) → IsUp w → IsUp (resolve_by c table by shape pair luck w).world
+resolve_by_up c table by shape pair messages.Done w up =
+    let move : ClientMove = client.Resolve table pair.row pair.version (chosen_of by pair.row (client_at w c) table) in
+    same_up w (move_client c move shape w).world (client_same w c move shape) up
+resolve_by_up c table by shape pair messages.FailedBefore w up = same_up w (client_falls c w).world (client_same w c (client.Crash messages.FailedBefore) no_shape) up
+resolve_by_up c table by shape pair messages.FailedAfter w up = same_up w (client_falls c w).world (client_same w c (client.Crash messages.FailedBefore) no_shape) up
+
+resolve_each_up : (c table : ℕ) (by : Stored) (shapes : List Shape) (lucks : List Luck) (pairs : List RowPair) (w : World) → IsUp w
+    → IsUp (resolve_each c table by shapes lucks pairs w).world
+resolve_each_up c table by shapes lucks [] w up = up
+resolve_each_up c table by shapes lucks (pair ∷ pairs) w up =
+    let first : Moved = resolve_by c table by (first_shape shapes) pair (first_luck lucks) w in
+    let more : List Luck = drop (1 + plan_size c first.world) lucks in
+    client_unless_up (and_unless first (client_until_idle c (other_lucks lucks))) (resolve_each c table by (other_shapes shapes) more pairs)
+    (client_unless_up first (client_until_idle c (other_lucks lucks)) (resolve_by_up c table by (first_shape shapes) pair (first_luck lucks) w up)
+    (λ there. client_works_up c (client_tasks (client_at first.world c)) (other_lucks lucks) first.world there))
+    (λ there. resolve_each_up c table by (other_shapes shapes) more pairs (and_unless first (client_until_idle c (other_lucks lucks))).world there)
+
+resolve_all_up : (w : World) (c table : ℕ) (by : Stored) (shapes : List Shape) (lucks : List Luck) → IsUp w → (s : WorldStep) → IsUp s.world
+    → IsUp (resolve_all w c table by shapes lucks s).world
+resolve_all_up w c table by shapes lucks up s there = go s.answer
+  where
+    go : (o : Option Answer) → IsUp (resolve_all w c table by shapes lucks (record s { answer = o })).world
+    go None = there
+    go (Some facts.Done) = there
+    go (Some (facts.Number n)) = resolve_each_up c table by shapes lucks (client_pairs (client_at w c) table) w up
+    go (Some (facts.Shows y)) = there
+    go (Some (facts.Sums y)) = there
+    go (Some (facts.Stores v y)) = there
+    go (Some (facts.Did y)) = there
+    go (Some (facts.Names y)) = there
+    go (Some (facts.Pairs pairs)) = there
+    go (Some (facts.Refuses r)) = there
 
 hosted_up : (w : World) (table : ℕ) (from : Node) (m : Message) (lucks : List Luck) → IsUp w → (o : Option Hosted) → IsUp (to_hosted w table (store.Take from m) lucks o).world
 hosted_up w table from m lucks up None = up
@@ -448,11 +499,11 @@ hosted_up w table from m lucks up (Some hosted) = go hosted.store.agenda
 carried_up : (w : World) (p : Packet) (shape : Shape) (lucks : List Luck) → IsUp w → (to : Node) → IsUp (carried w p shape lucks to).world
 carried_up w p shape lucks up (nodes.Store number) = unless_down_up w (nodes.Store number) _ up (hosted_up w (table_of p.message) p.from p.message lucks up (hosted_at w (table_of p.message)))
 carried_up w p shape lucks up (nodes.Gate gate) = up
-carried_up w p shape lucks up (nodes.Client c) = go (client_at w c)
+carried_up w p shape lucks up (nodes.Client c) = go (client_at w c) refl
   where
-    go : (o : Option Client) → IsUp (to_there w c p.message shape lucks o).world
-    go None = up
-    go (Some node) = call_up w c (client.Take p.message) shape lucks up (Some node)
+    go : (o : Option Client) → client_at w c ≡ o → IsUp (to_there w c p.message shape lucks o).world
+    go None at = up
+    go (Some node) at = call_up w c (client.Take p.message) shape lucks up (Some node) at
 
 delivered_up : (w : World) (shape : Shape) (lucks : List Luck) → IsUp w → (o : Option Packet) → IsUp (delivered w shape lucks o).world
 delivered_up w shape lucks up None = up
@@ -538,13 +589,21 @@ pub step_up : (w : World) (event : Event) (lucks : Lucks) → IsUp w → IsUp (s
 step_up w (events.Store number) lucks up = up
 step_up w (events.Table table schema) lucks up = declared_up w table schema (first_luck lucks.calls) up (hosted_at w table)
 step_up w (events.Client c gate tables) lucks up = joined_up w c tables (first_luck lucks.calls) up (client_at w c)
-step_up w (events.Write c table row x) lucks up = call_up w c (client.Write table row x) lucks.shape lucks.calls up (client_at w c)
-step_up w (events.Edit c table row x) lucks up = call_up w c (client.Change table row x) lucks.shape lucks.calls up (client_at w c)
+step_up w (events.Write c table row x) lucks up = event_up w c (client.Write table row x) lucks.shape lucks.calls up
+step_up w (events.Edit c table row x) lucks up = event_up w c (client.Change table row x) lucks.shape lucks.calls up
 step_up w (events.Link c link) lucks up = linked_up w c link up (client_at w c)
-step_up w (events.Show c table row) lucks up = call_up w c (client.Show table row) lucks.shape lucks.calls up (client_at w c)
-step_up w (events.Sum c table row) lucks up = call_up w c (client.Sum table row) lucks.shape lucks.calls up (client_at w c)
-step_up w (events.Sync c table) lucks up = call_up w c (client.Sync table) lucks.shape lucks.calls up (client_at w c)
-step_up w (events.Pull c table) lucks up = call_up w c (client.Next table) lucks.shape lucks.calls up (client_at w c)
+step_up w (events.Show c table row) lucks up = event_up w c (client.Show table row) lucks.shape lucks.calls up
+step_up w (events.Sum c table row) lucks up = event_up w c (client.Sum table row) lucks.shape lucks.calls up
+step_up w (events.Sync c table) lucks up = event_up w c (client.Sync table) lucks.shape lucks.calls up
+step_up w (events.Pull c table) lucks up = event_up w c (client.Next table) lucks.shape lucks.calls up
+step_up w (events.BeginCr c table) lucks up = event_up w c (client.BeginCr table) lucks.shape lucks.calls up
+step_up w (events.Conflicts c table) lucks up =
+    listed_up (call w c (client.Conflicts table) lucks.shape lucks.calls) (event_up w c (client.Conflicts table) lucks.shape lucks.calls up)
+step_up w (events.EndCr c table) lucks up = event_up w c (client.EndCr table) lucks.shape lucks.calls up
+step_up w (events.Resolve c table row seen choice) lucks up = event_up w c (client.Resolve table row seen choice) lucks.shape lucks.calls up
+step_up w (events.ResolveAll c table by) lucks up =
+    resolve_all_up w c table by lucks.shapes (other_lucks lucks.calls) up (call w c (client.ResolveAll table by) lucks.shape lucks.calls)
+    (event_up w c (client.ResolveAll table by) lucks.shape lucks.calls up)
 step_up w (events.Deliver n) lucks up = delivered_up w lucks.shape lucks.calls up (slice_get w.packets n)
 step_up w (events.StoreShow table row) lucks up = shows_up w row lucks.calls up (hosted_at w table)
 step_up w (events.History table) lucks up = history_up w table up (hosted_at w table)

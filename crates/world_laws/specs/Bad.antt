@@ -1,9 +1,10 @@
 -- Transcripts that aren't sound.
-use Rattle.std.specs.Prelude.{ℕ, List, [], ◌∷◌, ◌++◌, Option, None}
+use Rattle.std.specs.Prelude.{ℕ, List, [], ◌∷◌, ◌++◌, length, map, Option, None}
 use Rattle.row_value.specs.declared.schema.Scheme.{Scheme}
 use Rattle.row_value.specs.declared.schema.Scheme.TheVariants.{Strong, Causal, Eventual}
 use Rattle.table_model.specs.declared.event.Event.TheVariants as events
-use Rattle.step_tables.specs.Facts.{ClientFact, Fact, Answer, Line, AnswerLine, FactLine}
+use Rattle.table_model.specs.declared.line.RowPair.{RowPair}
+use Rattle.step_tables.specs.Facts.{ClientFact, Fact, Answer, Line, AnswerLine, PairLine, FactLine}
 use Rattle.step_tables.specs.Facts as facts
 use Rattle.world_tables.specs.Turns.{Turn}
 use Rattle.world_laws.specs.Worked.{notes, int, the_row, turn, told, wrote, accepted}
@@ -108,6 +109,40 @@ stale = shows Causal (told (wrote 1 1 0 5) ∷ accepted 1 1 1 0 ∷ told (facts.
 abbrev pub over : List Turn
 over = shows Causal (told (wrote 2 1 0 6) ∷ accepted 1 2 1 0 ∷ told (wrote 1 1 0 5)
     ∷ told (facts.Conflict 1 1 1 the_row 1) ∷ []) (facts.Shows (facts.Clean 1 (int 6)))
+
+-- the rows in conflict of the first client, listed behind all this
+abbrev pub lists : List Line → List RowPair → List Turn
+lists lines pairs =
+    behind Causal lines
+    (turn (events.Conflicts 1 1) (AnswerLine (facts.Number (length pairs)) ∷ map PairLine pairs) ∷ [])
+
+-- a write of the first client against the Store's row at version 1
+abbrev pub met : List Line
+met = told (wrote 2 1 0 6) ∷ accepted 1 2 1 0 ∷ told (wrote 1 1 0 5) ∷ told (facts.Conflict 1 1 1 the_row 1) ∷ []
+
+abbrev pub pair_at : ℕ → RowPair
+pair_at version = record { row = the_row; number = 1; version = version }
+
+-- a row in conflict that isn't listed
+abbrev pub unlisted : List Turn
+unlisted = lists met []
+
+-- a row that is listed, and not in conflict
+abbrev pub peaceful : List Turn
+peaceful = lists (told (wrote 1 1 0 5) ∷ []) (pair_at 1 ∷ [])
+
+-- a row in conflict that is listed beside another version
+abbrev pub beside : List Turn
+beside = lists met (pair_at 2 ∷ [])
+
+-- a row in conflict that is listed twice
+abbrev pub relisted : List Turn
+relisted = lists met (pair_at 1 ∷ pair_at 1 ∷ [])
+
+-- a row in conflict that is listed and not counted
+abbrev pub miscounted : List Turn
+miscounted = behind Causal met
+    (turn (events.Conflicts 1 1) (AnswerLine (facts.Number 0) ∷ PairLine (pair_at 1) ∷ []) ∷ [])
 
 -- a strong write shown before its answer
 abbrev pub early : List Turn

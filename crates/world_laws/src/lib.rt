@@ -3,7 +3,12 @@
 
 ghost use Rattle.std.specs.Prelude.{◌≡◌, ◌≤◌, ◌<◌, ℕ, List, [], ◌∷◌, length, Some};
 ghost use Rattle.stab_base.specs.declared.limits.TheConstants.{NUMBER_MAX};
+ghost use Rattle.row_value.specs.declared.content.Content.TheVariants.{Gone};
 ghost use Rattle.row_value.specs.declared.schema.Scheme.TheVariants.{Strong, Causal, Eventual};
+ghost use Rattle.conflicts.specs.declared.pair.Choice.TheVariants as choices;
+ghost use Rattle.conflicts.specs.declared.stored.Stored.{Stored};
+ghost use Rattle.conflicts.specs.declared.stored.Stored.TheVariants as resolvers;
+ghost use Rattle.table_model.specs.declared.event.Event.TheVariants as events;
 ghost use Rattle.step_tables.specs.Facts.{Line};
 ghost use Rattle.step_tables.specs.Facts as facts;
 ghost use Rattle.step_tables.specs.Sayings.{nothing_said, hear_lines};
@@ -11,24 +16,32 @@ ghost use Rattle.world_tables.specs.Sound.{IsSound};
 ghost use Rattle.world_tables.specs.Chunks.{AreChunks};
 ghost use Rattle.world_tables.specs.Settled.{IsSettled};
 ghost use Rattle.world_tables.specs.Whole.{read_by, shadow_by, position_by, greatest, last_conflict};
+ghost use Rattle.world_laws.specs.Begun.{begun_in, AreSingle};
+ghost use Rattle.world_laws.specs.Resolving.{FirstResolved, AllResolved};
 ghost use Rattle.world_laws.specs.Bad.{back, blind, doubled, early, fallen, groundless, lost, misplaced, noisy};
 ghost use Rattle.world_laws.specs.Bad.{outdated, over, past, renamed, revived, selfish, settled, silent, skipped_number};
 ghost use Rattle.world_laws.specs.Bad.{skipped_version, stale, strong_open, twice, unearned, unread, unseen, unwritten};
 ghost use Rattle.world_tables.specs.Turns.{Happening, turns, world_from};
-ghost use Rattle.world_tables.specs.World.{Hosted, start, hosted_at, client_at};
+ghost use Rattle.world_tables.specs.World.{Hosted, Lucks, start, hosted_at, client_at, client_pairs, step};
 ghost use Rattle.step_tables.specs.ClientMoves.{Plan, Client};
 ghost use Rattle.world_laws.specs.Worked.{late_repeat, late_repeat_written, read_before_write_is_no_conflict};
 ghost use Rattle.world_laws.specs.Worked.{read_before_write_is_no_conflict_written, causal_conflict};
 ghost use Rattle.world_laws.specs.Worked.{causal_conflict_written, strong_write_refused, strong_write_refused_written};
 ghost use Rattle.world_laws.specs.Worked.{object_update, object_update_written, object_names, named, said_by};
 ghost use Rattle.world_laws.specs.Bad.{wrote_twice, accepted_twice, acked_twice, acked_below, refused_twice};
+ghost use Rattle.world_laws.specs.Bad.{unlisted, peaceful, beside, relisted, miscounted};
 ghost use Rattle.world_laws.specs.Bad.{conflict_twice, resolved_twice, new_twice, position_twice};
-ghost use Rattle.world_laws.specs.Worked.{schemes_of, read_before_write, int, starts_retell};
+ghost use Rattle.world_laws.specs.Worked.{schemes_of, read_before_write, int, starts_retell, told, wrote};
+ghost use Rattle.world_laws.specs.Worked.{wrote_content};
 ghost use Rattle.step_tables.specs.Messages as lucks;
 ghost use Rattle.world_laws.specs.WorkedClients.{crash_in_commit, landed_commit_written, lost_commit_written};
 ghost use Rattle.world_laws.specs.WorkedClients.{failed_commit, failed_commit_written, failed_reads};
 ghost use Rattle.world_laws.specs.WorkedClients.{failed_reads_written, own_writes, own_writes_written};
 ghost use Rattle.world_laws.specs.WorkedEdits.{edits_in_turn, edits_in_turn_written, cut_link, cut_link_written};
+ghost use Rattle.world_laws.specs.WorkedConflicts.{in_a_phase, in_a_phase_written, refused_first};
+ghost use Rattle.world_laws.specs.WorkedConflicts.{refused_first_written, against_a_delete, against_a_delete_written};
+ghost use Rattle.world_laws.specs.WorkedConflicts.{refuses, all_resolved, all_resolved_written, both_resolved};
+ghost use Rattle.world_laws.specs.WorkedConflicts.{both_resolved_written, one_resolved, one_resolved_written};
 ghost use Rattle.world_laws.specs.WorkedCrashes.{landed_put, landed_put_written, lost_put, lost_put_written};
 ghost use Rattle.world_laws.specs.WorkedCrashes.{failed_put, failed_put_written, failed_declaration};
 ghost use Rattle.world_laws.specs.WorkedCrashes.{failed_declaration_written, crash_between_chunks};
@@ -54,32 +67,57 @@ pub fn the_fold_is_the_whole_list()
 {}
 
 /// Every run's transcript is sound, whatever is delivered, lost, repeated or overtaken, wherever a device call fails
-/// and takes its node down, and for tables of all three schemes. A run is a list of events: calls and edits,
-/// deliveries, questions, links that go down and up, holds and freeings of a node, its device writes one by one or all
-/// at once, crashes of a node inside any device write, undone or done, or beside any, and starts of a node that is
-/// down, also of one whose start failed or crashed, whichever writes of its own a client has in it beside those that
-/// change what its devices stand for. Each event has one answer in a form of its command, and a crash, a hold and a
-/// freeing tell nothing; the versions of each table's history are 1, 2, 3; the writes of each client are numbered 1, 2,
-/// 3, and each entry is one of them, accepted once, by the rule of its table's scheme; a write in a conflict or refused
-/// is never accepted; each `show` gives what the client's lines make it show, and each `sshow` and `history` what was
-/// accepted; what a client has read never falls, and what its position covers it has read; and no write is lost from
-/// sight.
+/// and takes its node down, and for tables of all three schemes. A run is a list of events: calls and edits, phases in
+/// which conflicts are listed and resolved, one by one or all at once, deliveries, questions, links that go down and
+/// up, holds and freeings of a node, its device writes one by one or all at once, crashes of a node inside any device
+/// write, undone or done, or beside any, and starts of a node that is down, also of one whose start failed or crashed,
+/// whichever writes of its own a client has in it beside those that change what its devices stand for. Each event has
+/// one answer in a form of its command, and a crash, a hold and a freeing tell nothing; the versions of each table's
+/// history are 1, 2, 3; the writes of each client are numbered 1, 2, 3, and each entry is one of them, accepted once,
+/// by the rule of its table's scheme; a write in a conflict or refused is never accepted; each `show` gives what the
+/// client's lines make it show, each `conflicts` the rows that it shows in a conflict, each once, and each `sshow` and
+/// `history` what was accepted; what a client has read never falls, and what its position covers it has read; and no
+/// write is lost from sight.
 pub fn every_run_is_sound()
     ensures { (happenings : List Happening) → IsSound (turns happenings) }
 {}
 
+/// All conflicts of a table, resolved in one way behind any run. Whatever the answer, the first rows in conflict, by
+/// rising row, are resolved, and all else of the table is as it was: none where the call is refused, and those before
+/// the one at which a device fails, or that one too where its plan was committed. A resolved row has the Store's row as
+/// read, no conflict, and over it what the resolver chose: the client's content as a write again, or none. Where the
+/// answer is a number, it is that of the rows that were in conflict; each of them is resolved, and none is in conflict.
+pub fn all_conflicts_are_resolved()
+    ensures first { (run : List Happening) (c table : ℕ) (by : Stored) (how : Lucks)
+        → let w = world_from start run in
+        FirstResolved by c table w (step w (events.ResolveAll c table by) how).world }
+    ensures all { (run : List Happening) (c table : ℕ) (by : Stored) (how : Lucks) (number : ℕ)
+        → let w = world_from start run in
+        (step w (events.ResolveAll c table by) how).answer ≡ Some (facts.Number number)
+        → AllResolved by c table w (step w (events.ResolveAll c table by) how).world }
+    ensures count { (run : List Happening) (c table : ℕ) (by : Stored) (how : Lucks) (number : ℕ)
+        → let w = world_from start run in
+        (step w (events.ResolveAll c table by) how).answer ≡ Some (facts.Number number)
+        → number ≡ length (client_pairs (client_at w c) table) }
+{}
+
 /// A table has no more versions than the run has events, and no client's last write, committed or done, has a number
-/// above them. So an event behind fewer events than `NUMBER_MAX` finds a version and a number that are still free.
+/// above what the events may begin: one write each, or, where all conflicts of a table are resolved, one for each of
+/// them. So an event behind fewer events, and fewer writes begun, than `NUMBER_MAX` finds a version and a number that
+/// are still free; in a run in which no event resolves all conflicts of a table these are no more than its events.
 pub fn versions_and_numbers_are_few()
     ensures versions { (run : List Happening) (table : ℕ) (hosted : Hosted)
         → hosted_at (world_from start run) table ≡ Some hosted → length hosted.store.disk.items ≤ length run }
     ensures numbers { (run : List Happening) (c : ℕ) (node : Client)
-        → client_at (world_from start run) c ≡ Some node → node.disk.last ≤ length run }
+        → client_at (world_from start run) c ≡ Some node → node.disk.last ≤ begun_in run }
     ensures planned { (run : List Happening) (c : ℕ) (node : Client) (p : Plan)
-        → client_at (world_from start run) c ≡ Some node → node.disk.plan ≡ Some p → p.last ≤ length run }
+        → client_at (world_from start run) c ≡ Some node → node.disk.plan ≡ Some p → p.last ≤ begun_in run }
     ensures free_version { (run : List Happening) (table : ℕ) (hosted : Hosted) → length run < NUMBER_MAX
         → hosted_at (world_from start run) table ≡ Some hosted → length hosted.store.disk.items < NUMBER_MAX }
-    ensures free_number { (run : List Happening) (c : ℕ) (node : Client) → length run < NUMBER_MAX
+    ensures free_number { (run : List Happening) (c : ℕ) (node : Client) → begun_in run < NUMBER_MAX
+        → client_at (world_from start run) c ≡ Some node → node.disk.last < NUMBER_MAX }
+    ensures single { (run : List Happening) → AreSingle run → begun_in run ≡ length run }
+    ensures single_number { (run : List Happening) (c : ℕ) (node : Client) → AreSingle run → length run < NUMBER_MAX
         → client_at (world_from start run) c ≡ Some node → node.disk.last < NUMBER_MAX }
 {}
 
@@ -174,6 +212,49 @@ pub fn an_edit_of_each_kind()
 /// it can do alone it does. Once the link is up the message that it didn't take comes again.
 pub fn a_link_that_is_down()
     ensures { turns cut_link ≡ cut_link_written }
+{}
+
+/// A phase of a table, computed: behind its begin a conflict is listed and moves on, a resolving beside a version that
+/// it has left is refused, the next one writes over the Store's row, and nothing is written beside. Out of a phase
+/// nothing is listed or resolved.
+pub fn a_phase_of_a_table()
+    ensures { turns in_a_phase ≡ in_a_phase_written }
+{}
+
+/// Calls in and out of a phase that are refused for their table or content, computed, and a crash, which ends the
+/// phase.
+pub fn a_phase_ends_with_its_client()
+    ensures { turns refused_first ≡ refused_first_written }
+{}
+
+/// A write against a row that the Store deleted, computed: resolved by the Store's row there is nothing to delete;
+/// by the client's, or by a new one, there is a write that isn't accepted yet.
+pub fn a_write_against_a_delete()
+    ensures theirs { turns (against_a_delete choices.Theirs) ≡ against_a_delete_written choices.Theirs 0 []
+        (facts.Clean 2 Gone) (refuses facts.NoRow) }
+    ensures mine { turns (against_a_delete choices.Mine) ≡ against_a_delete_written choices.Mine 2
+        (told (wrote 2 2 2 6) ∷ []) (facts.Mine 2 (int 6))
+        (facts.AnswerLine (facts.Number 3) ∷ told (wrote_content 2 3 2 Gone) ∷ []) }
+    ensures made { turns (against_a_delete (choices.New (int 9))) ≡ against_a_delete_written (choices.New (int 9)) 2
+        (told (wrote 2 2 2 9) ∷ []) (facts.Mine 2 (int 9))
+        (facts.AnswerLine (facts.Number 3) ∷ told (wrote_content 2 3 2 Gone) ∷ []) }
+{}
+
+/// All conflicts of a table, computed: by the greater number, by the client's row and by the Store's.
+pub fn all_conflicts_in_one_way()
+    ensures larger { turns (all_resolved (resolvers.Larger 0)) ≡ all_resolved_written (resolvers.Larger 0)
+        (told (wrote 2 2 1 6) ∷ []) (facts.Mine 2 (int 6)) }
+    ensures mine { turns (all_resolved resolvers.Mine) ≡ all_resolved_written resolvers.Mine
+        (told (wrote 2 2 1 6) ∷ []) (facts.Mine 2 (int 6)) }
+    ensures theirs { turns (all_resolved resolvers.Theirs) ≡ all_resolved_written resolvers.Theirs []
+        (facts.Clean 1 (int 5)) }
+{}
+
+/// Two rows in conflict that are resolved at once, computed. Where a device fails between them, the first is resolved
+/// and the second as it was.
+pub fn a_device_that_fails_between_two_rows()
+    ensures both { turns both_resolved ≡ both_resolved_written }
+    ensures one { turns one_resolved ≡ one_resolved_written }
 {}
 
 /// A table whose declaration failed, computed: it is there behind the Store's next start.
@@ -351,6 +432,17 @@ pub fn an_old_content_is_refused()
 /// The Store's row shown in place of an open write isn't sound.
 pub fn a_row_over_an_open_write_is_refused()
     ensures { IsSound over → ⊥ }
+{}
+
+/// The rows in conflict listed in any other way than each once, by the write and the version that it is shown with,
+/// isn't sound: one left out, one that isn't in conflict, one beside another version, one listed twice, and one that
+/// the answer doesn't count.
+pub fn other_conflicts_are_refused()
+    ensures missing { IsSound unlisted → ⊥ }
+    ensures peaceful { IsSound peaceful → ⊥ }
+    ensures version { IsSound beside → ⊥ }
+    ensures twice { IsSound relisted → ⊥ }
+    ensures uncounted { IsSound miscounted → ⊥ }
 {}
 
 /// A strong write shown before its answer isn't sound.

@@ -1,0 +1,14 @@
+pub mod Tellings
+pub mod Fine
+pub mod Plans
+pub mod Begins
+pub mod ClientMoves
+pub mod Stores
+pub mod Worlds
+pub mod Each
+pub mod Events
+pub mod Runs
+pub mod Phases
+pub mod Falls
+pub mod PhaseRuns
+pub mod PhaseTells

@@ -36,6 +36,7 @@ use Rattle.store_commit.specs.TakesOn.{IsNotDisk, AllLeave}
 use Rattle.store_commit.specs.Unset.{KeepsUnset}
 use Rattle.store_commit.specs.Scan.{ReadsRows, AllStay, Asks}
 use Rattle.store_commit.proofs.Works.{all_same, up_or_down}
+use Rattle.store_commit.proofs.Moments.{all_then}
 use Rattle.store_commit.proofs.Fusing.{keeps_then, keeps_same, keeps_vaults, chunk_same, row_same}
 
 -- ---- a folded vault
@@ -397,16 +398,7 @@ module _ {D : Type 0} (state : D → DiskState) (images : D → ℕ → List ℕ
 
       leave : AreUp old → AreSound state old → AllLeave state images old new
       leave up sound =
-          let l = a.leave up sound in
-          let m = b.leave up_mid (record { chunks = first.chunks.sound sound.chunks; rows = first.rows.sound sound.rows; log = first.log.sound sound.log }) in
-          record {
-            chunks = runs_then state images (chunks.vault_of old.chunks) (chunks.vault_of mid.chunks) (chunks.vault_of new.chunks) (λ l. chunks_of l ≡ chunks.chunks state old.chunks) (λ l. chunks_of l ≡ chunks.chunks state mid.chunks) (λ l. chunks_of l ≡ chunks.chunks state old.chunks)
-                l.chunks m.chunks (λ l is. is) (λ l is. is ∙ ap (λ (d : Devs). d.chunks) before);
-            rows = runs_then state images (rows.vault_of old.rows) (rows.vault_of mid.rows) (rows.vault_of new.rows) (λ l. data_of l ≡ rows.held state old.rows) (λ l. data_of l ≡ rows.held state mid.rows) (λ l. data_of l ≡ rows.held state old.rows)
-                l.rows m.rows (λ l is. is) (λ l is. is ∙ ap (λ (d : Devs). d.held) before);
-            log = runs_then state images (logs.vault_of old.log) (logs.vault_of mid.log) (logs.vault_of new.log) (λ l. pending_of l ≡ logs.entry_open state old.log) (λ l. pending_of l ≡ logs.entry_open state mid.log) (λ l. pending_of l ≡ logs.entry_open state old.log)
-                l.log m.log (λ l is. is) (λ l is. is ∙ ap (λ (d : Devs). d.pending) before);
-          }
+          all_then state images old mid new before (a.leave up sound) (b.leave up_mid (record { chunks = first.chunks.sound sound.chunks; rows = first.rows.sound sound.rows; log = first.log.sound sound.log }))
 
   -- the same with another value, with the same fault, and where memory was refused behind it
   module _ {T S : Type 0} (old new : TableDevs D) where

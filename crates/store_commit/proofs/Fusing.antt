@@ -27,7 +27,7 @@ use Rattle.store_commit.specs.Unset.{AreUnset, KeepsUnset, HasCause}
 
 module _ {D : Type 0} (state : D → DiskState) where
   -- fuses that are as new are unset, and stay as new
-  keeps : (old new : TableDevs D) → (AreUnset state old → AreUnset state new) → (AreUnset state old → all_stops state new ≡ all_stops state old) → KeepsUnset state old new
+  pub keeps : (old new : TableDevs D) → (AreUnset state old → AreUnset state new) → (AreUnset state old → all_stops state new ≡ all_stops state old) → KeepsUnset state old new
   keeps old new unset stopped = record { unset = unset; stopped = stopped; fresh = λ f. record { unset = unset f.unset; unstopped = stopped f.unset ∙ f.unstopped } }
 
   pub keeps_then : (old mid new : TableDevs D) → KeepsUnset state old mid → KeepsUnset state mid new → KeepsUnset state old new

@@ -28,3 +28,4 @@ pub mod Stopping
 pub mod Renewing
 pub mod Arming
 pub mod Blanks
+pub mod Bares

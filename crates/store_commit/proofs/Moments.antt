@@ -1,5 +1,5 @@
 -- What is promised of every moment of an agenda goes on from call to call.
-use Rattle.std.proofs.Common.{◌≡◌, inl, inr, ⊎_elim, ◌⊎◌, ℕ, List, [], ◌∷◌, drop, Result, Ok, Err, refl, sym, subst}
+use Rattle.std.proofs.Common.{◌≡◌, inl, inr, ⊎_elim, ◌⊎◌, ℕ, List, [], ◌∷◌, drop, Result, Ok, Err, refl, sym, ◌∙◌, ap, subst}
 use Rattle.std.specs.Prelude.{OnOk}
 use Rattle.disk_trait.specs.Image.{IsImage}
 use Rattle.disk_trait.specs.Calls.{DiskState}
@@ -9,9 +9,14 @@ use Rattle.store_commit.specs.declared.fault.CommitFault.{CommitFault}
 use Rattle.store_commit.specs.Devs.{Devs, Write, changed_by, IsBeforeOrAfter}
 use Rattle.store_commit.specs.Agenda.{Runs}
 use Rattle.store_commit.specs.Standing.{devs, writes_of, IsReady, DevsLeave, RowsLeave, Works, WorksOn, GoesOn}
+use Rattle.store_commit.specs.TakesOn.{AllLeave}
 use Rattle.vault.proofs.Uppers.{runs_then, runs_weaker}
 use Rattle.row_store.specs.Data.{TableData, data_of}
+use Rattle.chunk_store.specs.Payload.{chunks_of}
+use Rattle.chunk_store.specs.Standing as chunks
 use Rattle.row_store.specs.Standing as rows
+use Rattle.status_log.specs.Payload.{pending_of}
+use Rattle.status_log.specs.Standing as logs
 use Rattle.store_commit.proofs.Works.{rests_leave, still_row}
 
 pub runs_now : (R : List Write → Devs → Type 0) (d : Devs) (ws : List Write) → Runs R d ws → R ws d
@@ -34,6 +39,17 @@ module _ {D : Type 0} (state : D → DiskState) (images : D → ℕ → List ℕ
 
   pub rows_weaker : (old new : TableDevs D) (P Q : TableData → Type 0) → RowsLeave state images old new P → ((h : TableData) → P h → Q h) → RowsLeave state images old new Q
   rows_weaker old new P Q run to = runs_weaker state images (rows.vault_of old.rows) (rows.vault_of new.rows) (λ l. P (data_of l)) (λ l. Q (data_of l)) run (λ l p. to (data_of l) p)
+
+  -- of each device: one run and then another, both of which leave what it held
+  pub all_then : (old mid new : TableDevs D) → devs state mid ≡ devs state old → AllLeave state images old mid → AllLeave state images mid new → AllLeave state images old new
+  all_then old mid new same l m = record {
+    chunks = runs_then state images (chunks.vault_of old.chunks) (chunks.vault_of mid.chunks) (chunks.vault_of new.chunks) (λ x. chunks_of x ≡ chunks.chunks state old.chunks) (λ x. chunks_of x ≡ chunks.chunks state mid.chunks) (λ x. chunks_of x ≡ chunks.chunks state old.chunks)
+        l.chunks m.chunks (λ x is. is) (λ x is. is ∙ ap (λ (d : Devs). d.chunks) same);
+    rows = runs_then state images (rows.vault_of old.rows) (rows.vault_of mid.rows) (rows.vault_of new.rows) (λ x. data_of x ≡ rows.held state old.rows) (λ x. data_of x ≡ rows.held state mid.rows) (λ x. data_of x ≡ rows.held state old.rows)
+        l.rows m.rows (λ x is. is) (λ x is. is ∙ ap (λ (d : Devs). d.held) same);
+    log = runs_then state images (logs.vault_of old.log) (logs.vault_of mid.log) (logs.vault_of new.log) (λ x. pending_of x ≡ logs.entry_open state old.log) (λ x. pending_of x ≡ logs.entry_open state mid.log) (λ x. pending_of x ≡ logs.entry_open state old.log)
+        l.log m.log (λ x is. is) (λ x is. is ∙ ap (λ (d : Devs). d.pending) same);
+  }
 
   pub rows_rest : ((disk : D) (image : List ℕ) → images disk (state disk).moment image → IsImage (state disk).pending image) → (old : TableDevs D) (ws : List Write) → IsReady state old ws → RowsLeave state images old old (λ held. held ≡ (devs state old).held)
   rows_rest only_now old ws r = still_row state images only_now old.rows r.row_looked.vault r.row_sound

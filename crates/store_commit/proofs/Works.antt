@@ -752,11 +752,15 @@ module _ {D : Type 0} (state : D → DiskState) (images : D → ℕ → List ℕ
       let here : P file = (payloads state vault, sound, refl) in
       started state images (disk_of vault) P (λ image left. subst P (sym (settled_only file image (subst (λ q. IsImage q image) synced (only_now (disk_of vault) image left)))) here)
 
+  pub synced_chunks : (dev : ChunkDev D) → IsUp (chunks.vault_of dev) → IsSynced state (chunks.vault_of dev) → IsSound state (chunks.vault_of dev)
+      → vaults.Leaves state images (chunks.vault_of dev) (chunks.vault_of dev) (λ l. chunks_of l ≡ chunks.chunks state dev)
+  synced_chunks dev up synced sound = runs_weaker state images (chunks.vault_of dev) (chunks.vault_of dev) (λ l. l ≡ payloads state (chunks.vault_of dev)) (λ l. chunks_of l ≡ chunks.chunks state dev) (synced_leaves (chunks.vault_of dev) (synced up) sound) (λ l is. ap chunks_of is)
+
   pub synced_rows : (dev : RowDev D) → IsUp (rows.vault_of dev) → IsSynced state (rows.vault_of dev) → IsSound state (rows.vault_of dev)
       → vaults.Leaves state images (rows.vault_of dev) (rows.vault_of dev) (λ l. data_of l ≡ rows.held state dev)
   synced_rows dev up synced sound = runs_weaker state images (rows.vault_of dev) (rows.vault_of dev) (λ l. l ≡ payloads state (rows.vault_of dev)) (λ l. data_of l ≡ rows.held state dev) (synced_leaves (rows.vault_of dev) (synced up) sound) (λ l is. ap data_of is)
 
-  synced_log : (dev : StatusLog D) → IsUp (logs.vault_of dev) → IsSynced state (logs.vault_of dev) → IsSound state (logs.vault_of dev)
+  pub synced_log : (dev : StatusLog D) → IsUp (logs.vault_of dev) → IsSynced state (logs.vault_of dev) → IsSound state (logs.vault_of dev)
       → vaults.Leaves state images (logs.vault_of dev) (logs.vault_of dev) (λ l. pending_of l ≡ logs.entry_open state dev)
   synced_log dev up synced sound = runs_weaker state images (logs.vault_of dev) (logs.vault_of dev) (λ l. l ≡ payloads state (logs.vault_of dev)) (λ l. pending_of l ≡ logs.entry_open state dev) (synced_leaves (logs.vault_of dev) (synced up) sound) (λ l is. ap pending_of is)
 
@@ -784,7 +788,7 @@ module _ {D : Type 0} (state : D → DiskState) (images : D → ℕ → List ℕ
   abbrev made : List (ChunkName × List ℕ) → TableData → Option Entry → Devs
   made c h p = record { chunks = c; held = h; pending = p }
 
-  short_stands : (image : List ℕ) → length image ≤ 1 → StandsForOne (λ list. list ≡ []) image
+  pub short_stands : (image : List ℕ) → length image ≤ 1 → StandsForOne (λ list. list ≡ []) image
   short_stands image short = ([], stands_at image 0 [] (record { size = refl; front = refl; more = λ lt. absurd (omega arith); short = tt }) (λ _. omega arith), refl)
 
   -- while nothing is done, a crash of a blank file leaves no payload
@@ -835,21 +839,30 @@ module _ {D : Type 0} (state : D → DiskState) (images : D → ℕ → List ℕ
   pub all_empty : (c : List (ChunkName × List ℕ)) (h : TableData) (p : Option Entry) → c ≡ chunks_of [] → h ≡ data_of [] → p ≡ pending_of [] → made c h p ≡ nothing
   all_empty c h p px py pz = let a : c ≡ [] = px ∙ no_chunks in let b : h ≡ nothing_held = py ∙ no_rows in let e : p ≡ None = pz ∙ no_entry in cc
 
-  -- opened devices with room for an opening each are at rest
-  pub at_rest : (table : TableDevs D) → chunks.IsOpened state table.chunks → rows.IsOpened state table.rows → logs.IsOpened state table.log → chunks.HasRoom state table.chunks 1 0 0
-      → rows.HasRoom state table.rows 1 0 0 → logs.HasRoom state table.log 1 0 0 → IsReady state table []
-  at_rest table a b c x y z = record {
+  -- opened devices are at rest
+  pub all_opened : (table : TableDevs D) → chunks.IsOpened state table.chunks → rows.IsOpened state table.rows → logs.IsOpened state table.log → chunks.HasRoom state table.chunks 0 0 0
+      → rows.HasRoom state table.rows 0 0 0 → logs.HasRoom state table.log 0 0 0 → IsReady state table []
+  all_opened table a b c x y z = record {
     may = tt;
     chunk_looked = record { vault = a.vault.looked; memory = a.memory };
     chunk_sound = opened_sound state (chunks.vault_of table.chunks) a.vault;
     chunk_is_opened = a;
-    chunk_room = record { vault = less_room state (chunks.vault_of table.chunks) 1 0 0 0 0 0 (omega arith) (omega arith) (omega arith) x.vault; memory = x.memory; payload = x.payload };
+    chunk_room = x;
     row_looked = record { vault = b.vault.looked; memory = b.memory };
     row_sound = opened_sound state (rows.vault_of table.rows) b.vault;
     row_is_opened = b;
-    row_room = record { vault = less_room state (rows.vault_of table.rows) 1 0 0 0 0 0 (omega arith) (omega arith) (omega arith) y.vault; memory = y.memory; payload = y.payload };
+    row_room = y;
     log_looked = record { vault = c.vault.looked; memory = c.memory };
     log_sound = opened_sound state (logs.vault_of table.log) c.vault;
     log_is_opened = c;
-    log_room = record { vault = less_room state (logs.vault_of table.log) 1 0 0 0 0 0 (omega arith) (omega arith) (omega arith) z.vault; memory = z.memory; payload = z.payload };
+    log_room = z;
   }
+
+  -- and so they are with room for an opening each
+  pub at_rest : (table : TableDevs D) → chunks.IsOpened state table.chunks → rows.IsOpened state table.rows → logs.IsOpened state table.log → chunks.HasRoom state table.chunks 1 0 0
+      → rows.HasRoom state table.rows 1 0 0 → logs.HasRoom state table.log 1 0 0 → IsReady state table []
+  at_rest table a b c x y z =
+      all_opened table a b c
+      (record { vault = less_room state (chunks.vault_of table.chunks) 1 0 0 0 0 0 (omega arith) (omega arith) (omega arith) x.vault; memory = x.memory; payload = x.payload })
+      (record { vault = less_room state (rows.vault_of table.rows) 1 0 0 0 0 0 (omega arith) (omega arith) (omega arith) y.vault; memory = y.memory; payload = y.payload })
+      (record { vault = less_room state (logs.vault_of table.log) 1 0 0 0 0 0 (omega arith) (omega arith) (omega arith) z.vault; memory = z.memory; payload = z.payload })

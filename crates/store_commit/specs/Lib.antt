@@ -13,3 +13,4 @@ pub mod Fused
 pub mod Small
 pub mod Unset
 pub mod Rising
+pub mod Bare

@@ -19,7 +19,7 @@ ghost use Rattle.store_commit.specs.Standing.{DevsLeave, RowsLeave, AreLookedAt,
 ghost use Rattle.store_commit.specs.Standing.{all_stops, nothing, GoesOn, NothingHidden, NothingSpared, seen, spared_of};
 ghost use Rattle.store_commit.specs.Fused.{device_of, OthersStay, StayBeside};
 ghost use Rattle.store_commit.specs.Shows.{behind_first, ShowsAlike};
-ghost use Rattle.store_commit.specs.TakesOn.{NoneLeave};
+ghost use Rattle.store_commit.specs.TakesOn.{AllLeave, NoneLeave};
 ghost use Rattle.store_commit.specs.Unset.{KeepsUnset, HasCause};
 
 use crate::fault::{CommitFault, told};
@@ -374,6 +374,7 @@ impl<D: Disk + Drop> TableDevs<D> {
             → DevsLeave D.state D.images self.old self.new (λ d. d ≡ devs D.state self.old) }
         ensures rows_left { AreUp self.old → AreSound D.state self.old
             → RowsLeave D.state D.images self.old self.new (λ held. held ≡ (devs D.state self.old).held) }
+        ensures leave { AreUp self.old → AreSound D.state self.old → AllLeave D.state D.images self.old self.new }
         ensures agenda { self.new.agenda ≡ self.old.agenda }
         ensures hidden { OnOk result (NothingHidden self.new) }
         ensures spared { OnOk result (NothingSpared self.new) }

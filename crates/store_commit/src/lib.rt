@@ -1,6 +1,7 @@
 //! A row's update over the three devices of its table: whole or not at all.
 #![tactic(auto)]
 
+mod bare;
 mod devs;
 mod fault;
 mod fused;

@@ -8,7 +8,6 @@ use Rattle.table_model.specs.declared.entry.Entry.{Entry}
 use Rattle.step_tables.specs.Facts.{Fact}
 use Rattle.stab_base.specs.declared.node.Node.{Node}
 use Rattle.row_value.specs.declared.schema.Scheme.{Scheme}
-use Rattle.row_value.specs.declared.schema.Scheme.TheVariants.{Eventual}
 use Rattle.step_tables.specs.Messages.{Luck, Send, Request, Pair}
 use Rattle.step_tables.specs.Store.{current_of}
 use Rattle.step_tables.specs.Travels.{message_of}
@@ -360,10 +359,9 @@ module _ {D : Type 0} (state : D → DiskState) (images : D → ℕ → List ℕ
       step_is : step_at old.node hosted.store (Take from (message_of message)) ≡ moved_at schema table hosted (Take from (message_of message))
       step_is =
           let move = Take from (message_of message) in
-          ap (λ (n : ℕ). store_step n Eventual old.node.schema.chunk old.node.table hosted.store move) h.store
-          ∙ (ap (λ (t : ℕ). store_step owner Eventual old.node.schema.chunk t hosted.store move) h.number
-          ∙ (ap (λ (g : Scheme). store_step owner g old.node.schema.chunk table hosted.store move) (sym h.node.scheme)
-          ∙ ap (λ (o : Option Schema). store_step owner (scheme_in o) (chunk_in o) table hosted.store move) (sym h.schema)))
+          ap (λ (n : ℕ). store_step n old.node.schema.scheme old.node.schema.chunk old.node.table hosted.store move) h.store
+          ∙ (ap (λ (t : ℕ). store_step owner old.node.schema.scheme old.node.schema.chunk t hosted.store move) h.number
+          ∙ ap (λ (o : Option Schema). store_step owner (scheme_in o) (chunk_in o) table hosted.store move) (sym h.schema))
 
       silent_out : (out : StoreOut) → map fact_of out.facts ≡ [] → map send_of out.messages ≡ [] → says_something (outbox_of out) ≡ false
       silent_out out facts sends =

@@ -429,8 +429,8 @@ module _ {D : Type 0} (state : D → DiskState) (w : World) (numbers : List ℕ)
             λ b. (k.busy version).1 (subst (λ (x : world.Hosted). IsAtWork x.store.disk x.store.agenda version) (sym (agenda_is b.0 b.1)) b.2),
           );
           given = λ fits s.
-              k.given (sym f.2.number, fits_there w message was.node.schema f.2.schema fits) (subst (λ (x : world.Hosted). IsSpent x.store.disk message) (sym (agenda_is s.0 s.1)) s.3);
-          spent = λ last e. let s = k.spent last e in ((hosted, f.1, s.0, s.1), s.2);
+              k.given (sym f.2.number, fits_there w message was.node.schema f.2.schema fits) (subst (λ (x : world.Hosted). IsSpent was.node.schema.scheme x.store.disk message) (sym (agenda_is s.0 s.1)) (subst (λ (o : Option Schema). IsSpent (scheme_in o) s.0.store.disk message) f.2.schema s.3));
+          spent = λ last e. let s = k.spent last e in ((hosted, f.1, s.0, subst (λ (o : Option Schema). IsSpent (scheme_in o) hosted.store.disk message) (sym f.2.schema) s.1), s.2);
           refused = λ no. on_err_weaker r (λ t. (same_tables state w numbers old new table it was at wrote h hosted f.1 t.0, t.1)) (k.refused no);
           fallen = λ is.
               let t = k.fallen is in (

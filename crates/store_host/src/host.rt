@@ -7,7 +7,6 @@ ghost use Rattle.std.specs.Ordering.{nat_cmp};
 ghost use Rattle.std.specs.BTreeMap as tree;
 ghost use Rattle.std.specs.BTreeMap.{is_at};
 ghost use Rattle.row_value.specs.declared.schema.Schema.{Schema as ASchema};
-ghost use Rattle.row_value.specs.declared.schema.Scheme.TheVariants.{Eventual};
 ghost use Rattle.row_store.specs.Spelling.{table_payload};
 ghost use Rattle.vault.specs.Limit.{payload_most};
 ghost use Rattle.value_codec.specs.SchemaSpelling.{HasSchemaSpelling};
@@ -127,8 +126,8 @@ impl<D: Disk + Drop> StoreHost<D> {
         Ok(())
     }
 
-    /// Adds a table of an eventual scheme on its disks for chunks, rows and log, whatever they hold, and makes it one
-    /// with no rows. It is up where the Store is.
+    /// Adds a table on its disks for chunks, rows and log, whatever they hold, and makes it one with no rows. It is up
+    /// where the Store is.
     ///
     /// `Disk` where a disk failed: the table is there, the Store is down with all its tables, and its next start makes
     /// the table.
@@ -143,7 +142,6 @@ impl<D: Disk + Drop> StoreHost<D> {
         requires held { IsStore D.state self.old }
         requires absent { tree.get nat_cmp self.old.tables table ≡ None }
         requires size { 0 < schema.chunk }
-        requires scheme { schema.scheme ≡ Eventual }
         requires spelled { HasSchemaSpelling schema }
         requires short { length (table_payload schema 2) ≤ payload_most }
         ensures added { (w : AWorld) → HoldsStore D.state w self.old

@@ -5,7 +5,6 @@ ghost use Rattle.std.specs.Prelude.{IsErrOf};
 ghost use Rattle.vault.specs.Limit.{payload_most};
 ghost use Rattle.value_codec.specs.SchemaSpelling.{HasSchemaSpelling};
 ghost use Rattle.row_store.specs.Spelling.{table_payload};
-ghost use Rattle.row_value.specs.declared.schema.Scheme.TheVariants.{Eventual};
 ghost use Rattle.row_value.specs.declared.schema.Schema.{Schema as ASchema};
 ghost use Rattle.step_tables.specs.Sayings.{saying};
 ghost use Rattle.std.specs.Vec.{vec_capacity, vec_len};
@@ -110,7 +109,6 @@ impl<D: Disk + Drop> Hosted<D> {
     ) -> Hosted<D>
         requires store { store ≡ owner }
         requires size { 0 < schema.chunk }
-        requires scheme { schema.scheme ≡ Eventual }
         requires spelled { HasSchemaSpelling schema }
         requires short { length (table_payload schema 2) ≤ payload_most }
         ensures hosted { IsHosted D.state (Some schema) table (new_table false false) result }

@@ -89,13 +89,13 @@ module _ {D : Type 0} (state : D → DiskState) (images : D → ℕ → List ℕ
     dropped_at from message isnt s t = drops state images only_now old s.disk s.agenda (idle_state state images only_now old s.disk s.agenda t up none) t from message isnt
 
     pub delivers_request : (new : TableNode D) (from : Node) (message : Message) (request : SyncRequest) → message ≡ kinds.SyncRequest request → (r : Result (Unit {0}) NodeFault) → IsTaken old message
-        → ((s : TableStore) → IsTable state old s → Answers state images s (step_for old.schema.chunk old.table s.disk from (request_of request) (refused_by s.disk request)) ((refused_by s.disk request ≡ None) × (length s.disk.items ≡ NUMBER_MAX)) old new r)
+        → ((s : TableStore) → IsTable state old s → Answers state images s (step_for old.schema.chunk old.table s.disk from (request_of request) (refused_by old.schema.scheme s.disk request)) ((refused_by old.schema.scheme s.disk request ≡ None) × (length s.disk.items ≡ NUMBER_MAX)) old new r)
         → (s : TableStore) → IsTable state old s → Delivers state images s from message old new r
     delivers_request new from message request is r taken a s t =
         subst (λ (m : Message). Delivers state images s from m old new r) (sym is)
-        (answers state images only_now old new s.disk s.agenda (idle_state state images only_now old s.disk s.agenda t up none) from (kinds.SyncRequest request) r (λ d. step_for old.schema.chunk old.table d from (request_of request) (refused_by d request))
-        ((refused_by s.disk request ≡ None) × (length s.disk.items ≡ NUMBER_MAX))
-        (λ d. sym (decided_is old.schema.chunk old.table d from (request_of request) (yours_in d.items request.client request.row) (refused_by d request) refl)) (λ x. x) (λ x. x) (subst (IsTaken old) is taken) (a s t))
+        (answers state images only_now old new s.disk s.agenda (idle_state state images only_now old s.disk s.agenda t up none) from (kinds.SyncRequest request) r (λ d. step_for old.schema.chunk old.table d from (request_of request) (refused_by old.schema.scheme d request))
+        ((refused_by old.schema.scheme s.disk request ≡ None) × (length s.disk.items ≡ NUMBER_MAX))
+        (λ d. sym (decided_is old.schema.scheme old.schema.chunk old.table d from (request_of request) (yours_in d.items request.client request.row) (refused_by old.schema.scheme d request) refl)) (λ x. x) (λ x. x) (subst (IsTaken old) is taken) (a s t))
 
     pub delivers_pull : (new : TableNode D) (from : Node) (message : Message) (request : PullRequest) → message ≡ kinds.PullRequest request → (r : Result (Unit {0}) NodeFault) → IsTaken old message
         → ((s : TableStore) → IsTable state old s → Answers state images s (answered s.disk from (pull_of request)) ⊥ old new r)
@@ -150,34 +150,34 @@ module _ {D : Type 0} (state : D → DiskState) (images : D → ℕ → List ℕ
       -- ---- a request
 
       abbrev step_of : Node → SyncRequest → StoreDisk → StoreStep
-      step_of from request disk = step_for old.schema.chunk old.table disk from (request_of request) (refused_by disk request)
+      step_of from request disk = step_for old.schema.chunk old.table disk from (request_of request) (refused_by old.schema.scheme disk request)
 
       abbrev is_spent_of : SyncRequest → StoreDisk → Type 0
-      is_spent_of request disk = (refused_by disk request ≡ None) × (length disk.items ≡ NUMBER_MAX)
+      is_spent_of request disk = (refused_by old.schema.scheme disk request ≡ None) × (length disk.items ≡ NUMBER_MAX)
 
       pub answers_request : (from : Node) (request : SyncRequest) (outcome : Outcome) (send : Option Node × Message) (x : Taken) → x ≡ Answered outcome → Serves st im old.devs table (Ok x)
-          → ((disk : StoreDisk) → Stands old.schema (devs st old.devs) disk → disk.pending ≡ None → IsTaking old.schema.chunk (devs st old.devs) disk request (writes_of table) x)
+          → ((disk : StoreDisk) → Stands old.schema (devs st old.devs) disk → disk.pending ≡ None → IsTaking old.schema.scheme old.schema.chunk (devs st old.devs) disk request (writes_of table) x)
           → send_of send ≡ responded from (request_of request) (outcome_of outcome) → facts.items.items ≡ old.facts.items.items → messages.items.items ≡ old.messages.items.items ++ send ∷ []
           → (s : TableStore) → IsTable state old s → Answers state images s (step_of from request s.disk) (is_spent_of request s.disk) old (record old { devs = table; facts = facts; messages = messages }) (Ok tt)
       answers_request from request outcome send x is_answered k takes made told sent s t =
           idly (λ y. Answers state images y (step_of from request y.disk) (is_spent_of request y.disk) old (record old { devs = table; facts = facts; messages = messages }) (Ok tt)) s t
           (λ disk u.
-          let taking = subst (λ (y : Taken). IsTaking old.schema.chunk (devs st old.devs) disk request (writes_of table) y) is_answered (takes disk (stands_at disk u) u.at.1.well.1) in
-          let refused : refused_by disk request ≡ Some (outcome_of outcome) = taking.0 in
+          let taking = subst (λ (y : Taken). IsTaking old.schema.scheme old.schema.chunk (devs st old.devs) disk request (writes_of table) y) is_answered (takes disk (stands_at disk u) u.at.1.well.1) in
+          let refused : refused_by old.schema.scheme disk request ≡ Some (outcome_of outcome) = taking.0 in
           subst (λ (o : Option ends.Outcome). Answers state images (at disk (Some [])) (step_for old.schema.chunk old.table disk from (request_of request) o) (is_spent_of request disk) old (record old { devs = table; facts = facts; messages = messages }) (Ok tt)) (sym refused)
           (sends_one state images only_now old disk u (is_spent_of request disk) (λ is. let both : Some (outcome_of outcome) ≡ None = sym refused ∙ is.0 in cc) table facts messages x (responded from (request_of request) (outcome_of outcome)) k (taking.1 ∙ sym none) told
           (ap (map send_of) sent ∙ (map-append send_of old.messages.items.items (send ∷ []) ∙ ap (λ (q : Send). sent_by old ++ q ∷ []) made))))
 
       pub begins_request : (from : Node) (request : SyncRequest) (version : ℕ) (entry : Entry) (x : Taken) → x ≡ Begun version → Serves st im old.devs table (Ok x)
-          → ((disk : StoreDisk) → Stands old.schema (devs st old.devs) disk → disk.pending ≡ None → IsTaking old.schema.chunk (devs st old.devs) disk request (writes_of table) x)
+          → ((disk : StoreDisk) → Stands old.schema (devs st old.devs) disk → disk.pending ≡ None → IsTaking old.schema.scheme old.schema.chunk (devs st old.devs) disk request (writes_of table) x)
           → entry ≡ entry_of request version → request.table ≡ old.table → IsClient request.client → fit_of old.schema request.content ≡ Ok tt
           → facts.items.items ≡ old.facts.items.items → messages.items.items ≡ old.messages.items.items → HasRoom facts 1 → HasRoom messages 1
           → (s : TableStore) → IsTable state old s → Answers state images s (step_of from request s.disk) (is_spent_of request s.disk) old (record old { devs = table; facts = facts; messages = messages; owed = owed.Update from entry }) (Ok tt)
       begins_request from request version entry x is_begun k takes made of_table client fits told sent fact_room message_room s t =
           idly (λ y. Answers state images y (step_of from request y.disk) (is_spent_of request y.disk) old (record old { devs = table; facts = facts; messages = messages; owed = owed.Update from entry }) (Ok tt)) s t
           (λ disk u.
-          let taking = subst (λ (y : Taken). IsTaking old.schema.chunk (devs st old.devs) disk request (writes_of table) y) is_begun (takes disk (stands_at disk u) u.at.1.well.1) in
-          let refused : refused_by disk request ≡ None = taking.0 in
+          let taking = subst (λ (y : Taken). IsTaking old.schema.scheme old.schema.chunk (devs st old.devs) disk request (writes_of table) y) is_begun (takes disk (stands_at disk u) u.at.1.well.1) in
+          let refused : refused_by old.schema.scheme disk request ≡ None = taking.0 in
           let begun = taking.1 in
           let same : entry ≡ (item_for disk.items (request_of request)).entry = made ∙ ap (entry_of request) begun.version_is in
           subst (λ (o : Option ends.Outcome). Answers state images (at disk (Some [])) (step_for old.schema.chunk old.table disk from (request_of request) o) (is_spent_of request disk) old (record old { devs = table; facts = facts; messages = messages; owed = owed.Update from entry }) (Ok tt)) (sym refused)

@@ -26,10 +26,9 @@ use Rattle.store_node.specs.declared.owed.Owed.TheVariants as owed
 use Rattle.store_node.specs.declared.fault.NodeFault.{NodeFault}
 use Rattle.store_node.specs.declared.fault.NodeFault.TheVariants as node_faults
 use Rattle.store_node.specs.declared.node.TableNode.{TableNode}
-use Rattle.store_node.specs.Node.{IsTable, told_by, sent_by, nothing_stored}
-use Rattle.store_node.specs.Calls.{Falls, Stays, Declares, DeclaresLate, Recovers, Starts}
-use Rattle.store_commit.proofs.Blanks.{none_still}
-use Rattle.store_node.proofs.Blanks.{none_made}
+use Rattle.store_node.specs.Node.{IsTable, HoldsNone, LeavesNone, told_by, sent_by, nothing_stored}
+use Rattle.store_node.specs.Calls.{Falls, Stays, Makes, DeclaresLate, Recovers, Starts}
+use Rattle.store_node.proofs.Blanks.{together, still_some, blank_holds}
 use Rattle.store_node.proofs.Recovering.{recovered_at, unrecovered_at, none_at}
 use Rattle.store_node.proofs.Working.{IsKept, still_rows, down_rows}
 use Rattle.store_node.proofs.Whole.{whole_stands}
@@ -67,7 +66,6 @@ module _ {D : Type 0} (state : D → DiskState) (images : D → ℕ → List ℕ
       let r = t.at.1 in
       record {
         size = t.size;
-        scheme = t.scheme;
         spelled = t.spelled;
         short = t.short;
         at = (t.at.0, record { up = r.up; fresh = r.fresh; idle = r.idle; synced = r.synced; sound = r.sound; stands = r.stands; fit = r.fit; nothing = r.nothing });
@@ -112,8 +110,13 @@ module _ {D : Type 0} (state : D → DiskState) (images : D → ℕ → List ℕ
     counted = λ _. refl;
     cause = λ is. absurd cc;
     only = inr refl;
-    blank = λ blank. none_at state images node (record node { facts = facts }) (none_made st im only_now node.schema node.devs node.devs (none_still st im only_now node.devs blank));
+    none = none_left;
+    left = λ k. record { held = k.held; sound = k.sound; synced = k.synced };
+    blank = λ blank. none_left (blank_holds st im only_now node.schema node.devs blank);
   }
+    where
+      none_left : HoldsNone state node → LeavesNone state images node (record node { facts = facts })
+      none_left k = none_at state images node (record node { facts = facts }) (together st im only_now node.schema node.devs node.devs (still_some st im only_now node.schema node.devs t.at.1.up k))
   late_short only_now node facts disk (Some tasks) same t isnt = let is = t.at.1.declared in absurd cc
 
   pub late_node : (node : TableNode D) (facts : Gathered StoreFact) (disk : StoreDisk) (agenda : Option (List StoreTask)) → IsTable state node (at disk agenda) → node.is_declared ≡ false → IsTable state (record node { facts = facts }) (at disk agenda)
@@ -126,7 +129,6 @@ module _ {D : Type 0} (state : D → DiskState) (images : D → ℕ → List ℕ
       let h = t.at.1 in
       record {
         size = t.size;
-        scheme = t.scheme;
         spelled = t.spelled;
         short = t.short;
         at = (
@@ -148,10 +150,11 @@ module _ {D : Type 0} (state : D → DiskState) (images : D → ℕ → List ℕ
         );
       }
 
-  pub late_done : (node : TableNode D) (reserved facts : Gathered StoreFact) (made : TableNode D) (s : TableStore) → reserved.items.items ≡ node.facts.items.items
-      → Declares state images s (record node { facts = reserved }) made (Ok tt) → made.facts ≡ reserved → facts.items.items ≡ made.facts.items.items ++ told.Recovered made.store made.table ∷ [] → HasRoom facts 0
+  pub late_done : ((disk : FuseDisk D) (image : List ℕ) → images (inner_of disk) (behind state disk).moment image → IsImage (behind state disk).pending image)
+      → (node : TableNode D) (reserved facts : Gathered StoreFact) (made : TableNode D) (s : TableStore) → reserved.items.items ≡ node.facts.items.items
+      → Makes state images (HoldsNone state node) s (record node { facts = reserved }) made (Ok tt) → made.facts ≡ reserved → facts.items.items ≡ made.facts.items.items ++ told.Recovered made.store made.table ∷ [] → HasRoom facts 0
       → DeclaresLate state images s node (record made { facts = facts }) (Ok tt)
-  late_done node reserved facts made s same d kept added room = record {
+  late_done only_now node reserved facts made s same d kept added room = record {
     declared = record {
       table = more_facts made facts nothing_stored room d.declared.table;
       told = ap (map fact_of) (added ∙ ap (λ l. l ++ told.Recovered made.store made.table ∷ []) (ap (λ (g : Gathered StoreFact). g.items.items) kept ∙ same)) ∙ facts_told;
@@ -162,22 +165,33 @@ module _ {D : Type 0} (state : D → DiskState) (images : D → ℕ → List ℕ
     counted = λ is. d.counted (λ was. cc);
     cause = λ is. absurd cc;
     only = tt;
-    blank = λ blank. let k = d.blank blank in record { any_moment = k.any_moment; rows_left = k.rows_left };
+    none = none_left;
+    left = λ _. tt;
+    blank = λ blank. none_left (blank_holds st im only_now node.schema node.devs blank);
   }
     where
       facts_told : map fact_of (node.facts.items.items ++ told.Recovered made.store made.table ∷ []) ≡ told_by node ++ facts_of.StoreRecovered node.store node.table ∷ []
       facts_told = map-append fact_of node.facts.items.items (told.Recovered made.store made.table ∷ []) ∙ rw (d.declared.same.store, d.declared.same.table) refl
 
-  pub late_failed : (node : TableNode D) (reserved : Gathered StoreFact) (made : TableNode D) (s : TableStore) (e : NodeFault) → reserved.items.items ≡ node.facts.items.items
-      → Declares state images s (record node { facts = reserved }) made (Err e) → DeclaresLate state images s node made (Err e)
-  late_failed node reserved made s e same d = record {
+      none_left : HoldsNone state node → LeavesNone state images node (record made { facts = facts })
+      none_left was = let k = d.none was in record { any_moment = k.any_moment; rows_left = k.rows_left }
+
+  pub late_failed : ((disk : FuseDisk D) (image : List ℕ) → images (inner_of disk) (behind state disk).moment image → IsImage (behind state disk).pending image)
+      → (node : TableNode D) (reserved : Gathered StoreFact) (made : TableNode D) (s : TableStore) (e : NodeFault) → reserved.items.items ≡ node.facts.items.items
+      → Makes state images (HoldsNone state node) s (record node { facts = reserved }) made (Err e) → DeclaresLate state images s node made (Err e)
+  late_failed only_now node reserved made s e same d = record {
     declared = tt;
     refused = record { table = d.refused.table; told = d.refused.told ∙ ap (map fact_of) same; sent = d.refused.sent; same = record { store = d.refused.same.store; table = d.refused.same.table; schema = d.refused.same.schema } };
     counted = λ is. d.counted (λ was. is was);
     cause = λ is. d.cause is;
     only = d.only;
-    blank = λ blank. let k = d.blank blank in record { any_moment = k.any_moment; rows_left = k.rows_left };
+    none = none_left;
+    left = λ was. d.left was;
+    blank = λ blank. none_left (blank_holds st im only_now node.schema node.devs blank);
   }
+    where
+      none_left : HoldsNone state node → LeavesNone state images node made
+      none_left was = let k = d.none was in record { any_moment = k.any_moment; rows_left = k.rows_left }
 
   -- ---- a start
 
@@ -192,6 +206,8 @@ module _ {D : Type 0} (state : D → DiskState) (images : D → ℕ → List ℕ
     cause = λ is. absurd cc;
     only = tt;
     rows_left = λ _. still_rows state images only_now node disk tasks t.at.1;
+    none = λ isnt. let is = t.at.1.declared in absurd cc;
+    left = λ isnt. let is = t.at.1.declared in absurd cc;
     blank = λ isnt. let is = t.at.1.declared in absurd cc;
   }
 
@@ -204,9 +220,21 @@ module _ {D : Type 0} (state : D → DiskState) (images : D → ℕ → List ℕ
     cause = k.cause;
     only = k.only;
     rows_left = λ _. k.rows_left;
+    none = λ isnt. absurd cc;
+    left = λ isnt. absurd cc;
     blank = λ isnt. absurd cc;
   }
 
   pub start_declares : (old new : TableNode D) (s : TableStore) (r : Result (Unit {0}) NodeFault) → old.is_declared ≡ false → DeclaresLate state images s old new r → Starts state images s old new r
-  start_declares old new s r isnt k = record
-      { started = λ is. absurd cc; declared = λ _. k.declared; refused = k.refused; counted = k.counted; cause = k.cause; only = k.only; rows_left = λ is. absurd cc; blank = λ _. k.blank }
+  start_declares old new s r isnt k = record {
+    started = λ is. absurd cc;
+    declared = λ _. k.declared;
+    refused = k.refused;
+    counted = k.counted;
+    cause = k.cause;
+    only = k.only;
+    rows_left = λ is. absurd cc;
+    none = λ _. k.none;
+    left = λ _. k.left;
+    blank = λ _. k.blank;
+  }

@@ -104,7 +104,7 @@ module _ {D : Type 0} (state : D → DiskState) (images : D → ℕ → List ℕ
       ap (λ (l : List StoreTask). Some l) (no_task node.schema (devs st node.devs) disk tasks (subst (λ (l : List Write). Follows node.schema (devs st node.devs) l disk tasks) none t.at.1.follows))
 
   drops_at : (node : TableNode D) (disk : StoreDisk) → IsTable state node (at disk (Some [])) → (from : Node) (message : Message) → (IsTaken node message → IsBehind state node node (step_at node (at disk (Some [])) (Take from (message_of message))))
-      → (IsTaken node message → IsSpent disk message → ⊥)
+      → (IsTaken node message → IsSpent node.schema.scheme disk message → ⊥)
       → Delivers state images (at disk (Some [])) from message node node (Ok tt)
   drops_at node disk t from message taken none = record {
     taken = taken;
@@ -129,7 +129,7 @@ module _ {D : Type 0} (state : D → DiskState) (images : D → ℕ → List ℕ
 
   -- a message that no rule takes
   pub passes : (node : TableNode D) (disk : StoreDisk) (agenda : Option (List StoreTask)) → agenda ≡ Some [] → IsTable state node (at disk agenda) → (from : Node) (message : Message)
-      → ((d : StoreDisk) → step_at node (at d (Some [])) (Take from (message_of message)) ≡ moves.quiet d (Some []) facts_of.Done) → (IsSpent disk message → ⊥)
+      → ((d : StoreDisk) → step_at node (at d (Some [])) (Take from (message_of message)) ≡ moves.quiet d (Some []) facts_of.Done) → (IsSpent node.schema.scheme disk message → ⊥)
       → Delivers state images (at disk agenda) from message node node (Ok tt)
   passes node disk None is t from message quiet none = absurd cc
   passes node disk (Some (task ∷ tasks)) is t from message quiet none = absurd cc
@@ -158,7 +158,7 @@ module _ {D : Type 0} (state : D → DiskState) (images : D → ℕ → List ℕ
 
   -- a message that the devices were asked for
   pub answers : (old new : TableNode D) (disk : StoreDisk) (agenda : Option (List StoreTask)) → agenda ≡ Some [] → (from : Node) (message : Message) (r : Result (Unit {0}) NodeFault) (step : StoreDisk → StoreStep) (is_spent : Type 0)
-      → ((d : StoreDisk) → step d ≡ step_at old (at d (Some [])) (Take from (message_of message))) → (IsSpent disk message → is_spent) → (is_spent → IsSpent disk message) → IsTaken old message
+      → ((d : StoreDisk) → step d ≡ step_at old (at d (Some [])) (Take from (message_of message))) → (IsSpent old.schema.scheme disk message → is_spent) → (is_spent → IsSpent old.schema.scheme disk message) → IsTaken old message
       → Answers state images (at disk agenda) (step disk) is_spent old new r → Delivers state images (at disk agenda) from message old new r
   answers old new disk None is from message r step is_spent same to back taken a = absurd cc
   answers old new disk (Some (task ∷ tasks)) is from message r step is_spent same to back taken a = absurd cc

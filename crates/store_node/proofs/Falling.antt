@@ -51,7 +51,6 @@ module _ {D : Type 0} (state : D → DiskState) (images : D → ℕ → List ℕ
     down_at : (disk : StoreDisk) → AreSound st new.devs → Stands old.schema (devs st new.devs) disk → AreFit old.schema disk.items → IsTable state new (record { disk = disk; agenda = None })
     down_at disk sound stands fit = record {
       size = rw same.schema t.size;
-      scheme = rw same.schema t.scheme;
       spelled = rw same.schema t.spelled;
       short = rw same.schema t.short;
       at = (

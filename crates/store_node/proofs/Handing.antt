@@ -93,7 +93,6 @@ module _ {D : Type 0} (state : D → DiskState) (images : D → ℕ → List ℕ
       let r = t.at.1 in
       record {
         size = t.size;
-        scheme = t.scheme;
         spelled = t.spelled;
         short = t.short;
         at = (t.at.0, record { up = r.up; fresh = r.fresh; idle = r.idle; synced = r.synced; sound = r.sound; stands = r.stands; fit = r.fit; nothing = r.nothing });
@@ -102,7 +101,6 @@ module _ {D : Type 0} (state : D → DiskState) (images : D → ℕ → List ℕ
       let h = t.at.1 in
       record {
         size = t.size;
-        scheme = t.scheme;
         spelled = t.spelled;
         short = t.short;
         at = (

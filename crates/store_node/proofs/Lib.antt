@@ -7,6 +7,7 @@ pub mod Starting
 pub mod Recovering
 pub mod Handing
 pub mod Blanks
+pub mod Clearing
 pub mod Making
 pub mod Whole
 pub mod Beginning

@@ -38,7 +38,7 @@ use Rattle.store_node.specs.declared.fault.NodeFault.TheVariants as node_faults
 use Rattle.store_node.specs.declared.node.TableNode.{TableNode}
 use Rattle.store_node.specs.Node.{AreOwed, GoesWell, facts_in, sends_in, IsTable, told_by, sent_by, own_faults, nothing_stored}
 use Rattle.store_node.specs.Node.{HasNoRows, LeavesNone, HoldsNone}
-use Rattle.store_node.specs.Calls.{Falls, IsBehind, Declares, Recovers}
+use Rattle.store_node.specs.Calls.{Falls, IsBehind, Makes, Recovers}
 use Rattle.store_node.proofs.Following.{own_stays, own_rises}
 use Rattle.store_node.proofs.RowsLeft.{rows_of_disk}
 use Rattle.store_node.proofs.Falling.{MayHold, fallen, fallen_rows}
@@ -76,7 +76,7 @@ module _ {D : Type 0} (state : D → DiskState) (images : D → ℕ → List ℕ
           let memory : fault_of e ≡ node_faults.Memory = ap fault_of is in
           record { disk = λ was. absurd cc; other = λ isnt. same ∙ stays; only = inr memory }
 
-  -- ---- on blank disks
+  -- ---- on disks that hold none
 
   pub none_at : (old new : TableNode D) → LeavesNoRows st im old.schema old.devs new.devs → LeavesNone state images old new
   none_at old new k = record {
@@ -90,12 +90,12 @@ module _ {D : Type 0} (state : D → DiskState) (images : D → ℕ → List ℕ
     none_fallen = record { any_moment = (f.left start nothing (no_rows schema) k.any_moment).2; rows_left = (f.rows_left start nothing_held (no_rows schema).held k.rows_left).1 }
 
     none_held : new.schema ≡ schema → HoldsNone state new
-    none_held same = let left = f.left start nothing (no_rows schema) k.any_moment in record { held = rw same left.0; sound = left.1 }
+    none_held same = let left = f.left start nothing (no_rows schema) k.any_moment in record { held = rw same left.0; sound = left.1; synced = f.synced }
 
   -- ---- a declaration
 
-  module _ (old : TableNode D) (disk : StoreDisk) (t : IsTable state old (at disk None)) where
-    pub declared_at : (table : TableDevs (FuseDisk D)) → MakesTable st im old.schema old.devs table (Ok tt) → Declares state images (at disk None) old (record old { is_declared = true; is_up = true; devs = table; owed = owed.Nothing }) (Ok tt)
+  module _ (such : Type 0) (old : TableNode D) (disk : StoreDisk) (t : IsTable state old (at disk None)) where
+    pub declared_at : (table : TableDevs (FuseDisk D)) → MakesTable st im such old.schema old.devs table (Ok tt) → Makes state images such (at disk None) old (record old { is_declared = true; is_up = true; devs = table; owed = owed.Nothing }) (Ok tt)
     declared_at table k =
         let r = t.at.1 in
         let new : TableNode D = record old { is_declared = true; is_up = true; devs = table; owed = owed.Nothing } in
@@ -103,7 +103,6 @@ module _ {D : Type 0} (state : D → DiskState) (images : D → ℕ → List ℕ
           declared = record {
             table = record {
               size = t.size;
-              scheme = t.scheme;
               spelled = t.spelled;
               short = t.short;
               at = (
@@ -132,13 +131,13 @@ module _ {D : Type 0} (state : D → DiskState) (images : D → ℕ → List ℕ
           counted = λ _. own_stays state old new k.cause.cause (k.fuse.stopped r.fresh.unset);
           cause = λ is. absurd cc;
           only = tt;
-          blank = λ blank. none_at old new (k.blank blank);
+          none = λ was. none_at old new (k.none was);
           left = λ _. tt;
         }
 
     -- it isn't, and the disks were restarted
-    pub undeclared_at : (mid new : TableNode D) (e : CommitFault) → old.is_declared ≡ false → MakesTable st im old.schema old.devs mid.devs (Err e) → Falls state images mid new → IsKept old new → new.is_up ≡ false
-        → Declares state images (at disk None) old new (Err (fault_of e))
+    pub undeclared_at : (mid new : TableNode D) (e : CommitFault) → old.is_declared ≡ false → MakesTable st im such old.schema old.devs mid.devs (Err e) → Falls state images mid new → IsKept old new → new.is_up ≡ false
+        → Makes state images such (at disk None) old new (Err (fault_of e))
     undeclared_at mid new e isnt k falls kept down =
         let r = t.at.1 in
         let c = caused_by old mid new e k.cause (k.fuse.stopped r.fresh.unset) falls.counted in
@@ -147,7 +146,6 @@ module _ {D : Type 0} (state : D → DiskState) (images : D → ℕ → List ℕ
           refused = record {
             table = record {
               size = rw kept.same.schema t.size;
-              scheme = rw kept.same.schema t.scheme;
               spelled = rw kept.same.schema t.spelled;
               short = rw kept.same.schema t.short;
               at = (
@@ -171,20 +169,20 @@ module _ {D : Type 0} (state : D → DiskState) (images : D → ℕ → List ℕ
           counted = λ is. c.other (λ was. is (ap (λ (f : NodeFault). Err f) was));
           cause = λ is. c.disk cc;
           only = c.only;
-          blank = λ blank. none_at old new (none_fallen old.schema old.devs mid new falls (k.blank blank));
-          left = λ blank. none_held old.schema old.devs mid new falls (k.blank blank) kept.same.schema;
+          none = λ was. none_at old new (none_fallen old.schema old.devs mid new falls (k.none was));
+          left = λ was. none_held old.schema old.devs mid new falls (k.none was) kept.same.schema;
         }
 
   -- by what the agenda is: a node that wasn't declared isn't up
-  pub declare_done : (old : TableNode D) (disk : StoreDisk) (agenda : Option (List StoreTask)) → IsTable state old (at disk agenda) → old.is_declared ≡ false → (table : TableDevs (FuseDisk D)) → MakesTable st im old.schema old.devs table (Ok tt)
-      → Declares state images (at disk agenda) old (record old { is_declared = true; is_up = true; devs = table; owed = owed.Nothing }) (Ok tt)
-  declare_done old disk None t isnt table k = declared_at old disk t table k
-  declare_done old disk (Some tasks) t isnt table k = let is = t.at.1.declared in absurd cc
+  pub declare_done : (such : Type 0) (old : TableNode D) (disk : StoreDisk) (agenda : Option (List StoreTask)) → IsTable state old (at disk agenda) → old.is_declared ≡ false → (table : TableDevs (FuseDisk D)) → MakesTable st im such old.schema old.devs table (Ok tt)
+      → Makes state images such (at disk agenda) old (record old { is_declared = true; is_up = true; devs = table; owed = owed.Nothing }) (Ok tt)
+  declare_done such old disk None t isnt table k = declared_at such old disk t table k
+  declare_done such old disk (Some tasks) t isnt table k = let is = t.at.1.declared in absurd cc
 
-  pub declare_failed : (old : TableNode D) (disk : StoreDisk) (agenda : Option (List StoreTask)) → IsTable state old (at disk agenda) → old.is_declared ≡ false → (mid new : TableNode D) (e : CommitFault) → MakesTable st im old.schema old.devs mid.devs (Err e)
-      → Falls state images mid new → IsKept old new → new.is_up ≡ false → Declares state images (at disk agenda) old new (Err (fault_of e))
-  declare_failed old disk None t isnt mid new e k falls kept down = undeclared_at old disk t mid new e isnt k falls kept down
-  declare_failed old disk (Some tasks) t isnt mid new e k falls kept down = let is = t.at.1.declared in absurd cc
+  pub declare_failed : (such : Type 0) (old : TableNode D) (disk : StoreDisk) (agenda : Option (List StoreTask)) → IsTable state old (at disk agenda) → old.is_declared ≡ false → (mid new : TableNode D) (e : CommitFault) → MakesTable st im such old.schema old.devs mid.devs (Err e)
+      → Falls state images mid new → IsKept old new → new.is_up ≡ false → Makes state images such (at disk agenda) old new (Err (fault_of e))
+  declare_failed such old disk None t isnt mid new e k falls kept down = undeclared_at such old disk t mid new e isnt k falls kept down
+  declare_failed such old disk (Some tasks) t isnt mid new e k falls kept down = let is = t.at.1.declared in absurd cc
 
   -- ---- a start
 
@@ -206,7 +204,6 @@ module _ {D : Type 0} (state : D → DiskState) (images : D → ℕ → List ℕ
         → IsTable state (new facts) (at disk (Some tasks))
     working facts tasks follows owes well one none room = record {
       size = t.size;
-      scheme = t.scheme;
       spelled = t.spelled;
       short = t.short;
       at = (

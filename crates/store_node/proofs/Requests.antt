@@ -25,17 +25,18 @@ use Rattle.step_tables.specs.declared.message.Outcome.{Outcome}
 use Rattle.step_tables.specs.declared.message.Yours.{Yours}
 use Rattle.step_tables.specs.Chunks.{Named, chunks_of}
 use Rattle.step_tables.specs.Messages.{Pair}
-use Rattle.step_tables.specs.StoreMoves.{StoreDisk}
+use Rattle.step_tables.specs.Store.{current_of}
+use Rattle.step_tables.specs.StoreMoves.{StoreDisk, version_of, yours_in}
 use Rattle.step_tables.specs.Travels.{outcome_of}
 use Rattle.device_laws.specs.Stands.{Stands, HaveWords, pair_in, update_for}
 use Rattle.device_laws.proofs.Asked.{update_is}
 use Rattle.device_laws.proofs.Rows.{table_version}
 use Rattle.store_node.specs.Reading.{Only}
-use Rattle.store_node.specs.Taking.{held_if, refusal_of, pair_of, Serves, IsBegunBy, refused_by}
+use Rattle.store_node.specs.Taking.{held_if, refusal_of, version_if, pair_of, Serves, IsBegunBy, refused_by}
 use Rattle.store_node.specs.Update.{AreAllOlder, request_of, update_with}
 use Rattle.store_node.proofs.Onlys.{only_same, only_hidden, only_ready}
 use Rattle.store_node.proofs.Asks.{serves_then, serves_takes}
-use Rattle.store_node.proofs.Telling.{held_is, yours_is, chunks_older}
+use Rattle.store_node.proofs.Telling.{held_is, yours_is, version_is, chunks_older}
 
 -- ---- an answer with another value
 
@@ -97,10 +98,12 @@ module _ {D : Type 0} (state : D → DiskState) (images : D → ℕ → List ℕ
             made (length disk.items + 1) (subst (AreAllOlder (length disk.items + 1)) (sym same) (chunks_older schema d disk some st (request_of request)))
             ∙ ap (λ (h : List (List Named)). update_with schema.chunk (length disk.items + 1) h (request_of request)) same
 
-        pub refused_is : (yours : Yours) → pair_of yours ≡ pair_in (lasts_if standing) request.client → (o : Option Outcome) → option_map outcome_of o ≡ refusal_of (pair_of yours) request.number
-            → refused_by disk request ≡ option_map outcome_of o
-        refused_is yours is o made =
-            sym (made ∙ ap (λ (p : Pair). refusal_of p request.number) (is ∙ (ap (λ (s : Option StoredRow). pair_in (lasts_if s) request.client) (sym stands) ∙ yours_is schema d disk some st request.row request.client)))
+        pub refused_is : (yours : Yours) → pair_of yours ≡ pair_in (lasts_if standing) request.client → (current : ℕ) → current ≡ version_if standing → (o : Option Outcome)
+            → option_map outcome_of o ≡ refusal_of schema.scheme request.base current (pair_of yours) request.number → refused_by schema.scheme disk request ≡ option_map outcome_of o
+        refused_is yours is current version o made =
+            let now : pair_of yours ≡ yours_in disk.items request.client request.row = is ∙ (ap (λ (s : Option StoredRow). pair_in (lasts_if s) request.client) (sym stands) ∙ yours_is schema d disk some st request.row request.client) in
+            let at : current ≡ version_of (current_of disk.items request.row) = version ∙ (ap version_if (sym stands) ∙ version_is schema d disk some st request.row) in
+            sym (made ∙ (ap (λ (v : ℕ). refusal_of schema.scheme request.base v (pair_of yours) request.number) at ∙ ap (λ (p : Pair). refusal_of schema.scheme request.base (version_of (current_of disk.items request.row)) p request.number) now))
 
     module _ (mid : TableDevs D) {T : Type 0} (x : T) (o : Only state images old mid (Ok x)) where
       pub seen_mid : seen state mid ≡ d

@@ -9,12 +9,16 @@ use Rattle.vault.specs.Calls.{IsEither}
 use Rattle.stab_base.specs.declared.limits.TheConstants.{NUMBER_MAX}
 use Rattle.stab_base.specs.declared.node.Node.{Node}
 use Rattle.row_value.specs.Fit.{fit_of}
-use Rattle.row_value.specs.declared.schema.Scheme.TheVariants.{Eventual}
+use Rattle.row_value.specs.declared.schema.Scheme.{Scheme}
+use Rattle.row_value.specs.declared.schema.Scheme.TheVariants.{Strong, Causal, Eventual}
+use Rattle.schemes.specs.declared.decision.Decision.{Decision}
+use Rattle.schemes.specs.declared.decision.Decision.TheVariants as decisions
+use Rattle.schemes.specs.Decide as schemes
 use Rattle.row_store.specs.Spelling.{IsClient}
 use Rattle.step_tables.specs.declared.message.Message.{Message}
 use Rattle.step_tables.specs.declared.message.SyncRequest.{SyncRequest}
 use Rattle.step_tables.specs.Facts as facts_of
-use Rattle.step_tables.specs.Messages.{Send, Pair, Outcome, Request, Again, Late}
+use Rattle.step_tables.specs.Messages.{Send, Pair, Outcome, Request, Again, Late, Stale, Conflict}
 use Rattle.step_tables.specs.Store.{Stored, current_of}
 use Rattle.step_tables.specs.StoreMoves.{StoreDisk, StoreTask, StoreStep, TableStore, accepting, item_for, sending, quiet, responded, decided, judged, version_of}
 use Rattle.store_commit.specs.declared.devs.TableDevs.{TableDevs}
@@ -33,7 +37,7 @@ use Rattle.step_tables.specs.Travels.{send_of}
 use Rattle.store_node.specs.Due.{fact_of}
 use Rattle.store_node.specs.Fault.{fault_of}
 use Rattle.store_node.specs.Gathered.{HasRoom}
-use Rattle.store_node.specs.Taking.{refusal_of, Serves, IsBegunBy, step_for}
+use Rattle.store_node.specs.Taking.{refusal_of, answer_to, Serves, IsBegunBy, step_for}
 use Rattle.store_node.specs.Update.{request_of}
 use Rattle.store_node.specs.declared.gathered.Gathered.{Gathered}
 use Rattle.store_node.specs.declared.told.StoreFact.{StoreFact}
@@ -53,15 +57,28 @@ use Rattle.store_node.proofs.Working.{still_leaves, still_rows}
 
 -- ---- a request, as it is decided
 
-pub decided_is : (size table : ℕ) (d : StoreDisk) (from : Node) (request : Request) (yours : Pair) (o : Option Outcome) → refusal_of yours request.number ≡ o → decided Eventual size table d from request yours ≡ step_for size table d from request o
-decided_is size table d from request yours o is =
-    subst (λ (x : Option Outcome). decided Eventual size table d from request yours ≡ step_for size table d from request x) is (pick (yours.number == request.number) (nat_lt request.number yours.number))
+pub decided_is : (g : Scheme) (size table : ℕ) (d : StoreDisk) (from : Node) (request : Request) (yours : Pair) (o : Option Outcome) → refusal_of g request.base (version_of (current_of d.items request.row)) yours request.number ≡ o
+    → decided g size table d from request yours ≡ step_for size table d from request o
+decided_is g size table d from request yours o is =
+    subst (λ (x : Option Outcome). decided g size table d from request yours ≡ step_for size table d from request x) is
+    (pick (version_of (current_of d.items request.row)) g (yours.number == request.number) (nat_lt request.number yours.number))
   where
-    pick : (b c : Bool) → (if b then sending d (responded from request (Again yours.version) ∷ []) else (if c then sending d (responded from request (Late yours.number) ∷ []) else judged Eventual size table d from request (version_of (current_of d.items request.row))))
-        ≡ step_for size table d from request (if b then Some (Again yours.version) else (if c then Some (Late yours.number) else None))
-    pick true c = refl
-    pick false true = refl
-    pick false false = refl
+    pick : (now : ℕ) (x : Scheme) (b c : Bool) → (if b then sending d (responded from request (Again yours.version) ∷ []) else (if c then sending d (responded from request (Late yours.number) ∷ []) else judged x size table d from request now))
+        ≡ step_for size table d from request (answer_to (if b then decisions.Again yours.version else (if c then decisions.Late yours.number else schemes.judged x request.base now)))
+    pick now x true c = refl
+    pick now x false true = refl
+    pick now x false false = by_scheme x
+      where
+        by_base : (latest : Outcome) (decision : Decision) (e : Bool) → answer_to decision ≡ Some latest
+            → (if e then quiet d (Some (accepting size table d.items from request (item_for d.items request))) facts_of.Done else sending d (responded from request latest ∷ []))
+            ≡ step_for size table d from request (answer_to (if e then decisions.Accept else decision))
+        by_base latest decision true is = refl
+        by_base latest decision false is = ap (step_for size table d from request) (sym is)
+
+        by_scheme : (y : Scheme) → judged y size table d from request now ≡ step_for size table d from request (answer_to (schemes.judged y request.base now))
+        by_scheme Strong = by_base (Stale now) (decisions.Stale now) (request.base == now) refl
+        by_scheme Causal = by_base (Conflict now) (decisions.Conflict now) (request.base == now) refl
+        by_scheme Eventual = refl
 
 module _ {D : Type 0} (state : D → DiskState) (images : D → ℕ → List ℕ → Type 0) (only_now : (disk : FuseDisk D) (image : List ℕ) → images (inner_of disk) (behind state disk).moment image → IsImage (behind state disk).pending image) where
   abbrev st : FuseDisk D → DiskState
@@ -124,7 +141,6 @@ module _ {D : Type 0} (state : D → DiskState) (images : D → ℕ → List ℕ
         → IsTable state (with_all old table facts messages) s
     idle table facts messages r not_disk k writes = record {
       size = t.size;
-      scheme = t.scheme;
       spelled = t.spelled;
       short = t.short;
       at = (t.at.0, kept_working old table facts messages disk [] r not_disk h k writes (no_room facts) (no_room messages));
@@ -187,7 +203,6 @@ module _ {D : Type 0} (state : D → DiskState) (images : D → ℕ → List ℕ
           done = record {
             table = record {
               size = t.size;
-              scheme = t.scheme;
               spelled = t.spelled;
               short = t.short;
               at = (
@@ -306,7 +321,6 @@ module _ {D : Type 0} (state : D → DiskState) (images : D → ℕ → List ℕ
       refused = λ _. record {
         table = record {
           size = t.size;
-          scheme = t.scheme;
           spelled = t.spelled;
           short = t.short;
           at = (

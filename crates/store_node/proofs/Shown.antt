@@ -100,7 +100,7 @@ module _ {D : Type 0} (state : D → DiskState) (images : D → ℕ → List ℕ
 
         stays_here : Stays state old (with_devs old table) s
         stays_here = record {
-          table = record { size = t.size; scheme = t.scheme; spelled = t.spelled; short = t.short; at = (t.at.0, working) };
+          table = record { size = t.size; spelled = t.spelled; short = t.short; at = (t.at.0, working) };
           told = refl;
           sent = refl;
           same = record { store = refl; table = refl; schema = refl };

@@ -16,7 +16,7 @@ use Rattle.store_commit.specs.Update.{lasts_if}
 use Rattle.store_commit.proofs.Begins.{one_version}
 use Rattle.step_tables.specs.Store.{Stored, current_of, next_changed}
 use Rattle.step_tables.specs.Store as table
-use Rattle.step_tables.specs.StoreMoves.{StoreDisk, yours_in, item_for, header_for, pulled_for}
+use Rattle.step_tables.specs.StoreMoves.{StoreDisk, version_of, yours_in, item_for, header_for, pulled_for}
 use Rattle.step_tables.specs.Messages.{Header, Request}
 use Rattle.step_tables.specs.Travels.{header_of, pulled_of}
 use Rattle.step_tables.specs.Chunks.{Named, objects_of, chunks_of}
@@ -35,7 +35,7 @@ use Rattle.device_laws.proofs.Fits.{row_within}
 use Rattle.device_laws.proofs.Next.{changed_is, next_stands}
 use Rattle.store_node.specs.Reading.{bytes_in, named_in, held_by, held_in, whole_object, whole_of, whole_row, whole_at, shown_row, shown_of}
 use Rattle.store_node.specs.declared.showing.ShownRow.{ShownRow}
-use Rattle.store_node.specs.Taking.{held_if, header_by, header_at, version_or, IsPulled}
+use Rattle.store_node.specs.Taking.{held_if, version_if, header_by, header_at, version_or, IsPulled}
 use Rattle.store_node.specs.Update.{AreOlder, AreAllOlder, AreCounted}
 
 -- ---- a content by its chunks
@@ -110,6 +110,13 @@ module _ (schema : Schema) (d : Devs) (disk : StoreDisk) (some : 0 < schema.chun
 
     pub yours_is : (client : ℕ) → pair_in (lasts_if (row_of d.held row)) client ≡ yours_in items client row
     yours_is client = row_lasts size items d.held st.held.numbered st.held.rows row client
+
+    pub version_is : version_if (row_of d.held row) ≡ version_of (current_of items row)
+    version_is =
+        ⊎_elim
+        (λ none. ap version_if none.1 ∙ sym (ap version_of none.0))
+        (λ found. ap version_if found.3 ∙ (found.4.version ∙ sym (ap version_of found.2)))
+        (at_row size items d.held st.held.numbered st.held.rows row)
 
     whole_now : (item : Stored) (stored : StoredRow) → current_of items row ≡ Some item → IsStoredAs size items item stored → whole_of stored.content (held_in d stored.content) ≡ item.content
     whole_now item stored is s =

@@ -120,7 +120,6 @@ module _ {D : Type 0} (state : D → DiskState) (images : D → ℕ → List ℕ
             record {
               table = record {
                 size = t.size;
-                scheme = t.scheme;
                 spelled = t.spelled;
                 short = t.short;
                 at = (t.at.0, done_working state images old disk task tasks w ws is h table facts messages step k rest keeps hidden fact_left message_left);

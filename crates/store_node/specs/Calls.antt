@@ -10,7 +10,7 @@ use Rattle.stab_base.specs.declared.limits.TheConstants.{NUMBER_MAX}
 use Rattle.stab_base.specs.declared.node.Node.{Node}
 use Rattle.stab_base.specs.declared.step.Step.{Step}
 use Rattle.stab_base.specs.declared.step.Step.TheVariants as steps
-use Rattle.row_value.specs.declared.schema.Scheme.TheVariants.{Eventual}
+use Rattle.row_value.specs.declared.schema.Scheme.{Scheme}
 use Rattle.store_commit.specs.declared.devs.TableDevs.{TableDevs}
 use Rattle.store_commit.specs.Devs.{Devs}
 use Rattle.store_commit.specs.Standing.{devs, writes_of, AreUp, AreSound, AreSynced, DevsLeave, RowsLeave}
@@ -20,7 +20,7 @@ use Rattle.step_tables.specs.StoreMoves.{Work, Crash, Start, store_step}
 use Rattle.step_tables.specs.StoreMoves as moves
 use Rattle.step_tables.specs.Facts as facts
 use Rattle.step_tables.specs.Messages.{Done, FailedBefore, FailedAfter}
-use Rattle.step_tables.specs.Store.{Stored, current_of}
+use Rattle.step_tables.specs.Store.{current_of}
 use Rattle.step_tables.specs.Travels.{message_of}
 use Rattle.step_tables.specs.declared.message.Message.{Message}
 use Rattle.step_tables.specs.declared.message.Message.TheVariants as kinds
@@ -37,7 +37,7 @@ use Rattle.store_node.specs.Taking.{refused_by}
 
 -- what a move makes of the node's table
 abbrev pub step_at : {D : Type 0} → TableNode D → TableStore → StoreMove → StoreStep
-step_at node s move = store_step node.store Eventual node.schema.chunk node.table s move
+step_at node s move = store_step node.store node.schema.scheme node.schema.chunk node.table s move
 
 -- The node is where this step leads to, and has gathered what it tells and sends.
 pub record IsBehind {D : Type 0} (state : D → DiskState) (old new : TableNode D) (step : StoreStep) : Type 0 where
@@ -85,17 +85,22 @@ pub record Crashes {D : Type 0} (state : D → DiskState) (images : D → ℕ �
   pub any_moment : LeavesEither state images old new s.disk (behind_next s.disk s.agenda)
   pub rows_left : LeavesRows state images old new s.disk (behind_next s.disk s.agenda)
 
--- A table that wasn't declared is, and holds nothing; else it isn't yet. Of blank disks a crash leaves no rows.
-pub record Declares {D : Type 0} (state : D → DiskState) (images : D → ℕ → List ℕ → Type 0) (s : TableStore)
-    (old new : TableNode D) (result : Result (Unit {0}) NodeFault) : Type 0 where
+-- A table that wasn't declared is, and holds nothing; else it isn't yet. Where its disks were such, a crash at any moment
+-- leaves no rows, and where it isn't declared they hold none.
+pub record Makes {D : Type 0} (state : D → DiskState) (images : D → ℕ → List ℕ → Type 0) (were_such : Type 0)
+    (s : TableStore) (old new : TableNode D) (result : Result (Unit {0}) NodeFault) : Type 0 where
   pub declared : OnOk result (Stays state old new (record { disk = nothing_stored; agenda = Some [] }))
   pub refused : OnErr result (Stays state old new s)
   pub counted : (IsErrOf result Disk → ⊥) → own_faults state new ≡ own_faults state old
   pub cause : IsErrOf result Disk → own_faults state old < own_faults state new
   pub only : IfErr result (λ e. (e ≡ Disk) ⊎ (e ≡ Memory))
-  pub blank : HasBlankDisks state old → LeavesNone state images old new
-  -- and where it isn't declared, its disks hold none
-  pub left : HasBlankDisks state old → OnErr result (HoldsNone state new)
+  pub none : were_such → LeavesNone state images old new
+  pub left : were_such → OnErr result (HoldsNone state new)
+
+-- a first declaration, which formats the disks: of blank ones a crash leaves no rows
+abbrev pub Declares : {D : Type 0} → (D → DiskState) → (D → ℕ → List ℕ → Type 0) → TableStore → TableNode D → TableNode D
+    → Result (Unit {0}) NodeFault → Type 0
+Declares state images s old new result = Makes state images (HasBlankDisks state old) s old new result
 
 -- The table is started; else it is still down.
 pub record Recovers {D : Type 0} (state : D → DiskState) (images : D → ℕ → List ℕ → Type 0) (s : TableStore)
@@ -116,6 +121,10 @@ late node = record {
   sends = [];
 }
 
+-- A late declaration looks at the disks first. Where they hold nothing, or the record of the table alone, and not by
+-- chance, as they do behind a declaration on blank disks that failed, and behind a crash inside one, a crash at any moment
+-- leaves no rows, and where it isn't declared they hold none again. Of other disks nothing is said of these moments: where
+-- they read as no row, no subscription, no chunk and no open entry they are opened, else they are formatted.
 pub record DeclaresLate {D : Type 0} (state : D → DiskState) (images : D → ℕ → List ℕ → Type 0) (s : TableStore)
     (old new : TableNode D) (result : Result (Unit {0}) NodeFault) : Type 0 where
   pub declared : OnOk result (IsBehind state old new (late old))
@@ -123,6 +132,8 @@ pub record DeclaresLate {D : Type 0} (state : D → DiskState) (images : D → �
   pub counted : (IsErrOf result Disk → ⊥) → own_faults state new ≡ own_faults state old
   pub cause : IsErrOf result Disk → own_faults state old < own_faults state new
   pub only : IfErr result (λ e. (e ≡ Disk) ⊎ (e ≡ Memory))
+  pub none : HoldsNone state old → LeavesNone state images old new
+  pub left : HoldsNone state old → OnErr result (HoldsNone state new)
   pub blank : HasBlankDisks state old → LeavesNone state images old new
 
 -- The table is started, or was up; a table that was never declared is; else it is still down.
@@ -135,6 +146,8 @@ pub record Starts {D : Type 0} (state : D → DiskState) (images : D → ℕ →
   pub cause : IsErrOf result Disk → own_faults state old < own_faults state new
   pub only : IfErr result (λ e. (e ≡ Disk) ⊎ (e ≡ Memory))
   pub rows_left : old.is_declared ≡ true → LeavesRows state images old new s.disk s.disk
+  pub none : old.is_declared ≡ false → HoldsNone state old → LeavesNone state images old new
+  pub left : old.is_declared ≡ false → HoldsNone state old → OnErr result (HoldsNone state new)
   pub blank : old.is_declared ≡ false → HasBlankDisks state old → LeavesNone state images old new
 
 -- The node is down, and its disks were restarted: they hold what a crash since an earlier moment might have left.
@@ -189,10 +202,10 @@ IsAtWork disk None version = ⊥
 IsAtWork disk (Some []) version = ⊥
 IsAtWork disk (Some (task ∷ tasks)) version = version ≡ version_at disk task.change
 
--- a write that is new where no version is left
-abbrev pub IsSpent : StoreDisk → Message → Type 0
-IsSpent disk (kinds.SyncRequest request) = (refused_by disk request ≡ None) × (length disk.items ≡ NUMBER_MAX)
-IsSpent disk other = ⊥
+-- a write that is to be taken on where no version is left
+abbrev pub IsSpent : Scheme → StoreDisk → Message → Type 0
+IsSpent g disk (kinds.SyncRequest request) = (refused_by g disk request ≡ None) × (length disk.items ≡ NUMBER_MAX)
+IsSpent g disk other = ⊥
 
 -- What a node with nothing to be done makes of a message: this step; or nothing, where it was refused; or it is down,
 -- with the disk as it was.
@@ -218,9 +231,9 @@ pub record Delivers {D : Type 0} (state : D → DiskState) (images : D → ℕ �
       → OnOk result (IsBehind state old new (step_at old s (Take from (message_of message))))
   pub dropped : (IsTaken old message → ⊥) → OnOk result (Stays state old new s)
   pub busy : (version : ℕ) → IsErrOf result (Busy version) ↔ IsAtWork s.disk s.agenda version
-  pub given : IsTaken old message → IsSpent s.disk message → OnOk result ⊥
+  pub given : IsTaken old message → IsSpent old.schema.scheme s.disk message → OnOk result ⊥
   pub spent : (last : ℕ) → IsErrOf result (Spent last)
-      → IsTaken old message × IsSpent s.disk message × (s.agenda ≡ Some []) × (last ≡ NUMBER_MAX)
+      → IsTaken old message × IsSpent old.schema.scheme s.disk message × (s.agenda ≡ Some []) × (last ≡ NUMBER_MAX)
   pub refused : (IsErrOf result Disk → ⊥) → OnErr result (Stays state old new s)
   pub fallen : IsErrOf result Disk → Stays state old new (record { disk = s.disk; agenda = None })
   pub counted : (IsErrOf result Disk → ⊥) → own_faults state new ≡ own_faults state old

@@ -6,7 +6,6 @@ use Rattle.disk_trait.specs.Fuse.{behind, inner_of}
 use Rattle.vault.specs.Limit.{payload_most}
 use Rattle.vault.specs.Standing.{disk_of}
 use Rattle.row_value.specs.declared.schema.Schema.{Schema}
-use Rattle.row_value.specs.declared.schema.Scheme.TheVariants.{Eventual}
 use Rattle.row_value.specs.Fit.{fit_of}
 use Rattle.value_codec.specs.SchemaSpelling.{HasSchemaSpelling}
 use Rattle.chunk_store.specs.Standing as chunks
@@ -27,7 +26,7 @@ use Rattle.step_tables.specs.declared.message.Message.{Message}
 use Rattle.step_tables.specs.declared.message.Message.TheVariants as kinds
 use Rattle.device_laws.specs.Stands.{Stands, Follows, HasRows}
 use Rattle.step_tables.specs.Travels.{send_of}
-use Rattle.store_node.specs.Devices.{no_rows}
+use Rattle.store_node.specs.Devices.{no_rows, HoldNone}
 use Rattle.store_node.specs.Due.{fact_of, told_at, sent_at, is_last_of}
 use Rattle.store_node.specs.Gathered.{HasRoom}
 use Rattle.store_node.specs.declared.node.TableNode.{TableNode}
@@ -117,7 +116,6 @@ IsAt state node disk (Some tasks) = (node.is_up ≡ true) × IsWorking state nod
 -- the node is in this state of the step table
 pub record IsTable {D : Type 0} (state : D → DiskState) (node : TableNode D) (s : TableStore) : Type 0 where
   pub size : 0 < node.schema.chunk
-  pub scheme : node.schema.scheme ≡ Eventual
   pub spelled : HasSchemaSpelling node.schema
   pub short : length (table_payload node.schema 2) ≤ payload_most
   pub at : IsAt state node s.disk s.agenda
@@ -146,7 +144,7 @@ LeavesRows state images old new a b =
     RowsLeave (behind state) (λ f. images (inner_of f)) old.devs new.devs
     (λ held. HasRows old.schema held a ⊎ HasRows old.schema held b)
 
--- ---- a node whose disks were never written
+-- ---- a node whose disks hold no row
 
 -- each of its three disks is blank: empty, or with a gate and nothing more, and all of it on the disk
 abbrev pub HasBlankDisks : {D : Type 0} → (D → DiskState) → TableNode D → Type 0
@@ -164,10 +162,9 @@ pub record LeavesNone {D : Type 0} (state : D → DiskState) (images : D → ℕ
       (IsEither nothing (no_rows old.schema))
   pub rows_left : RowsLeave (behind state) (λ f. images (inner_of f)) old.devs new.devs (HasNoRows old.schema)
 
--- Its disks hold nothing, or the record of the table alone, and not by chance.
-pub record HoldsNone {D : Type 0} (state : D → DiskState) (node : TableNode D) : Type 0 where
-  pub held : IsEither nothing (no_rows node.schema) (devs (behind state) node.devs)
-  pub sound : AreSound (behind state) node.devs
+-- Its disks hold nothing, or the record of the table alone, and not by chance, and all of it is on them.
+abbrev pub HoldsNone : {D : Type 0} → (D → DiskState) → TableNode D → Type 0
+HoldsNone state node = HoldNone (behind state) node.schema node.devs
 
 -- the same table, of the same Store
 pub record IsSame {D : Type 0} (old new : TableNode D) : Type 0 where

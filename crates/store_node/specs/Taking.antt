@@ -1,9 +1,13 @@
 -- What a request and a pull make of a table's devices.
 use Rattle.std.specs.Prelude.{◌≡◌, ◌⊎◌, ℕ, ◌+◌, ◌<◌, ◌^◌, List, [], ◌∷◌, length, Option, Some, None, option_map, Result}
-use Rattle.std.specs.Prelude.{OnErr, IfErr, IsErrOf, ◌==◌, nat_lt, if◌then◌else◌}
+use Rattle.std.specs.Prelude.{OnErr, IfErr, IsErrOf}
 use Rattle.disk_trait.specs.Calls.{DiskState}
 use Rattle.stab_base.specs.declared.limits.TheConstants.{NUMBER_MAX}
 use Rattle.stab_base.specs.declared.row_version.RowVersion.{RowVersion}
+use Rattle.row_value.specs.declared.schema.Scheme.{Scheme}
+use Rattle.schemes.specs.declared.decision.Decision.{Decision}
+use Rattle.schemes.specs.declared.decision.Decision.TheVariants as decisions
+use Rattle.schemes.specs.Decide.{decision_of}
 use Rattle.row_store.specs.declared.stored.StoredRow.{StoredRow}
 use Rattle.row_store.specs.Data.{IsTableVersion, IsNextChanged}
 use Rattle.store_commit.specs.declared.devs.TableDevs.{TableDevs}
@@ -18,9 +22,11 @@ use Rattle.store_commit.specs.Update.{entry_for, stored_for}
 use Rattle.stab_base.specs.declared.node.Node.{Node}
 use Rattle.step_tables.specs.Facts as facts_of
 use Rattle.step_tables.specs.Chunks.{Named}
-use Rattle.step_tables.specs.Messages.{Pair, Header, Outcome, Again, Late, Request}
+use Rattle.step_tables.specs.Messages.{Pair, Header, Outcome, Again, Late, Stale, Conflict, Request}
 use Rattle.step_tables.specs.Travels.{outcome_of, header_of}
+use Rattle.step_tables.specs.Store.{current_of}
 use Rattle.step_tables.specs.StoreMoves.{StoreDisk, StoreStep, yours_in, accepting, item_for, quiet, sending, responded}
+use Rattle.step_tables.specs.StoreMoves.{version_of}
 use Rattle.step_tables.specs.declared.message.SyncRequest.{SyncRequest}
 use Rattle.step_tables.specs.declared.message.PullRequest.{PullRequest}
 use Rattle.step_tables.specs.declared.message.PullResponse.{PullResponse}
@@ -53,11 +59,24 @@ abbrev pub held_if : Devs → Option StoredRow → List (List Named)
 held_if d None = []
 held_if d (Some stored) = held_in d stored.content
 
--- what is answered to a write that isn't new, where this was the client's last one
-abbrev pub refusal_of : Pair → ℕ → Option Outcome
-refusal_of yours number =
-    if yours.number == number then Some (Again yours.version)
-    else (if nat_lt number yours.number then Some (Late yours.number) else None)
+-- what is answered at once, by what was decided
+abbrev pub answer_to : Decision → Option Outcome
+answer_to (decisions.Again version) = Some (Again version)
+answer_to (decisions.Late last) = Some (Late last)
+answer_to decisions.Accept = None
+answer_to (decisions.Stale latest) = Some (Stale latest)
+answer_to (decisions.Conflict latest) = Some (Conflict latest)
+
+-- what is answered to a write of this number over a base that isn't taken on, by the row's version and the client's
+-- last write on it
+abbrev pub refusal_of : Scheme → ℕ → ℕ → Pair → ℕ → Option Outcome
+refusal_of g base current yours number =
+    answer_to (decision_of g base current (yours.number, yours.version) number)
+
+-- the version of the row that stands, 0 where none does
+abbrev pub version_if : Option StoredRow → ℕ
+version_if None = 0
+version_if (Some stored) = stored.version
 
 abbrev pub pair_of : Yours → Pair
 pair_of yours = record { number = yours.number; version = yours.version }
@@ -73,17 +92,18 @@ pub record IsBegunBy (size : ℕ) (d : Devs) (disk : StoreDisk) (request : SyncR
       (update_for size disk.items (request_of request)).fresh
       (stored_for d version (update_for size disk.items (request_of request)))
 
-abbrev pub refused_by : StoreDisk → SyncRequest → Option Outcome
-refused_by disk request = refusal_of (yours_in disk.items request.client request.row) request.number
+abbrev pub refused_by : Scheme → StoreDisk → SyncRequest → Option Outcome
+refused_by g disk request = refusal_of g request.base (version_of (current_of disk.items request.row))
+    (yours_in disk.items request.client request.row) request.number
 
--- A write that isn't new was answered, and no write is to be done; or a new one is taken on.
-abbrev pub IsTaking : ℕ → Devs → StoreDisk → SyncRequest → List Write → Taken → Type 0
-IsTaking size d disk request writes (Answered outcome) =
-    (refused_by disk request ≡ Some (outcome_of outcome)) × (writes ≡ [])
-IsTaking size d disk request writes (Begun version) =
-    (refused_by disk request ≡ None) × IsBegunBy size d disk request writes version
+-- A write that isn't taken on was answered, and no write is to be done; or it is.
+abbrev pub IsTaking : Scheme → ℕ → Devs → StoreDisk → SyncRequest → List Write → Taken → Type 0
+IsTaking g size d disk request writes (Answered outcome) =
+    (refused_by g disk request ≡ Some (outcome_of outcome)) × (writes ≡ [])
+IsTaking g size d disk request writes (Begun version) =
+    (refused_by g disk request ≡ None) × IsBegunBy size d disk request writes version
 
--- what an eventual table makes of a request, by what is answered to it
+-- what a table makes of a request, by what is answered to it
 abbrev pub step_for : ℕ → ℕ → StoreDisk → Node → Request → Option Outcome → StoreStep
 step_for size table d from request None =
     quiet d (Some (accepting size table d.items from request (item_for d.items request))) facts_of.Done

@@ -6,15 +6,41 @@ ghost use Rattle.value_codec.specs.SchemaSpelling.{HasSchemaSpelling};
 ghost use Rattle.row_store.specs.Spelling.{table_payload};
 ghost use Rattle.store_commit.specs.NamedChunks.{NamedChunks};
 ghost use Rattle.store_commit.specs.There.{WholeRows};
-ghost use Rattle.store_commit.specs.Standing.{devs, writes_of, AreUp, AreSynced, AreSound};
-ghost use Rattle.store_node.specs.Devices.{MakesTable, BeginsStart};
+ghost use Rattle.store_commit.specs.Standing.{devs, writes_of, AreUp, AreSynced, AreSound, AreBlank, IsReady};
+ghost use Rattle.store_node.specs.Devices.{HoldNone, MakesTable, PutsRecord, BeginsStart};
 
+use crate::live::{LIVE, is_live};
 use disk_trait::Disk;
 use row_value::Schema;
 use store_commit::{CommitFault, Recovery, TableDevs};
 
-// The state of a live table.
-const LIVE: u8 = 2;
+// Puts the record of a live table.
+fn put_record<D: Disk + Drop>(table: &mut TableDevs<D>, schema: &Schema) -> Result<(), CommitFault>
+    requires rests { IsReady D.state table.old [] }
+    requires idle { writes_of table.old ≡ [] }
+    requires spelled { HasSchemaSpelling schema.now }
+    requires short { length (table_payload schema.now 2) ≤ payload_most }
+    ensures { PutsRecord D.state D.images schema.now table.old table.new result }
+{
+    table.begin_table(schema, LIVE)?;
+    table.work()?;
+    Ok(())
+}
+
+// Puts the record of a live table where it isn't there.
+fn put_missing<D: Disk + Drop>(table: &mut TableDevs<D>, schema: &Schema) -> Result<(), CommitFault>
+    requires rests { IsReady D.state table.old [] }
+    requires idle { writes_of table.old ≡ [] }
+    requires spelled { HasSchemaSpelling schema.now }
+    requires short { length (table_payload schema.now 2) ≤ payload_most }
+    ensures { PutsRecord D.state D.images schema.now table.old table.new result }
+{
+    let found = table.table_state()?;
+    if is_live(&found, schema) {
+        return Ok(());
+    }
+    put_record(table, schema)
+}
 
 /// Makes the disks those of a live table with no rows, whatever they held.
 pub(crate) fn make_table<D: Disk + Drop>(
@@ -24,12 +50,26 @@ pub(crate) fn make_table<D: Disk + Drop>(
     requires up { AreUp table.old }
     requires spelled { HasSchemaSpelling schema.now }
     requires short { length (table_payload schema.now 2) ≤ payload_most }
-    ensures { MakesTable D.state D.images schema.now table.old table.new result }
+    ensures { MakesTable D.state D.images (AreBlank D.state table.old) schema.now table.old table.new result }
 {
     table.format()?;
-    table.begin_table(schema, LIVE)?;
-    table.work()?;
-    Ok(())
+    put_record(table, schema)
+}
+
+/// Makes the disks those of a live table with no rows, whatever they held. It looks at them first, as a start does, and
+/// formats them only where they hold more than the record of a table.
+pub(crate) fn remake_table<D: Disk + Drop>(
+    table: &mut TableDevs<D>,
+    schema: &Schema,
+) -> Result<(), CommitFault>
+    requires up { AreUp table.old }
+    requires spelled { HasSchemaSpelling schema.now }
+    requires short { length (table_payload schema.now 2) ≤ payload_most }
+    ensures { MakesTable D.state D.images (HoldNone D.state schema.now table.old)
+        schema.now table.old table.new result }
+{
+    table.clear()?;
+    put_missing(table, schema)
 }
 
 /// Finds what the disks hold, and takes on the writes of a start.

@@ -6,6 +6,7 @@ mod due;
 mod fault;
 mod gathered;
 mod gathering;
+mod live;
 mod messages;
 mod node;
 mod owed;

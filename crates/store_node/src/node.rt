@@ -6,7 +6,6 @@ ghost use Rattle.vault.specs.Limit.{payload_most};
 ghost use Rattle.vault.specs.Standing.{disk_of};
 ghost use Rattle.stab_base.specs.declared.limits.TheConstants.{NUMBER_MAX};
 ghost use Rattle.row_value.specs.Fit.{fit_of};
-ghost use Rattle.row_value.specs.declared.schema.Scheme.TheVariants.{Eventual};
 ghost use Rattle.value_codec.specs.SchemaSpelling.{HasSchemaSpelling};
 ghost use Rattle.chunk_store.specs.Standing as chunks;
 ghost use Rattle.row_store.specs.Spelling.{IsClient, table_payload};
@@ -25,7 +24,7 @@ ghost use Rattle.store_node.specs.Halts.{Halts};
 ghost use Rattle.store_node.specs.Taking.{refused_by, step_for};
 ghost use Rattle.store_node.specs.Update.{request_of, pull_of};
 
-use crate::devices::{begin_start, make_table};
+use crate::devices::{begin_start, make_table, remake_table};
 use crate::due::{answer_due, fact_due, found};
 use crate::fault::NodeFault;
 use crate::gathered::Gathered;
@@ -68,7 +67,7 @@ pub struct TableNode<D: Disk> {
 }
 
 impl<D: Disk + Drop> TableNode<D> {
-    /// A table of an eventual scheme, which is down and not declared. What its disks hold doesn't matter.
+    /// A table that is down and not declared. What its disks hold doesn't matter.
     pub fn new(
         alloc: Global,
         store: StoreNo,
@@ -79,7 +78,6 @@ impl<D: Disk + Drop> TableNode<D> {
         log_disk: D,
     ) -> TableNode<D>
         requires size { 0 < schema.chunk }
-        requires scheme { schema.scheme ≡ Eventual }
         requires spelled { HasSchemaSpelling schema }
         requires short { length (table_payload schema 2) ≤ payload_most }
         ensures at { IsTable D.state result (record { disk = nothing_stored; agenda = None }) }
@@ -215,13 +213,14 @@ impl<D: Disk + Drop> TableNode<D> {
         NodeFault::from(fault)
     }
 
-    // Makes the node's disks those of a table with no rows.
-    fn make(&mut self) -> Result<(), NodeFault>
+    /// Makes the node's disks those of a table with no rows, whatever they held. The node is then up. Where a disk
+    /// failed or memory was refused it is still down, and not declared.
+    pub fn declare(&mut self) -> Result<(), NodeFault>
         requires node { IsNode D.state self.old }
         requires undeclared { self.old.is_declared ≡ false }
         ensures declares { (s : TableStore) → IsTable D.state self.old s
             → Declares D.state D.images s self.old self.new result }
-        ensures facts { self.new.facts ≡ self.old.facts }
+        ensures node { IsNode D.state self.new }
         ensures kept { OnErr result (self.new.is_declared ≡ self.old.is_declared) }
         ensures up { OnOk result (self.new.is_up ≡ true) }
     {
@@ -237,20 +236,6 @@ impl<D: Disk + Drop> TableNode<D> {
                 Err(NodeFault::from(fault))
             }
         }
-    }
-
-    /// Makes the node's disks those of a table with no rows, whatever they held. The node is then up. Where a disk
-    /// failed or memory was refused it is still down, and not declared.
-    pub fn declare(&mut self) -> Result<(), NodeFault>
-        requires node { IsNode D.state self.old }
-        requires undeclared { self.old.is_declared ≡ false }
-        ensures declares { (s : TableStore) → IsTable D.state self.old s
-            → Declares D.state D.images s self.old self.new result }
-        ensures node { IsNode D.state self.new }
-        ensures kept { OnErr result (self.new.is_declared ≡ self.old.is_declared) }
-        ensures up { OnOk result (self.new.is_up ≡ true) }
-    {
-        self.make()
     }
 
     // Takes on the writes of a start of a node that is down.
@@ -279,7 +264,8 @@ impl<D: Disk + Drop> TableNode<D> {
         }
     }
 
-    // Declares a node that was never declared, and tells that it has recovered.
+    // Declares a node that was never declared, and tells that it has recovered. Its disks are looked at first, as at a
+    // start, and formatted only where they hold more than a table's record.
     fn declare_late(&mut self) -> Result<(), NodeFault>
         requires node { IsNode D.state self.old }
         requires undeclared { self.old.is_declared ≡ false }
@@ -289,10 +275,20 @@ impl<D: Disk + Drop> TableNode<D> {
         ensures up { OnOk result (self.new.is_up ≡ true) }
     {
         self.facts.reserve(1)?;
-        self.make()?;
-        let (store, table) = (self.store, self.table);
-        self.facts.put(StoreFact::Recovered { store, table });
-        Ok(())
+        match remake_table(&mut self.devs, &self.schema) {
+            Ok(()) => {
+                self.is_declared = true;
+                self.is_up = true;
+                self.owed = Owed::Nothing;
+                let (store, table) = (self.store, self.table);
+                self.facts.put(StoreFact::Recovered { store, table });
+                Ok(())
+            }
+            Err(fault) => {
+                self.fall(0);
+                Err(NodeFault::from(fault))
+            }
+        }
     }
 
     /// Starts the node, if it is down: finds what its disks hold, and takes on the writes that end what was cut short.
@@ -378,8 +374,8 @@ impl<D: Disk + Drop> TableNode<D> {
         requires fits { fit_of self.old.schema request.now.content ≡ Ok tt }
         ensures answers { (s : TableStore) → IsTable D.state self.old s
             → Answers D.state D.images s (step_for self.old.schema.chunk self.old.table s.disk from
-            (request_of request.now) (refused_by s.disk request.now))
-            ((refused_by s.disk request.now ≡ None) × (length s.disk.items ≡ NUMBER_MAX)) self.old self.new result }
+            (request_of request.now) (refused_by self.old.schema.scheme s.disk request.now))
+            ((refused_by self.old.schema.scheme s.disk request.now ≡ None) × (length s.disk.items ≡ NUMBER_MAX)) self.old self.new result }
         ensures declared { self.new.is_declared ≡ self.old.is_declared }
     {
         self.facts.reserve(1)?;

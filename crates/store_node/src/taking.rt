@@ -14,13 +14,15 @@ ghost use Rattle.step_tables.specs.StoreMoves.{StoreDisk};
 ghost use Rattle.step_tables.specs.Travels.{outcome_of};
 ghost use Rattle.device_laws.specs.Stands.{Stands, pair_in};
 ghost use Rattle.store_node.specs.Reading.{Only};
-ghost use Rattle.store_node.specs.Taking.{held_if, refusal_of, Serves, pair_of, IsBegunBy, IsTaking, refused_by};
+ghost use Rattle.store_node.specs.Taking.{held_if, refusal_of, version_if, Serves, pair_of, IsBegunBy, IsTaking};
+ghost use Rattle.store_node.specs.Taking.{refused_by};
 
 use crate::reading::{HeldChunks, read_content};
 use crate::update::{of_64_bits, update_of};
 use disk_trait::Disk;
 use row_store::{LastWrite, LastWrites, StoredRow};
-use row_value::Schema;
+use row_value::{Schema, Scheme};
+use schemes::{Decision, decide};
 use stab_base::{ClientNo, NUMBER_MAX, Version, WriteNo};
 use std::alloc::Global;
 use step_tables::{Outcome, SyncRequest, Yours};
@@ -67,19 +69,33 @@ fn yours_if(standing: &Option<StoredRow>, client: ClientNo) -> Yours
     }
 }
 
-// What is answered to a write that isn't new, where this was the client's last one.
-fn refusal_of(yours: Yours, number: WriteNo) -> Option<Outcome>
-    ensures { option_map outcome_of result ≡ refusal_of (pair_of yours) number }
+// The version of the row that stands, 0 where none does.
+fn version_if(standing: &Option<StoredRow>) -> Version
+    ensures { result ≡ version_if standing.now }
 {
-    if yours.number == number {
-        return Some(Outcome::Again {
-            version: yours.version,
-        });
+    match standing {
+        Some(stored) => stored.version,
+        None => 0,
     }
-    if number < yours.number {
-        return Some(Outcome::Late { last: yours.number });
+}
+
+// What is answered to a write that isn't taken on, by the row's version and the client's last write on it.
+fn refusal_of(
+    scheme: Scheme,
+    base: Version,
+    current: Version,
+    yours: Yours,
+    number: WriteNo,
+) -> Option<Outcome>
+    ensures { option_map outcome_of result ≡ refusal_of scheme base current (pair_of yours) number }
+{
+    match decide(scheme, base, current, (yours.number, yours.version), number) {
+        Decision::Again { version } => Some(Outcome::Again { version }),
+        Decision::Late { last } => Some(Outcome::Late { last }),
+        Decision::Accept => None,
+        Decision::Stale { latest } => Some(Outcome::Stale { latest }),
+        Decision::Conflict { latest } => Some(Outcome::Conflict { latest }),
     }
-    None
 }
 
 // The chunks of the row that stands, if one does.
@@ -161,14 +177,16 @@ pub(crate) fn take_write<D: Disk + Drop>(
     requires stands { (disk : StoreDisk) × Stands schema.now (devs D.state table.old) disk × (disk.pending ≡ None) }
     ensures serves { Serves D.state D.images table.old table.new result }
     ensures taken { (disk : StoreDisk) → Stands schema.now (devs D.state table.old) disk → disk.pending ≡ None
-        → IfOk result (IsTaking schema.now.chunk (devs D.state table.old) disk request.now (writes_of table.new)) }
+        → IfOk result (IsTaking schema.now.scheme schema.now.chunk (devs D.state table.old) disk request.now
+        (writes_of table.new)) }
     ensures spent { (disk : StoreDisk) → Stands schema.now (devs D.state table.old) disk
         → IsErrOf result CommitFault.Spent
-        → (refused_by disk request.now ≡ None) × (length disk.items ≡ NUMBER_MAX) }
+        → (refused_by schema.now.scheme disk request.now ≡ None) × (length disk.items ≡ NUMBER_MAX) }
 {
     let standing = table.row(&request.row)?;
     let yours = yours_if(&standing, request.client);
-    match refusal_of(yours, request.number) {
+    let current = version_if(&standing);
+    match refusal_of(schema.scheme, request.base, current, yours, request.number) {
         Some(outcome) => Ok(Taken::Answered(outcome)),
         None => {
             let version = accept(alloc, table, schema, request, &standing)?;

@@ -7,7 +7,8 @@ use Rattle.store_commit.specs.There.{WholeRows}
 use Rattle.store_commit.specs.Standing.{write_of, DevsLeave}
 use Rattle.store_commit.specs.Unset.{HasCause}
 use Rattle.store_commit.proofs.Fusing.{keeps_then, cause_then}
-use Rattle.store_node.proofs.Making.{looked_up, still_looked, scanned_starts, same_hidden, asks_cause, rows_go_on, begun_start}
+use Rattle.store_commit.proofs.Bares.{looked_up, still_looked, asks_cause}
+use Rattle.store_node.proofs.Making.{scanned_starts, same_hidden, rows_go_on, begun_start}
 use Rattle.store_node.proofs.devices.begin_start.Goals as goal
 
 pub scan-requires : goal.scan-requires

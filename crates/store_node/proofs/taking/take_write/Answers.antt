@@ -50,7 +50,7 @@ returns-in-Some-clause-taken g c disk st none =
     let r : Result (Option StoredRow) CommitFault = Ok standing in
     let one : Only s i old mid (Ok standing) = record { asks = c.in_ok-standing.ensures.asks; scanned = c.in_ok-standing.ensures.scanned } in
     let row = standing_is s i old c.args.schema.now c.args.request.now c.requires.hidden standing c.in_ok-standing.ensures.row in
-    let refused = refused_is s i old c.args.schema.now c.args.request.now c.requires.hidden disk c.requires.size st standing row c.yours_if-yours.result c.yours_if-yours.ensures c.refusal_of.result c.refusal_of.ensures in
+    let refused = refused_is s i old c.args.schema.now c.args.request.now c.requires.hidden disk c.requires.size st standing row c.yours_if-yours.result c.yours_if-yours.ensures c.version_if-current.result c.version_if-current.ensures c.refusal_of.result c.refusal_of.ensures in
     (refused ∙ ap (option_map outcome_of) c.in-Some.is, one.asks.agenda ∙ c.requires.idle)
 
 pub accept-requires-clause-ready : goal.accept-requires-clause-ready
@@ -106,7 +106,7 @@ returns-in_err-version-in-None-clause-spent g c disk st is =
     let p = err_from_is_err_and c.from_residual-in_err-version-in-None.result c.from_residual-in_err-version-in-None.ensures.1 in
     let e = c.in_err-version-in-None.field-0.0 in
     let row = standing_is s i old c.args.schema.now c.args.request.now c.requires.hidden standing c.in_ok-standing.ensures.row in
-    let refused = refused_is s i old c.args.schema.now c.args.request.now c.requires.hidden disk c.requires.size st standing row c.yours_if-yours.result c.yours_if-yours.ensures c.refusal_of.result c.refusal_of.ensures in
+    let refused = refused_is s i old c.args.schema.now c.args.request.now c.requires.hidden disk c.requires.size st standing row c.yours_if-yours.result c.yours_if-yours.ensures c.version_if-current.result c.version_if-current.ensures c.refusal_of.result c.refusal_of.ensures in
     let there : Stands c.args.schema.now (devs s mid) disk = subst (λ (d : Devs). Stands c.args.schema.now d disk) (sym (only_same s i old mid standing one)) st in
     let same : e ≡ Spent = cc in
     (refused ∙ ap (option_map outcome_of) c.in-None.is, c.in_err-version-in-None.ensures.spent disk there (ap (λ (f : CommitFault). Err f) same))
@@ -135,7 +135,7 @@ returns-clause-taken g c disk st none =
     let r : Result (Option StoredRow) CommitFault = Ok standing in
     let one : Only s i old mid (Ok standing) = record { asks = c.in_ok-standing.ensures.asks; scanned = c.in_ok-standing.ensures.scanned } in
     let row = standing_is s i old c.args.schema.now c.args.request.now c.requires.hidden standing c.in_ok-standing.ensures.row in
-    let refused = refused_is s i old c.args.schema.now c.args.request.now c.requires.hidden disk c.requires.size st standing row c.yours_if-yours.result c.yours_if-yours.ensures c.refusal_of.result c.refusal_of.ensures in
+    let refused = refused_is s i old c.args.schema.now c.args.request.now c.requires.hidden disk c.requires.size st standing row c.yours_if-yours.result c.yours_if-yours.ensures c.version_if-current.result c.version_if-current.ensures c.refusal_of.result c.refusal_of.ensures in
     let same = only_same s i old mid standing one in
     let there : Stands c.args.schema.now (devs s mid) disk = subst (λ (d : Devs). Stands c.args.schema.now d disk) (sym same) st in
     let begun = c.in_ok-version-in-None.ensures.begun disk there none in

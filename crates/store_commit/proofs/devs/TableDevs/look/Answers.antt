@@ -1,4 +1,4 @@
-use Rattle.store_commit.proofs.Works.{one_looked, two_looked, all_same, synced_rows}
+use Rattle.store_commit.proofs.Works.{one_looked, two_looked, all_same, synced_rows, synced_log}
 use Rattle.std.proofs.Common.{Ok, Err, refl}
 use Rattle.std.proofs.lemmas.Result.{err_from_is_err_and}
 use Rattle.store_commit.proofs.Fusing.{keeps_then, keeps_same, cause_then, chunk_same, row_same, log_same, chunk_caused, row_caused, log_caused}
@@ -102,3 +102,26 @@ returns-in_err-look-3-clause-rows_left g c up sound = c.look-2.ensures.looks.any
 
 pub returns-clause-rows_left : goal.returns-clause-rows_left
 returns-clause-rows_left g c up sound = c.look-2.ensures.looks.any_moment up.rows sound.rows
+
+pub returns-in_err-look-clause-leave : goal.returns-in_err-look-clause-leave
+returns-in_err-look-clause-leave g c up sound =
+    let s = g.D.Disk.state in
+    let synced = c.requires.synced in
+    record {
+      chunks = c.look.ensures.any_moment up.chunks sound.chunks;
+      rows = synced_rows s g.D.Disk.images g.met.D.Disk.only_now c.args.self.now.rows up.rows synced.rows sound.rows;
+      log = synced_log s g.D.Disk.images g.met.D.Disk.only_now c.args.self.now.log up.log synced.log sound.log;
+    }
+
+pub returns-in_err-look-2-clause-leave : goal.returns-in_err-look-2-clause-leave
+returns-in_err-look-2-clause-leave g c up sound = record {
+  chunks = c.look.ensures.any_moment up.chunks sound.chunks;
+  rows = c.look-2.ensures.looks.any_moment up.rows sound.rows;
+  log = synced_log g.D.Disk.state g.D.Disk.images g.met.D.Disk.only_now c.args.self.now.log up.log c.requires.synced.log sound.log;
+}
+
+pub returns-in_err-look-3-clause-leave : goal.returns-in_err-look-3-clause-leave
+returns-in_err-look-3-clause-leave g c up sound = record { chunks = c.look.ensures.any_moment up.chunks sound.chunks; rows = c.look-2.ensures.looks.any_moment up.rows sound.rows; log = c.look-3.ensures.any_moment up.log sound.log }
+
+pub returns-clause-leave : goal.returns-clause-leave
+returns-clause-leave g c up sound = record { chunks = c.look.ensures.any_moment up.chunks sound.chunks; rows = c.look-2.ensures.looks.any_moment up.rows sound.rows; log = c.look-3.ensures.any_moment up.log sound.log }

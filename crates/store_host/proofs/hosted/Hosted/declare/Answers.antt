@@ -34,14 +34,14 @@ returns-else-is_up-clause-cause g c =
     record { counted = λ _. halts.counted ∙ k.counted (λ e. absurd cc); cause = λ e. absurd cc; only = tt }
 
 pub returns-then-is_up-clause-blank : goal.returns-then-is_up-clause-blank
-returns-then-is_up-clause-blank g c blank = let n = c.requires.node in ((c.in-Ok.ensures.declares n.0 n.1).blank blank).rows_left
+returns-then-is_up-clause-blank g c blank = let n = c.requires.node in ((c.in-Ok.ensures.declares n.0 n.1).none blank).rows_left
 
 pub returns-else-is_up-clause-blank : goal.returns-else-is_up-clause-blank
 returns-else-is_up-clause-blank g c blank =
     let n = c.requires.node in
     let k = c.in-Ok.ensures.declares n.0 n.1 in
     let halts = c.halt.ensures.halts (record { disk = nothing_stored; agenda = Some [] }) k.declared.table in
-    none_halted g.D.Disk.state g.D.Disk.images c.args.self.now.node c.declare.new.self c.halt.new.self k.declared.same.schema (k.blank blank) (halts.rows_left k.declared.table.at.1.declared)
+    none_halted g.D.Disk.state g.D.Disk.images c.args.self.now.node c.declare.new.self c.halt.new.self k.declared.same.schema (k.none blank) (halts.rows_left k.declared.table.at.1.declared)
 
 pub returns-then-is_up-clause-schema : goal.returns-then-is_up-clause-schema
 returns-then-is_up-clause-schema g c = let n = c.requires.node in (c.in-Ok.ensures.declares n.0 n.1).declared.same.schema

@@ -55,7 +55,7 @@ mid_devs old client = record {
   owed = refl;
   fact_room = λ h. h;
   message_room = λ h. h;
-  more = record { outs = λ k h. h; ready = λ k h. h };
+  more = record { outs = λ k h. h; ready = λ k h. h; conflicts = λ k h. h };
 }
 
 module _ {D : Type 0} (state : D → DiskState) (images : D → ℕ → List ℕ → Type 0) where
@@ -99,9 +99,9 @@ module _ {D : Type 0} (state : D → DiskState) (images : D → ℕ → List ℕ
   stands_now node disk (Some tasks) t is_up = follows_now node.number (devs st node.devs) (writes_of node.devs) disk tasks t.at.1.follows
 
   -- what its disk keeps
-  pub steady_now : (node : ClientNode D) (disk : ClientDisk) (agenda : Option (List ClientTask)) → IsClient state node (at disk agenda) → IsSteady node.waiting disk
-  steady_now node disk None t = t.at.1.steady
-  steady_now node disk (Some tasks) t = t.at.1.steady
+  pub steady_now : (node : ClientNode D) (disk : ClientDisk) (agenda : Option (List ClientTask)) → IsClient state node (at disk agenda) → node.is_up ≡ true → IsSteady node.waiting disk
+  steady_now node disk None t is_up = let no = t.at.0 in absurd cc
+  steady_now node disk (Some tasks) t is_up = t.at.1.steady
 
   module _ (only_now : (disk : FuseDisk D) (image : List ℕ) → images (inner_of disk) (behind state disk).moment image → IsImage (behind state disk).pending image) (old : ClientNode D) (disk : ClientDisk) (agenda : Option (List ClientTask)) (t : IsClient state old (at disk agenda)) (is_up : old.is_up ≡ true) where
     abbrev here : ClientDevs
@@ -130,7 +130,7 @@ module _ {D : Type 0} (state : D → DiskState) (images : D → ℕ → List ℕ
       declared_new = f.declared ∙ (m.declared ∙ declared_old agenda t)
 
       steady_mid : IsSteady mid.waiting disk
-      steady_mid = steady_more old.waiting mid.waiting m.more disk (steady_now old disk agenda t)
+      steady_mid = steady_more old.waiting mid.waiting m.more disk (steady_now old disk agenda t is_up)
 
       may : MayHold old.number mid.waiting here here disk disk
       may = record { first = stands; second = stands; first_steady = steady_mid; second_steady = steady_mid }
@@ -143,14 +143,14 @@ module _ {D : Type 0} (state : D → DiskState) (images : D → ℕ → List ℕ
 
       pub call_fell : Stays state old new (at disk None)
       call_fell = record {
-        client = ⊎_elim (λ c. c) (λ c. c) (fallen state images old mid new same_is mid.waiting f.falls.waiting declared_new f.down f.falls old.devs here here disk disk may run);
+        client = ⊎_elim (λ c. c) (λ c. c) (fallen state images old mid new same_is mid.waiting declared_new f.down f.falls old.devs here here disk disk may run);
         told = ap (λ x. map fact_of x.items.items) f.facts ∙ m.told;
         sent = ap (λ x. map send_of x.items.items) f.messages ∙ m.sent;
         same = same_is;
       }
 
       pub call_fell_leaves : LeavesEither state images old new disk disk
-      call_fell_leaves = fallen_leaves state images old mid new same_is mid.waiting f.falls.waiting declared_new f.down f.falls old.devs here here disk disk may run
+      call_fell_leaves = fallen_leaves state images old mid new same_is mid.waiting declared_new f.down f.falls old.devs here here disk disk may run
 
       pub call_fell_plans : (n : ℕ) → HasPlansBelow state n old → HasPlansBelow state (suc n) new
       call_fell_plans n h =

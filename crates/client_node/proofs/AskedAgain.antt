@@ -1,6 +1,12 @@
 -- Requests, row by row.
-use Rattle.std.proofs.Common.{◌≡◌, ℕ, ◌+◌, ◌<◌, ◌≤◌, ◌++◌, List, [], ◌∷◌, length, map, drop, get_or, Bool, true, false, Option, Some, None, Result, Ok, Err, refl, sym, ◌∙◌, ap, subst, append_assoc}
-use Rattle.std.specs.Prelude.{option_map, option_to_list, if◌then◌else◌}
+use Rattle.std.proofs.Common.{◌≡◌, ℕ, ◌+◌, ◌<◌, ◌≤◌, ◌++◌, List, [], ◌∷◌, length, map, drop, get_or, Bool, true, false, Option, Some, None, Result, Ok, Err, refl, sym, ◌∙◌, ap, subst, arith, append_assoc}
+use Rattle.std.specs.Prelude.{◌==◌, cond, filter, option_map, option_to_list, if◌then◌else◌}
+use Rattle.std.specs.Prelude.{IfOk, OnOk}
+use Rattle.std.specs.declared.ops.Bound.TheVariants.{Included, Excluded}
+use Rattle.std.specs.BTreeSet.{BTreeSet, keys, keys_between}
+use Rattle.std.specs.List.{AllByRecursion}
+use Rattle.std.specs.List.Sorted.{IsStrictlySortedBy}
+use Rattle.std.proofs.lemmas.Bool.Decides.{nat_tests}
 use Rattle.std.proofs.lemmas.List.{append-nil, drop_more, drop_all}
 use Rattle.disk_trait.specs.Image.{IsImage}
 use Rattle.disk_trait.specs.Calls.{DiskState}
@@ -12,6 +18,8 @@ use Rattle.held_value.specs.declared.slots.Main.{Main as HeldMain}
 use Rattle.held_value.specs.declared.slots.Out.{Out as HeldOut}
 use Rattle.held_value.specs.declared.slots.Shadow.{Shadow as HeldShadow}
 use Rattle.held_value.specs.declared.slots.Slots.{Slots as HeldSlots}
+use Rattle.slot_store.specs.declared.held.RowKey.{RowKey}
+use Rattle.slot_store.specs.Data.{key_cmp, key_at}
 use Rattle.client_tables.specs.Transitions.{can_send}
 use Rattle.client_journal.specs.declared.devs.Journal.{Journal}
 use Rattle.client_journal.specs.Devs.{ClientDevs, local_in}
@@ -29,7 +37,9 @@ use Rattle.held_contents.specs.Reading.{AreThere}
 use Rattle.client_node.specs.declared.fault.CallFault.{CallFault}
 use Rattle.client_node.specs.Answers.{held_at}
 use Rattle.client_node.specs.Looks.{IsNotDisk, Looks}
-use Rattle.client_node.specs.Requesting.{request_with, asked_again, all_asked_again, first_ready}
+use Rattle.client_node.specs.NotedRows.{rows_among, zeros}
+use Rattle.client_node.specs.Requesting.{request_with, asked_again, all_asked_again, first_ready, NoneWaits, NoneSends, IsFirstReady}
+use Rattle.client_node.proofs.NotedIds.{noted_between}
 use Rattle.client_node.proofs.Serving.{looks_none, looks_then, looks_err, looks_other}
 
 -- an answer is no fault of a disk
@@ -69,66 +79,84 @@ asks_none meaning c d table row slots here none before =
     sym (append-nil (map send_of before))
     ∙ ap (λ (o : Option HeldOut). map send_of before ++ option_to_list (option_map (λ out. request_for c table row (whole_out meaning out)) o)) (sym none ∙ ap (λ (x : HeldSlots). x.out) here)
 
+-- one row more of which the same holds
+pub one_none : (P : List ℕ → Type 0) (rows : List (List ℕ)) (row : List ℕ) → AllByRecursion P rows → P row → AllByRecursion P (rows ++ row ∷ [])
+one_none P [] row all p = (p, tt)
+one_none P (r ∷ rows) row all p = (all.0, one_none P rows row all.1 p)
+
+-- a row that waits for no answer
+pub waits_none : (d : ClientDevs) (table : ℕ) (row : List ℕ) (slots : HeldSlots) → slots ≡ held_at d table row → slots.out ≡ None → (stale found : List (List ℕ)) → found ≡ stale ++ row ∷ [] → NoneWaits d table stale → NoneWaits d table found
+waits_none d table row slots here none stale found pushed all =
+    subst (NoneWaits d table) (sym pushed) (one_none (λ (r : List ℕ). (held_at d table r).out ≡ None) stale row all (ap (λ (x : HeldSlots). x.out) (sym here) ∙ none))
+
 module _ {D : Type 0} (state : D → DiskState) (images : D → ℕ → List ℕ → Type 0) (first : Journal D) where
   -- the devices were only read, and these rows are left
-  pub record HaveAsked (c table : ℕ) (rows : List (List ℕ)) (now : Journal D) (done : ℕ) (sends : Sends) : Type 0 where
+  pub record HaveAsked (c table : ℕ) (rows : List (List ℕ)) (now : Journal D) (done : ℕ) (sends : Sends) (before stale : List (List ℕ)) : Type 0 where
     pub looks : Looks {T = Unit {0}} state images first now (Ok tt)
     pub left : (meaning : LocalName → List ℕ) → NamedSlots meaning (devs state first) → map send_of sends ++ all_asked_again meaning c (devs state first) table (drop done rows) ≡ all_asked_again meaning c (devs state first) table rows
+    pub none : NoneWaits (devs state first) table before → NoneWaits (devs state first) table stale
 
-  -- the rows before these have nothing to send
-  pub record HavePassed (table : ℕ) (rows : List (List ℕ)) (now : Journal D) (done : ℕ) : Type 0 where
+  -- the rows of the table before these keys have nothing to send
+  pub record HavePassed (table : ℕ) (keys : List RowKey) (now : Journal D) (rest : List RowKey) (before stale : List (List ℕ)) : Type 0 where
     pub looks : Looks {T = Unit {0}} state images first now (Ok tt)
-    pub left : first_ready (devs state first) table (drop done rows) ≡ first_ready (devs state first) table rows
+    pub left : first_ready (devs state first) table (rows_among table rest) ≡ first_ready (devs state first) table (rows_among table keys)
+    pub none : NoneSends (devs state first) table before → NoneSends (devs state first) table stale
 
 module _ {D : Type 0} (state : D → DiskState) (images : D → ℕ → List ℕ → Type 0) (only_now : (disk : D) (image : List ℕ) → images disk (state disk).moment image → IsImage (state disk).pending image) (first : Journal D) (up : AreUp first) (ready : IsReady state first (writes_of first)) where
-  pub nothing_asked : (c table : ℕ) (rows : List (List ℕ)) (sends : Sends) → sends ≡ [] → HaveAsked state images first c table rows first 0 sends
-  nothing_asked c table rows sends none = record {
+  pub nothing_asked : (c table : ℕ) (rows : List (List ℕ)) (sends : Sends) (before : List (List ℕ)) → sends ≡ [] → HaveAsked state images first c table rows first 0 sends before before
+  nothing_asked c table rows sends before none = record {
     looks = looks_none state images only_now first up ready (Ok tt) (ok_not tt);
     left = λ meaning named. ap (λ (l : Sends). map send_of l ++ all_asked_again meaning c (devs state first) table rows) none;
+    none = λ h. h;
   }
 
-  pub one_asked : (c table : ℕ) (rows : List (List ℕ)) (now new : Journal D) (done : ℕ) (row e : List ℕ) (sends more : Sends) → HaveAsked state images first c table rows now done sends → done < length rows → row ≡ get_or rows done e → Looks {T = Unit {0}} state images now new (Ok tt)
-      → ((meaning : LocalName → List ℕ) → NamedSlots meaning (devs state now) → map send_of more ≡ map send_of sends ++ asked_again meaning c (devs state now) table row) → HaveAsked state images first c table rows new (done + 1) more
-  one_asked c table rows now new done row e sends more h lt is l adds = record {
+  pub one_asked : (c table : ℕ) (rows : List (List ℕ)) (now new : Journal D) (done : ℕ) (row e : List ℕ) (sends more : Sends) (before stale found : List (List ℕ)) → HaveAsked state images first c table rows now done sends before stale → done < length rows → row ≡ get_or rows done e → Looks {T = Unit {0}} state images now new (Ok tt)
+      → ((meaning : LocalName → List ℕ) → NamedSlots meaning (devs state now) → map send_of more ≡ map send_of sends ++ asked_again meaning c (devs state now) table row) → (NoneWaits (devs state now) table stale → NoneWaits (devs state now) table found)
+      → HaveAsked state images first c table rows new (done + 1) more before found
+  one_asked c table rows now new done row e sends more before stale found h lt is l adds none = record {
     looks = looks_then state images first new up ready now tt (Ok tt) h.looks l;
     left = λ meaning named.
-        let same : devs state now ≡ devs state first = h.looks.serves.same (λ no. cc) in
         let rest = all_asked_again meaning c (devs state first) table (drop (done + 1) rows) in
         let added : map send_of more ≡ map send_of sends ++ asked_again meaning c (devs state first) table row = subst (λ (d : ClientDevs). map send_of more ≡ map send_of sends ++ asked_again meaning c d table row) same (adds meaning (subst (NamedSlots meaning) (sym same) named)) in
         ap (λ (x : List Send). x ++ rest) added
         ∙ (append_assoc (map send_of sends) (asked_again meaning c (devs state first) table row) rest
         ∙ (ap (λ (r : List ℕ). map send_of sends ++ (asked_again meaning c (devs state first) table r ++ rest)) is
         ∙ (ap (λ (x : List (List ℕ)). map send_of sends ++ all_asked_again meaning c (devs state first) table x) (sym (drop_more rows done e lt)) ∙ h.left meaning named)));
+    none = λ b. subst (λ (d : ClientDevs). NoneWaits d table stale → NoneWaits d table found) same none (h.none b);
   }
+    where
+      same : devs state now ≡ devs state first
+      same = h.looks.serves.same (λ no. cc)
 
-  pub all_asked : (c table : ℕ) (rows : List (List ℕ)) (now : Journal D) (done : ℕ) (sends : Sends) → HaveAsked state images first c table rows now done sends → length rows ≤ done → (meaning : LocalName → List ℕ) → NamedSlots meaning (devs state first) → map send_of sends ≡ all_asked_again meaning c (devs state first) table rows
-  all_asked c table rows now done sends h all meaning named =
+  pub all_asked : (c table : ℕ) (rows : List (List ℕ)) (now : Journal D) (done : ℕ) (sends : Sends) (before stale : List (List ℕ)) → HaveAsked state images first c table rows now done sends before stale → length rows ≤ done → (meaning : LocalName → List ℕ) → NamedSlots meaning (devs state first) → map send_of sends ≡ all_asked_again meaning c (devs state first) table rows
+  all_asked c table rows now done sends before stale h all meaning named =
       sym (append-nil (map send_of sends)) ∙ (ap (λ (x : List (List ℕ)). map send_of sends ++ all_asked_again meaning c (devs state first) table x) (sym (drop_all done rows all)) ∙ h.left meaning named)
 
-  module _ (table : ℕ) (rows : List (List ℕ)) (now new : Journal D) (done : ℕ) (row e : List ℕ) (h : HavePassed state images first table rows now done) (lt : done < length rows) (is : row ≡ get_or rows done e) (slots : HeldSlots) (k : Looks {T = HeldSlots} state images now new (Ok slots)) (here : slots ≡ held_at (devs state now) table row) where
-    same_slots : slots ≡ held_at (devs state first) table row
-    same_slots = here ∙ ap (λ (d : ClientDevs). held_at d table row) (h.looks.serves.same (λ no. cc))
+  -- ---- keys, one by one
 
-    next_row : first_ready (devs state first) table (drop done rows) ≡ (if can_send slots then Some (row, slots) else first_ready (devs state first) table (drop (done + 1) rows))
-    next_row =
-        ap (first_ready (devs state first) table) (drop_more rows done e lt)
-        ∙ (ap (λ (r : List ℕ). first_ready (devs state first) table (r ∷ drop (done + 1) rows)) (sym is)
-        ∙ ap (λ (x : HeldSlots). if can_send x then Some (row, x) else first_ready (devs state first) table (drop (done + 1) rows)) (sym same_slots))
+  abbrev FirstOf : ℕ → List (List ℕ) → Option (List ℕ × HeldSlots)
+  FirstOf table rows = first_ready (devs state first) table rows
 
-    pub one_passed : can_send slots ≡ false → HavePassed state images first table rows new (done + 1)
-    one_passed cannot = record {
-      looks = looks_other state images first new up ready slots (Ok tt) (looks_then state images first new up ready now tt (Ok slots) h.looks k) (ok_not tt);
-      left = sym (next_row ∙ ap (λ (b : Bool). if b then Some (row, slots) else first_ready (devs state first) table (drop (done + 1) rows)) cannot) ∙ h.left;
-    }
+  pub nothing_passed : (table : ℕ) (keys : List RowKey) (before : List (List ℕ)) → HavePassed state images first table keys first keys before before
+  nothing_passed table keys before = record { looks = looks_none state images only_now first up ready (Ok tt) (ok_not tt); left = refl; none = λ h. h }
 
-    pub one_found : can_send slots ≡ true → Some (row, slots) ≡ first_ready (devs state first) table rows
-    one_found can = sym (next_row ∙ ap (λ (b : Bool). if b then Some (row, slots) else first_ready (devs state first) table (drop (done + 1) rows)) can) ∙ h.left
+  same_table : (a b : ℕ) → a ≡ b → (a == b) ≡ true
+  same_table a b e = grind (arith, nat_tests)
 
-  pub none_found : (table : ℕ) (rows : List (List ℕ)) (now : Journal D) (done : ℕ) → HavePassed state images first table rows now done → length rows ≤ done → None ≡ first_ready (devs state first) table rows
-  none_found table rows now done h all = sym (ap (first_ready (devs state first) table) (drop_all done rows all)) ∙ h.left
+  -- a row of the table that has nothing to send
+  pub one_passed : (table : ℕ) (keys : List RowKey) (now : Journal D) (left : List RowKey) (key : RowKey) (rest : List RowKey) (before stale : List (List ℕ)) → HavePassed state images first table keys now left before stale → left ≡ key ∷ rest → key.table ≡ table
+      → (new : Journal D) (slots : HeldSlots) → Looks {T = HeldSlots} state images now new (Ok slots) → slots ≡ held_at (devs state now) table key.row → can_send slots ≡ false → (found : List (List ℕ)) → found ≡ stale ++ key.row ∷ [] → HavePassed state images first table keys new rest before found
+  one_passed table keys now left key rest before stale h steps of_table new slots k here cannot found pushed = record {
+    looks = looks_other state images first new up ready slots (Ok tt) (looks_then state images first new up ready now tt (Ok slots) h.looks k) (ok_not tt);
+    left = sym (ap (λ (l : List RowKey). FirstOf table (rows_among table l)) steps ∙ (kept ∙ ap (λ (b : Bool). if b then Some (key.row, held_at (devs state first) table key.row) else FirstOf table (rows_among table rest)) nothing)) ∙ h.left;
+    none = λ b. subst (NoneSends (devs state first) table) (sym pushed) (one_none (λ (row : List ℕ). can_send (held_at (devs state first) table row) ≡ false) stale key.row (h.none b) nothing);
+  }
+    where
+      kept : FirstOf table (rows_among table (key ∷ rest)) ≡ (if can_send (held_at (devs state first) table key.row) then Some (key.row, held_at (devs state first) table key.row) else FirstOf table (rows_among table rest))
+      kept = ap (λ (c : Bool). FirstOf table (map (λ (k : RowKey). k.row) (cond c (key ∷ filter (λ k. k.table == table) rest) (filter (λ k. k.table == table) rest)))) (same_table key.table table of_table)
 
-  pub nothing_passed : (table : ℕ) (rows : List (List ℕ)) → HavePassed state images first table rows first 0
-  nothing_passed table rows = record { looks = looks_none state images only_now first up ready (Ok tt) (ok_not tt); left = refl }
+      nothing : can_send (held_at (devs state first) table key.row) ≡ false
+      nothing = ap can_send (sym (here ∙ ap (λ (d : ClientDevs). held_at d table key.row) (h.looks.serves.same (λ no. cc)))) ∙ cannot
 
 -- what is found is held so, and may be sent
 pub first_held : (d : ClientDevs) (table : ℕ) (rows : List (List ℕ)) (found : List ℕ × HeldSlots) → first_ready d table rows ≡ Some found → (found.1 ≡ held_at d table found.0) × (can_send found.1 ≡ true)
@@ -142,3 +170,11 @@ first_held d table (row ∷ rows) found is = pick (can_send (held_at d table row
         → (found.1 ≡ held_at d table found.0) × (can_send found.1 ≡ true)
     pick true can at more = subst (λ (x : List ℕ × HeldSlots). (x.1 ≡ held_at d table x.0) × (can_send x.1 ≡ true)) (same (row, held_at d table row) found at) (refl, can)
     pick false can at more = more at
+
+-- the first of the keys between two is that of the noted rows
+pub first_noted : (d : ClientDevs) (table : ℕ) (set : BTreeSet RowKey) (from end : RowKey) → from ≡ key_at table (zeros 16) → end ≡ key_at (table + 1) (zeros 16) → (r : Result (Option (List ℕ × HeldSlots)) CallFault)
+    → IfOk r (λ found. found ≡ first_ready d table (rows_among table (keys_between key_cmp (Included from) (Excluded end) set))) → OnOk r (IsStrictlySortedBy key_cmp (keys set)) → IfOk r (IsFirstReady d table set)
+first_noted d table set from end f e (Ok found) is sorted =
+    let rows : List (List ℕ) = rows_among table (keys_between key_cmp (Included from) (Excluded end) set) in
+    record { rows = rows; noted = noted_between table from end f e set rows refl sorted; is = is }
+first_noted d table set from end f e (Err fault) is sorted = tt

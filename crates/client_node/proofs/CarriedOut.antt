@@ -1,6 +1,6 @@
 -- A prepared plan taken on, step by step.
 use Rattle.std.proofs.Common.{◌≡◌, ◌⊎◌, inl, inr, ℕ, ◌+◌, ◌<◌, ◌++◌, length, Bool, true, false, List, [], ◌∷◌, Option, Some, None, Result, Ok, Err, refl, sym, ◌∙◌, ap, subst}
-use Rattle.std.specs.Prelude.{map, IfErr, IfSome, IsSome, is_some, ◌||◌, IsErrOf}
+use Rattle.std.specs.Prelude.{map, IfErr, IfSome, IsSome, OnOk, is_some, is_none, ◌&&◌, IsErrOf}
 use Rattle.std.specs.Vec.{vec_len}
 use Rattle.std.specs.BTreeSet.{contains}
 use Rattle.std.proofs.lemmas.List.{map-append}
@@ -14,8 +14,13 @@ use Rattle.step_tables.specs.declared.message.Message.{Message}
 use Rattle.table_model.specs.declared.line.Fact.{Fact as Told}
 use Rattle.gathering.specs.declared.gathered.Gathered.{Gathered}
 use Rattle.gathering.specs.Room.{HasRoom, HasSpare}
+use Rattle.held_value.specs.declared.slots.Main.{Main as HeldMain}
+use Rattle.held_value.specs.declared.slots.Out.{Out as HeldOut}
+use Rattle.held_value.specs.declared.slots.Shadow.{Shadow as HeldShadow}
+use Rattle.held_value.specs.declared.slots.Slots.{Slots as HeldSlots}
 use Rattle.slot_store.specs.Data.{key_cmp, key_at}
 use Rattle.plan_log.specs.declared.plan.RowChange.{RowChange}
+use Rattle.client_tables.specs.Transitions.{can_send}
 use Rattle.client_journal.specs.declared.devs.Journal.{Journal}
 use Rattle.client_journal.specs.declared.plan.Plan.{Plan}
 use Rattle.client_journal.specs.Standing.{devs, writes_of, AreUp, IsReady}
@@ -35,43 +40,24 @@ use Rattle.client_node.specs.Calls.{Fell}
 use Rattle.client_node.specs.Carrying.{IsNotedRow, NotesPlan, IsAmid, IsCarried, IsUncarried, Carries}
 use Rattle.client_node.specs.Looks.{IsNotDisk, Serves}
 use Rattle.client_node.specs.Node.{told_by, sent_by}
-use Rattle.client_node.specs.Waiting.{IsMore, Notes}
+use Rattle.client_node.specs.Waiting.{IsMore}
 use Rattle.client_node.proofs.Serving.{looks_none}
 
 -- ---- the row of a plan is noted
 
 pub more_none : (w : Waiting) → IsMore w w
-more_none w = record { outs = λ k h. h; ready = λ k h. h }
+more_none w = record { outs = λ k h. h; ready = λ k h. h; conflicts = λ k h. h }
 
 pub notes_none : {E : Type 0} (w : Waiting) (plan : Plan) → plan.row ≡ None → NotesPlan {E = E} w w plan (Ok tt)
 notes_none w plan none = record { more = more_none w; row = subst (λ (o : Option RowChange). IfSome o (IsNotedRow w plan.table)) (sym none) tt }
 
-none_some : {X : Type 0} (o : Option X) → is_some o ≡ false → IsSome o → ⊥
-none_some o none is = let wrong : true ≡ false = sym is ∙ none in cc
+pub notes_it : {E : Type 0} (old new : Waiting) (plan : Plan) (change : RowChange) → plan.row ≡ Some change → (r : Result (Unit {0}) E) → IsMore old new → OnOk r (IsNotedRow new plan.table change) → NotesPlan old new plan r
+notes_it old new plan change is (Ok x) more noted = record { more = more; row = subst (λ (o : Option RowChange). IfSome o (IsNotedRow new plan.table)) (sym is) noted }
+notes_it old new plan change is (Err e) more noted = record { more = more; row = tt }
 
-or_left : (a b : Bool) → (a || b) ≡ false → a ≡ false
-or_left true b e = absurd cc
-or_left false b e = refl
-
-or_right : (a b : Bool) → (a || b) ≡ false → b ≡ false
-or_right true b e = absurd cc
-or_right false b e = e
-
-pub notes_idle : {E : Type 0} (w : Waiting) (plan : Plan) (change : RowChange) → plan.row ≡ Some change → (is_some change.slots.main || is_some change.slots.out) ≡ false → NotesPlan {E = E} w w plan (Ok tt)
-notes_idle w plan change is none = record {
-  more = more_none w;
-  row = subst (λ (o : Option RowChange). IfSome o (IsNotedRow w plan.table)) (sym is) (record {
-    main = λ some. absurd (none_some change.slots.main (or_left (is_some change.slots.main) (is_some change.slots.out) none) some);
-    out = λ some. absurd (none_some change.slots.out (or_right (is_some change.slots.main) (is_some change.slots.out) none) some);
-  });
-}
-
-pub notes_it : {E : Type 0} (old new : Waiting) (plan : Plan) (change : RowChange) → plan.row ≡ Some change → (r : Result (Unit {0}) E) → Notes old new plan.table change.row r → NotesPlan old new plan r
-notes_it old new plan change is (Ok x) k = record {
-  more = k.more;
-  row = subst (λ (o : Option RowChange). IfSome o (IsNotedRow new plan.table)) (sym is) (record { main = λ some. k.is_ready; out = λ some. k.out });
-}
-notes_it old new plan change is (Err e) k = record { more = k.more; row = tt }
+-- what isn't there is none
+pub some_or_not : {X : Type 0} (o : Option X) → is_some o ≡ false → IsSome o → ⊥
+some_or_not o none is = let wrong : true ≡ false = sym is ∙ none in cc
 
 -- ---- the steps
 

@@ -89,7 +89,7 @@ module _ {D : Type 0} (state : D → DiskState) (images : D → ℕ → List ℕ
           (devs_weaker st im stopped mid.devs (λ d. d ≡ devs st stopped) (IsEither here here) early (λ d same. inl (same ∙ still))) in
           let same_disk : MayHold old.number old.waiting here here disk disk = record
           { first = may_hold.first; second = may_hold.first; first_steady = may_hold.first_steady; second_steady = may_hold.first_steady } in
-          cut_before (⊎_elim (λ x. x) (λ x. x) (fallen state images old mid new kept.same old.waiting kept.waiting declared down falls old.devs here here disk disk same_disk run))
+          cut_before (⊎_elim (λ x. x) (λ x. x) (fallen state images old mid new kept.same old.waiting declared down falls old.devs here here disk disk same_disk run))
 
       -- all of them have passed
       late : 4 ≤ calls → all_stops st mid.devs ≡ all_stops st stopped
@@ -104,7 +104,7 @@ module _ {D : Type 0} (state : D → DiskState) (images : D → ℕ → List ℕ
           (λ d same. inl (same ∙ (well.devs_are ∙ ap (λ (x : ClientDevs). changed_by x w) still))) in
           let same_disk : MayHold old.number old.waiting there there after after = record
           { first = may_hold.second; second = may_hold.second; first_steady = may_hold.second_steady; second_steady = may_hold.second_steady } in
-          cut_after (⊎_elim (λ x. x) (λ x. x) (fallen state images old mid new kept.same old.waiting kept.waiting declared down falls mid.devs there there after after same_disk run))
+          cut_after (⊎_elim (λ x. x) (λ x. x) (fallen state images old mid new kept.same old.waiting declared down falls mid.devs there there after after same_disk run))
       done_by (Err e) failed same many =
           let rose = (failed.disk e refl).1 in
           let l = late many in
@@ -138,12 +138,12 @@ module _ {D : Type 0} (state : D → DiskState) (images : D → ℕ → List ℕ
       pub crashed_at : Crashes state images calls s old new
       crashed_at = record {
         crashed = ⊎_elim (λ x. inl (cut_before x)) (λ x. inr (cut_after x))
-            (fallen state images old mid new kept.same old.waiting kept.waiting declared down falls old.devs here there disk after may_hold all);
+            (fallen state images old mid new kept.same old.waiting declared down falls old.devs here there disk after may_hold all);
         undone = λ _ few. undone_at few;
         done = λ same many. done_by r k same many;
         later = later_by r k (cases_lt calls 4);
         idle = λ none. absurd cc;
-        any_moment = fallen_leaves state images old mid new kept.same old.waiting kept.waiting declared down falls old.devs here there disk after may_hold all;
+        any_moment = fallen_leaves state images old mid new kept.same old.waiting declared down falls old.devs here there disk after may_hold all;
         plans = λ n below. plans_cut state n old new w ws is (λ _. t.at.1.declared) (falls.left old.devs here there all).0 falls.idle below;
       }
 
@@ -172,7 +172,7 @@ module _ {D : Type 0} (state : D → DiskState) (images : D → ℕ → List ℕ
 
       cut : IsBehind state old new (step_at old idle (Crash FailedBefore))
       cut =
-          let x = ⊎_elim (λ x. x) (λ x. x) (fallen state images old mid new kept.same old.waiting kept.waiting declared_now down falls old.devs now now disk disk hold run) in
+          let x = ⊎_elim (λ x. x) (λ x. x) (fallen state images old mid new kept.same old.waiting declared_now down falls old.devs now now disk disk hold run) in
           record { client = x; told = kept.told ∙ sym (append-nil (told_by old)); sent = kept.sent ∙ sym (append-nil (sent_by old)); same = kept.same }
 
       own_before : own_faults state mid ≡ own_faults state old
@@ -185,7 +185,7 @@ module _ {D : Type 0} (state : D → DiskState) (images : D → ℕ → List ℕ
         done = λ _ _. cut;
         later = let f = falls.counted in let m = own_before in omega (arith, f, m);
         idle = λ _. falls.counted ∙ own_before;
-        any_moment = fallen_leaves state images old mid new kept.same old.waiting kept.waiting declared_now down falls old.devs now now disk disk hold run;
+        any_moment = fallen_leaves state images old mid new kept.same old.waiting declared_now down falls old.devs now now disk disk hold run;
         plans = λ n below. plans_lost state n old new (λ _. t.at.1.declared) (⊎_elim (λ x. x) (λ x. x) (falls.left old.devs now now run).0) falls.idle below;
       }
 

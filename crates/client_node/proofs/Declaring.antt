@@ -28,6 +28,8 @@ use Rattle.client_node.specs.Calls.{Falls, IsBehind, Stays}
 use Rattle.client_node.specs.Devices.{MakesTables}
 use Rattle.client_node.specs.Node.{AreOwed, FollowsFor, IsToOpen, IsWorking, IsResting, IsClient, IsNode, to_open, told_by, sent_by, facts_owed, sends_owed}
 use Rattle.client_node.specs.Starts.{Declares, Starts, torn_in}
+use Rattle.client_node.specs.Steady.{IsSteady}
+use Rattle.client_node.proofs.Opening.{opens_steady}
 use Rattle.client_node.proofs.Making.{records_stand, records_fit, records_rest}
 use Rattle.client_node.proofs.OwnFaults.{own_kept, own_failed}
 use Rattle.client_node.proofs.PlanNumbers.{plans_none}
@@ -74,7 +76,7 @@ module _ {D : Type 0} (state : D → DiskState) where
           ready = subst (λ (l : List Write). IsReady st client l) (sym k.idle) k.ready;
           follows = subst (λ (l : List Write). FollowsFor old.number d l disk []) (sym k.idle) follows;
           rests = subst (λ (l : List Write). IsAtRest (changed_by_all d l)) (sym k.idle) (records_rest d tables k.holds);
-          steady = r.steady;
+          steady = subst (IsSteady old.waiting) (sym (r.undeclared not_yet)) (opens_steady old.waiting old.tables.items (r.opens not_yet));
           tasks_steady = tt;
           owed = subst (λ (l : List Write). AreOwed owed.when (facts_owed owed) (sends_owed owed) l []) (sym k.idle) tt;
           fact_room = subst (λ (n : ℕ). HasRoom old.facts n) (sym (ap length no_facts)) (no_room old.facts);
@@ -113,7 +115,9 @@ module _ {D : Type 0} (state : D → DiskState) where
             stands = λ is. absurd cc;
             undeclared = λ _. r.undeclared not_yet ∙ ap (λ v. to_open v.items) (sym tables);
             opens = λ _. subst (λ v. AllByRecursion IsToOpen v.items) (sym tables) (r.opens not_yet);
-            steady = rw kept.waiting r.steady;
+            waiting = falls.waiting;
+            steady = r.steady;
+            phaseless = falls.phaseless;
           });
           counted = λ n. falls.counted ∙ own_kept state old mid r.fresh k.cause.fuse (k.cause.counted n);
           cause = λ is. let less = own_failed state old mid r.fresh k.cause.fuse (k.cause.disk is) in let same = falls.counted in omega (arith, less, same);
@@ -136,7 +140,7 @@ module _ {D : Type 0} (state : D → DiskState) where
         let rests = rests_undeclared old disk agenda t not_yet in
         let q = rests.2 in
         subst (λ (a : Option (List ClientTask)). IsClient state mid (at disk a)) (sym rests.0)
-        (record { at = (rests.1, record { up = q.up; fresh = q.fresh; idle = q.idle; synced = q.synced; sound = q.sound; stands = q.stands; undeclared = q.undeclared; opens = q.opens; steady = q.steady }) })
+        (record { at = (rests.1, record { up = q.up; fresh = q.fresh; idle = q.idle; synced = q.synced; sound = q.sound; stands = q.stands; undeclared = q.undeclared; opens = q.opens; waiting = q.waiting; steady = q.steady; phaseless = q.phaseless }) })
 
     pub late_short : Starts state images (at disk agenda) old mid (Err call.Memory)
     late_short = record {

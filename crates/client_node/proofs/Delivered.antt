@@ -1,6 +1,6 @@
 -- What a client promises of a message.
 use Rattle.std.proofs.Common.{◌≡◌, ◌⊎◌, inl, inr, ⊎_elim, ℕ, ◌++◌, Bool, true, false, List, [], ◌∷◌, Option, Some, None, Result, Ok, Err, refl, sym, ◌∙◌, ap, subst, append-nil}
-use Rattle.std.specs.Prelude.{IfOk, IfErr, IfSome, IsErrOf, not, ◌&&◌, if◌then◌else◌}
+use Rattle.std.specs.Prelude.{map, IfOk, IfErr, IfSome, IsErrOf, not, ◌&&◌, if◌then◌else◌}
 use Rattle.disk_trait.specs.Image.{IsImage}
 use Rattle.disk_trait.specs.Calls.{DiskState}
 use Rattle.disk_trait.specs.Fuse.{behind, inner_of}
@@ -18,24 +18,26 @@ use Rattle.step_tables.specs.Facts.{Answer, Refusal}
 use Rattle.step_tables.specs.Facts as facts
 use Rattle.step_tables.specs.Messages as messages
 use Rattle.step_tables.specs.ClientMoves.{Plan, TableDisk, ClientDisk, table_at, seen, ClientTask, Client, ClientStep, ClientMove, Shape, Take, client_step, take_step, begun, ignored, quiet}
-use Rattle.step_tables.specs.Travels.{message_of}
+use Rattle.step_tables.specs.Travels.{message_of, send_of}
 use Rattle.client_node.specs.declared.fault.CallFault.{CallFault}
 use Rattle.client_node.specs.declared.fault.CallFault.TheVariants as call
 use Rattle.client_node.specs.declared.node.ClientNode.{ClientNode}
 use Rattle.client_node.specs.declared.planning.Planned.{Planned}
+use Rattle.client_node.specs.declared.planning.Reaction.{Reaction}
+use Rattle.client_node.specs.declared.planning.Reaction.TheVariants.{Nothing, Sends, Begins}
 use Rattle.client_node.specs.Answers.{IsFault}
 use Rattle.client_node.specs.Calls.{Fell, Stays, IsBehind}
 use Rattle.client_node.specs.Carrying.{Carries}
 use Rattle.client_node.specs.Does.{Does, IsOfNode, step_with, refusal_in}
 use Rattle.client_node.specs.Looks.{Looks}
 use Rattle.client_node.specs.Node.{FollowsFor, IsNode, IsClient, told_by, sent_by}
-use Rattle.client_node.specs.Readied.{IsIdleAt, IsIdle, Readies, taken_at}
+use Rattle.client_node.specs.Readied.{IsIdleAt, IsIdle, Readies, SendsBack, Reacts, taken_at}
 use Rattle.client_node.specs.Taking.{FitsTable, FitsClient, Drops, Takes}
-use Rattle.client_node.proofs.Answering.{disk_or, does_node, stays, does_err, does_ok, shape_now, of_err, as_err}
+use Rattle.client_node.proofs.Answering.{disk_or, does_node, stays, does_err, does_short, does_ok, shape_now, of_err, as_err}
 use Rattle.client_node.proofs.Asked.{IsMid, mid_devs, call_leaves, call_plans}
 use Rattle.client_node.proofs.OwnFaults.{own_kept, fresh_now}
 use Rattle.client_node.proofs.Pulls.{no_refusal, same_refusal}
-use Rattle.client_node.proofs.Sent.{tasks_of_writes}
+use Rattle.client_node.proofs.Sent.{HasSent, sent_client, tasks_of_writes}
 use Rattle.client_node.proofs.Serving.{looks_none}
 use Rattle.client_node.proofs.TakenPlans.{idle_at, is_idle, shape_of, does_carried, does_uncarried}
 
@@ -111,12 +113,12 @@ module _ {D : Type 0} (state : D → DiskState) (images : D → ℕ → List ℕ
         ∙ (ap (λ (n : ℕ). facts.Refuses (facts.Busy n)) of.plan ∙ ap (λ (r : Refusal). facts.Refuses r) (same_refusal e (call.Busy with) refusal (facts.Busy with) is refl was))))
 
   -- nothing is to be done
-  module _ (disk : ClientDisk) (t : IsClient state old (at disk (Some []))) (is_up : old.is_up ≡ true) (linked : old.is_linked ≡ true) (idle : writes_of old.devs ≡ []) (found : Option Planned) (client : Journal (FuseDisk D)) where
+  module _ (disk : ClientDisk) (t : IsClient state old (at disk (Some []))) (is_up : old.is_up ≡ true) (linked : old.is_linked ≡ true) (idle : writes_of old.devs ≡ []) (found : Reaction) (client : Journal (FuseDisk D)) where
     abbrev here : Client
     here = at disk (Some [])
 
-    pub fault_now : (e : CallFault) → IsFault e → Looks {T = Option Planned} st im old.devs client (Err e) → (new : ClientNode D) → (IsErrOf {T = Option Planned} (Err e) call.Disk → Fell state images (record old { devs = client }) new)
-        → ((IsErrOf {T = Option Planned} (Err e) call.Disk → ⊥) → new ≡ record old { devs = client }) → Takes state images here m old new (Err e)
+    pub fault_now : (e : CallFault) → IsFault e → Looks {T = Reaction} st im old.devs client (Err e) → (new : ClientNode D) → (IsErrOf {T = Reaction} (Err e) call.Disk → Fell state images (record old { devs = client }) new)
+        → ((IsErrOf {T = Reaction} (Err e) call.Disk → ⊥) → new ≡ record old { devs = client }) → Takes state images here m old new (Err e)
     fault_now e fault k new fell other =
         takes_err here new e
         (does_err state images only_now old disk (Some []) t is_up (Take m) said e (record old { devs = client }) (mid_devs old client) k.serves (λ refusal shape is of. no_refusal e refusal fault is)
@@ -126,15 +128,15 @@ module _ {D : Type 0} (state : D → DiskState) (images : D → ℕ → List ℕ
       stays_now : Stays state old (record old { devs = client }) here
       stays_now = stays state images only_now old disk (Some []) t is_up (Take m) (Ok found) (record old { devs = client }) (mid_devs old client) k.serves (λ no. cc) k.agenda
 
-      pub ignored_now : (r : Readies (devs st old.devs) old.number message found) → found ≡ None → (new : ClientNode D) → new ≡ record old { devs = client } → Takes state images here m old new (Ok tt)
-      ignored_now r none new is =
+      pub ignored_now : (r : Readies (devs st old.devs) old.number message None) → (new : ClientNode D) → new ≡ record old { devs = client } → Takes state images here m old new (Ok tt)
+      ignored_now r new is =
           let s = stays_now in
           let now : Shape = shape_now state images only_now old in
           let b : IsBehind state old (record old { devs = client }) (ignored disk) = record { client = s.client; told = sym (append-nil (told_by old)); sent = sym (append-nil (sent_by old)); same = s.same } in
           subst (λ (x : ClientNode D). Takes state images here m old x (Ok tt)) (sym is)
           (record {
             taken = λ fit.
-                let step = up_step old.is_linked old.number now here m linked ∙ r.none none old.waiting disk now (idle_at state images only_now old disk t is_up idle) fit in
+                let step = up_step old.is_linked old.number now here m linked ∙ r.none refl old.waiting disk now (idle_at state images only_now old disk t is_up idle) fit in
                 does_ok state images only_now old disk (Some []) t is_up (Take m) said found tt client k.serves (record old { devs = client }) refl
                 (call_plans state images only_now old disk (Some []) t is_up (record old { devs = client }) (k.serves.same (λ no. cc)) k.agenda) now (record { plan = refl })
                 (subst (λ (x : ClientStep). IsBehind state old (record old { devs = client }) x) (sym step) b) (ap (λ (x : ClientStep). x.answer) step);
@@ -149,6 +151,33 @@ module _ {D : Type 0} (state : D → DiskState) (images : D → ℕ → List ℕ
               plans = call_plans state images only_now old disk (Some []) t is_up (record old { devs = client }) (k.serves.same (λ no. cc)) k.agenda;
             };
           })
+
+      -- these are sent at once
+      module _ (sends : List messages.Send) (r : SendsBack (devs st old.devs) old.number message sends) where
+        pub sent_now : (new : ClientNode D) → new.devs ≡ client → HasSent old new sends → Takes state images here m old new (Ok tt)
+        sent_now new is h =
+            let now : Shape = shape_now state images only_now old in
+            let step : step_with old now here (Take m) ≡ record (ignored disk) { sends = sends } = up_step old.is_linked old.number now here m linked ∙ r.step old.waiting disk now (idle_at state images only_now old disk t is_up idle) in
+            let b : IsBehind state old new (record (ignored disk) { sends = sends }) = record {
+              client = sent_client state images only_now old disk [] t is_up (Take m) (λ shape s. refl) found client k new sends is h refl;
+              told = h.told ∙ sym (append-nil (told_by old));
+              sent = h.sent;
+              same = record { number = h.number; linked = h.linked };
+            } in
+            record {
+              taken = λ fit.
+                  does_ok state images only_now old disk (Some []) t is_up (Take m) said found tt client k.serves new is
+                  (call_plans state images only_now old disk (Some []) t is_up new (ap (λ (d : Journal (FuseDisk D)). devs st d) is ∙ k.serves.same (λ no. cc)) (ap (λ (d : Journal (FuseDisk D)). writes_of d) is ∙ k.agenda)) now (record { plan = refl })
+                  (subst (λ (x : ClientStep). IsBehind state old new x) (sym step) b) (ap (λ (x : ClientStep). x.answer) step);
+              dropped = λ unfit. absurd (unfit (r.fits disk));
+            }
+
+      -- memory was refused for what was to be sent
+      pub short_now : (new : ClientNode D) → new.devs ≡ client → IsMid old new → Takes state images here m old new (Err call.Memory)
+      short_now new is mid =
+          let l : Looks st im old.devs new.devs (Ok found) = subst (λ (d : Journal (FuseDisk D)). Looks st im old.devs d (Ok found)) (sym is) k in
+          takes_err here new call.Memory
+          (does_short state images only_now old disk (Some []) t is_up (Take m) said found new.devs l.serves new refl l.agenda (stays state images only_now old disk (Some []) t is_up (Take m) (Ok found) new mid l.serves (λ no. cc) l.agenda))
 
       module _ (planned : Planned) (r : Readies (devs st old.devs) old.number message (Some planned)) where
         pub carried_now : (result : Result (Unit {0}) CallFault) (mid new : ClientNode D) → mid ≡ record old { devs = client } → Carries state images mid new planned [] result → Takes state images here m old new result
@@ -186,32 +215,45 @@ module _ {D : Type 0} (state : D → DiskState) (images : D → ℕ → List ℕ
   node_idle disk (Some []) t is_up idle = is_idle state images only_now old disk t is_up idle
   node_idle disk (Some (task ∷ more)) t is_up idle = no_task disk task more t idle
 
-  module _ (linked : old.is_linked ≡ true) (idle : writes_of old.devs ≡ []) (found : Result (Option Planned) CallFault) (client : Journal (FuseDisk D)) (k : Looks st im old.devs client found) where
-    looks_as : (r : Result (Option Planned) CallFault) → r ≡ found → Looks st im old.devs client r
-    looks_as r same = subst (λ (x : Result (Option Planned) CallFault). Looks st im old.devs client x) (sym same) k
+  module _ (linked : old.is_linked ≡ true) (idle : writes_of old.devs ≡ []) (found : Result Reaction CallFault) (client : Journal (FuseDisk D)) (k : Looks st im old.devs client found) where
+    looks_as : (r : Result Reaction CallFault) → r ≡ found → Looks st im old.devs client r
+    looks_as r same = subst (λ (x : Result Reaction CallFault). Looks st im old.devs client x) (sym same) k
 
-    pub by_fault : (disk : ClientDisk) (agenda : Option (List ClientTask)) → IsClient state old (at disk agenda) → old.is_up ≡ true → (e : CallFault) → Err e ≡ found → IfErr found IsFault → (new : ClientNode D) → (IsErrOf {T = Option Planned} (Err e) call.Disk → Fell state images (record old { devs = client }) new)
-        → ((IsErrOf {T = Option Planned} (Err e) call.Disk → ⊥) → new ≡ record old { devs = client }) → TakesSo disk agenda new (Err e)
+    reacts_as : (o x : Reaction) → Ok o ≡ found → o ≡ x → IfOk found (Reacts (devs st old.devs) old.number message) → Reacts (devs st old.devs) old.number message x
+    reacts_as o x same is r = subst (λ (y : Reaction). Reacts (devs st old.devs) old.number message y) is (subst (λ (y : Result Reaction CallFault). IfOk y (Reacts (devs st old.devs) old.number message)) (sym same) r)
+
+    pub by_fault : (disk : ClientDisk) (agenda : Option (List ClientTask)) → IsClient state old (at disk agenda) → old.is_up ≡ true → (e : CallFault) → Err e ≡ found → IfErr found IsFault → (new : ClientNode D) → (IsErrOf {T = Reaction} (Err e) call.Disk → Fell state images (record old { devs = client }) new)
+        → ((IsErrOf {T = Reaction} (Err e) call.Disk → ⊥) → new ≡ record old { devs = client }) → TakesSo disk agenda new (Err e)
     by_fault disk None t is_up e same fault new fell other = let no = t.at.0 in absurd cc
     by_fault disk (Some []) t is_up e same fault new fell other =
-        fault_now disk t is_up linked idle None client e (subst (λ (r : Result (Option Planned) CallFault). IfErr r IsFault) (sym same) fault) (looks_as (Err e) same) new fell other
+        fault_now disk t is_up linked idle Nothing client e (subst (λ (r : Result Reaction CallFault). IfErr r IsFault) (sym same) fault) (looks_as (Err e) same) new fell other
     by_fault disk (Some (task ∷ more)) t is_up e same fault new fell other = no_task disk task more t idle
 
-    pub by_ignored : (disk : ClientDisk) (agenda : Option (List ClientTask)) → IsClient state old (at disk agenda) → old.is_up ≡ true → (o : Option Planned) → Ok o ≡ found → IfOk found (Readies (devs st old.devs) old.number message) → o ≡ None → (new : ClientNode D) → new ≡ record old { devs = client } → TakesSo disk agenda new (Ok tt)
+    pub by_ignored : (disk : ClientDisk) (agenda : Option (List ClientTask)) → IsClient state old (at disk agenda) → old.is_up ≡ true → (o : Reaction) → Ok o ≡ found → IfOk found (Reacts (devs st old.devs) old.number message) → o ≡ Nothing → (new : ClientNode D) → new ≡ record old { devs = client } → TakesSo disk agenda new (Ok tt)
     by_ignored disk None t is_up o same r none new is = let no = t.at.0 in absurd cc
     by_ignored disk (Some []) t is_up o same r none new is =
-        ignored_now disk t is_up linked idle o client (looks_as (Ok o) same) (subst (λ (x : Result (Option Planned) CallFault). IfOk x (Readies (devs st old.devs) old.number message)) (sym same) r) none new is
+        ignored_now disk t is_up linked idle o client (looks_as (Ok o) same) (reacts_as o Nothing same none r) new is
     by_ignored disk (Some (task ∷ more)) t is_up o same r none new is = no_task disk task more t idle
 
-    pub by_carried : (disk : ClientDisk) (agenda : Option (List ClientTask)) → IsClient state old (at disk agenda) → old.is_up ≡ true → (o : Option Planned) → Ok o ≡ found → IfOk found (Readies (devs st old.devs) old.number message) → (planned : Planned) → o ≡ Some planned → (result : Result (Unit {0}) CallFault) (mid new : ClientNode D)
+    pub by_sent : (disk : ClientDisk) (agenda : Option (List ClientTask)) → IsClient state old (at disk agenda) → old.is_up ≡ true → (o : Reaction) → Ok o ≡ found → IfOk found (Reacts (devs st old.devs) old.number message) → (sends : _) → o ≡ Sends sends → (new : ClientNode D) → new.devs ≡ client
+        → HasSent old new (map send_of sends.items) → TakesSo disk agenda new (Ok tt)
+    by_sent disk None t is_up o same r sends is new now h = let no = t.at.0 in absurd cc
+    by_sent disk (Some []) t is_up o same r sends is new now h = sent_now disk t is_up linked idle o client (looks_as (Ok o) same) (map send_of sends.items) (reacts_as o (Sends sends) same is r) new now h
+    by_sent disk (Some (task ∷ more)) t is_up o same r sends is new now h = no_task disk task more t idle
+
+    pub by_short : (disk : ClientDisk) (agenda : Option (List ClientTask)) → IsClient state old (at disk agenda) → old.is_up ≡ true → (o : Reaction) → Ok o ≡ found → (new : ClientNode D) → new.devs ≡ client → IsMid old new → TakesSo disk agenda new (Err call.Memory)
+    by_short disk None t is_up o same new is mid = let no = t.at.0 in absurd cc
+    by_short disk (Some []) t is_up o same new is mid = short_now disk t is_up linked idle o client (looks_as (Ok o) same) new is mid
+    by_short disk (Some (task ∷ more)) t is_up o same new is mid = no_task disk task more t idle
+
+    pub by_carried : (disk : ClientDisk) (agenda : Option (List ClientTask)) → IsClient state old (at disk agenda) → old.is_up ≡ true → (o : Reaction) → Ok o ≡ found → IfOk found (Reacts (devs st old.devs) old.number message) → (planned : Planned) → o ≡ Begins planned → (result : Result (Unit {0}) CallFault) (mid new : ClientNode D)
         → mid ≡ record old { devs = client } → Carries state images mid new planned [] result → TakesSo disk agenda new result
     by_carried disk None t is_up o same r planned some result mid new is c = let no = t.at.0 in absurd cc
     by_carried disk (Some []) t is_up o same r planned some result mid new is c =
-        carried_now disk t is_up linked idle o client (looks_as (Ok o) same) planned
-        (subst (λ (x : Option Planned). Readies (devs st old.devs) old.number message x) some (subst (λ (x : Result (Option Planned) CallFault). IfOk x (Readies (devs st old.devs) old.number message)) (sym same) r)) result mid new is c
+        carried_now disk t is_up linked idle o client (looks_as (Ok o) same) planned (reacts_as o (Begins planned) same some r) result mid new is c
     by_carried disk (Some (task ∷ more)) t is_up o same r planned some result mid new is c = no_task disk task more t idle
 
-    pub carry_idle : (disk : ClientDisk) (agenda : Option (List ClientTask)) → IsClient state old (at disk agenda) → old.is_up ≡ true → (o : Option Planned) → Ok o ≡ found → AreUp client × (writes_of client ≡ []) × IsReady st client (writes_of client) × IsAtRest (devs st client)
+    pub carry_idle : (disk : ClientDisk) (agenda : Option (List ClientTask)) → IsClient state old (at disk agenda) → old.is_up ≡ true → (o : Reaction) → Ok o ≡ found → AreUp client × (writes_of client ≡ []) × IsReady st client (writes_of client) × IsAtRest (devs st client)
     carry_idle disk None t is_up o same = let no = t.at.0 in absurd cc
     carry_idle disk (Some []) t is_up o same =
         let l = looks_as (Ok o) same in
@@ -219,11 +261,11 @@ module _ {D : Type 0} (state : D → DiskState) (images : D → ℕ → List ℕ
     carry_idle disk (Some (task ∷ more)) t is_up o same = no_task disk task more t idle
 
     -- the devices take its plan on
-    pub carry_plan : (disk : ClientDisk) (agenda : Option (List ClientTask)) → IsClient state old (at disk agenda) → old.is_up ≡ true → (planned : Planned) → Ok (Some planned) ≡ found → IfOk found (Readies (devs st old.devs) old.number message) → IsPlan (devs st client) planned.plan
+    pub carry_plan : (disk : ClientDisk) (agenda : Option (List ClientTask)) → IsClient state old (at disk agenda) → old.is_up ≡ true → (planned : Planned) → Ok (Begins planned) ≡ found → IfOk found (Reacts (devs st old.devs) old.number message) → IsPlan (devs st client) planned.plan
     carry_plan disk None t is_up planned same r = let no = t.at.0 in absurd cc
     carry_plan disk (Some []) t is_up planned same r =
-        let l = looks_as (Ok (Some planned)) same in
-        let i = (subst (λ (x : Result (Option Planned) CallFault). IfOk x (Readies (devs st old.devs) old.number message)) (sym same) r).some old.waiting disk (idle_at state images only_now old disk t is_up idle) in
+        let l = looks_as (Ok (Begins planned)) same in
+        let i = (subst (λ (x : Result Reaction CallFault). IfOk x (Reacts (devs st old.devs) old.number message)) (sym same) r).some old.waiting disk (idle_at state images only_now old disk t is_up idle) in
         subst (λ (d : ClientDevs). IsPlan d planned.plan) (sym (l.serves.same (λ no. cc))) i.3.taken
     carry_plan disk (Some (task ∷ more)) t is_up planned same r = no_task disk task more t idle
 

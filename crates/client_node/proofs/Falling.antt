@@ -29,7 +29,7 @@ module _ {D : Type 0} (state : D → DiskState) (images : D → ℕ → List ℕ
   abbrev im : FuseDisk D → ℕ → List ℕ → Type 0
   im f = images (inner_of f)
 
-  module _ (old mid new : ClientNode D) (same : IsSame old new) (w : Waiting) (waits : new.waiting ≡ w) (declared : new.is_declared ≡ true) (down : new.is_up ≡ false) (f : Falls state images mid new) where
+  module _ (old mid new : ClientNode D) (same : IsSame old new) (w : Waiting) (declared : new.is_declared ≡ true) (down : new.is_up ≡ false) (f : Falls state images mid new) where
     down_at : (disk : ClientDisk) → AreSound st new.devs → StandsFor old.number (devs st new.devs) disk → IsSteady w disk → IsClient state new (record { disk = disk; agenda = None })
     down_at disk sound stands steady = record {
       at = (
@@ -43,7 +43,9 @@ module _ {D : Type 0} (state : D → DiskState) (images : D → ℕ → List ℕ
           stands = λ _. rw same.number stands;
           undeclared = λ is. absurd cc;
           opens = λ is. absurd cc;
-          steady = rw waits steady;
+          waiting = f.waiting;
+          steady = (w, steady);
+          phaseless = f.phaseless;
         },
       );
     }

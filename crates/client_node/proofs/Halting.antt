@@ -42,11 +42,11 @@ module _ {D : Type 0} (state : D → DiskState) (images : D → ℕ → List ℕ
         devs_weaker (λ f. behind state f) (λ f. images (inner_of f)) old.devs old.devs (λ d. d ≡ here) (IsEither here here)
         (rests_leave (λ f. behind state f) (λ f. images (inner_of f)) only_now old.devs (writes_of old.devs) h.ready) (λ d same. inl same) in
         record {
-          halted = behind_crash disk tasks (⊎_elim (λ t. t) (λ t. t) (fallen state images old old new kept.same old.waiting kept.waiting declared is_down falls old.devs here here disk disk may run));
+          halted = behind_crash disk tasks (⊎_elim (λ t. t) (λ t. t) (fallen state images old old new kept.same old.waiting declared is_down falls old.devs here here disk disk may run));
           declared = kept.declared;
           counted = falls.counted;
           still = λ down. absurd cc;
-          any_moment = λ _. fallen_leaves state images old old new kept.same old.waiting kept.waiting declared is_down falls old.devs here here disk disk may run;
+          any_moment = λ _. fallen_leaves state images old old new kept.same old.waiting declared is_down falls old.devs here here disk disk may run;
           plans = λ n below. plans_lost state n old new (λ _. h.declared) (⊎_elim (λ x. x) (λ x. x) (falls.left old.devs here here run).0) falls.idle below;
         }
 

@@ -1,5 +1,5 @@
 -- What is prepared behind a reading is prepared.
-use Rattle.std.proofs.Common.{◌≡◌, ⊎_elim, ℕ, ◌<◌, List, Option, Result, Ok, Err, sym, ◌∙◌, ap, subst, arith}
+use Rattle.std.proofs.Common.{◌≡◌, ⊎_elim, ℕ, Bool, ◌<◌, List, Option, Result, Ok, Err, sym, ◌∙◌, ap, subst, arith}
 use Rattle.std.specs.Prelude.{IfSome}
 use Rattle.disk_trait.specs.Calls.{DiskState}
 use Rattle.value_codec.specs.SchemaSpelling.{HasSchemaSpelling, IsChunkSize}
@@ -14,9 +14,11 @@ use Rattle.step_tables.specs.ClientMoves.{ClientDisk, ClientTask, ClientMove, Sh
 use Rattle.client_node.specs.declared.fault.CallFault.{CallFault}
 use Rattle.client_node.specs.declared.preparing.OpenedRow.{OpenedRow}
 use Rattle.client_node.specs.declared.preparing.Prepared.{Prepared}
+use Rattle.client_node.specs.declared.waiting.Waiting.{Waiting}
 use Rattle.client_node.specs.Answers.{record_at}
 use Rattle.client_node.specs.Node.{StandsFor}
 use Rattle.client_node.specs.Preparing.{IsOpenedRow, IsCalled, IsPrepared, Prepares}
+use Rattle.client_node.specs.Readied.{IsIdleAt}
 use Rattle.client_node.specs.Sending.{AreTasksOf}
 
 pub some_size : (n : ℕ) → IsChunkSize n → 0 < n
@@ -32,29 +34,29 @@ pub opened_spelled : (d : ClientDevs) (table : ℕ) (row : List ℕ) (at : Opene
     → HasSchemaSpelling at.opened.schema
 opened_spelled d table row at is spelled = subst (λ (o : Option TableRecord). IfSome o (λ opened. HasSchemaSpelling opened.schema)) is.opened spelled
 
-module _ {D : Type 0} (state : D → DiskState) (old mid : Journal D) (same : devs state mid ≡ devs state old) (agenda : writes_of mid ≡ writes_of old) (c : ℕ) (move : ClientMove) (table : ℕ)
-    (row : List ℕ) where
-  called_there : (disk : ClientDisk) (tasks : List ClientTask) (shape : Shape) → IsCalled state old c disk tasks shape → IsCalled state mid c disk tasks shape
+module _ {D : Type 0} (state : D → DiskState) (old mid : Journal D) (same : devs state mid ≡ devs state old) (agenda : writes_of mid ≡ writes_of old) (waiting : Waiting) (phase : ℕ → Bool) (linked : Bool) (c : ℕ) (move : ClientMove) where
+  called_there : (disk : ClientDisk) (tasks : List ClientTask) (shape : Shape) → IsCalled state old waiting c disk tasks shape → IsCalled state mid waiting c disk tasks shape
   called_there disk tasks shape k = record {
     stands = subst (λ (d : ClientDevs). StandsFor c d disk) (sym same) k.stands;
-    waiting = k.waiting;
     steady = k.steady;
+    rests = λ none. subst IsAtRest (sym same) (k.rests (sym agenda ∙ none));
     tasks_are = subst (λ (ws : List Write). AreTasksOf ws tasks) (sym agenda) k.tasks_are;
     work = k.work ∙ (ap (λ (d : ClientDevs). plan_at_work d (writes_of old)) (sym same) ∙ ap (plan_at_work (devs state mid)) (sym agenda));
   }
 
-  pub prepares_looked : (r : Result Prepared CallFault) → Prepares state mid c move table row r → Prepares state old c move table row r
+  abbrev IsPreparedBy : Prepared → ClientDevs → Type 0
+  IsPreparedBy x d = (disk : ClientDisk) → (idle : IsIdleAt d c waiting disk) → IsPrepared d phase linked c move disk idle.stands.0 x
+
+  pub prepares_looked : (r : Result Prepared CallFault) → Prepares state mid waiting phase linked c move r → Prepares state old waiting phase linked c move r
   prepares_looked (Err e) q = record {
-    refused = λ linked disk tasks shape k. q.refused linked disk tasks shape (called_there disk tasks shape k);
+    refused = λ disk tasks shape k. q.refused disk tasks shape (called_there disk tasks shape k);
     spent = λ last is. let s = q.spent last is in (s.0, rw (ap (λ (d : ClientDevs). (redone d).last) (sym same)) s.1);
     idle = tt;
-    prepared = λ linked disk waiting st h rest. tt;
+    prepared = λ disk idle. tt;
   }
   prepares_looked (Ok x) q = record {
-    refused = λ linked disk tasks shape k. tt;
+    refused = λ disk tasks shape k. tt;
     spent = λ last is. absurd cc;
     idle = sym agenda ∙ q.idle;
-    prepared = λ linked disk waiting st h rest.
-        subst (λ (d : ClientDevs). IsPrepared d linked c move disk table row x) same
-        (q.prepared linked disk waiting (subst (λ (d : ClientDevs). StandsFor c d disk) (sym same) st) h (subst IsAtRest (sym same) rest));
+    prepared = subst (IsPreparedBy x) same q.prepared;
   }

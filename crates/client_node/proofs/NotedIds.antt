@@ -16,11 +16,7 @@ use Rattle.std.proofs.lemmas.List.Kept.{IsStrictlySortedBy-filter}
 use Rattle.slot_store.specs.declared.held.RowKey.{RowKey}
 use Rattle.slot_store.specs.Data.{id_cmp, key_cmp, key_at}
 use Rattle.slot_store.proofs.Keys.{id_cmp_total, equal_is, one_key}
-use Rattle.client_node.specs.NotedRows.{AreNotedRows}
-
-abbrev pub zeros : ℕ → List ℕ
-zeros zero = []
-zeros (suc n) = 0 ∷ zeros n
+use Rattle.client_node.specs.NotedRows.{AreNotedRows, zeros, rows_among}
 
 le_then : (o i : Ordering) → is_le i ≡ true → is_le (ordering_then o i) ≡ is_le o
 le_then Less i le = refl
@@ -147,9 +143,45 @@ module _ (table next : ℕ) (next_is : next ≡ table + 1) (first : List ℕ) (z
   rows_rising [] all sorted = tt
   rows_rising (k ∷ ks) all sorted = (below_all k ks all.0 all.1 sorted.0, rows_rising ks all.1 sorted.1)
 
+  -- among all the keys
+  pub all_among : (row : List ℕ) (ks : List RowKey) → list_any (is_at (key_cmp (key_at table row))) ks ≡ true → list_any (is_at (id_cmp row)) (rows_among table ks) ≡ true
+  all_among row [] any = absurd cc
+  all_among row (k ∷ ks) any = pick (either_is (is_at (key_cmp (key_at table row)) k) (list_any (is_at (key_cmp (key_at table row))) ks) any) (all_among row ks)
+    where
+      same_row : is_at (id_cmp row) row ≡ true
+      same_row = (eq_by_cmp_equiv id_cmp_total).refl row
+
+      pick : (is_at (key_cmp (key_at table row)) k ≡ true) ⊎ (list_any (is_at (key_cmp (key_at table row))) ks ≡ true) → (list_any (is_at (key_cmp (key_at table row))) ks ≡ true → list_any (is_at (id_cmp row)) (rows_among table ks) ≡ true)
+          → list_any (is_at (id_cmp row)) (rows_among table (k ∷ ks)) ≡ true
+      pick (inl at) more =
+          let same : key_at table row ≡ k = one_key (key_at table row) k (equal_is (key_cmp (key_at table row) k) at) in
+          let in_table : of_table k ≡ true = subst (λ (x : RowKey). of_table x ≡ true) same its_table in
+          let at_row : is_at (id_cmp row) k.row ≡ true = subst (λ (x : RowKey). is_at (id_cmp row) x.row ≡ true) same same_row in
+          ap (λ (b : Bool). list_any (is_at (id_cmp row)) (map (λ (key : RowKey). key.row) (cond b (k ∷ filter of_table ks) (filter of_table ks)))) in_table
+          ∙ ap (λ (b : Bool). b || list_any (is_at (id_cmp row)) (map (λ (key : RowKey). key.row) (filter of_table ks))) at_row
+      pick (inr later) more = kept_later row (of_table k) k (filter of_table ks) (more later)
+
+  pub among_rising : (ks : List RowKey) → IsStrictlySortedBy key_cmp ks → IsStrictlySortedBy id_cmp (rows_among table ks)
+  among_rising ks sorted = rows_rising (filter of_table ks) (all_of_table ks) (IsStrictlySortedBy-filter key_cmp of_table ks sorted)
+
   pub are_noted : (set : BTreeSet RowKey) (rows : List (List ℕ)) → rows ≡ rows_of (keys set) → IsStrictlySortedBy key_cmp (keys set) → AreNotedRows set table rows
   are_noted set rows is sorted = record {
     rising = subst (IsStrictlySortedBy id_cmp) (sym is)
         (rows_rising (filter of_table (filter between (keys set))) (all_of_table (filter between (keys set))) (IsStrictlySortedBy-filter key_cmp of_table (filter between (keys set)) (IsStrictlySortedBy-filter key_cmp between (keys set) sorted)));
     all = λ row len there. ap (list_any (is_at (id_cmp row))) is ∙ all_noted row len (keys set) there;
   }
+
+-- ---- between the first keys of a table and of the next
+
+least_number : (table : ℕ) → nat_cmp table (table + 1) ≡ Less
+least_number table = grind (arith, nat_tests)
+
+pub bounds_rise : (table : ℕ) (first end : RowKey) → first ≡ key_at table (zeros 16) → end ≡ key_at (table + 1) (zeros 16) → key_cmp first end ≡ Less
+bounds_rise table first end f e =
+    ap (λ (k : RowKey). key_cmp k end) f ∙ (ap (key_cmp (key_at table (zeros 16))) e ∙ ap (λ (o : Ordering). ordering_then o (id_cmp (zeros 16) (zeros 16))) (least_number table))
+
+pub noted_between : (table : ℕ) (first end : RowKey) → first ≡ key_at table (zeros 16) → end ≡ key_at (table + 1) (zeros 16) → (set : BTreeSet RowKey) (rows : List (List ℕ)) → rows ≡ rows_among table (keys_between key_cmp (Included first) (Excluded end) set)
+    → IsStrictlySortedBy key_cmp (keys set) → AreNotedRows set table rows
+noted_between table first end f e set rows is sorted =
+    are_noted table (table + 1) refl (zeros 16) refl set rows
+    (is ∙ (ap (λ (k : RowKey). rows_among table (keys_between key_cmp (Included k) (Excluded end) set)) f ∙ ap (λ (k : RowKey). rows_among table (keys_between key_cmp (Included (key_at table (zeros 16))) (Excluded k) set)) e)) sorted

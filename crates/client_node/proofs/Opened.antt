@@ -2,8 +2,6 @@
 use Rattle.std.proofs.Common.{◌≡◌, ℕ, false, List, [], ◌++◌, Option, Some, None, refl, sym, ◌∙◌, ap, subst, arith}
 use Rattle.std.specs.Prelude.{IfSome}
 use Rattle.std.specs.List.{AllByRecursion}
-use Rattle.row_value.specs.declared.schema.Scheme.{Scheme}
-use Rattle.row_value.specs.declared.schema.Scheme.TheVariants.{Eventual}
 use Rattle.value_codec.specs.SchemaSpelling.{HasSchemaSpelling}
 use Rattle.held_codec.specs.Spelling.{HasHeldPiece}
 use Rattle.held_value.specs.declared.local_name.LocalName.{LocalName}
@@ -23,7 +21,7 @@ use Rattle.client_journal.specs.Names.{Has, names_of, names_in, names_of_shadow,
 use Rattle.client_journal.specs.NamedSlots.{IsAtRest, IsNotCommitted}
 use Rattle.client_journal.specs.Redone.{redone}
 use Rattle.client_journal.specs.There.{repeats}
-use Rattle.step_tables.specs.ClientMoves.{TableDisk, Plan, ClientDisk, planned_in, seen, table_at, is_strong, is_strong_in}
+use Rattle.step_tables.specs.ClientMoves.{TableDisk, Plan, ClientDisk, planned_in, seen, table_at}
 use Rattle.journal_laws.specs.Holds.{StandsPlan, slots_or_empty}
 use Rattle.journal_laws.proofs.Alike.{has_front}
 use Rattle.journal_laws.proofs.Plans.{named_in}
@@ -35,7 +33,7 @@ use Rattle.plan_limits.proofs.Rows.{AreFit, each_fit}
 use Rattle.client_node.specs.declared.waiting.Waiting.{Waiting}
 use Rattle.client_node.specs.Answers.{record_at, held_at}
 use Rattle.client_node.specs.Node.{StandsFor}
-use Rattle.client_node.specs.Preparing.{number_next}
+use Rattle.client_node.specs.Readied.{number_next}
 use Rattle.client_node.specs.Steady.{IsSteadyTable, IsSteady}
 use Rattle.client_node.proofs.Links.{opened_is}
 use Rattle.client_node.proofs.RowPlans.{redone_rests}
@@ -58,17 +56,6 @@ module _ (w : Waiting) (disk : ClientDisk) (h : IsSteady w disk) (table : ℕ) w
   -- an opened table keeps what each does
   pub table_steady : (t : TableDisk) → table_at (seen disk) table ≡ Some t → IsSteadyTable w table t
   table_steady t at = subst (λ (o : Option TableDisk). IfSome o (IsSteadyTable w table)) at ((steady_seen w disk h).each table)
-
-  weak : (scheme : Scheme) → scheme ≡ Eventual → is_strong scheme ≡ false
-  weak scheme is = ap is_strong is
-
-  -- no table is strong
-  pub not_strong : is_strong_in (table_at (seen disk) table) ≡ false
-  not_strong = pick (table_at (seen disk) table) ((steady_seen w disk h).each table)
-    where
-      pick : (o : Option TableDisk) → IfSome o (IsSteadyTable w table) → is_strong_in o ≡ false
-      pick None k = refl
-      pick (Some t) k = weak t.schema.scheme k.eventual
 
 -- the record of an opened table has a spelling
 pub record_spelled : (c : ℕ) (d : ClientDevs) (disk : ClientDisk) → StandsFor c d disk → (w : Waiting) → IsSteady w disk → (table : ℕ)

@@ -21,10 +21,9 @@ module _ (w : Waiting) where
   unfolding IsStrictlySortedBy
   opened_steady table o = record {
     numbered = o.numbered;
-    eventual = o.eventual;
     spelled = o.spelled;
     rising = tt;
-    noted = λ row. record { calm = refl; sent = λ some. absurd cc; ready = λ some. absurd cc };
+    noted = λ row. record { sent = λ some. absurd cc; ready = λ some. absurd cc; conflict = λ some. absurd cc };
   }
 
   record AreSteadyTables (some : List (ℕ × TableDisk)) : Type 0 where

@@ -8,7 +8,6 @@ use Rattle.stab_base.specs.declared.limits.TheConstants.{NUMBER_MAX}
 use Rattle.row_value.specs.declared.content.Content.{Content}
 use Rattle.row_value.specs.declared.schema.Schema.{Schema}
 use Rattle.row_value.specs.declared.schema.Scheme.{Scheme}
-use Rattle.row_value.specs.declared.schema.Scheme.TheVariants.{Eventual}
 use Rattle.row_value.specs.Fit.{fit_of}
 use Rattle.table_model.specs.declared.message.Yours.{Yours as RowYours}
 use Rattle.held_codec.specs.Spelling.{HasHeldPiece}
@@ -73,13 +72,10 @@ use Rattle.client_node.specs.Placing.{HoldsRow, IsOfPosition}
 use Rattle.client_node.specs.Readied.{IsOfRow, IsReadied, IsIdleAt, IsIdle, Readies, taken_at}
 use Rattle.client_node.specs.Taking.{FitsTable, FitsClient}
 use Rattle.value_codec.specs.SchemaSpelling.{HasSchemaSpelling, IsChunkSize}
+use Rattle.client_node.proofs.NewerRows.{PutsRow, puts_row}
 use Rattle.client_node.proofs.RowPlans.{names_same}
-use Rattle.client_node.proofs.RowReady.{IsPlain, seen_is, newest, last_is, opened_now, closed_now, whole_now, whole_here, older_now, fit_here, steady_here, schema_spelled, scheme_is, row_readied}
+use Rattle.client_node.proofs.RowReady.{IsPlain, seen_is, newest, last_is, opened_now, closed_now, whole_now, whole_here, older_now, fit_here, steady_here, schema_spelled, row_readied}
 use Rattle.client_node.proofs.Shown.{there_shown}
-
-none_mapped : {X Y : Type 0} (o : Option X) (f : X → Y) → option_map f o ≡ None → o ≡ None
-none_mapped None f is = refl
-none_mapped (Some x) f is = absurd cc
 
 some_is : {X : Type 0} (x y : X) → Some x ≡ Some y → x ≡ y
 some_is x y is = cc
@@ -124,30 +120,6 @@ module _ (meaning : LocalName → List ℕ) (number : ℕ) (table : Option Table
           (λ name has. subst (λ (x : Option HeldShadow). Has (names_in (record { main = m; shadow = x; out = o; conflict = k })) name) (sym at)
           (has_right (names_of_main m) (names_of row.content ++ (names_of_out o ++ names_of_shadow k)) name (has_left (names_of row.content) (names_of_out o ++ names_of_shadow k) name has)))
       pick None None is at = record { are = tt; spelled = tt; once = refl; known = λ name has. absurd cc }
-
--- ---- a row that is read
-
-eventual_true : (a c : Bool) → (a || true || c) ≡ true
-eventual_true true c = refl
-eventual_true false c = refl
-
--- in an eventual table a newer row is what was read
-pub read_is : (scheme : Scheme) (slots : HeldSlots) (yours : RowYours) (x : HeldShadow) → scheme ≡ Eventual → nat_le x.version (seen_in slots.conflict slots.shadow) ≡ false → taken scheme slots yours x ≡ read_row slots (acknowledged yours slots) x
-read_is scheme slots yours x is newer =
-    ap (λ (b : Bool). if b then unchanged send.Nothing else held_placed scheme slots (acknowledged yours slots) yours x) newer
-    ∙ (ap (λ (g : Scheme). held_placed g slots (acknowledged yours slots) yours x) is
-    ∙ ap (λ (b : Bool). if b then read_row slots (acknowledged yours slots) x else in_conflict slots (acknowledged yours slots) x) (eventual_true (is_none (acknowledged yours slots).main) (is_none slots.conflict && (yours.version == x.version))))
-
-plain_append : (a b : List Tell) → AllByRecursion IsPlain a → AllByRecursion IsPlain b → AllByRecursion IsPlain (a ++ b)
-plain_append [] b x y = y
-plain_append (t ∷ a) b x y = (x.0, plain_append a b x.1 y)
-
-plain_acked : (yours : RowYours) (m : Option HeldMain) (o : Option HeldOut) → AllByRecursion IsPlain (acknowledged_out yours m o).tells
-plain_acked yours m None = tt
-plain_acked yours m (Some out) = elim (cases_Bool (nat_le out.number yours.number)) [
-  | inl is ↦ rw is (tt, tt)
-  | inr other ↦ rw other tt
-]
 
 module _ (d : ClientDevs) (c : ℕ) (pulled : PullResponse) where
   abbrev q : Pulled
@@ -293,10 +265,9 @@ module _ (d : ClientDevs) (c : ℕ) (pulled : PullResponse) where
               its = plain_plan_of c idle.stands.0 d disk (d.journal.greatest + 1) idle.stands.1 idle.rests (newest c d disk idle.stands idle.rests) planned.plan (position_plan c disk pulled.table pulled.to) is_plan o.table_is (o.last_is ∙ last_is c d disk idle.stands idle.rests) o.position_is o.new_record o.no_row refl
                   (subst (λ (l : List Tell). Say c pulled.table None l (facts.Position c pulled.table pulled.to ∷ [])) (sym o.tells) refl);
               at = record { last = omega arith; opened = subst (λ (x : Option TableDisk). IsSome x) (sym (opened_as w disk idle).1) refl };
-              last = refl;
+              few = idle.steady.few;
               tells = o.facts_are;
               sends_are = o.sends_are;
-              calm = tt;
               new_record = o.new_record;
               fit = subst (λ (r : Option RowChange). IfSome r (IsFitChange idle.stands.0 (d.journal.greatest + 1) planned.plan.brought (record_of d.held planned.plan.table))) (sym o.no_row) tt;
             }
@@ -350,19 +321,11 @@ module _ (d : ClientDevs) (c : ℕ) (pulled : PullResponse) where
             content_fit : IsFitContent (plan_meaning idle.stands.0 (d.journal.greatest + 1) held.brought) (Some found) held.content
             content_fit = new_fit idle.stands.0 (d.journal.greatest + 1) found (chunks_shown idle.stands.0 (shown_content now)) schema shown.are shown.spelled shown.once header.content held.content held.brought fit words k.against
 
-            scheme_now : found.schema.scheme ≡ Eventual
-            scheme_now = scheme_is c d disk idle.stands idle.rests pulled.table header.row found opened w idle.steady
+            puts : PutsRow found.schema.scheme now yours x (taken found.schema.scheme now yours x)
+            puts = puts_row found.schema.scheme now yours x newer
 
-            calm_now : now.conflict ≡ None
-            calm_now =
-                none_mapped now.conflict (whole_shadow idle.stands.0)
-                (ap (λ (s : Slots). s.conflict) (whole_at w disk idle) ∙ ((steady_here c d disk idle.stands idle.rests pulled.table header.row found opened w idle.steady).noted header.row).calm)
-
-            change_is : taken found.schema.scheme now yours x ≡ read_row now (acknowledged yours now) x
-            change_is = read_is found.schema.scheme now yours x scheme_now newer
-
-            behind_is : o.behind ≡ record { main = (acknowledged yours now).main; shadow = Some x; out = (acknowledged yours now).out; conflict = now.conflict }
-            behind_is = some_is o.behind (record { main = (acknowledged yours now).main; shadow = Some x; out = (acknowledged yours now).out; conflict = now.conflict }) (sym o.changes ∙ (ap (λ (y : Change). y.slots) is.change ∙ ap (λ (y : Change). y.slots) change_is))
+            behind_is : after now (taken found.schema.scheme now yours x) ≡ o.behind
+            behind_is = ap (λ (y : Option HeldSlots). unwrap_or y now) (ap (λ (y : Change). y.slots) (sym is.change) ∙ o.changes)
 
             known_names : AreKnown now (length held.brought) (tree_names_of held.content)
             known_names name has =
@@ -370,16 +333,7 @@ module _ (d : ClientDevs) (c : ℕ) (pulled : PullResponse) where
                 (k.names name (subst (λ (l : List LocalName). Has l name) (content_names held.content) has))
 
             brings : (ordinal : ℕ) → ordinal < length held.brought → Has (names_in o.behind) (brought_name ordinal)
-            brings ordinal less =
-                subst (λ (y : HeldSlots). Has (names_in y) (brought_name ordinal)) (sym behind_is)
-                (has_right (names_of_main (acknowledged yours now).main) (names_of held.content ++ (names_of_out (acknowledged yours now).out ++ names_of_shadow now.conflict)) (brought_name ordinal)
-                (has_left (names_of held.content) (names_of_out (acknowledged yours now).out ++ names_of_shadow now.conflict) (brought_name ordinal) (k.all_brought ordinal less)))
-
-            plain : AllByRecursion IsPlain (taken found.schema.scheme now yours x).tells
-            plain = subst (λ (y : Change). AllByRecursion IsPlain y.tells) (sym change_is) (plain_append (acknowledged yours now).tells (tell.New header.version ∷ []) (plain_acked yours now.main now.out) (tt, tt))
-
-            calm_behind : (whole_slots means o.behind).conflict ≡ None
-            calm_behind = ap (λ (y : HeldSlots). option_map (whole_shadow means) y.conflict) behind_is ∙ ap (option_map (whole_shadow means)) calm_now
+            brings ordinal less = subst (λ (y : HeldSlots). Has (names_in y) (brought_name ordinal)) behind_is (puts.names (brought_name ordinal) (k.all_brought ordinal less))
 
             whole_means : whole_slots means now ≡ slots_at (t w disk idle) header.row
             whole_means = whole_now c d disk idle.stands idle.rests pulled.table header.row held.brought ∙ ap (λ (y : Option TableDisk). slots_in y header.row) (opened_as w disk idle).1
@@ -397,8 +351,8 @@ module _ (d : ClientDevs) (c : ℕ) (pulled : PullResponse) where
             readied =
                 row_readied c d disk idle.stands idle.rests pulled.table header.row found opened w idle.steady found.schema.scheme (RowEvent yours x) held.brought (wide_yours, wide, content_fit) (k.lens idle.stands.0 (d.journal.greatest + 1) shown.are)
                 (known found.schema.scheme now (RowEvent yours x) (length held.brought) known_names) made is (Some pulled.to) few (next_pull c pulled.table q) planned made_of len
-                (λ ordinal less. subst (λ (y : HeldSlots). Has (names_in y) (brought_name ordinal)) same_behind (brings ordinal less)) (chunks_short found.schema.chunk held.brought schema.size k.small) placed refl refl refl plain
-                (subst (λ (y : HeldSlots). (whole_slots means y).conflict ≡ None) same_behind calm_behind) (row_plans c means disk pulled.table header.row found.schema.scheme yours x now pulled.to newer (λ e. calm_now))
+                (λ ordinal less. subst (λ (y : HeldSlots). Has (names_in y) (brought_name ordinal)) same_behind (brings ordinal less)) (chunks_short found.schema.chunk held.brought schema.size k.small) placed refl refl refl puts.plain
+                (row_plans c means disk pulled.table header.row found.schema.scheme yours x now pulled.to newer)
 
             header_same : header_of means header.row yours x ≡ h
             header_same = ap (λ (y : Content). record { row = header.row; version = header.version; yours = record { number = header.yours.number; version = header.yours.version }; content = y }) (k.whole_is idle.stands.0 (d.journal.greatest + 1) shown.are)
@@ -460,15 +414,14 @@ module _ (d : ClientDevs) (c : ℕ) (pulled : PullResponse) (found : TableRecord
     holds_now meaning = subst (λ (s : HeldSlots). AreThereIf meaning d (shown_content s) → HoldsRow found.schema.chunk (chunks_shown meaning (shown_content s)) header.content held) here (holds meaning)
 
     -- a newer row changes its slots
-    changes : (o : Option HeldSlots) → o ≡ None → (taken found.schema.scheme slots row_yours (record { version = version; content = held.content })).slots ≡ o → found.schema.scheme ≡ Eventual → {P : Type 0} → P
-    changes o none at eventual =
+    changes : (taken found.schema.scheme slots row_yours (record { version = version; content = held.content })).slots ≡ None → {P : Type 0} → P
+    changes none =
         let newer_now : nat_le version (seen_in slots.conflict slots.shadow) ≡ false = ap (λ (v : ℕ). nat_le v (seen_in slots.conflict slots.shadow)) same_version ∙ newer in
-        let some = ap (λ (y : Change). y.slots) (read_is found.schema.scheme slots row_yours (record { version = version; content = held.content }) eventual newer_now) in
-        absurd (let wrong = sym some ∙ (at ∙ none) in cc)
+        let some = (puts_row found.schema.scheme slots row_yours (record { version = version; content = held.content }) newer_now).some in
+        absurd (let wrong : IsSome {T = HeldSlots} None = subst (λ (o : Option HeldSlots). IsSome o) none some in cc)
 
-    pub placed_found : IsIdle d c → (o : Option Planned) → (o ≡ None → made.change.slots ≡ None) → IfSome o (IsOfRow c pulled.table header.row last (Some to) made sends) → Readies d c (kinds.PullResponse pulled) o
-    placed_found idle None none some =
-        changes made.change.slots (none refl) (ap (λ (y : Change). y.slots) (sym is.change)) (scheme_is c d idle.disk idle.at.stands idle.at.rests pulled.table [] found opened idle.waiting idle.at.steady)
-    placed_found idle (Some planned) none some =
+    pub placed_found : (o : Option Planned) → (o ≡ None → made.change.slots ≡ None) → IfSome o (IsOfRow c pulled.table header.row last (Some to) made sends) → Readies d c (kinds.PullResponse pulled) o
+    placed_found None none some = changes (ap (λ (y : Change). y.slots) (sym is.change) ∙ none refl)
+    placed_found (Some planned) none some =
         placed_readies d c pulled found opened header has from fit newest_row last number_is held holds_now words wide (subst (λ (y : RowYours). y.version < 2 ^ 64) same_yours wide_yours) made is_now len few known planned
         (subst (λ (n : ℕ). IsOfRow c pulled.table header.row last (Some n) made (next_pull c pulled.table (pulled_of pulled)) planned) same_to (subst (λ (l : List Send). IsOfRow c pulled.table header.row last (Some to) made l planned) sends_are some))

@@ -40,25 +40,6 @@ use Rattle.client_node.proofs.Steadies.{steady_seen}
 abbrev at : ClientDisk → Option (List ClientTask) → Client
 at disk agenda = record { disk = disk; agenda = agenda }
 
--- no row is in conflict
-none_mapped : (o : Option Shadow) → {X : Type 0} → (f : Shadow → X) → option_map f o ≡ None → o ≡ None
-none_mapped None f is = refl
-none_mapped (Some x) f is = absurd cc
-
-module _ {D : Type 0} (state : D → DiskState) where
-  abbrev st : FuseDisk D → DiskState
-  st f = behind state f
-
-  pub calm_now : (node : ClientNode D) (disk : ClientDisk) (agenda : Option (List ClientTask)) → IsClient state node (at disk agenda) → node.is_up ≡ true → (table : ℕ) (row : List ℕ) → (held_at (devs st node.devs) table row).conflict ≡ None
-  calm_now node disk agenda t is_up table row =
-      let s : StandsFor node.number (devs st node.devs) disk = stands_now state (λ (x : D) (m : ℕ) (i : List ℕ). Unit {0}) node disk agenda t is_up in
-      let h : IsSteady node.waiting (seen disk) = steady_seen node.waiting disk (steady_now state (λ (x : D) (m : ℕ) (i : List ℕ). Unit {0}) node disk agenda t) in
-      none_mapped (held_at (devs st node.devs) table row).conflict (whole_shadow s.0) (ap (λ x. x.conflict) (slots_are node.number (devs st node.devs) disk s table row) ∙ pick (table_at (seen disk) table) (h.each table))
-    where
-      pick : (o : Option TableDisk) → IfSome o (IsSteadyTable node.waiting table) → (slots_in o row).conflict ≡ None
-      pick None k = refl
-      pick (Some opened) k = (k.noted row).calm
-
 -- a move that doesn't need the link
 no_link : {X : Type 0} (up : Bool) (x y : X) → (if not up && false then x else y) ≡ y
 no_link true x y = refl
@@ -97,6 +78,12 @@ mine_same : (number : ℕ) (content : Content) (o : Option RowSum) → answer_of
 mine_same number content None = refl
 mine_same number content (Some row) = refl
 
+conflict_same : (number version : ℕ) (content : Content) (o : Option RowSum)
+    → answer_of (sums.or_whole (shown.Conflict number version content) (option_map (row_sums.Conflict number version) o)) ≡ table_sums.or_whole (facts.Contended number version content) (option_map (facts.ContendedSum number version) o)
+conflict_same number version content None = refl
+conflict_same number version content (Some row) = refl
+
 pub sum_same : (what : Shown) → answer_of (sums.sum_answer what) ≡ table_sums.sum_answer (shown_of what)
 sum_same (shown.Clean version content) = clean_same version content (sums.row_sum content)
 sum_same (shown.Mine number content) = mine_same number content (sums.row_sum content)
+sum_same (shown.Conflict number version content) = conflict_same number version content (sums.row_sum content)

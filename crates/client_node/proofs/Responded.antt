@@ -1,6 +1,6 @@
 -- What a client makes of the Store's answer to a request.
 use Rattle.std.proofs.Common.{◌≡◌, ◌⊎◌, inl, inr, ℕ, ◌+◌, ◌<◌, ◌≤◌, Bool, true, false, List, [], ◌∷◌, length, Option, Some, None, refl, sym, ◌∙◌, ap, subst, arith, eqb-true}
-use Rattle.std.specs.Prelude.{◌==◌, if◌then◌else◌, option_map, unwrap_or, IfSome, IsSome}
+use Rattle.std.specs.Prelude.{◌==◌, if◌then◌else◌, unwrap_or, is_some, IfSome, IsSome}
 use Rattle.std.specs.List.{AllByRecursion}
 use Rattle.std.proofs.lemmas.Bool.Decides.{nat_tests}
 use Rattle.table_model.specs.declared.message.Outcome.{Outcome as RowOutcome}
@@ -13,13 +13,14 @@ use Rattle.held_value.specs.declared.slots.Shadow.{Shadow as HeldShadow}
 use Rattle.held_value.specs.declared.slots.Slots.{Slots as HeldSlots}
 use Rattle.slot_store.specs.declared.held.TableRecord.{TableRecord}
 use Rattle.client_tables.specs.declared.change.Change.{Change}
+use Rattle.client_tables.specs.declared.change.Sending.{Sending}
 use Rattle.client_tables.specs.declared.change.Sending.TheVariants as send
 use Rattle.client_tables.specs.declared.plan.RowPlan.{RowPlan}
 use Rattle.client_tables.specs.Change.{after, unchanged, IsCountableOut, AreCountable}
 use Rattle.client_tables.specs.Drops.{names_in as tree_names}
 use Rattle.client_tables.specs.Kept.{Answer, SlotEvent, slots_behind}
 use Rattle.client_tables.specs.Plan.{IsPlan as IsRowPlanOf, AreKnown, names_with}
-use Rattle.client_tables.specs.Transitions.{answered, answered_out, by_outcome, accepted}
+use Rattle.client_tables.specs.Transitions.{answered, answered_out, by_outcome, accepted, refused}
 use Rattle.client_journal.specs.Devs.{ClientDevs}
 use Rattle.client_journal.specs.Names.{Has}
 use Rattle.client_journal.specs.NamedSlots.{IsAtRest}
@@ -32,28 +33,24 @@ use Rattle.step_tables.specs.declared.message.Outcome.TheVariants as outcomes
 use Rattle.step_tables.specs.declared.message.SyncResponse.{SyncResponse}
 use Rattle.step_tables.specs.Facts as facts
 use Rattle.step_tables.specs.Messages as messages
-use Rattle.step_tables.specs.ClientMoves.{TableDisk, Plan, ClientDisk, ClientStep, Slots, Shape, table_at, slots_at, slots_in, seen, begun, ignored, ack_plan, outcome_taken, response_taken, response_in}
+use Rattle.step_tables.specs.ClientMoves.{TableDisk, Plan, ClientDisk, ClientStep, Slots, Shape, table_at, slots_at, slots_in, seen, begun, ignored, ack_plan, lost_plan, outcome_taken, response_taken, response_in}
 use Rattle.step_tables.specs.Travels.{outcome_of, message_of}
 use Rattle.journal_laws.specs.Holds.{IsRecordOf}
 use Rattle.journal_laws.specs.Moves.{Plans, PlansChange, plan_meaning}
 use Rattle.journal_laws.specs.Whole.{whole_slots, whole_out, whole_shadow, SpellsAll}
-use Rattle.journal_laws.proofs.Transitions.{accept_plans, again_plans}
+use Rattle.journal_laws.proofs.Transitions.{accept_plans, again_plans, lost_plans}
 use Rattle.held_contents.specs.Holding.{brought_name}
 use Rattle.plan_limits.specs.Fit.{IsFitOutcome}
 use Rattle.plan_limits.proofs.Rows.{FitOut, each_fit}
 use Rattle.client_node.specs.declared.planning.Planned.{Planned}
 use Rattle.client_node.specs.declared.waiting.Waiting.{Waiting}
-use Rattle.client_node.specs.Answering.{outcome_in}
+use Rattle.client_node.specs.Answering.{outcome_in, asked_by}
 use Rattle.client_node.specs.Answers.{record_at, held_at}
-use Rattle.client_node.specs.Readied.{IsOfRow, IsReadied, IsIdleAt, IsIdle, Readies, taken_at}
-use Rattle.client_node.proofs.RowReady.{IsPlain, seen_is, last_is, opened_now, closed_now, whole_now, whole_here, fit_here, steady_here, held_now, row_readied}
+use Rattle.client_node.specs.Readied.{IsOfRow, IsReadied, IsIdleAt, IsIdle, Readies, SendsBack, Reacts, begins, taken_at}
+use Rattle.client_node.proofs.RowReady.{IsPlain, seen_is, last_is, opened_now, closed_now, whole_now, fit_here, row_readied}
 
 same_test : (n : ℕ) → (n == n) ≡ true
 same_test n = grind (arith, nat_tests)
-
-none_mapped : {X Y : Type 0} (o : Option X) (f : X → Y) → option_map f o ≡ None → o ≡ None
-none_mapped None f is = refl
-none_mapped (Some x) f is = absurd cc
 
 module _ (c : ℕ) (disk : ClientDisk) (means : LocalName → List ℕ) (table : ℕ) (row : List ℕ) (t : TableDisk) where
   -- the answer to the write of this number, where these are the row's slots
@@ -66,7 +63,7 @@ module _ (c : ℕ) (disk : ClientDisk) (means : LocalName → List ℕ) (table :
   step_is client number outcome shape None = refl
   step_is client number outcome shape (Some out) = refl
 
-  -- the slots of a row behind an answer: nothing changes, or this plan is begun
+  -- the slots of a row behind an answer: this plan is begun, or no slot changes, and what is asked for is sent
   pub record IsBegun (number : ℕ) (outcome : Outcome) (slots : HeldSlots) : Type 0 where
     pub p : Plan
     pub p_table : p.table ≡ table
@@ -74,13 +71,12 @@ module _ (c : ℕ) (disk : ClientDisk) (means : LocalName → List ℕ) (table :
     pub p_position : p.position ≡ None
     pub changes : IsSome (answered slots number (outcome_in outcome)).slots
     pub plain : AllByRecursion IsPlain (answered slots number (outcome_in outcome)).tells
-    pub calm : slots.conflict ≡ None → (whole_slots means (after slots (answered slots number (outcome_in outcome)))).conflict ≡ None
     pub plans : PlansChange means c row slots (answered slots number (outcome_in outcome)) p
-    pub step : (shape : Shape) → step_of number outcome shape (whole_slots means slots) (whole_slots means slots).out ≡ begun shape disk facts.Done p []
+    pub step : (shape : Shape) → step_of number outcome shape (whole_slots means slots) (whole_slots means slots).out ≡ begun shape disk facts.Done p (asked_by c table t.position (answered slots number (outcome_in outcome)).sends)
 
-  pub record IsIgnored (number : ℕ) (outcome : Outcome) (slots : HeldSlots) : Type 0 where
+  pub record IsStill (number : ℕ) (outcome : Outcome) (slots : HeldSlots) : Type 0 where
     pub still : (answered slots number (outcome_in outcome)).slots ≡ None
-    pub step : (shape : Shape) → step_of number outcome shape (whole_slots means slots) (whole_slots means slots).out ≡ ignored disk
+    pub step : (shape : Shape) → step_of number outcome shape (whole_slots means slots) (whole_slots means slots).out ≡ record (ignored disk) { sends = asked_by c table t.position (answered slots number (outcome_in outcome)).sends }
 
   module _ (m : Option HeldMain) (s : Option HeldShadow) (k : Option HeldShadow) where
     abbrev of : HeldOut → HeldSlots
@@ -107,26 +103,55 @@ module _ (c : ℕ) (disk : ClientDisk) (means : LocalName → List ℕ) (table :
         p_position = refl;
         changes = subst (λ (x : Change). IsSome x.slots) (sym is) refl;
         plain = subst (λ (x : Change). AllByRecursion IsPlain x.tells) (sym is) (tt, tt);
-        calm = λ none. subst (λ (x : Change). (whole_slots means (after (of out) x)).conflict ≡ None) (sym is) (ap (option_map (whole_shadow means)) none);
         plans = plans;
-        step = λ shape. its_step out outcome shape ∙ step shape;
+        step = λ shape. its_step out outcome shape ∙ (step shape ∙ ap (λ (x : Change). begun shape disk facts.Done acked (asked_by c table t.position x.sends)) (sym is));
       }
 
-    its : (out : HeldOut) → SpellsAll out → (outcome : Outcome) → IsBegun out.number outcome (of out) ⊎ IsIgnored out.number outcome (of out)
+    -- the write is refused for good, and what has changed is asked for
+    refused_case : (out : HeldOut) (latest : ℕ) → IsBegun out.number (outcomes.Stale latest) (of out)
+    refused_case out latest =
+        let is : answered (of out) out.number (rows.Stale latest) ≡ refused (of out) out latest = answered_is out (rows.Stale latest) in
+        record {
+          p = lost_plan c disk table row (whole_slots means (of out)) (whole_out means out) latest;
+          p_table = refl;
+          p_last = refl;
+          p_position = refl;
+          changes = subst (λ (x : Change). IsSome x.slots) (sym is) refl;
+          plain = subst (λ (x : Change). AllByRecursion IsPlain x.tells) (sym is) (tt, tt);
+          plans = lost_plans c means disk table row (of out) out refl latest;
+          step = λ shape. its_step out (outcomes.Stale latest) shape
+              ∙ ap (λ (x : Change). begun shape disk facts.Done (lost_plan c disk table row (whole_slots means (of out)) (whole_out means out) latest) (asked_by c table t.position x.sends)) (sym is);
+        }
+
+    -- no slot changes
+    still_case : (out : HeldOut) (outcome : Outcome) (sends : Sending) → by_outcome (of out) out (outcome_in outcome) ≡ unchanged sends
+        → ((shape : Shape) → outcome_taken c shape disk table row t (whole_slots means (of out)) (whole_out means out) (outcome_of outcome) ≡ record (ignored disk) { sends = asked_by c table t.position sends }) → IsStill out.number outcome (of out)
+    still_case out outcome sends by step =
+        let is : answered (of out) out.number (outcome_in outcome) ≡ unchanged sends = answered_is out (outcome_in outcome) ∙ by in
+        record {
+          still = ap (λ (x : Change). x.slots) is;
+          step = λ shape. its_step out outcome shape ∙ (step shape ∙ ap (λ (x : Change). record (ignored disk) { sends = asked_by c table t.position x.sends }) (sym is));
+        }
+
+    its : (out : HeldOut) → SpellsAll out → (outcome : Outcome) → IsBegun out.number outcome (of out) ⊎ IsStill out.number outcome (of out)
     its out all (outcomes.Accepted version) = inl (accepted_case out all version (outcomes.Accepted version) (answered_is out (rows.Accepted version)) (accept_plans c means disk table row (of out) out refl version all) (λ shape. refl))
     its out all (outcomes.Again version) = inl (accepted_case out all version (outcomes.Again version) (answered_is out (rows.Again version)) (again_plans c means disk table row (of out) out refl version all) (λ shape. refl))
-    its out all (outcomes.Late last) = inr (record { still = ap (λ (x : Change). x.slots) (answered_is out (rows.Late last)); step = λ shape. its_step out (outcomes.Late last) shape })
+    its out all (outcomes.Late last) = inr (still_case out (outcomes.Late last) send.Nothing refl (λ shape. refl))
+    its out all (outcomes.Stale latest) = inl (refused_case out latest)
+    its out all (outcomes.Conflict latest) = inr (still_case out (outcomes.Conflict latest) send.Pull refl (λ shape. refl))
 
     -- it is, or another one
-    which : (out : HeldOut) → SpellsAll out → (number : ℕ) (outcome : Outcome) (b : Bool) → (out.number == number) ≡ b → IsBegun number outcome (of out) ⊎ IsIgnored number outcome (of out)
-    which out all number outcome true is = subst (λ (n : ℕ). IsBegun n outcome (of out) ⊎ IsIgnored n outcome (of out)) (eqb-true out.number number is) (its out all outcome)
+    which : (out : HeldOut) → SpellsAll out → (number : ℕ) (outcome : Outcome) (b : Bool) → (out.number == number) ≡ b → IsBegun number outcome (of out) ⊎ IsStill number outcome (of out)
+    which out all number outcome true is = subst (λ (n : ℕ). IsBegun n outcome (of out) ⊎ IsStill n outcome (of out)) (eqb-true out.number number is) (its out all outcome)
     which out all number outcome false is = inr (record {
       still = ap (λ (b : Bool). (if b then by_outcome (of out) out (outcome_in outcome) else unchanged send.Nothing).slots) is;
-      step = λ shape. ap (λ (b : Bool). if b then outcome_taken c shape disk table row t (whole_slots means (of out)) (whole_out means out) (outcome_of outcome) else ignored disk) is;
+      step = λ shape.
+          ap (λ (b : Bool). if b then outcome_taken c shape disk table row t (whole_slots means (of out)) (whole_out means out) (outcome_of outcome) else ignored disk) is
+          ∙ ap (λ (b : Bool). record (ignored disk) { sends = asked_by c table t.position (if b then by_outcome (of out) out (outcome_in outcome) else unchanged send.Nothing).sends }) (sym is);
     })
 
     pub response_case : (o : Option HeldOut) → IfSome o SpellsAll → (number : ℕ) (outcome : Outcome)
-        → IsBegun number outcome (record { main = m; shadow = s; out = o; conflict = k }) ⊎ IsIgnored number outcome (record { main = m; shadow = s; out = o; conflict = k })
+        → IsBegun number outcome (record { main = m; shadow = s; out = o; conflict = k }) ⊎ IsStill number outcome (record { main = m; shadow = s; out = o; conflict = k })
     response_case None all number outcome = inr (record { still = refl; step = λ shape. refl })
     response_case (Some out) all number outcome = which out all number outcome (out.number == number) refl
 
@@ -143,8 +168,7 @@ module _ (d : ClientDevs) (c : ℕ) (response : SyncResponse) where
   }
 
   module _ (found : TableRecord) (opened : record_at d response.table ≡ Some found) (slots : HeldSlots) (here : slots ≡ held_at d response.table response.row) (last : ℕ) (number_is : last ≡ (redone d).last) (fit : IsFitOutcome (outcome_in response.outcome)) (made : RowPlan)
-      (is : IsRowPlanOf slots (answered slots response.number (outcome_in response.outcome)) [] made) (len : length response.row ≡ 16)
-      (known : (scheme : Scheme) (slots : HeldSlots) (event : SlotEvent) (count : ℕ) → AreKnown slots count (names_with event) → AreKnown slots count (tree_names (slots_behind scheme slots event))) where
+      (is : IsRowPlanOf slots (answered slots response.number (outcome_in response.outcome)) [] made) where
     abbrev now : HeldSlots
     now = held_at d response.table response.row
 
@@ -174,82 +198,87 @@ module _ (d : ClientDevs) (c : ℕ) (response : SyncResponse) where
       spells : IfSome now.out SpellsAll
       spells = (fit_here c d disk idle.stands idle.rests response.table response.row found opened).pieces
 
-      the_case : IsBegun c disk means response.table response.row t response.number response.outcome now ⊎ IsIgnored c disk means response.table response.row t response.number response.outcome now
+      the_case : IsBegun c disk means response.table response.row t response.number response.outcome now ⊎ IsStill c disk means response.table response.row t response.number response.outcome now
       the_case = response_case c disk means response.table response.row t now.main now.shadow now.conflict now.out spells response.number response.outcome
 
-      calm_now : now.conflict ≡ None
-      calm_now =
-          let table = steady_here c d disk idle.stands idle.rests response.table response.row found opened w idle.steady in
-          none_mapped now.conflict (whole_shadow means) (ap (λ (s : Slots). s.conflict) whole_is ∙ (table.noted response.row).calm)
+    abbrev asked : List messages.Send
+    asked = asked_by c response.table found.position made.change.sends
 
-      calm_behind : IsBegun c disk means response.table response.row t response.number response.outcome now → (planned : Planned) (o : IsOfRow c response.table response.row disk.last None made [] planned) → (whole_slots means o.behind).conflict ≡ None
-      calm_behind b planned o =
-          let some : (answered now response.number (outcome_in response.outcome)).slots ≡ Some o.behind = ap (λ (x : Change). x.slots) (sym is_now.change) ∙ o.changes in
-          subst (λ (x : HeldSlots). (whole_slots means x).conflict ≡ None) (ap (λ (x : Option HeldSlots). unwrap_or x now) some) (b.calm calm_now)
+    -- what is asked for, from the position that the disk has
+    asked_is : (w : Waiting) (disk : ClientDisk) (idle : IsIdleAt d c w disk) → asked_by c response.table (t w disk idle).position (answered now response.number (outcome_in response.outcome)).sends ≡ asked
+    asked_is w disk idle =
+        ap (λ (x : Change). asked_by c response.table (t w disk idle).position x.sends) (sym is_now.change)
+        ∙ ap (λ (n : ℕ). asked_by c response.table n made.change.sends) (sym (opened_now c d disk idle.stands idle.rests response.table found opened).2.position)
 
-    pub none_readies : made.change.slots ≡ None → Readies d c (kinds.SyncResponse response) None
-    none_readies none = record {
-      none = λ _ w disk shape idle fits. taken_is w disk idle shape ∙ pick w disk idle shape (the_case w disk idle);
-      some = tt;
+    pub still_reacts : made.change.slots ≡ None → SendsBack d c (kinds.SyncResponse response) asked
+    still_reacts none = record {
+      fits = λ disk. tt;
+      step = λ w disk shape idle. taken_is w disk idle shape ∙ pick w disk idle shape (the_case w disk idle);
     }
       where
         pick : (w : Waiting) (disk : ClientDisk) (idle : IsIdleAt d c w disk) (shape : Shape)
-            → IsBegun c disk (means w disk idle) response.table response.row (t w disk idle) response.number response.outcome now ⊎ IsIgnored c disk (means w disk idle) response.table response.row (t w disk idle) response.number response.outcome now
-            → step_of c disk (means w disk idle) response.table response.row (t w disk idle) response.number response.outcome shape (whole_slots (means w disk idle) now) (whole_slots (means w disk idle) now).out ≡ ignored disk
+            → IsBegun c disk (means w disk idle) response.table response.row (t w disk idle) response.number response.outcome now ⊎ IsStill c disk (means w disk idle) response.table response.row (t w disk idle) response.number response.outcome now
+            → step_of c disk (means w disk idle) response.table response.row (t w disk idle) response.number response.outcome shape (whole_slots (means w disk idle) now) (whole_slots (means w disk idle) now).out ≡ record (ignored disk) { sends = asked }
         pick w disk idle shape (inl b) = let no : (answered now response.number (outcome_in response.outcome)).slots ≡ None = ap (λ (x : Change). x.slots) (sym is_now.change) ∙ none in let wrong : IsSome {T = HeldSlots} None = subst (λ (o : Option HeldSlots). IsSome o) no b.changes in absurd cc
-        pick w disk idle shape (inr i) = i.step shape
+        pick w disk idle shape (inr i) = i.step shape ∙ ap (λ (l : List messages.Send). record (ignored disk) { sends = l }) (asked_is w disk idle)
 
-    pub some_readies : (planned : Planned) → IsOfRow c response.table response.row last None made [] planned → Readies d c (kinds.SyncResponse response) (Some planned)
-    some_readies planned o = record {
+    pub begun_reacts : length response.row ≡ 16
+        → ((scheme : Scheme) (slots : HeldSlots) (event : SlotEvent) (count : ℕ) → AreKnown slots count (names_with event) → AreKnown slots count (tree_names (slots_behind scheme slots event)))
+        → (planned : Planned) → IsOfRow c response.table response.row last None made asked planned → Readies d c (kinds.SyncResponse response) (Some planned)
+    begun_reacts len known planned o = record {
       none = λ no. absurd cc;
       some = λ w disk idle. let its = its_plan w disk idle (the_case w disk idle) in (tt, its.0, its.1, its.2, its.3);
     }
       where
         its_plan : (w : Waiting) (disk : ClientDisk) (idle : IsIdleAt d c w disk)
-            → IsBegun c disk (means w disk idle) response.table response.row (t w disk idle) response.number response.outcome now ⊎ IsIgnored c disk (means w disk idle) response.table response.row (t w disk idle) response.number response.outcome now
+            → IsBegun c disk (means w disk idle) response.table response.row (t w disk idle) response.number response.outcome now ⊎ IsStill c disk (means w disk idle) response.table response.row (t w disk idle) response.number response.outcome now
             → (p : Plan) × (sends : List messages.Send) × IsReadied d c idle.stands.0 disk planned p sends × ((shape : Shape) → taken_at c (kinds.SyncResponse response) shape disk ≡ begun shape disk facts.Done p sends)
         its_plan w disk idle (inl b) =
             let last_now : last ≡ disk.last = number_is ∙ last_is c d disk idle.stands idle.rests in
-            let made_of : IsOfRow c response.table response.row disk.last None made [] planned = subst (λ (n : ℕ). IsOfRow c response.table response.row n None made [] planned) last_now o in
+            let made_of : IsOfRow c response.table response.row disk.last None made asked planned = subst (λ (n : ℕ). IsOfRow c response.table response.row n None made asked planned) last_now o in
             let event : SlotEvent = Answer response.number (outcome_in response.outcome) in (
               b.p,
-              [],
-              row_readied c d disk idle.stands idle.rests response.table response.row found opened w idle.steady Eventual event [] fit tt (known Eventual now event 0 (λ name has. absurd cc)) made is_now None tt [] planned made_of len (λ ordinal less. absurd (omega (arith, less))) tt b.p
-                  b.p_table b.p_last b.p_position b.plain
-                  (calm_behind w disk idle b planned made_of) b.plans,
-              λ shape. taken_is w disk idle shape ∙ b.step shape,
+              asked,
+              row_readied c d disk idle.stands idle.rests response.table response.row found opened w idle.steady Eventual event [] fit tt (known Eventual now event 0 (λ name has. absurd cc)) made is_now None tt asked planned made_of len (λ ordinal less. absurd (omega (arith, less))) tt b.p
+                  b.p_table b.p_last b.p_position b.plain b.plans,
+              λ shape. taken_is w disk idle shape ∙ (b.step shape ∙ ap (λ (l : List messages.Send). begun shape disk facts.Done b.p l) (asked_is w disk idle)),
             )
         its_plan w disk idle (inr i) = let no : None ≡ Some o.behind = sym i.still ∙ (ap (λ (x : Change). x.slots) (sym is_now.change) ∙ o.changes) in absurd cc
 
 -- ---- an answer to a row of an opened table
 
-some_there : {X : Type 0} (o : Option X) → IsSome o → (x : X) × (o ≡ Some x)
-some_there None is = absurd cc
-some_there (Some x) is = (x, refl)
+none_is : {X : Type 0} (o : Option X) → is_some o ≡ false → o ≡ None
+none_is None is = refl
+none_is (Some x) is = absurd cc
+
+some_is : {X : Type 0} (o : Option X) → is_some o ≡ true → o ≡ None → ⊥
+some_is None is none = cc
+some_is (Some x) is none = cc
 
 module _ (d : ClientDevs) (c : ℕ) where
   countable_out : (meaning : LocalName → List ℕ) (table : Option TableRecord) (o : Option HeldOut) → IfSome o (FitOut meaning table) → IsCountableOut o
   countable_out meaning table None fit = tt
   countable_out meaning table (Some out) fit = fit.4.spelled.0
 
-  pub countable_now : IsIdle d c → (table : ℕ) (row : List ℕ) → IsSome (record_at d table) → (slots : HeldSlots) → slots ≡ held_at d table row → AreCountable slots
-  countable_now idle table row opened slots here =
-      let found = some_there (record_at d table) opened in
-      let fit = fit_here c d idle.disk idle.at.stands idle.at.rests table row found.0 found.1 in
-      subst AreCountable (sym here) (countable_out idle.at.stands.0 (Some found.0) (held_at d table row).out (each_fit idle.at.stands.0 (Some found.0) (held_at d table row) fit).out)
+  pub countable_now : IsIdle d c → (table : ℕ) (row : List ℕ) (found : TableRecord) → record_at d table ≡ Some found → (slots : HeldSlots) → slots ≡ held_at d table row → AreCountable slots
+  countable_now idle table row found opened slots here =
+      let fit = fit_here c d idle.disk idle.at.stands idle.at.rests table row found opened in
+      subst AreCountable (sym here) (countable_out idle.at.stands.0 (Some found) (held_at d table row).out (each_fit idle.at.stands.0 (Some found) (held_at d table row) fit).out)
 
-  pub row_readies : (response : SyncResponse) → IsSome (record_at d response.table) → (slots : HeldSlots) → slots ≡ held_at d response.table response.row → (last : ℕ) → last ≡ (redone d).last → (outcome : RowOutcome) → outcome ≡ outcome_in response.outcome → IsFitOutcome outcome
-      → (made : RowPlan) → IsRowPlanOf slots (answered slots response.number outcome) [] made → length response.row ≡ 16
-      → ((scheme : Scheme) (slots : HeldSlots) (event : SlotEvent) (count : ℕ) → AreKnown slots count (names_with event) → AreKnown slots count (tree_names (slots_behind scheme slots event)))
-      → (sends : List messages.Send) → sends ≡ [] → (o : Option Planned) → (o ≡ None → made.change.slots ≡ None) → IfSome o (IsOfRow c response.table response.row last None made sends) → Readies d c (kinds.SyncResponse response) o
-  row_readies response opened slots here last number_is outcome same fit made is len known sends no_sends o none some =
-      let found = some_there (record_at d response.table) opened in
-      let fits : IsFitOutcome (outcome_in response.outcome) = subst IsFitOutcome same fit in
-      let made_of : IsRowPlanOf slots (answered slots response.number (outcome_in response.outcome)) [] made = subst (λ (x : RowOutcome). IsRowPlanOf slots (answered slots response.number x) [] made) same is in
-      pick found.0 found.1 fits made_of o none some
-    where
-      pick : (found : TableRecord) → record_at d response.table ≡ Some found → IsFitOutcome (outcome_in response.outcome) → IsRowPlanOf slots (answered slots response.number (outcome_in response.outcome)) [] made → (o : Option Planned) → (o ≡ None → made.change.slots ≡ None)
-          → IfSome o (IsOfRow c response.table response.row last None made sends) → Readies d c (kinds.SyncResponse response) o
-      pick found at fits made_of None none some = none_readies d c response found at slots here last number_is fits made made_of len known (none refl)
-      pick found at fits made_of (Some planned) none some =
-          some_readies d c response found at slots here last number_is fits made made_of len known planned (subst (λ (l : List messages.Send). IsOfRow c response.table response.row last None made l planned) no_sends some)
+  module _ (response : SyncResponse) (found : TableRecord) (opened : record_at d response.table ≡ Some found) (slots : HeldSlots) (here : slots ≡ held_at d response.table response.row) (last : ℕ) (number_is : last ≡ (redone d).last) (outcome : RowOutcome) (same : outcome ≡ outcome_in response.outcome) (fit : IsFitOutcome outcome)
+      (made : RowPlan) (is : IsRowPlanOf slots (answered slots response.number outcome) [] made) where
+    fits : IsFitOutcome (outcome_in response.outcome)
+    fits = subst IsFitOutcome same fit
+
+    made_of : IsRowPlanOf slots (answered slots response.number (outcome_in response.outcome)) [] made
+    made_of = subst (λ (x : RowOutcome). IsRowPlanOf slots (answered slots response.number x) [] made) same is
+
+    pub row_still : (sends : List messages.Send) → sends ≡ asked_by c response.table found.position made.change.sends → is_some made.change.slots ≡ false → SendsBack d c (kinds.SyncResponse response) sends
+    row_still sends sends_are none = subst (λ (l : List messages.Send). SendsBack d c (kinds.SyncResponse response) l) (sym sends_are) (still_reacts d c response found opened slots here last number_is fits made made_of (none_is made.change.slots none))
+
+    pub row_reacts : length response.row ≡ 16 → ((scheme : Scheme) (slots : HeldSlots) (event : SlotEvent) (count : ℕ) → AreKnown slots count (names_with event) → AreKnown slots count (tree_names (slots_behind scheme slots event)))
+        → (sends : List messages.Send) → sends ≡ asked_by c response.table found.position made.change.sends → is_some made.change.slots ≡ true → (o : Option Planned) → (o ≡ None → made.change.slots ≡ None) → IfSome o (IsOfRow c response.table response.row last None made sends)
+        → Reacts d c (kinds.SyncResponse response) (begins o)
+    row_reacts len known sends sends_are changes None none some = absurd (some_is made.change.slots changes (none refl))
+    row_reacts len known sends sends_are changes (Some planned) none some =
+        begun_reacts d c response found opened slots here last number_is fits made made_of len known planned (subst (λ (l : List messages.Send). IsOfRow c response.table response.row last None made l planned) sends_are some)

@@ -33,7 +33,8 @@ use Rattle.journal_laws.proofs.Starts.{start_follows}
 use Rattle.gathering.specs.declared.gathered.Gathered.{Gathered}
 use Rattle.gathering.specs.Room.{HasRoom}
 use Rattle.client_node.specs.Due.{told_at, left_at, sent_at}
-use Rattle.client_node.specs.Steady.{IsSteadyPlan, AreSteady}
+use Rattle.client_node.specs.Steady.{IsSteadyPlan, IsSteady, AreSteady}
+use Rattle.client_node.specs.Waiting.{AreAllNoted}
 use Rattle.client_node.specs.declared.waiting.Waiting.{Waiting}
 use Rattle.client_node.specs.declared.fault.CallFault.{CallFault}
 use Rattle.client_node.specs.declared.fault.CallFault.TheVariants as call
@@ -51,6 +52,7 @@ use Rattle.client_node.proofs.Retelling.{ok_only}
 use Rattle.client_node.proofs.Asked.{stands_now}
 use Rattle.client_node.proofs.Falling.{MayHold, fallen, fallen_leaves}
 use Rattle.client_node.proofs.Fitting.{start_stays_fit}
+use Rattle.client_node.proofs.HeldNoted.{steady_held}
 use Rattle.client_node.proofs.Owing.{AreQuiet, OwedTasks, is_last_task, owed_by, none_told, none_left, keeps_quiet, row_quiet, table_quiet}
 use Rattle.client_node.proofs.Planned.{steady_keeps, steady_append, steady_row, steady_table}
 use Rattle.client_node.proofs.OwnFaults.{own_kept, own_failed}
@@ -172,9 +174,13 @@ module _ {D : Type 0} (state : D → DiskState) (images : D → ℕ → List ℕ
     left_here client l = all_same st im only_now old.devs client l.chunks l.slots l.journal
 
     module _ (client : Journal (FuseDisk D)) (owed : Owed) (more : Gathered Told) (k : BeginsStart {T = Owed} st im old.devs client (Ok owed)) (owes : OwesEnd old.number owed) (room : HasRoom more 1) (quiet : told_by old ≡ [])
-        (told : (meaning : LocalName → List ℕ) (e : ClientDisk) → Stands old.number meaning here e → map fact_of more.items.items ≡ told_at_start old.number (torn_in state old) e.plan) where
+        (told : (meaning : LocalName → List ℕ) (e : ClientDisk) → Stands old.number meaning here e → map fact_of more.items.items ≡ told_at_start old.number (torn_in state old) e.plan)
+        (w : Waiting) (noted : AreAllNoted here w) where
       abbrev new : ClientNode D
-      new = record old { devs = client; owed = owed; facts = more; is_up = true }
+      new = record old { devs = client; owed = owed; facts = more; waiting = w; is_up = true }
+
+      steady : IsSteady w disk
+      steady = steady_held old.number stands.0 here disk stands.1 r.steady.0 r.steady.1 w noted
 
       abbrev shape : Shape
       shape = start_shape (torn_in state old) k.writes.0
@@ -199,8 +205,8 @@ module _ {D : Type 0} (state : D → DiskState) (images : D → ℕ → List ℕ
         ready = k.ready;
         follows = (stands.0, follows, start_stays_fit stands.0 (redone here) stands.2 (devs st client) (writes_of client) runs);
         rests = redone_end stands.0 (redone here) (devs st client) (writes_of client) runs;
-        steady = r.steady;
-        tasks_steady = ending_steady old.waiting last (opening shape disk.plan) (opening_steady old.waiting shape disk.plan r.steady.plan);
+        steady = steady;
+        tasks_steady = ending_steady w last (opening shape disk.plan) (opening_steady w shape disk.plan steady.plan);
         owed =
             let o : AreOwed AtEnd last [] (writes_of client) tasks = owed_by old.number stands.0 (devs st client) (writes_of client) disk tasks follows AtEnd last [] (ending_owed last (opening shape disk.plan) (opening_quiet shape disk.plan)) in
             rw (owes.when, owes.facts, owes.messages) o;
@@ -235,13 +241,13 @@ module _ {D : Type 0} (state : D → DiskState) (images : D → ℕ → List ℕ
     pub start_failed : (mid new : ClientNode D) (e : CallFault) → BeginsStart {T = Owed} st im old.devs mid.devs (Err e) → Falls state images mid new → IsKept old new → new.is_up ≡ false → Starts state images (at disk agenda) old new (Err e)
     start_failed mid new e k falls kept is_down =
         let is_declared : new.is_declared ≡ true = kept.declared ∙ declared in
-        let may : MayHold old.number old.waiting here here disk disk = record { first = stands; second = stands; first_steady = r.steady; second_steady = r.steady } in
+        let may : MayHold old.number r.steady.0 here here disk disk = record { first = stands; second = stands; first_steady = r.steady.1; second_steady = r.steady.1 } in
         let run : DevsLeave st im old.devs mid.devs (IsEither here here) = devs_weaker st im old.devs mid.devs (λ d. d ≡ here) (IsEither here here) (left_here mid.devs k.leave) (λ d same. inl same) in
         record {
           started = tt;
           refused = record {
             client = subst (λ (a : Option (List ClientTask)). IsClient state new (at disk a)) (sym (rests_down old disk agenda t down).0)
-                (⊎_elim (λ c. c) (λ c. c) (fallen state images old mid new kept.same old.waiting kept.waiting is_declared is_down falls old.devs here here disk disk may run));
+                (⊎_elim (λ c. c) (λ c. c) (fallen state images old mid new kept.same r.steady.0 is_declared is_down falls old.devs here here disk disk may run));
             told = kept.told;
             sent = kept.sent;
             same = kept.same;
@@ -249,7 +255,7 @@ module _ {D : Type 0} (state : D → DiskState) (images : D → ℕ → List ℕ
           counted = λ n. falls.counted ∙ own_kept state old mid r.fresh k.cause.fuse (k.cause.counted (λ is. n (as_err {T = Unit {0}} e call.Disk (of_err {T = Owed} e call.Disk is))));
           cause = λ is. let less = own_failed state old mid r.fresh k.cause.fuse (k.cause.disk (as_err {T = Owed} e call.Disk (of_err {T = Unit {0}} e call.Disk is))) in let same = falls.counted in omega (arith, less, same);
           only = k.cause.only;
-          any_moment = λ _. fallen_leaves state images old mid new kept.same old.waiting kept.waiting is_declared is_down falls old.devs here here disk disk may run;
+          any_moment = λ _. fallen_leaves state images old mid new kept.same r.steady.0 is_declared is_down falls old.devs here here disk disk may run;
           plans = λ n below. plans_lost state n old new (λ _. declared) (⊎_elim (λ c. c) (λ c. c) (falls.left old.devs here here run).0) falls.idle below;
         }
 

@@ -39,7 +39,7 @@ module _ {D : Type 0} (state : D → DiskState) where
       → (disk : ClientDisk) (agenda : Option (List ClientTask)) → IsClient state node (at disk agenda) → IsClient state (record node { facts = facts; messages = messages }) (at disk agenda)
   taken_out node facts messages fr mr disk None t =
       let r = t.at.1 in
-      record { at = (t.at.0, record { up = r.up; fresh = r.fresh; idle = r.idle; synced = r.synced; sound = r.sound; stands = r.stands; undeclared = r.undeclared; opens = r.opens; steady = r.steady }) }
+      record { at = (t.at.0, record { up = r.up; fresh = r.fresh; idle = r.idle; synced = r.synced; sound = r.sound; stands = r.stands; undeclared = r.undeclared; opens = r.opens; waiting = r.waiting; steady = r.steady; phaseless = r.phaseless }) }
   taken_out node facts messages fr mr disk (Some tasks) t =
       let h = t.at.1 in
       record {

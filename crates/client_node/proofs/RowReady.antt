@@ -7,7 +7,6 @@ use Rattle.disk_trait.specs.Calls.{DiskState}
 use Rattle.stab_base.specs.declared.limits.TheConstants.{NUMBER_MAX}
 use Rattle.row_value.specs.declared.schema.Schema.{Schema}
 use Rattle.row_value.specs.declared.schema.Scheme.{Scheme}
-use Rattle.row_value.specs.declared.schema.Scheme.TheVariants.{Eventual}
 use Rattle.value_codec.specs.SchemaSpelling.{HasSchemaSpelling}
 use Rattle.field_codec.specs.Forms.{IsOption}
 use Rattle.held_value.specs.declared.local_name.LocalName.{LocalName}
@@ -38,9 +37,10 @@ use Rattle.client_journal.specs.Redone.{redone}
 use Rattle.client_journal.specs.Standing.{devs}
 use Rattle.step_tables.specs.Facts.{Fact, ClientFact}
 use Rattle.step_tables.specs.Facts as facts
-use Rattle.step_tables.specs.Messages.{Send}
 use Rattle.step_tables.specs.ClientMoves.{TableDisk, RowPut, Plan, ClientDisk, Slots, table_at, slots_at, slots_in, seen, planned_in, told}
 use Rattle.step_tables.specs.Lines.{fact_of}
+use Rattle.step_tables.specs.Messages.{Send}
+use Rattle.step_tables.specs.Travels.{send_of}
 use Rattle.journal_laws.specs.Holds.{Stands, StandsPlan, StandsTable, IsRecordOf, IsPlanOf, IsPlanAt, Say, slots_or_empty, empty, fact_in, fact_alone}
 use Rattle.journal_laws.specs.Moves.{Plans, PlansChange, HoldsEvent, plan_meaning}
 use Rattle.journal_laws.specs.Whole.{whole_slots, AreHeld}
@@ -58,7 +58,7 @@ use Rattle.client_node.specs.declared.waiting.Waiting.{Waiting}
 use Rattle.client_node.specs.Answers.{record_at, held_at}
 use Rattle.client_node.specs.Begins.{next_number}
 use Rattle.client_node.specs.Node.{StandsFor}
-use Rattle.client_node.specs.Readied.{IsOfRow, IsReadied, IsIdleAt, IsIdle}
+use Rattle.client_node.specs.Readied.{IsPlanFor, IsOfRow, IsReadied, IsIdleAt, IsIdle}
 use Rattle.client_node.specs.Tells.{told_fact, facts_told, with_position}
 use Rattle.client_node.specs.Steady.{IsSteady, IsSteadyTable}
 use Rattle.client_node.proofs.RowPlans.{redone_rests, names_same, rising_different, row_plan_is, IsLimited}
@@ -135,8 +135,11 @@ module _ (c : ℕ) (d : ClientDevs) (disk : ClientDisk) (s : StandsFor c d disk)
   pub as_held : redone d ≡ d.held
   as_held = redone_rests d.journal.at_work d.held rest.not_committed
 
+  pub plan_none : disk.plan ≡ None
+  plan_none = no_plan meaning c disk d.journal.at_work disk.plan rest.not_committed s.1.plan
+
   pub seen_is : seen disk ≡ disk
-  seen_is = ap (planned_in disk) (no_plan meaning c disk d.journal.at_work disk.plan rest.not_committed s.1.plan)
+  seen_is = ap (planned_in disk) plan_none
 
   pub newest : d.journal.greatest < number
   newest = omega arith
@@ -207,13 +210,10 @@ module _ (c : ℕ) (d : ClientDevs) (disk : ClientDisk) (s : StandsFor c d disk)
         pub schema_spelled : HasSchemaSpelling found.schema
         schema_spelled = subst (λ (x : Schema). HasSchemaSpelling x) (sym opened_as.2.schema) steady_here.spelled
 
-        pub scheme_is : found.schema.scheme ≡ Eventual
-        scheme_is = ap (λ (x : Schema). x.scheme) opened_as.2.schema ∙ steady_here.eventual
-
         -- a prepared plan of an event
         module _ (scheme : Scheme) (event : SlotEvent) (given : List (List ℕ)) (fits : IsFitEvent (plan_meaning meaning number given) (Some found) slots event) (holds : HoldsEvent (plan_meaning meaning number given) slots event)
-            (known : AreKnown slots (length given) (tree_names (slots_behind scheme slots event))) (made : RowPlan) (is : IsRowPlanOf slots (change_of scheme slots event) given made) (position : Option ℕ) (place : IsOption IsPosition position) (sends : List Send) (planned : Planned)
-            (o : IsOfRow c table row disk.last position made sends planned) (len : length row ≡ 16) (brings : (ordinal : ℕ) → ordinal < length given → Has (names_in o.behind) (brought_name ordinal)) (small : AllByRecursion (λ bytes. length bytes ≤ chunk_most) given) where
+            (known : AreKnown slots (length given) (tree_names (slots_behind scheme slots event))) (made : RowPlan) (is : IsRowPlanOf slots (change_of scheme slots event) given made) (position : Option ℕ) (place : IsOption IsPosition position) (last : ℕ) (least : disk.last ≤ last) (most : last ≤ NUMBER_MAX) (planned : Planned)
+            (o : IsPlanFor table row last position made planned.plan) (len : length row ≡ 16) (brings : (ordinal : ℕ) → ordinal < length given → Has (names_in o.behind) (brought_name ordinal)) (small : AllByRecursion (λ bytes. length bytes ≤ chunk_most) given) where
           abbrev behind : HeldSlots
           behind = o.behind
 
@@ -261,7 +261,7 @@ module _ (c : ℕ) (d : ClientDevs) (disk : ClientDisk) (s : StandsFor c d disk)
           is_row_plan : IsRowPlan row slots behind planned.plan
           is_row_plan = record {
             table = subst IsTable (sym o.table_is) steady_here.numbered;
-            last = subst (λ (n : ℕ). n ≤ NUMBER_MAX) (sym o.last_is) steady.few;
+            last = subst (λ (n : ℕ). n ≤ NUMBER_MAX) (sym o.last_is) most;
             id = len;
             row = o.row_is;
             position = subst (λ (x : Option ℕ). IsOption IsPosition x) (sym o.position_is) place;
@@ -294,7 +294,7 @@ module _ (c : ℕ) (d : ClientDevs) (disk : ClientDisk) (s : StandsFor c d disk)
             names = λ name has. ⊎_elim (λ was. (older_now name (subst (λ (l : List LocalName). Has l name) (names_same slots) was)).1) (λ new. let zero = new.0 in omega (arith, zero)) (known_behind name (subst (λ (l : List LocalName). Has l name) (sym (names_same behind)) has));
           }
 
-          module _ (p : Plan) (p_table : p.table ≡ table) (p_last : p.last ≡ disk.last) (p_position : p.position ≡ position) (plain : AllByRecursion IsPlain change.tells) (calm : (whole_slots (plan_meaning meaning number given) behind).conflict ≡ None)
+          module _ (p : Plan) (p_table : p.table ≡ table) (p_last : p.last ≡ last) (p_position : p.position ≡ position)
               (plans : Plans (plan_meaning meaning number given) c row (after slots change) (with_position change.tells position) p) where
             tells_are : planned.plan.tells ≡ with_position change.tells position
             tells_are = o.tells ∙ ap (λ (x : Change). with_position x.tells position) is.change
@@ -316,18 +316,18 @@ module _ (c : ℕ) (d : ClientDevs) (disk : ClientDisk) (s : StandsFor c d disk)
             put_is : p.row ≡ Some (record { row = row; slots = whole_slots (plan_meaning meaning number given) behind })
             put_is = plans.put ∙ ap (λ (x : HeldSlots). Some (record { row = row; slots = whole_slots (plan_meaning meaning number given) x })) behind_is
 
-            says : Say c table (Some (record { row = row; slots = whole_slots (plan_meaning meaning number given) behind })) (with_position change.tells position) p.facts
+            pub says : Say c table (Some (record { row = row; slots = whole_slots (plan_meaning meaning number given) behind })) (with_position change.tells position) p.facts
             says = subst (λ (x : Option RowPut). Say c table x (with_position change.tells position) p.facts) put_is (subst (λ (n : ℕ). Say c n p.row (with_position change.tells position) p.facts) p_table plans.tells)
 
-            pub row_readied : IsReadied d c meaning disk planned p sends
-            row_readied = record {
+            -- what it tells and sends
+            pub event_readied : map fact_of planned.facts.items ≡ told p → (sends : List Send) → map send_of planned.messages.items ≡ sends → IsReadied d c meaning disk planned p sends
+            event_readied tells sends sends_are = record {
               taken = is_plan;
               its = its;
-              at = record { last = subst (λ (n : ℕ). disk.last ≤ n) (sym p_last) (omega arith); opened = subst (λ (n : ℕ). is_opened n) (sym p_table) opened_some };
-              last = p_last;
-              tells = o.facts_are ∙ (ap (λ (x : Change). facts_told c table row (with_position x.tells position)) is.change ∙ all_told c table (record { row = row; slots = whole_slots (plan_meaning meaning number given) behind }) (with_position change.tells position) p.facts (plain_position change.tells position plain) says);
-              sends_are = o.sends_are;
-              calm = subst (λ (x : Option RowPut). IfSome x (λ put. put.slots.conflict ≡ None)) (sym put_is) calm;
+              at = record { last = subst (λ (n : ℕ). disk.last ≤ n) (sym p_last) least; opened = subst (λ (n : ℕ). is_opened n) (sym p_table) opened_some };
+              few = subst (λ (n : ℕ). n ≤ NUMBER_MAX) (sym p_last) most;
+              tells = tells;
+              sends_are = sends_are;
               new_record = o.new_record;
               fit = subst (λ (r : Option RowChange). IfSome r (IsFitChange meaning number planned.plan.brought (record_of d.held planned.plan.table))) (sym o.row_is) fit_change;
             }
@@ -337,3 +337,31 @@ module _ (c : ℕ) (d : ClientDevs) (disk : ClientDisk) (s : StandsFor c d disk)
 
                 opened_some : IsSome (table_at disk table)
                 opened_some = subst (λ (x : Option TableDisk). IsSome x) (sym opened_as.1) refl
+
+        -- one of an event that tells no write, under the number that is the last
+        module _ (scheme : Scheme) (event : SlotEvent) (given : List (List ℕ)) (fits : IsFitEvent (plan_meaning meaning number given) (Some found) slots event) (holds : HoldsEvent (plan_meaning meaning number given) slots event)
+            (known : AreKnown slots (length given) (tree_names (slots_behind scheme slots event))) (made : RowPlan) (is : IsRowPlanOf slots (change_of scheme slots event) given made) (position : Option ℕ) (place : IsOption IsPosition position) (sends : List Send) (planned : Planned)
+            (o : IsOfRow c table row disk.last position made sends planned) (len : length row ≡ 16) (brings : (ordinal : ℕ) → ordinal < length given → Has (names_in o.behind) (brought_name ordinal)) (small : AllByRecursion (λ bytes. length bytes ≤ chunk_most) given)
+            (p : Plan) (p_table : p.table ≡ table) (p_last : p.last ≡ disk.last) (p_position : p.position ≡ position) (plain : AllByRecursion IsPlain (change_of scheme slots event).tells)
+            (plans : Plans (plan_meaning meaning number given) c row (after slots (change_of scheme slots event)) (with_position (change_of scheme slots event).tells position) p) where
+          abbrev plan_for : IsPlanFor table row disk.last position made planned.plan
+          plan_for = record {
+            behind = o.behind;
+            changes = o.changes;
+            table_is = o.table_is;
+            last_is = o.last_is;
+            row_is = o.row_is;
+            position_is = o.position_is;
+            new_record = o.new_record;
+            brought = o.brought;
+            drops = o.drops;
+            tells = o.tells;
+          }
+
+          pub row_readied : IsReadied d c meaning disk planned p sends
+          row_readied =
+              let told_are = says scheme event given fits holds known made is position place disk.last (omega arith) steady.few planned plan_for len brings small p p_table p_last p_position plans in
+              event_readied scheme event given fits holds known made is position place disk.last (omega arith) steady.few planned plan_for len brings small p p_table p_last p_position plans
+              (o.facts_are ∙ (ap (λ (x : Change). facts_told c table row (with_position x.tells position)) is.change
+              ∙ all_told c table (record { row = row; slots = whole_slots (plan_meaning meaning number given) o.behind }) (with_position (change_of scheme slots event).tells position) p.facts (plain_position (change_of scheme slots event).tells position plain) told_are))
+              sends o.sends_are

@@ -120,14 +120,6 @@ plain_sent : (slots : HeldSlots) (pieces : List Piece) (o : Option HeldMain) →
 plain_sent slots pieces None = tt
 plain_sent slots pieces (Some main) = tt
 
-calm_sent : (slots : HeldSlots) (pieces : List Piece) (o : Option HeldMain) → slots.conflict ≡ None → (after slots (sent_main slots pieces o)).conflict ≡ None
-calm_sent slots pieces None calm = calm
-calm_sent slots pieces (Some main) calm = calm
-
-none_mapped : {X Y : Type 0} (o : Option X) (f : X → Y) → option_map f o ≡ None → o ≡ None
-none_mapped None f is = refl
-none_mapped (Some x) f is = absurd cc
-
 some_is : {X : Type 0} (x y : X) → Some x ≡ Some y → x ≡ y
 some_is x y is = cc
 
@@ -164,18 +156,6 @@ module _ (d : ClientDevs) (c table : ℕ) (row : List ℕ) (found : TableRecord)
       whole_is : whole_slots means now ≡ slots_in (table_at disk table) row
       whole_is = whole_now c d disk idle.stands idle.rests table row []
 
-      calm_now : now.conflict ≡ None
-      calm_now =
-          let t = opened_now c d disk idle.stands idle.rests table found opened in
-          let steady = steady_here c d disk idle.stands idle.rests table row found opened w idle.steady in
-          none_mapped now.conflict (whole_shadow means) (ap (λ (s : Slots). s.conflict) (whole_is ∙ ap (λ (x : Option TableDisk). slots_in x row) t.1) ∙ (steady.noted row).calm)
-
-      behind_calm : (whole_slots means o.behind).conflict ≡ None
-      behind_calm =
-          let some : (sent now pieces).slots ≡ Some o.behind = ap (λ (x : Change). x.slots) (sym is.change) ∙ o.changes in
-          let calm : o.behind.conflict ≡ None = subst (λ (x : HeldSlots). x.conflict ≡ None) (ap (λ (x : Option HeldSlots). unwrap_or x now) some) (calm_sent now pieces now.main calm_now) in
-          ap (option_map (whole_shadow means)) calm
-
       event_fits : IfSome now.main (λ main. AreFitPieces main.content pieces)
       event_fits = subst (λ (o : Option HeldMain). IfSome o (λ main. AreFitPieces main.content pieces)) (sym main_is) pieces_fit
 
@@ -190,12 +170,7 @@ module _ (d : ClientDevs) (c table : ℕ) (row : List ℕ) (found : TableRecord)
           let made_of : IsOfRow c table row disk.last None made (request ∷ []) planned = subst (λ (n : ℕ). IsOfRow c table row n None made (request ∷ []) planned) last_now o in
           row_readied c d disk idle.stands idle.rests table row found opened w idle.steady Eventual (SendEvent pieces) [] event_fits event_holds (known Eventual now (SendEvent pieces) 0 (λ name has. absurd cc)) made is None tt (request ∷ []) planned made_of len
           (λ ordinal less. absurd (omega (arith, less))) tt (send_plan disk table (record { row = row; slots = whole_slots means now; out = out })) refl refl refl (plain_sent now pieces now.main)
-          (behind_of made_of) (send_plans c means disk table row now.main now.shadow now.out now.conflict pieces out sends)
-        where
-          behind_of : (m : IsOfRow c table row disk.last None made (request ∷ []) planned) → (whole_slots means m.behind).conflict ≡ None
-          behind_of m =
-              let same : Some o.behind ≡ Some m.behind = sym o.changes ∙ m.changes in
-              subst (λ (x : HeldSlots). (whole_slots means x).conflict ≡ None) (some_is o.behind m.behind same) behind_calm
+          (send_plans c means disk table row now.main now.shadow now.out now.conflict pieces out sends)
 
       request_now : (out : InFlight) → to_send (whole_slots means now) (whole_slots means now).out (whole_slots means now).main (whole_slots means now).conflict ≡ Some out → request ≡ request_for c table row out
       request_now out sends =

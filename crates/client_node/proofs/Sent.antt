@@ -20,6 +20,7 @@ use Rattle.client_node.specs.declared.fault.CallFault.TheVariants as call
 use Rattle.client_node.specs.declared.node.ClientNode.{ClientNode}
 use Rattle.client_node.specs.Node.{AreOwed, FollowsFor, IsWorking, IsClient, told_by, sent_by, facts_owed, sends_owed}
 use Rattle.client_node.specs.Calls.{Fell, Stays, IsBehind}
+use Rattle.client_node.specs.Linked.{linked_step}
 use Rattle.client_node.specs.Looks.{Serves, Looks}
 use Rattle.client_node.specs.Does.{Does, IsOfNode, step_with}
 use Rattle.client_node.specs.Sending.{AreTasksOf, Sends, sending}
@@ -57,12 +58,13 @@ module _ {D : Type 0} (state : D → DiskState) (images : D → ℕ → List ℕ
   abbrev at : ClientDisk → Option (List ClientTask) → Client
   at disk agenda = record { disk = disk; agenda = agenda }
 
-  module _ (old : ClientNode D) (disk : ClientDisk) (tasks : List ClientTask) (t : IsClient state old (at disk (Some tasks))) (is_up : old.is_up ≡ true) (move : ClientMove) where
+  module _ (old : ClientNode D) (disk : ClientDisk) (tasks : List ClientTask) (t : IsClient state old (at disk (Some tasks))) (is_up : old.is_up ≡ true) (move : ClientMove)
+      (plain : (shape : Shape) (s : Client) → step_with old shape s move ≡ linked_step old.is_linked old.number shape s move) where
     tasks_are : AreTasksOf (writes_of old.devs) tasks
     tasks_are = tasks_of_writes old.number (devs st old.devs) (writes_of old.devs) disk tasks t.at.1.follows
 
     -- an idle node that owes nothing
-    sent_client : {S : Type 0} (x : S) (client : Journal (FuseDisk D)) → Looks st im old.devs client (Ok x) → (new : ClientNode D) (sends : List Send) → new.devs ≡ client → HasSent old new sends → tasks ≡ [] → IsClient state new (at disk (Some []))
+    pub sent_client : {S : Type 0} (x : S) (client : Journal (FuseDisk D)) → Looks st im old.devs client (Ok x) → (new : ClientNode D) (sends : List Send) → new.devs ≡ client → HasSent old new sends → tasks ≡ [] → IsClient state new (at disk (Some []))
     sent_client x client k new sends is h none =
         let s = stays state images only_now old disk (Some tasks) t is_up move (Ok x) (record old { devs = client }) (mid_devs old client) k.serves (λ no. cc) k.agenda in
         let w : IsWorking state (record old { devs = client }) disk [] = subst (λ (l : List ClientTask). IsWorking state (record old { devs = client }) disk l) none s.client.at.1 in
@@ -92,7 +94,7 @@ module _ {D : Type 0} (state : D → DiskState) (images : D → ℕ → List ℕ
           → Does {T = T} state images (at disk (Some tasks)) move says old new (Err e)
       sends_err e client k a new fell other =
           does_err state images only_now old disk (Some tasks) t is_up move says e (record old { devs = client }) (mid_devs old client) k.serves
-          (λ refusal shape is of. a.answered disk tasks shape (stands_now state images old disk (Some tasks) t is_up) tasks_are of.plan refusal is) (λ last is. absurd (a.unspent last (as_err e (call.Spent last) is))) new fell other
+          (λ refusal shape is of. ap (λ (y : ClientStep). y.answer) (plain shape (at disk (Some tasks))) ∙ a.answered disk tasks shape (stands_now state images old disk (Some tasks) t is_up) tasks_are of.plan refusal is) (λ last is. absurd (a.unspent last (as_err e (call.Spent last) is))) new fell other
 
       pub sends_short : (x : S) (client : Journal (FuseDisk D)) → Looks st im old.devs client (Ok x) → (new : ClientNode D) → new.devs ≡ client → IsMid old new → Does {T = T} state images (at disk (Some tasks)) move says old new (Err call.Memory)
       sends_short x client k new is m =
@@ -105,6 +107,7 @@ module _ {D : Type 0} (state : D → DiskState) (images : D → ℕ → List ℕ
       sends_ok x value client k a same new is h =
           let now : Shape = shape_now state images only_now old in
           let d = a.done disk tasks now (stands_now state images old disk (Some tasks) t is_up) tasks_are in
+          let is_step = plain now (at disk (Some tasks)) ∙ d.1 in
           let b : IsBehind state old new (sending disk (said x) (sent x)) = record {
             client = sent_client x client k new (sent x) is h d.0;
             told = h.told ∙ sym (append-nil (told_by old));
@@ -113,28 +116,28 @@ module _ {D : Type 0} (state : D → DiskState) (images : D → ℕ → List ℕ
           } in
           does_ok state images only_now old disk (Some tasks) t is_up move says x value client k.serves new is
           (call_plans state images only_now old disk (Some tasks) t is_up new (ap (λ (d : Journal (FuseDisk D)). devs st d) is ∙ k.serves.same (λ no. cc)) (ap (λ (d : Journal (FuseDisk D)). writes_of d) is ∙ k.agenda)) now (record { plan = refl })
-          (subst (λ (y : ClientStep). IsBehind state old new y) (sym d.1) b) (ap (λ (y : ClientStep). y.answer) d.1 ∙ sym same)
+          (subst (λ (y : ClientStep). IsBehind state old new y) (sym is_step) b) (ap (λ (y : ClientStep). y.answer) is_step ∙ sym same)
 
   -- ---- whatever is to be done
 
-  module _ (old : ClientNode D) (disk : ClientDisk) (move : ClientMove) {S T : Type 0} (said : S → Answer) (sent : S → List Send) (says : T → Answer) (found : Result S CallFault) (client : Journal (FuseDisk D)) (k : Looks st im old.devs client found)
+  module _ (old : ClientNode D) (disk : ClientDisk) (move : ClientMove) (plain : (shape : Shape) (s : Client) → step_with old shape s move ≡ linked_step old.is_linked old.number shape s move) {S T : Type 0} (said : S → Answer) (sent : S → List Send) (says : T → Answer) (found : Result S CallFault) (client : Journal (FuseDisk D)) (k : Looks st im old.devs client found)
       (a : Sends st old.devs old.is_linked old.number move said sent found) where
     pub by_err : (agenda : Option (List ClientTask)) → IsClient state old (at disk agenda) → old.is_up ≡ true → (e : CallFault) → Err e ≡ found
         → (new : ClientNode D) → (IsErrOf {T = S} (Err e) call.Disk → Fell state images (record old { devs = client }) new) → ((IsErrOf {T = S} (Err e) call.Disk → ⊥) → new ≡ record old { devs = client })
         → Does {T = T} state images (at disk agenda) move says old new (Err e)
     by_err None t is_up e same new fell other = let no = t.at.0 in absurd cc
     by_err (Some tasks) t is_up e same new fell other =
-        sends_err old disk tasks t is_up move said sent says e client (subst (λ (r : Result S CallFault). Looks st im old.devs client r) (sym same) k)
+        sends_err old disk tasks t is_up move plain said sent says e client (subst (λ (r : Result S CallFault). Looks st im old.devs client r) (sym same) k)
         (subst (λ (r : Result S CallFault). Sends st old.devs old.is_linked old.number move said sent r) (sym same) a) new fell other
 
     pub by_short : (agenda : Option (List ClientTask)) → IsClient state old (at disk agenda) → old.is_up ≡ true → (x : S) → Ok x ≡ found → (new : ClientNode D) → new.devs ≡ client → IsMid old new → Does {T = T} state images (at disk agenda) move says old new (Err call.Memory)
     by_short None t is_up x same new is m = let no = t.at.0 in absurd cc
     by_short (Some tasks) t is_up x same new is m =
-        sends_short old disk tasks t is_up move said sent says x client (subst (λ (r : Result S CallFault). Looks st im old.devs client r) (sym same) k) new is m
+        sends_short old disk tasks t is_up move plain said sent says x client (subst (λ (r : Result S CallFault). Looks st im old.devs client r) (sym same) k) new is m
 
     pub by_ok : (agenda : Option (List ClientTask)) → IsClient state old (at disk agenda) → old.is_up ≡ true → (x : S) (value : T) → Ok x ≡ found → says value ≡ said x → (new : ClientNode D) → new.devs ≡ client → HasSent old new (sent x)
         → Does {T = T} state images (at disk agenda) move says old new (Ok value)
     by_ok None t is_up x value same says_so new is h = let no = t.at.0 in absurd cc
     by_ok (Some tasks) t is_up x value same says_so new is h =
-        sends_ok old disk tasks t is_up move said sent says x value client (subst (λ (r : Result S CallFault). Looks st im old.devs client r) (sym same) k)
+        sends_ok old disk tasks t is_up move plain said sent says x value client (subst (λ (r : Result S CallFault). Looks st im old.devs client r) (sym same) k)
         (subst (λ (r : Result S CallFault). Sends st old.devs old.is_linked old.number move said sent r) (sym same) a) says_so new is h

@@ -56,6 +56,15 @@ module _ (meaning : LocalName → List ℕ) (d : ClientDevs) (named : NamedSlots
   pub there_shown : (slots : Slots) → slots ≡ held_at d table row → AreThereIf meaning d (shown_content slots)
   there_shown slots is = shown_there slots.main slots.shadow slots.out slots.conflict is
 
+-- what is shown so is this content, whole
+pub shown_so : (d : ClientDevs) (slots : Slots) (held : HeldContent) (content : Content) (how : ShownAs) → shown_as slots ≡ how → shown_content slots ≡ Some held
+    → ((meaning : LocalName → List ℕ) → AreThere meaning d held → content ≡ whole meaning held) → (meaning : LocalName → List ℕ) → AreThereIf meaning d (shown_content slots)
+    → shown_with (shown_as slots) (option_map (whole meaning) (shown_content slots)) ≡ shown_with how (Some content)
+shown_so d slots held content how so is wholes meaning there =
+    ap (λ (a : ShownAs). shown_with a (option_map (whole meaning) (shown_content slots))) so
+    ∙ (ap (λ (o : Option HeldContent). shown_with how (option_map (whole meaning) o)) is
+    ∙ ap (λ (x : Content). shown_with how (Some x)) (sym (wholes meaning (subst (λ (o : Option HeldContent). AreThereIf meaning d o) is there))))
+
 abbrev says : Shown → Answer
 says what = facts.Shows (shown_of what)
 

@@ -23,7 +23,6 @@ module _ (w : Waiting) where
   put_steady : (number : ℕ) (x : RowPut) (t : TableDisk) → IsNoted w number x.row x.slots → IsSteadyTable w number t → IsSteadyTable w number (put_row x t)
   put_steady number x t noted h = record {
     numbered = h.numbered;
-    eventual = h.eventual;
     spelled = h.spelled;
     rising = sorted_insert nat_list_cmp_total t.rows x.row x.slots h.rising;
     noted = λ r. subst (λ (s : Slots). IsNoted w number r s) (sym (ap or_none (lookup-changed row_cmp nat_list_cmp_total t.rows x.row (Some x.slots) r))) (pick r (is_at (row_cmp x.row) r) refl);
@@ -34,7 +33,7 @@ module _ (w : Waiting) where
       pick r false is = h.noted r
 
   moved_steady : (number position : ℕ) (t : TableDisk) → IsSteadyTable w number t → IsSteadyTable w number (put_position position t)
-  moved_steady number position t h = record { numbered = h.numbered; eventual = h.eventual; spelled = h.spelled; rising = h.rising; noted = h.noted }
+  moved_steady number position t h = record { numbered = h.numbered; spelled = h.spelled; rising = h.rising; noted = h.noted }
 
   -- a table of the disk is changed
   with_steady : (d : ClientDisk) (number : ℕ) (f : TableDisk → TableDisk) → ((t : TableDisk) → IsSteadyTable w number t → IsSteadyTable w number (f t)) → (o : Option TableDisk) → table_at d number ≡ o → IsSteady w d → IsSteady w (with_table d number o f)
@@ -73,11 +72,11 @@ module _ (w : Waiting) where
   -- more rows are noted
   module _ (more : Waiting) (m : IsMore w more) where
     noted_more : (table : ℕ) (row : List ℕ) (slots : Slots) → IsNoted w table row slots → IsNoted more table row slots
-    noted_more table row slots h = record { calm = h.calm; sent = λ some. m.outs (key_at table row) (h.sent some); ready = λ some. m.ready (key_at table row) (h.ready some) }
+    noted_more table row slots h = record { sent = λ some. m.outs (key_at table row) (h.sent some); ready = λ some. m.ready (key_at table row) (h.ready some); conflict = λ some. m.conflicts (key_at table row) (h.conflict some) }
 
     table_more : (number : ℕ) (o : Option TableDisk) → IfSome o (IsSteadyTable w number) → IfSome o (IsSteadyTable more number)
     table_more number None h = tt
-    table_more number (Some t) h = record { numbered = h.numbered; eventual = h.eventual; spelled = h.spelled; rising = h.rising; noted = λ r. noted_more number r (slots_at t r) (h.noted r) }
+    table_more number (Some t) h = record { numbered = h.numbered; spelled = h.spelled; rising = h.rising; noted = λ r. noted_more number r (slots_at t r) (h.noted r) }
 
     put_more : (table : ℕ) (o : Option RowPut) → IfSome o (λ x. IsNoted w table x.row x.slots) → IfSome o (λ x. IsNoted more table x.row x.slots)
     put_more table None h = tt

@@ -31,7 +31,7 @@ use Rattle.client_node.specs.Readied.{IsReadied, IsIdleAt, IsIdle}
 use Rattle.client_node.specs.Requesting.{all_asked_again, first_ready}
 use Rattle.client_node.specs.Sending.{with_tasks, AreTasksOf}
 use Rattle.client_node.specs.Steady.{IsSteadyTable}
-use Rattle.client_node.specs.Syncing.{again_of, at_once, IsSendOf, IsNextOf, Syncs, SendsAgain}
+use Rattle.client_node.specs.Syncing.{again_of, at_once, IsSendOf, IsNextOf, AreStale, Syncs, SendsAgain}
 use Rattle.client_node.proofs.Links.{linked_by, before_link, link_down, opened_is, unopened_is}
 use Rattle.client_node.proofs.Pulls.{no_refusal, same_refusal}
 use Rattle.client_node.proofs.RowReady.{seen_is, opened_now, slots_here, whole_here, steady_here}
@@ -107,6 +107,7 @@ module _ {D : Type 0} (state : D → DiskState) (old : Journal D) (up : Bool) (c
   pub sync_fault : (e : CallFault) → IsFault e → SendsAgain state old up c table waiting (Err e)
   sync_fault e fault = record {
     syncs = tt;
+    stale = tt;
     linked = tt;
     refused = λ disk tasks shape st of work refusal is. no_refusal e refusal fault is;
     unspent = λ last is. ⊎_elim (λ disk. let same : e ≡ call.Spent last = cc in cc) (λ memory. let same : e ≡ call.Spent last = cc in cc) fault;
@@ -115,6 +116,7 @@ module _ {D : Type 0} (state : D → DiskState) (old : Journal D) (up : Bool) (c
   pub sync_closed : (e : CallFault) → e ≡ call.NoTable → record_at (devs state old) table ≡ None → SendsAgain state old up c table waiting (Err e)
   sync_closed e same none = record {
     syncs = tt;
+    stale = tt;
     linked = tt;
     refused = λ disk tasks shape st of work refusal is.
         let what : facts.NoTable ≡ refusal = same_refusal e call.NoTable refusal facts.NoTable same refl is in
@@ -127,6 +129,7 @@ module _ {D : Type 0} (state : D → DiskState) (old : Journal D) (up : Bool) (c
     pub sync_busy : (e : CallFault) → (writes_of old ≡ [] → ⊥) → e ≡ call.Busy (plan_at_work (devs state old) (writes_of old)) → SendsAgain state old up c table waiting (Err e)
     sync_busy e busy same = record {
       syncs = tt;
+      stale = tt;
       linked = tt;
       refused = λ disk tasks shape st of work refusal is.
           let with : ℕ = plan_at_work (devs state old) (writes_of old) in
@@ -148,6 +151,7 @@ module _ {D : Type 0} (state : D → DiskState) (old : Journal D) (up : Bool) (c
     pub sync_offline : (e : CallFault) → writes_of old ≡ [] → up ≡ false → e ≡ call.Offline → SendsAgain state old up c table waiting (Err e)
     sync_offline e idle down same = record {
       syncs = tt;
+      stale = tt;
       linked = tt;
       refused = λ disk tasks shape st of work refusal is.
           let what : facts.Offline ≡ refusal = same_refusal e call.Offline refusal facts.Offline same refl is in
@@ -157,8 +161,8 @@ module _ {D : Type 0} (state : D → DiskState) (old : Journal D) (up : Bool) (c
       unspent = λ last is. cc;
     }
 
-  pub sync_sent : (x : Synced) → up ≡ true → Syncs (devs state old) c table waiting x → SendsAgain state old up c table waiting (Ok x)
-  sync_sent x linked s = record { syncs = s; linked = linked; refused = λ disk tasks shape st of work. tt; unspent = λ last is. cc }
+  pub sync_sent : (x : Synced) → up ≡ true → Syncs (devs state old) c table waiting x → AreStale (devs state old) table x.stale → SendsAgain state old up c table waiting (Ok x)
+  sync_sent x linked s a = record { syncs = s; stale = a; linked = linked; refused = λ disk tasks shape st of work. tt; unspent = λ last is. cc }
 
 some_there : {X : Type 0} (o : Option X) → IsSome o → (x : X) × (o ≡ Some x)
 some_there None is = absurd cc
@@ -181,6 +185,8 @@ on_ok (Ok x) p = p
 on_ok (Err e) p = tt
 
 -- what an opened table sends, or why it doesn't
-pub sync_done : {D : Type 0} (state : D → DiskState) (old : Journal D) (up : Bool) (c table : ℕ) (waiting : Waiting) (mid : Journal D) → devs state mid ≡ devs state old → up ≡ true → (r : Result Synced CallFault) → IfOk r (Syncs (devs state mid) c table waiting) → IfErr r IsFault → SendsAgain state old up c table waiting r
-sync_done state old up c table waiting mid same linked (Ok x) s fault = sync_sent state old up c table waiting x linked (subst (λ (d : ClientDevs). Syncs d c table waiting x) same s)
-sync_done state old up c table waiting mid same linked (Err e) s fault = sync_fault state old up c table waiting e fault
+pub sync_done : {D : Type 0} (state : D → DiskState) (old : Journal D) (up : Bool) (c table : ℕ) (waiting : Waiting) (mid : Journal D) → devs state mid ≡ devs state old → up ≡ true → (r : Result Synced CallFault) → IfOk r (Syncs (devs state mid) c table waiting)
+    → IfOk r (λ x. AreStale (devs state mid) table x.stale) → IfErr r IsFault → SendsAgain state old up c table waiting r
+sync_done state old up c table waiting mid same linked (Ok x) s a fault =
+    sync_sent state old up c table waiting x linked (subst (λ (d : ClientDevs). Syncs d c table waiting x) same s) (subst (λ (d : ClientDevs). AreStale d table x.stale) same a)
+sync_done state old up c table waiting mid same linked (Err e) s a fault = sync_fault state old up c table waiting e fault

@@ -35,7 +35,7 @@ use Rattle.client_node.specs.declared.waiting.Waiting.{Waiting}
 use Rattle.client_node.specs.Answers.{IsFault}
 use Rattle.client_node.specs.Begins.{next_number, BeginsPlan}
 use Rattle.client_node.specs.Calls.{Fell, IsBehind}
-use Rattle.client_node.specs.Carrying.{IsNotedRow, IsAmid, IsCarried, IsUncarried, Carries}
+use Rattle.client_node.specs.Carrying.{IsAmid, IsCarried, IsUncarried, Carries}
 use Rattle.client_node.specs.Does.{Does, IsOfNode, HasNoNumber, step_with, refusal_in}
 use Rattle.client_node.specs.Looks.{Serves, Looks}
 use Rattle.client_node.specs.Node.{StandsFor, IsClient, told_by, sent_by}
@@ -44,40 +44,10 @@ use Rattle.client_node.specs.Steady.{IsNoted, IsSteadyPlan}
 use Rattle.client_node.specs.Waiting.{IsMore}
 use Rattle.client_node.proofs.Answering.{does_err, does_ok, of_err, as_err}
 use Rattle.client_node.proofs.Asked.{IsMid, stands_now, steady_now}
+use Rattle.client_node.proofs.NotedPlans.{noted_plan}
 use Rattle.client_node.proofs.PlanNumbers.{plans_begun}
 use Rattle.client_node.proofs.Planned.{IsPlanned, plan_behind, at_rest}
 use Rattle.client_node.proofs.Serving.{serves_then}
-
--- ---- a plan's row is noted
-
-some_mapped : {X Y : Type 0} (o : Option X) (f : X → Y) → IsSome (option_map f o) → IsSome o
-some_mapped None f is = absurd cc
-some_mapped (Some x) f is = refl
-
--- a row that has something to send has a write
-sends_main : (slots : Slots) (o : Option InFlight) (m : Option Main) (k : Option Shadow) → IsSome (to_send slots o m k) → IsSome m
-sends_main slots None (Some m) None is = refl
-sends_main slots None (Some m) (Some x) is = absurd cc
-sends_main slots None None k is = absurd cc
-sends_main slots (Some out) m k is = absurd cc
-
-module _ (w : Waiting) (means : LocalName → List ℕ) (number table : ℕ) where
-  noted_put : (change : RowChange) (put : RowPut) → IsPutOf means (numbered_row number change) put → put.slots.conflict ≡ None → IsNotedRow w table change → IsNoted w table put.row put.slots
-  noted_put change put is calm noted =
-      let w_slots : Slots = whole_slots means (numbered_slots number change.slots) in
-      subst (λ (s : Slots). s.conflict ≡ None → IsNoted w table put.row s) is.slots
-      (λ calm. subst (λ (r : List ℕ). IsNoted w table r (whole_slots means (numbered_slots number change.slots))) is.row (record {
-        calm = calm;
-        sent = λ some. noted.out (some_mapped change.slots.out _ (some_mapped _ _ some));
-        ready = λ some. noted.main (some_mapped change.slots.main _ (some_mapped _ _ (sends_main (whole_slots means (numbered_slots number change.slots)) (whole_slots means (numbered_slots number change.slots)).out (whole_slots means (numbered_slots number change.slots)).main
-            (whole_slots means (numbered_slots number change.slots)).conflict some)));
-      })) calm
-
-  pub noted_plan : (o : Option RowChange) (p : Option RowPut) → StandsPut means (option_map (numbered_row number) o) p → IfSome p (λ put. put.slots.conflict ≡ None) → IfSome o (IsNotedRow w table) → IfSome p (λ put. IsNoted w table put.row put.slots)
-  noted_plan None None s calm noted = tt
-  noted_plan None (Some put) s calm noted = absurd s
-  noted_plan (Some change) None s calm noted = absurd s
-  noted_plan (Some change) (Some put) s calm noted = noted_put change put s calm noted
 
 -- a fault that isn't a refusal
 no_answer : (e : CallFault) (refusal : Refusal) {P : Type 0} → ((e ≡ call.Spent NUMBER_MAX) ⊎ IsFault e) → refusal_in e ≡ Some refusal → P
@@ -176,9 +146,9 @@ module _ {D : Type 0} (state : D → DiskState) (images : D → ℕ → List ℕ
 
           steady_plan : IsSteadyPlan new.waiting p
           steady_plan = record {
-            few = subst (λ (n : ℕ). n ≤ NUMBER_MAX) (sym r.last) t.at.1.steady.few;
+            few = r.few;
             noted = subst (λ (n : ℕ). IfSome p.row (λ put. IsNoted new.waiting n put.row put.slots)) r.its.table
-                (noted_plan new.waiting (meaning_with idle_at.stands.0 (next_number st old.devs) planned.plan.brought) (next_number st old.devs) planned.plan.table planned.plan.row p.row r.its.row r.calm c.noted);
+                (noted_plan new.waiting (meaning_with idle_at.stands.0 (next_number st old.devs) planned.plan.brought) (next_number st old.devs) planned.plan.table planned.plan.row p.row r.its.row c.noted);
           }
 
           is_planned : IsPlanned state then_ disk then_client idle new planned.plan p sends

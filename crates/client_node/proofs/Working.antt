@@ -43,7 +43,6 @@ pub record IsKept {D : Type 0} (old new : ClientNode D) : Type 0 where
   pub sent : sent_by new ≡ sent_by old
   pub same : IsSame old new
   pub declared : new.is_declared ≡ old.is_declared
-  pub waiting : new.waiting ≡ old.waiting
 
 -- what was gathered behind a write
 pub record Gathers {D : Type 0} (old : ClientNode D) (facts : Gathered Told) (messages : Gathered (Option Node × Message)) (owed : Owed) (step : Step) (is_last : Bool) : Type 0 where
@@ -141,11 +140,11 @@ module _ {D : Type 0} (state : D → DiskState) (images : D → ℕ → List ℕ
             failed = ⊎_elim
                 (λ before. inl (record { client = before; told = kept.told ∙ sym (append-nil (told_by old)); sent = kept.sent ∙ sym (append-nil (sent_by old)); same = kept.same }))
                 (λ after. inr (record { client = after; told = kept.told ∙ sym (append-nil (told_by old)); sent = kept.sent ∙ sym (append-nil (sent_by old)); same = kept.same }))
-                (fallen state images old mid new kept.same old.waiting kept.waiting declared is_down falls old.devs here (changed_by here w) disk (changed disk task.change) may k.any_moment);
+                (fallen state images old mid new kept.same old.waiting declared is_down falls old.devs here (changed_by here w) disk (changed disk task.change) may k.any_moment);
             counted = tt;
             cause = let r = own_failed state old mid t.at.1.fresh keeps d.1 in let n = falls.counted in omega (arith, r, n);
             only = refl;
-            any_moment = fallen_leaves state images old mid new kept.same old.waiting kept.waiting declared is_down falls old.devs here (changed_by here w) disk (changed disk task.change) may k.any_moment;
+            any_moment = fallen_leaves state images old mid new kept.same old.waiting declared is_down falls old.devs here (changed_by here w) disk (changed disk task.change) may k.any_moment;
             plans = λ n below. plans_cut state n old new w ws is (λ _. t.at.1.declared) (falls.left old.devs here (changed_by here w) k.any_moment).0 falls.idle below;
           }
 

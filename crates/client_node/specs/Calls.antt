@@ -1,6 +1,7 @@
 -- What the calls of a client's node promise, in the moves of the client's step table.
 use Rattle.std.specs.Prelude.{◌≡◌, ◌⊎◌, ℕ, ◌<◌, ◌≤◌, ◌++◌, true, false, List, [], ◌∷◌, Option, Some, None, Result}
 use Rattle.std.specs.Prelude.{OnOk, OnErr, IfOk, IfErr}
+use Rattle.std.specs.BTreeSet.{keys}
 use Rattle.disk_trait.specs.Calls.{DiskState}
 use Rattle.disk_trait.specs.Fuse.{behind, inner_of}
 use Rattle.disk_trait.specs.declared.fuse.FuseDisk.{FuseDisk}
@@ -20,6 +21,7 @@ use Rattle.client_node.specs.declared.fault.CallFault.TheVariants.{Disk}
 use Rattle.client_node.specs.declared.node.ClientNode.{ClientNode}
 use Rattle.client_node.specs.Node.{IsClient, IsSame, told_by, sent_by, own_faults, behind_next, LeavesEither}
 use Rattle.client_node.specs.Node.{has_task, HasPlansBelow}
+use Rattle.client_node.specs.Waiting.{NoneNoted}
 
 -- what a move that begins no plan makes of the node's client
 abbrev pub step_at : {D : Type 0} → ClientNode D → Client → ClientMove → ClientStep
@@ -87,7 +89,8 @@ pub record Falls {D : Type 0} (state : D → DiskState) (images : D → ℕ → 
   pub fresh : AreFresh (behind state) new.devs
   pub synced : AreSynced (behind state) new.devs
   pub idle : writes_of new.devs ≡ []
-  pub waiting : new.waiting ≡ old.waiting
+  pub waiting : NoneNoted new.waiting
+  pub phaseless : keys new.phases ≡ []
   pub counted : own_faults state new ≡ own_faults state old
 
 -- A disk has failed: the node is down, its disks were restarted, and what it has gathered stays.

@@ -8,6 +8,7 @@ use Rattle.stab_base.specs.declared.limits.TheConstants.{NUMBER_MAX}
 use Rattle.held_value.specs.declared.slots.Slots.{Slots}
 use Rattle.plan_log.specs.declared.plan.RowChange.{RowChange}
 use Rattle.slot_store.specs.Data.{key_cmp, key_at}
+use Rattle.client_tables.specs.Transitions.{can_send}
 use Rattle.client_journal.specs.declared.plan.Plan.{Plan}
 use Rattle.client_journal.specs.Standing.{devs, writes_of}
 use Rattle.step_tables.specs.Facts.{Fact}
@@ -28,10 +29,12 @@ use Rattle.client_node.specs.Looks.{Serves}
 use Rattle.client_node.specs.Node.{told_by, sent_by, facts_owed, sends_owed}
 use Rattle.client_node.specs.Waiting.{IsMore}
 
--- a row is noted where its slots have a write
+-- a row is noted where its slots have a write that waits for its answer, or one to send, and where it is in conflict
 pub record IsNotedRow (waiting : Waiting) (table : ℕ) (change : RowChange) : Type 0 where
-  pub main : IsSome change.slots.main → contains key_cmp waiting.ready (key_at table change.row) ≡ true
   pub out : IsSome change.slots.out → contains key_cmp waiting.outs (key_at table change.row) ≡ true
+  pub ready : can_send change.slots ≡ true → contains key_cmp waiting.ready (key_at table change.row) ≡ true
+  pub conflict : IsSome change.slots.conflict
+      → contains key_cmp waiting.conflicts (key_at table change.row) ≡ true
 
 -- each row that was noted still is, and the plan's
 pub record NotesPlan {E : Type 0} (old new : Waiting) (plan : Plan) (result : Result (Unit {0}) E) : Type 0 where

@@ -13,7 +13,8 @@ use Rattle.client_node.specs.declared.fault.CallFault.{CallFault}
 use Rattle.client_node.specs.declared.fault.CallFault.TheVariants as call
 use Rattle.client_node.specs.declared.node.ClientNode.{ClientNode}
 use Rattle.client_node.specs.Node.{own_faults, LeavesEither, HasPlansBelow}
-use Rattle.client_node.specs.Linked.{linked_step}
+use Rattle.client_node.specs.Linked.{phased_step}
+use Rattle.client_node.specs.Phases.{is_open}
 use Rattle.client_node.specs.Calls.{IsBehind, Stays}
 
 -- the refusal of the step table that a fault tells of; a table knows no limit of numbers and no want of memory
@@ -25,14 +26,20 @@ refusal_in (call.RowTooLarge len) = Some (facts.Unfit (faults.RowTooLarge len))
 refusal_in (call.TooManyChunks count) = Some (facts.Unfit (faults.TooManyChunks count))
 refusal_in call.NoRow = Some facts.NoRow
 refusal_in (call.Busy with) = Some (facts.Busy with)
+refusal_in call.NotInResolution = Some facts.NotInResolution
+refusal_in call.InResolution = Some facts.InResolution
+refusal_in call.NoConflict = Some facts.NoConflict
+refusal_in (call.Moved seen now) = Some (facts.Moved seen now)
 refusal_in call.Offline = Some facts.Offline
+refusal_in (call.Outstanding number) = Some (facts.Outstanding number)
+refusal_in (call.Conflicted version) = Some (facts.Conflicted version)
 refusal_in (call.Spent last) = None
 refusal_in call.Disk = None
 refusal_in call.Memory = None
 
 -- what a move makes of the node's client
 abbrev pub step_with : {D : Type 0} → ClientNode D → Shape → Client → ClientMove → ClientStep
-step_with node shape s move = linked_step node.is_linked node.number shape s move
+step_with node shape s move = phased_step (is_open node) node.is_linked node.number shape s move
 
 -- the plan of the shape is that of the node's next write, or else the one at work, or else 0
 pub record IsOfNode {D : Type 0} (state : D → DiskState) (node : ClientNode D) (shape : Shape) : Type 0 where

@@ -4,6 +4,7 @@ pub mod Waiting
 pub mod Steady
 pub mod Node
 pub mod Linked
+pub mod Phases
 pub mod Calls
 pub mod Does
 pub mod Looks
@@ -11,8 +12,6 @@ pub mod Answers
 pub mod Sending
 pub mod Begins
 pub mod Devices
-pub mod Preparing
-pub mod Editing
 pub mod Telling
 pub mod Starts
 pub mod Taking
@@ -22,5 +21,9 @@ pub mod Readied
 pub mod Placing
 pub mod NotedRows
 pub mod Requesting
+pub mod Preparing
+pub mod Resolving
+pub mod Listing
+pub mod Editing
 pub mod Carrying
 pub mod Syncing

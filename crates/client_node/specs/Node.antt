@@ -3,8 +3,8 @@ use Rattle.std.specs.Prelude.{◌≡◌, ◌⊎◌, ℕ, ◌+◌, ◌≤◌, Boo
 use Rattle.std.specs.List.{AllByRecursion}
 use Rattle.std.specs.Ordering.{nat_cmp}
 use Rattle.std.specs.BTreeMap.{insert_entry}
+use Rattle.std.specs.BTreeSet.{keys}
 use Rattle.row_value.specs.declared.schema.Schema.{Schema}
-use Rattle.row_value.specs.declared.schema.Scheme.TheVariants.{Eventual}
 use Rattle.value_codec.specs.SchemaSpelling.{HasSchemaSpelling}
 use Rattle.plan_log.specs.Spelling.{IsTable}
 use Rattle.vault.specs.Limit.{payload_most}
@@ -32,8 +32,10 @@ use Rattle.gathering.specs.Room.{HasRoom}
 use Rattle.step_tables.specs.Lines.{fact_of}
 use Rattle.client_node.specs.Due.{is_last_of, told_at, left_at, sent_at}
 use Rattle.client_node.specs.Steady.{IsSteady, AreSteady}
+use Rattle.client_node.specs.Waiting.{NoneNoted}
 use Rattle.client_node.specs.declared.node.ClientNode.{ClientNode}
 use Rattle.client_node.specs.declared.owed.Owed.{Owed}
+use Rattle.client_node.specs.declared.waiting.Waiting.{Waiting}
 use Rattle.client_node.specs.declared.owed.When.{When}
 
 -- ---- what is told and sent
@@ -62,10 +64,9 @@ AreOwed when owed sends ws tasks = ⊥
 
 -- ---- the node
 
--- a table that a declaration opens: an eventual one, whose record has a spelling that isn't too long
+-- a table that a declaration opens, whose record has a spelling that isn't too long
 pub record IsToOpen (table : ℕ × Schema) : Type 0 where
   pub numbered : IsTable table.0
-  pub eventual : table.1.scheme ≡ Eventual
   pub spelled : HasSchemaSpelling table.1
   pub short : length (record_payload (opened_record table.0 table.1)) ≤ payload_most
 
@@ -119,7 +120,8 @@ pub record IsWorking {D : Type 0} (state : D → DiskState) (node : ClientNode D
   pub fact_room : HasRoom node.facts (length node.owed.facts.items)
   pub message_room : HasRoom node.messages (length node.owed.messages.items)
 
--- Down: its disks were restarted, and hold this. What wasn't declared is to hold its tables.
+-- Down: its disks were restarted, and hold this, and no phase is open. What wasn't declared is to hold its tables. No row
+-- is noted; what the disk keeps it keeps whatever is.
 pub record IsResting {D : Type 0} (state : D → DiskState) (node : ClientNode D) (disk : ClientDisk) : Type 0 where
   pub up : AreUp node.devs
   pub fresh : AreFresh (behind state) node.devs
@@ -129,7 +131,9 @@ pub record IsResting {D : Type 0} (state : D → DiskState) (node : ClientNode D
   pub stands : node.is_declared ≡ true → StandsFor node.number (devs (behind state) node.devs) disk
   pub undeclared : node.is_declared ≡ false → disk ≡ to_open node.tables.items
   pub opens : node.is_declared ≡ false → AllByRecursion IsToOpen node.tables.items
-  pub steady : IsSteady node.waiting disk
+  pub waiting : NoneNoted node.waiting
+  pub steady : (waiting : Waiting) × IsSteady waiting disk
+  pub phaseless : keys node.phases ≡ []
 
 abbrev pub IsAt : {D : Type 0} → (D → DiskState) → ClientNode D → ClientDisk → Option (List ClientTask) → Type 0
 IsAt state node disk None = (node.is_up ≡ false) × IsResting state node disk

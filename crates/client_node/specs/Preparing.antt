@@ -3,10 +3,13 @@
 use Rattle.std.specs.Prelude.{◌≡◌, ◌⊎◌, ℕ, ◌+◌, ◌<◌, ◌≤◌, Bool, false, true, List, [], ◌∷◌, length, map, Some}
 use Rattle.std.specs.Prelude.{None, option_map, IfSome, Result, OnOk, IfOk, IfErr, IsErrOf}
 use Rattle.std.specs.List.{AllByRecursion}
-use Rattle.std.specs.BTreeSet.{contains}
+use Rattle.std.specs.BTreeSet.{BTreeSet}
 use Rattle.disk_trait.specs.Calls.{DiskState}
 use Rattle.stab_base.specs.declared.limits.TheConstants.{NUMBER_MAX}
 use Rattle.row_value.specs.declared.content.Content.{Content}
+use Rattle.row_value.specs.declared.pieces.Piece.{Piece}
+use Rattle.row_value.specs.declared.schema.Scheme.{Scheme}
+use Rattle.row_value.specs.declared.schema.Scheme.TheVariants.{Strong, Causal, Eventual}
 use Rattle.table_model.specs.declared.line.Write.{Write}
 use Rattle.table_model.specs.declared.line.ClientFact.TheVariants as client
 use Rattle.table_model.specs.declared.line.Fact.{Fact}
@@ -14,42 +17,49 @@ use Rattle.table_model.specs.declared.line.Fact.TheVariants as told_of
 use Rattle.held_value.specs.declared.local_name.LocalName.{LocalName}
 use Rattle.held_value.specs.declared.content.HeldPiece.{HeldPiece}
 use Rattle.held_value.specs.declared.slots.Slots.{Slots}
-use Rattle.slot_store.specs.Data.{key_cmp, key_at, record_of}
+use Rattle.slot_store.specs.declared.held.RowKey.{RowKey}
 use Rattle.plan_log.specs.declared.plan.RowChange.{RowChange}
 use Rattle.client_tables.specs.declared.plan.RowPlan.{RowPlan}
-use Rattle.client_tables.specs.Plan.{IsPlan as IsRowPlan, IsBrought}
-use Rattle.client_tables.specs.Transitions.{written}
+use Rattle.client_tables.specs.Drops.{names_in as tree_names}
+use Rattle.client_tables.specs.Kept.{SlotEvent, slots_behind}
+use Rattle.client_tables.specs.Plan.{IsPlan as IsRowPlan, IsBrought, AreKnown, names_with}
+use Rattle.client_tables.specs.declared.change.Change.{Change}
+use Rattle.client_tables.specs.Change.{version_in}
+use Rattle.client_tables.specs.Shown.{shown_content}
+use Rattle.client_tables.specs.Transitions.{written, written_strong}
 use Rattle.client_journal.specs.declared.devs.Journal.{Journal}
 use Rattle.client_journal.specs.declared.plan.Plan.{Plan as Begun}
-use Rattle.client_journal.specs.Agenda.{meaning_with}
 use Rattle.client_journal.specs.Devs.{ClientDevs}
 use Rattle.client_journal.specs.Names.{Has, names_of}
 use Rattle.client_journal.specs.NamedSlots.{IsAtRest}
-use Rattle.client_journal.specs.Plan.{IsPlan, commit_for, plan_at_work}
+use Rattle.client_journal.specs.Plan.{IsPlan, plan_at_work}
 use Rattle.client_journal.specs.Redone.{redone}
 use Rattle.client_journal.specs.Standing.{devs, writes_of, AreUp, IsReady}
 use Rattle.step_tables.specs.Facts.{Answer, Refusal, Number}
 use Rattle.step_tables.specs.Facts as facts
-use Rattle.step_tables.specs.Lines.{fact_of}
-use Rattle.step_tables.specs.ClientMoves.{Plan, Shape, ClientDisk, ClientTask, ClientMove, told, begun}
-use Rattle.journal_laws.specs.Holds.{IsPlanOf, IsPlanAt, Stands}
-use Rattle.journal_laws.specs.Moves.{IsPlanShape, plan_meaning}
+use Rattle.step_tables.specs.Messages.{Send}
+use Rattle.step_tables.specs.Travels.{send_of}
+use Rattle.step_tables.specs.ClientMoves.{Plan, Shape, ClientDisk, ClientTask, ClientMove, begun}
+use Rattle.journal_laws.specs.Moves.{IsNewTo, plan_meaning}
 use Rattle.journal_laws.specs.Whole.{whole, HaveLens}
 use Rattle.held_contents.specs.declared.holding.HeldNew.{HeldNew}
+use Rattle.held_contents.specs.Reading.{AreThereIf, chunks_shown}
 use Rattle.held_contents.specs.Holding.{IsHeldAgainst, AreShown, names_shown, brought_name}
-use Rattle.plan_limits.specs.Fit.{AreFitRows, IsFitChange}
+use Rattle.plan_limits.specs.Fit.{HaveWords, AreFitPieces}
 use Rattle.client_node.specs.declared.fault.CallFault.{CallFault}
-use Rattle.client_node.specs.declared.fault.CallFault.TheVariants.{Spent}
+use Rattle.client_node.specs.declared.fault.CallFault.TheVariants.{Offline, Outstanding, Spent}
 use Rattle.client_node.specs.declared.planning.Planned.{Planned}
 use Rattle.client_node.specs.declared.preparing.OpenedRow.{OpenedRow}
 use Rattle.client_node.specs.declared.preparing.Prepared.{Prepared}
 use Rattle.client_node.specs.declared.waiting.Waiting.{Waiting}
-use Rattle.client_node.specs.Answers.{record_at, held_at}
+use Rattle.client_node.specs.Answers.{record_at, held_at, IsFault}
 use Rattle.client_node.specs.Does.{refusal_in}
-use Rattle.client_node.specs.Linked.{linked_step}
+use Rattle.client_node.specs.Linked.{phased_step}
 use Rattle.client_node.specs.Node.{StandsFor}
 use Rattle.client_node.specs.Sending.{with_tasks, AreTasksOf}
-use Rattle.client_node.specs.Steady.{IsSteadyPlan, IsSteady}
+use Rattle.client_node.specs.Readied.{IsIdleAt, IsReadied}
+use Rattle.client_node.specs.Requesting.{request_with, IsFirstOut}
+use Rattle.client_node.specs.Steady.{IsSteady}
 
 -- ---- what is read first
 
@@ -100,53 +110,104 @@ plan_for table last row made = record {
 abbrev pub wrote : Write → Fact
 wrote write = told_of.Client (client.Wrote write)
 
--- The plan of a write over these slots, where this holds its content; at its commit the write is told.
-pub record IsWritten (slots : Slots) (write : Write) (new : HeldNew) (planned : Planned) : Type 0 where
+-- each name behind an event is known
+abbrev pub AreKnownBehind : Type 0
+AreKnownBehind = (scheme : Scheme) (slots : Slots) (event : SlotEvent) (count : ℕ)
+    → AreKnown slots count (names_with event) → AreKnown slots count (tree_names (slots_behind scheme slots event))
+
+-- The plan makes this change of these slots, and brings these chunks.
+pub record MakesChange (slots : Slots) (change : Change) (given : List (List ℕ)) (table last : ℕ) (row : List ℕ)
+    (planned : Planned) : Type 0 where
   pub made : RowPlan
-  pub row_plan : IsRowPlan slots (written slots write.number new.content) new.brought made
-  pub plan_is : planned.plan ≡ plan_for write.table write.number write.row made
-  pub facts : planned.facts.items ≡ wrote write ∷ []
-  pub messages : planned.messages.items ≡ []
+  pub row_plan : IsRowPlan slots change given made
+  pub plan_is : planned.plan ≡ plan_for table last row made
+  pub known : AreKnownBehind
+
+abbrev pub write_of : ℕ → ℕ → OpenedRow → Content → Write
+write_of c number at content = record {
+  client = c;
+  number = number;
+  table = at.table;
+  row = at.row;
+  read = version_in at.slots.shadow;
+  content = content;
+}
+
+-- A write of a row under the client's next number: this holds its content, it is told at its commit, and its plan makes
+-- this change and sends these.
+pub record IsWrite (d : ClientDevs) (c : ℕ) (at : OpenedRow) (content : Content) (new : HeldNew) (change : Change)
+    (sends : List Send) (x : Prepared) : Type 0 where
+  pub next : x.number ≡ (redone d).last + 1
+  pub few : x.number ≤ NUMBER_MAX
+  pub words : HaveWords content
+  pub holds : (meaning : LocalName → List ℕ) → AreThereIf meaning d (shown_content at.slots)
+      → HoldsNew at.opened.schema.chunk (chunks_shown meaning (shown_content at.slots)) content new
+  pub makes : MakesChange at.slots change new.brought at.table x.number at.row x.planned
+  pub facts : x.planned.facts.items ≡ wrote (write_of c x.number at content) ∷ []
+  pub sends_are : map send_of x.planned.messages.items ≡ sends
+
+-- in a causal or an eventual table it is sent later
+pub record IsFreeWrite (d : ClientDevs) (c : ℕ) (at : OpenedRow) (content : Content) (x : Prepared) : Type 0 where
+  pub new : HeldNew
+  pub is : IsWrite d c at content new (written at.slots x.number new.content) [] x
+
+-- and in a strong one at once
+pub record IsStrongWrite (d : ClientDevs) (c : ℕ) (at : OpenedRow) (content : Content) (x : Prepared) : Type 0 where
+  pub new : HeldNew
+  pub pieces : List Piece
+  pub fit : AreFitPieces new.content pieces
+  pub unused : IsNewTo at.slots.main x.number
+  pub is : IsWrite d c at content new (written_strong at.slots x.number new.content pieces)
+      (request_with c at.table at.row x.number (version_in at.slots.shadow) content ∷ []) x
+
+-- the last number is given, or a disk has failed, or memory was refused
+abbrev pub IsSpent : ClientDevs → CallFault → Type 0
+IsSpent d e = ((e ≡ Spent NUMBER_MAX) × (NUMBER_MAX ≤ (redone d).last)) ⊎ IsFault e
+
+-- a strong write isn't sent: the link is down, or this one waits for its answer, or as any write
+abbrev pub IsUnsent : ClientDevs → BTreeSet RowKey → Bool → ℕ → CallFault → Type 0
+IsUnsent d outs is_linked table e = ((e ≡ Offline) × (is_linked ≡ false))
+    ⊎ (((is_linked ≡ true) × (number : ℕ) × (e ≡ Outstanding number) × IsFirstOut d table outs (Some number))
+    ⊎ IsSpent d e)
+
+-- what is written by the scheme of the table
+abbrev pub WritesBy : Scheme → ClientDevs → Bool → BTreeSet RowKey → ℕ → OpenedRow → Content → Prepared → Type 0
+WritesBy Strong d is_linked outs c at content x =
+    (is_linked ≡ true) × IsFirstOut d at.table outs None × IsStrongWrite d c at content x
+WritesBy Causal d is_linked outs c at content x = IsFreeWrite d c at content x
+WritesBy Eventual d is_linked outs c at content x = IsFreeWrite d c at content x
+
+abbrev pub IsWriteBy : ClientDevs → Bool → BTreeSet RowKey → ℕ → OpenedRow → Content → Prepared → Type 0
+IsWriteBy d is_linked outs c at content x = WritesBy at.opened.schema.scheme d is_linked outs c at content x
+
+abbrev pub UnwrittenBy : Scheme → ClientDevs → Bool → BTreeSet RowKey → ℕ → CallFault → Type 0
+UnwrittenBy Strong d is_linked outs table e = IsUnsent d outs is_linked table e
+UnwrittenBy Causal d is_linked outs table e = IsSpent d e
+UnwrittenBy Eventual d is_linked outs table e = IsSpent d e
+
+abbrev pub IsUnwritten : ClientDevs → Bool → BTreeSet RowKey → OpenedRow → CallFault → Type 0
+IsUnwritten d is_linked outs at e = UnwrittenBy at.opened.schema.scheme d is_linked outs at.table e
 
 -- ---- as a plan of the step table
 
 -- A call of a client that is up: its devices stand for this disk, which is steady, and these tasks are to be done; the
 -- shape has the plan at work.
-pub record IsCalled {D : Type 0} (state : D → DiskState) (old : Journal D) (c : ℕ) (disk : ClientDisk)
-    (tasks : List ClientTask) (shape : Shape) : Type 0 where
+pub record IsCalled {D : Type 0} (state : D → DiskState) (old : Journal D) (waiting : Waiting) (c : ℕ)
+    (disk : ClientDisk) (tasks : List ClientTask) (shape : Shape) : Type 0 where
   pub stands : StandsFor c (devs state old) disk
-  pub waiting : Waiting
   pub steady : IsSteady waiting disk
+  pub rests : writes_of old ≡ [] → IsAtRest (devs state old)
   pub tasks_are : AreTasksOf (writes_of old) tasks
   pub work : shape.plan ≡ plan_at_work (devs state old) (writes_of old)
 
--- the number that the next plan gets
-abbrev pub number_next : ClientDevs → ℕ
-number_next d = d.journal.greatest + 1
-
--- The step table's move begins a plan with this number as its answer, and the devices' plan is that one: they may take
--- it on, and rows stay fit behind it. Where the row is noted, the plan is steady.
-pub record IsPrepared (d : ClientDevs) (linked : Bool) (c : ℕ) (move : ClientMove) (disk : ClientDisk) (table : ℕ)
-    (row : List ℕ) (x : Prepared) : Type 0 where
-  pub shape : Shape
+-- The step table's move begins a plan with this number as its answer, and the devices' plan is that one.
+pub record IsPrepared (d : ClientDevs) (phase : ℕ → Bool) (linked : Bool) (c : ℕ) (move : ClientMove)
+    (disk : ClientDisk) (meaning : LocalName → List ℕ) (x : Prepared) : Type 0 where
   pub p : Plan
-  pub work : shape.plan ≡ plan_at_work d []
-  pub step : linked_step linked c shape (with_tasks disk []) move ≡ begun shape disk (Number x.number) p []
-  pub meaning : LocalName → List ℕ
-  pub stands : Stands c meaning d disk
-  pub fit : AreFitRows meaning (redone d)
-  pub plan : IsPlan d x.planned.plan
-  pub is_of : IsPlanOf (meaning_with meaning (number_next d) x.planned.plan.brought) c
-      (commit_for (number_next d) x.planned.plan) p
-  pub at : IsPlanAt disk p
-  pub shaped : IsPlanShape shape x.planned.plan.brought x.planned.plan.drops
-  pub tells : map fact_of x.planned.facts.items ≡ told p
-  pub sends : x.planned.messages.items ≡ []
-  pub no_record : x.planned.plan.new_record ≡ None
-  pub change : IfSome x.planned.plan.row
-      (IsFitChange meaning (number_next d) x.planned.plan.brought (record_of d.held x.planned.plan.table))
-  pub steady : (w : Waiting) → contains key_cmp w.outs (key_at table row) ≡ true
-      → contains key_cmp w.ready (key_at table row) ≡ true → IsSteadyPlan w p
+  pub sends : List Send
+  pub readied : IsReadied d c meaning disk x.planned p sends
+  pub step : (shape : Shape) → phased_step phase linked c shape (with_tasks disk []) move
+      ≡ begun shape disk (Number x.number) p sends
 
 -- where this fault is a refusal of the step table, the answer is that refusal
 abbrev pub IsRefusedSo : Answer → CallFault → Type 0
@@ -154,17 +215,16 @@ IsRefusedSo answer e = (refusal : Refusal) → refusal_in e ≡ Some refusal →
 
 -- A write is prepared where nothing is to be done; or it is refused as the step table refuses the move, or for want of
 -- numbers.
-pub record Prepares {D : Type 0} (state : D → DiskState) (old : Journal D) (c : ℕ) (move : ClientMove) (table : ℕ)
-    (row : List ℕ) (result : Result Prepared CallFault) : Type 0 where
-  pub refused : (linked : Bool) (disk : ClientDisk) (tasks : List ClientTask) (shape : Shape)
-      → IsCalled state old c disk tasks shape
-      → IfErr result (IsRefusedSo (linked_step linked c shape (with_tasks disk tasks) move).answer)
+pub record Prepares {D : Type 0} (state : D → DiskState) (old : Journal D) (waiting : Waiting) (phase : ℕ → Bool)
+    (linked : Bool) (c : ℕ) (move : ClientMove) (result : Result Prepared CallFault) : Type 0 where
+  pub refused : (disk : ClientDisk) (tasks : List ClientTask) (shape : Shape)
+      → IsCalled state old waiting c disk tasks shape
+      → IfErr result (IsRefusedSo (phased_step phase linked c shape (with_tasks disk tasks) move).answer)
   pub spent : (last : ℕ) → IsErrOf result (Spent last)
       → (last ≡ NUMBER_MAX) × (NUMBER_MAX ≤ (redone (devs state old)).last)
   pub idle : OnOk result (writes_of old ≡ [])
-  pub prepared : (linked : Bool) (disk : ClientDisk) (waiting : Waiting) → StandsFor c (devs state old) disk
-      → IsSteady waiting disk → IsAtRest (devs state old)
-      → IfOk result (IsPrepared (devs state old) linked c move disk table row)
+  pub prepared : (disk : ClientDisk) → (idle : IsIdleAt (devs state old) c waiting disk)
+      → IfOk result (IsPrepared (devs state old) phase linked c move disk idle.stands.0)
 
 -- devices that have nothing to do may take its plan on
 pub record MayBegin {D : Type 0} (state : D → DiskState) (client : Journal D) (x : Prepared) : Type 0 where

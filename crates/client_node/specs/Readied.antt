@@ -1,6 +1,7 @@
 -- Plans that a client's node is about to take on: which of the step table's plans each is, and what it tells and sends.
-use Rattle.std.specs.Prelude.{◌≡◌, ℕ, ◌+◌, List, [], map, Option, Some, None}
+use Rattle.std.specs.Prelude.{◌≡◌, ℕ, ◌+◌, ◌≤◌, List, [], map, Option, Some, None}
 use Rattle.std.specs.Prelude.{IfSome}
+use Rattle.stab_base.specs.declared.limits.TheConstants.{NUMBER_MAX}
 use Rattle.held_value.specs.declared.local_name.LocalName.{LocalName}
 use Rattle.held_value.specs.declared.slots.Slots.{Slots as HeldSlots}
 use Rattle.slot_store.specs.Data.{record_of}
@@ -23,6 +24,8 @@ use Rattle.client_node.specs.Steady.{IsSteady}
 use Rattle.client_node.specs.Tells.{facts_told, with_position}
 use Rattle.client_node.specs.Taking.{FitsClient}
 use Rattle.client_node.specs.declared.planning.Planned.{Planned}
+use Rattle.client_node.specs.declared.planning.Reaction.{Reaction}
+use Rattle.client_node.specs.declared.planning.Reaction.TheVariants.{Nothing, Sends, Begins}
 use Rattle.client_node.specs.declared.waiting.Waiting.{Waiting}
 
 -- ---- where a plan may be taken on
@@ -40,6 +43,20 @@ pub record IsIdle (d : ClientDevs) (c : ℕ) : Type 0 where
   pub at : IsIdleAt d c waiting disk
 
 -- ---- a plan of a row
+
+-- The plan of the devices for a change of a row's slots, with the last number of the client's writes and the new position.
+pub record IsPlanFor (table : ℕ) (row : List ℕ) (last : ℕ) (position : Option ℕ) (made : RowPlan) (plan : Begun)
+    : Type 0 where
+  pub behind : HeldSlots
+  pub changes : made.change.slots ≡ Some behind
+  pub table_is : plan.table ≡ table
+  pub last_is : plan.last ≡ last
+  pub row_is : plan.row ≡ Some (record { row = row; slots = behind })
+  pub position_is : plan.position ≡ position
+  pub new_record : plan.new_record ≡ None
+  pub brought : plan.brought ≡ made.chunks
+  pub drops : plan.drops ≡ made.drops
+  pub tells : plan.tells ≡ with_position made.change.tells position
 
 -- The plan of a change of a row's slots, which tells what the change does and the new position, and sends these.
 pub record IsOfRow (c table : ℕ) (row : List ℕ) (last : ℕ) (position : Option ℕ) (made : RowPlan) (sends : List Send)
@@ -71,10 +88,9 @@ pub record IsReadied (d : ClientDevs) (c : ℕ) (meaning : LocalName → List �
   pub its : IsPlanOf (meaning_with meaning (number_next d) planned.plan.brought) c
       (commit_for (number_next d) planned.plan) p
   pub at : IsPlanAt disk p
-  pub last : p.last ≡ disk.last
+  pub few : p.last ≤ NUMBER_MAX
   pub tells : map fact_of planned.facts.items ≡ told p
   pub sends_are : map send_of planned.messages.items ≡ sends
-  pub calm : IfSome p.row (λ put. put.slots.conflict ≡ None)
   pub new_record : planned.plan.new_record ≡ None
   pub fit : IfSome planned.plan.row (IsFitChange meaning (number_next d) planned.plan.brought
       (record_of d.held planned.plan.table))
@@ -93,3 +109,19 @@ pub record Readies (d : ClientDevs) (c : ℕ) (message : Message) (found : Optio
       → FitsClient disk (message_of message) × (p : Plan) × (sends : List Send)
       × IsReadied d c idle.stands.0 disk planned p sends
       × ((shape : Shape) → taken_at c message shape disk ≡ begun shape disk facts.Done p sends))
+
+-- A message begins no plan, and these are sent at once.
+pub record SendsBack (d : ClientDevs) (c : ℕ) (message : Message) (sends : List Send) : Type 0 where
+  pub fits : (disk : ClientDisk) → FitsClient disk (message_of message)
+  pub step : (waiting : Waiting) (disk : ClientDisk) (shape : Shape) → IsIdleAt d c waiting disk
+      → taken_at c message shape disk ≡ record (ignored disk) { sends = sends }
+
+-- a plan, if there is one, as what a message comes to
+abbrev pub begins : Option Planned → Reaction
+begins None = Nothing
+begins (Some planned) = Begins planned
+
+abbrev pub Reacts : ClientDevs → ℕ → Message → Reaction → Type 0
+Reacts d c message Nothing = Readies d c message None
+Reacts d c message (Sends sends) = SendsBack d c message (map send_of sends.items)
+Reacts d c message (Begins planned) = Readies d c message (Some planned)

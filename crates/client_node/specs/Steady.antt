@@ -1,12 +1,11 @@
--- What a client's disk keeps, whatever is done to it: its tables and their rows stand in rising order, no row is in
--- conflict, and each row that waits is noted.
+-- What a client's disk keeps, whatever is done to it: its tables and their rows stand in rising order, and each row that
+-- waits is noted.
 use Rattle.std.specs.Prelude.{◌≡◌, ℕ, ◌≤◌, true, List, [], ◌∷◌, Option, Some, None, IsSome, IfSome}
 use Rattle.std.specs.Ordering.{nat_cmp}
 use Rattle.std.specs.Map.{keys_of}
 use Rattle.std.specs.BTreeSet.{contains}
 use Rattle.std.specs.List.Sorted.{IsStrictlySortedBy}
 use Rattle.stab_base.specs.declared.limits.TheConstants.{NUMBER_MAX}
-use Rattle.row_value.specs.declared.schema.Scheme.TheVariants.{Eventual}
 use Rattle.value_codec.specs.SchemaSpelling.{HasSchemaSpelling}
 use Rattle.plan_log.specs.Spelling.{IsTable}
 use Rattle.slot_store.specs.Data.{key_cmp, key_at}
@@ -15,16 +14,15 @@ use Rattle.step_tables.specs.ClientMoves.{Slots, TableDisk, RowPut, Plan, Client
 use Rattle.step_tables.specs.ClientMoves.{Commit, PutRow, PutTable, Finish, Keep, slots_at, table_at, to_send}
 use Rattle.client_node.specs.declared.waiting.Waiting.{Waiting}
 
--- A row that isn't in conflict, and is noted where its write waits for an answer, and where it has one to send.
+-- A row that is noted where its write waits for an answer, where it has one to send, and where it is in conflict.
 pub record IsNoted (waiting : Waiting) (table : ℕ) (row : List ℕ) (slots : Slots) : Type 0 where
-  pub calm : slots.conflict ≡ None
   pub sent : IsSome slots.out → contains key_cmp waiting.outs (key_at table row) ≡ true
   pub ready : IsSome (to_send slots slots.out slots.main slots.conflict)
       → contains key_cmp waiting.ready (key_at table row) ≡ true
+  pub conflict : IsSome slots.conflict → contains key_cmp waiting.conflicts (key_at table row) ≡ true
 
 pub record IsSteadyTable (waiting : Waiting) (number : ℕ) (table : TableDisk) : Type 0 where
   pub numbered : IsTable number
-  pub eventual : table.schema.scheme ≡ Eventual
   pub spelled : HasSchemaSpelling table.schema
   pub rising : IsStrictlySortedBy row_cmp (keys_of table.rows)
   pub noted : (row : List ℕ) → IsNoted waiting number row (slots_at table row)

@@ -1,6 +1,9 @@
 //! The calls of a client.
 mod editing;
+mod listing;
+pub(crate) mod phases;
 pub(crate) mod pulling;
+mod resolving;
 mod sending;
 mod showing;
 mod taking;

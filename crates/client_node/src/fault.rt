@@ -4,7 +4,7 @@ ghost use Rattle.client_node.specs.Fault.{fault_of, fit_fault_of};
 
 use client_journal::JournalFault;
 use row_value::FitFault;
-use stab_base::WriteNo;
+use stab_base::{Version, WriteNo};
 use std::alloc::{AllocError, AllocFailed};
 use thiserror::Error;
 
@@ -32,9 +32,27 @@ pub enum CallFault {
     /// Writes are still to be done; `with` is the plan at work, or 0.
     #[error("plan {with} is at work")]
     Busy { with: u64 },
+    /// The client doesn't resolve the table's conflicts.
+    #[error("the table's conflicts aren't being resolved")]
+    NotInResolution,
+    /// The client resolves the table's conflicts.
+    #[error("the table's conflicts are being resolved")]
+    InResolution,
+    /// The row isn't in conflict.
+    #[error("the row isn't in conflict")]
+    NoConflict,
+    /// The row is in conflict with version `now`, and not with the one that was seen.
+    #[error("the row is in conflict with version {now}, not {seen}")]
+    Moved { seen: Version, now: Version },
     /// The client's link is down.
     #[error("the link is down")]
     Offline,
+    /// The client's write of this number, in the same strong table, waits for its answer.
+    #[error("write {number} waits for its answer")]
+    Outstanding { number: WriteNo },
+    /// The row is in conflict with this version.
+    #[error("the row is in conflict with version {version}")]
+    Conflicted { version: Version },
     /// The last number of a write or of a plan, `last`, is given.
     #[error("the last number, {last}, is given")]
     Spent { last: WriteNo },

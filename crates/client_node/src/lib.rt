@@ -18,6 +18,7 @@ mod requesting;
 mod responding;
 mod row_plan;
 mod starting;
+mod strong;
 mod telling;
 mod tells;
 mod waiting;

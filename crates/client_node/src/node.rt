@@ -13,6 +13,7 @@ ghost use Rattle.step_tables.specs.Travels.{send_of};
 ghost use Rattle.gathering.specs.Room.{HasRoom};
 ghost use Rattle.client_node.specs.Node.{IsToOpen, to_open, IsClient, IsNode, IsSame, told_by, sent_by, has_task};
 ghost use Rattle.client_node.specs.Node.{HasPlansBelow};
+ghost use Rattle.client_node.specs.Phases.{KeepsPhases};
 ghost use Rattle.client_node.specs.Calls.{Works, Crashes, Falls, Fell, Halts};
 ghost use Rattle.client_node.specs.Starts.{Declares, Starts};
 ghost use Rattle.client_node.specs.declared.fault.CallFault.TheVariants.{Disk};
@@ -29,6 +30,7 @@ use gathering::Gathered;
 use row_value::{Schema, Sequence};
 use stab_base::{ClientNo, Step, TableNo};
 use std::alloc::{AllocError, Global};
+use std::collections::BTreeSet;
 use step_tables::{Addressed, Out};
 use table_model::Fact;
 
@@ -42,6 +44,8 @@ pub struct ClientNode<D: Disk> {
     pub(crate) is_declared: bool,
     pub(crate) is_up: bool,
     pub(crate) is_linked: bool,
+    /// The tables whose conflicts the client resolves.
+    pub(crate) phases: BTreeSet<TableNo>,
     /// The tables that its declaration opens, by their numbers. The last one of a number counts.
     pub(crate) tables: Vec<(TableNo, Schema)>,
     pub(crate) waiting: Waiting,
@@ -53,8 +57,8 @@ pub struct ClientNode<D: Disk> {
 }
 
 impl<D: Disk + Drop> ClientNode<D> {
-    /// A client that is down and not declared, and whose link is up. Its declaration opens these tables, each of an
-    /// eventual scheme, by their numbers; of two with one number the later one. What its disks hold doesn't matter.
+    /// A client that is down and not declared, and whose link is up. Its declaration opens these tables by their numbers;
+    /// of two with one number the later one. What its disks hold doesn't matter.
     pub fn new(
         alloc: Global,
         number: ClientNo,
@@ -80,6 +84,7 @@ impl<D: Disk + Drop> ClientNode<D> {
             is_declared: false,
             is_up: false,
             is_linked: true,
+            phases: BTreeSet::new(alloc),
             tables,
             waiting: Waiting::new(alloc),
             devs: Journal::new(
@@ -154,6 +159,7 @@ impl<D: Disk + Drop> ClientNode<D> {
         ensures devs { self.new.devs ≡ self.old.devs }
         ensures up { self.new.is_up ≡ self.old.is_up }
         ensures declared { self.new.is_declared ≡ self.old.is_declared }
+        ensures phases { self.new.phases ≡ self.old.phases }
         ensures plans { (n : ℕ) → HasPlansBelow D.state n self.old → HasPlansBelow D.state n self.new }
     {
         Out {
@@ -162,7 +168,8 @@ impl<D: Disk + Drop> ClientNode<D> {
         }
     }
 
-    // Crashes the disks and starts them again, their fuses as new. The node is down.
+    // Crashes the disks and starts them again, their fuses as new. The node is down, resolves no conflicts, and notes no
+    // row.
     fn fall(&mut self, pick: u64)
         ensures falls { Falls D.state D.images self.old self.new }
         ensures down { self.new.is_up ≡ false }
@@ -174,7 +181,9 @@ impl<D: Disk + Drop> ClientNode<D> {
     {
         self.devs.restart(pick);
         self.devs.renew();
+        self.waiting = Waiting::new(self.alloc);
         self.is_up = false;
+        self.phases = BTreeSet::new(self.alloc);
     }
 
     // Hands over what a call of the devices came to. Where a disk has failed the node is down.
@@ -182,6 +191,7 @@ impl<D: Disk + Drop> ClientNode<D> {
         ensures same { result ≡ found }
         ensures disk { IsErrOf result Disk → Fell D.state D.images self.old self.new }
         ensures other { (IsErrOf result Disk → ⊥) → self.new ≡ self.old }
+        ensures phases { KeepsPhases self.old self.new }
     {
         if let Err(CallFault::Disk) = found {
             self.fall(0);
@@ -206,6 +216,7 @@ impl<D: Disk + Drop> ClientNode<D> {
         ensures up { self.new.is_up ≡ self.old.is_up }
         ensures declared { self.new.is_declared ≡ self.old.is_declared }
         ensures waiting { self.new.waiting ≡ self.old.waiting }
+        ensures phases { self.new.phases ≡ self.old.phases }
     {
         self.messages.reserve(sends.len())?;
         self.owed = Owed::nothing(self.alloc);
@@ -222,6 +233,7 @@ impl<D: Disk + Drop> ClientNode<D> {
         ensures quiet { OnOk result (self.new.owed.facts.items ≡ []) }
         ensures kept { OnErr result (self.new.is_declared ≡ self.old.is_declared) }
         ensures up { OnOk result (self.new.is_up ≡ true) }
+        ensures phases { KeepsPhases self.old self.new }
     {
         match make_tables(&mut self.devs, self.tables.as_slice()) {
             Ok(()) => {
@@ -246,6 +258,7 @@ impl<D: Disk + Drop> ClientNode<D> {
         ensures node { IsNode D.state self.new }
         ensures kept { OnErr result (self.new.is_declared ≡ self.old.is_declared) }
         ensures up { OnOk result (self.new.is_up ≡ true) }
+        ensures phases { KeepsPhases self.old self.new }
     {
         self.make()
     }
@@ -260,8 +273,16 @@ impl<D: Disk + Drop> ClientNode<D> {
             → Starts D.state D.images s self.old self.new result }
         ensures kept { OnErr result (self.new.is_declared ≡ self.old.is_declared) }
         ensures up { OnOk result (self.new.is_up ≡ true) }
+        ensures phases { KeepsPhases self.old self.new }
     {
-        match resume(self.alloc, &mut self.devs, self.number, &mut self.facts) {
+        let resumed = resume(
+            self.alloc,
+            &mut self.devs,
+            self.number,
+            &mut self.waiting,
+            &mut self.facts,
+        );
+        match resumed {
             Ok(owed) => {
                 self.owed = owed;
                 self.is_up = true;
@@ -282,6 +303,7 @@ impl<D: Disk + Drop> ClientNode<D> {
             → Starts D.state D.images s self.old self.new result }
         ensures kept { OnErr result (self.new.is_declared ≡ self.old.is_declared) }
         ensures up { OnOk result (self.new.is_up ≡ true) }
+        ensures phases { KeepsPhases self.old self.new }
     {
         let mut told = recovered(self.alloc, self.number)?;
         self.facts.reserve(1)?;
@@ -303,6 +325,7 @@ impl<D: Disk + Drop> ClientNode<D> {
         ensures node { IsNode D.state self.new }
         ensures kept { OnErr result (self.new.is_declared ≡ self.old.is_declared) }
         ensures up { OnOk result (self.new.is_up ≡ true) }
+        ensures phases { KeepsPhases self.old self.new }
     {
         if self.is_up {
             return Ok(());
@@ -325,6 +348,7 @@ impl<D: Disk + Drop> ClientNode<D> {
         ensures node { IsNode D.state self.new }
         ensures declared { self.new.is_declared ≡ self.old.is_declared }
         ensures up { OnOk result (self.new.is_up ≡ true) }
+        ensures phases { KeepsPhases self.old self.new }
     {
         if self.devs.idle() {
             return Ok(Step::Idle);

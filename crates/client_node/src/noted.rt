@@ -4,13 +4,23 @@ ghost use Rattle.std.specs.declared.cmp.Ordering.TheVariants.{Less};
 ghost use Rattle.std.specs.declared.ops.Bound.TheVariants.{Included, Excluded};
 ghost use Rattle.std.specs.BTreeSet.{keys, keys_between};
 ghost use Rattle.std.specs.List.Sorted.{IsStrictlySortedBy};
-ghost use Rattle.slot_store.specs.Data.{key_cmp};
-ghost use Rattle.client_node.specs.NotedRows.{AreNotedRows};
+ghost use Rattle.slot_store.specs.Data.{key_cmp, key_at};
+ghost use Rattle.client_node.specs.NotedRows.{AreNotedRows, zeros};
 
 use slot_store::RowKey;
 use stab_base::{RowId, TableNo};
 use std::alloc::{AllocError, Global};
 use std::collections::BTreeSet;
+
+/// The key before those of a table's rows.
+pub(crate) fn first_key(table: TableNo) -> RowKey
+    ensures { result ≡ key_at table (zeros 16) }
+{
+    RowKey {
+        table,
+        row: RowId::from_bytes([0; 16]),
+    }
+}
 
 // The rows of a table among the keys of a set between two keys.
 fn rows_between(
@@ -40,11 +50,5 @@ pub(crate) fn rows_in(
     requires { table + 1 < 2 ^ 32 }
     ensures { IfOk result (λ rows. AreNotedRows set.now table rows.items) }
 {
-    let first = RowId::from_bytes([0; 16]);
-    let from = RowKey { table, row: first };
-    let end = RowKey {
-        table: table + 1,
-        row: first,
-    };
-    rows_between(alloc, set, table, from, end)
+    rows_between(alloc, set, table, first_key(table), first_key(table + 1))
 }

@@ -7,6 +7,7 @@ ghost use Rattle.client_journal.specs.Standing.{devs as held_by, writes_of, AreU
 ghost use Rattle.client_node.specs.Answers.{IsFault};
 ghost use Rattle.client_node.specs.Begins.{BeginsPlan};
 ghost use Rattle.client_node.specs.Looks.{Serves};
+ghost use Rattle.client_node.specs.Readied.{begins};
 ghost use Rattle.client_node.specs.declared.owed.When.TheVariants.{AtCommit};
 
 use crate::fault::CallFault;
@@ -22,6 +23,24 @@ pub(crate) struct Planned {
     pub(crate) plan: Plan,
     pub(crate) facts: Vec<Fact>,
     pub(crate) messages: Vec<Addressed>,
+}
+
+/// What a message comes to: nothing, messages that are sent at once, or a plan.
+#[derive(Drop)]
+pub(crate) enum Reaction {
+    Nothing,
+    Sends(Vec<Addressed>),
+    Begins(Planned),
+}
+
+/// A plan, if there is one, as what a message comes to.
+pub(crate) fn begins(found: Option<Planned>) -> Reaction
+    ensures { result ≡ begins found }
+{
+    match found {
+        None => Reaction::Nothing,
+        Some(planned) => Reaction::Begins(planned),
+    }
 }
 
 /// Takes a plan on.

@@ -1,11 +1,14 @@
 //! How a write of a row is prepared: its content is held by chunks, and its plan is made.
-ghost use Rattle.std.specs.Prelude.{◌≡◌, ◌⊎◌, ◌+◌, ◌<◌, ◌≤◌, ℕ, List, [], ◌∷◌, None, option_map, length, IfOk, IfErr};
+ghost use Rattle.std.specs.Prelude.{◌≡◌, ◌⊎◌, ◌+◌, ◌<◌, ◌≤◌, ℕ, Bool, List, [], ◌∷◌, None, Some, Ok as Made};
+ghost use Rattle.std.specs.Prelude.{option_map, length, IfOk, IfErr, OnOk};
 ghost use Rattle.std.specs.List.{AllByRecursion};
 ghost use Rattle.stab_base.specs.declared.limits.TheConstants.{NUMBER_MAX};
+ghost use Rattle.row_value.specs.Fit.{fit_of};
 ghost use Rattle.value_codec.specs.SchemaSpelling.{HasSchemaSpelling};
 ghost use Rattle.held_value.specs.declared.local_name.LocalName.{LocalName};
 ghost use Rattle.client_tables.specs.Change.{version_in};
 ghost use Rattle.client_tables.specs.Shown.{shown_content};
+ghost use Rattle.client_tables.specs.Transitions.{written};
 ghost use Rattle.client_journal.specs.Redone.{redone};
 ghost use Rattle.client_journal.specs.Standing.{devs as held_by, writes_of, AreUp, IsReady};
 ghost use Rattle.step_tables.specs.ClientMoves as moves;
@@ -14,18 +17,23 @@ ghost use Rattle.held_contents.specs.Holding.{IsFit};
 ghost use Rattle.plan_limits.specs.Fit.{HasWord, HaveWords};
 ghost use Rattle.client_node.specs.Answers.{record_at, IsFault};
 ghost use Rattle.client_node.specs.Looks.{Looks};
-ghost use Rattle.client_node.specs.Preparing.{IsOpenedRow, HoldsNew, plan_for, change_for, wrote, IsWritten, Prepares};
+ghost use Rattle.client_node.specs.Preparing.{AreKnownBehind, IsOpenedRow, HoldsNew, plan_for, change_for, wrote, write_of};
+ghost use Rattle.client_node.specs.Preparing.{MakesChange, IsFreeWrite, IsSpent, IsWriteBy, IsUnwritten, Prepares};
+ghost use Rattle.client_node.specs.Readied.{IsIdle};
 
+use crate::calls::phases::check_closed;
 use crate::fault::CallFault;
 use crate::looking::{check_idle, open_table, row_slots};
 use crate::planning::Planned;
+use crate::strong::prepare_strong;
+use crate::waiting::Waiting;
 use client_journal::{Journal, Plan};
-use client_tables::{RowPlan, plan_write, shown_content};
+use client_tables::{RowPlan, plan_write, plans_name_known_chunks, shown_content};
 use disk_trait::Disk;
 use held_contents::{HeldNew, hold, read_chunks};
 use held_value::{Shadow, Slots};
 use plan_log::RowChange;
-use row_value::{Cell, Content, fits};
+use row_value::{Cell, Content, Scheme, fits};
 use slot_store::TableRecord;
 use stab_base::{ClientNo, NUMBER_MAX, RowId, TableNo, Version, WriteNo};
 use std::alloc::{AllocError, Global};
@@ -38,6 +46,14 @@ pub(crate) struct OpenedRow {
     pub(crate) row: RowId,
     pub(crate) opened: TableRecord,
     pub(crate) slots: Slots,
+}
+
+/// What a write goes by beside the devices: whether the client's link is up, and whether it resolves the conflicts of
+/// the table.
+#[derive(Clone, Copy)]
+pub(crate) struct Gate {
+    pub(crate) is_linked: bool,
+    pub(crate) is_open: bool,
 }
 
 /// A write that is to be taken on: its number, and its plan.
@@ -78,8 +94,8 @@ pub(crate) fn open_row<D: Disk + Drop>(
     })
 }
 
-// The number of the next write.
-fn next_write<D: Disk + Drop>(devs: &mut Journal<D>) -> Result<WriteNo, CallFault>
+/// The number of the next write.
+pub(crate) fn next_write<D: Disk + Drop>(devs: &mut Journal<D>) -> Result<WriteNo, CallFault>
     requires up { AreUp devs.old }
     requires ready { IsReady D.state devs.old (writes_of devs.old) }
     ensures looks { Looks D.state D.images devs.old devs.new result }
@@ -96,8 +112,8 @@ fn next_write<D: Disk + Drop>(devs: &mut Journal<D>) -> Result<WriteNo, CallFaul
     }
 }
 
-// What holds a new content, against what the row shows.
-fn hold_new<D: Disk + Drop>(
+/// What holds a new content, against what the row shows.
+pub(crate) fn hold_new<D: Disk + Drop>(
     alloc: Global,
     devs: &mut Journal<D>,
     size: u32,
@@ -150,8 +166,8 @@ fn know_cells(cells: &[Cell])
     }
 }
 
-// A content whose numbers are known to have 64 bits.
-fn know_words(content: &Content)
+/// A content whose numbers are known to have 64 bits.
+pub(crate) fn know_words(content: &Content)
     ensures { HaveWords content.now }
 {
     if let Content::Row { cells, .. } = content {
@@ -165,10 +181,12 @@ fn change_for(row: RowId, slots: Option<Slots>) -> Option<RowChange>
     slots.map(|slots| RowChange { row, slots })
 }
 
-// What a row comes to, as a plan of the devices; `last` is the number of the client's last write.
-fn plan_for(table: TableNo, last: WriteNo, row: RowId, made: RowPlan) -> Plan
-    ensures { result ≡ plan_for table last row made }
+/// What a row comes to, as a plan of the devices; `last` is the number of the client's last write.
+pub(crate) fn plan_for(table: TableNo, last: WriteNo, row: RowId, made: RowPlan) -> Plan
+    ensures plan { result ≡ plan_for table last row made }
+    ensures known { AreKnownBehind }
 {
+    plans_name_known_chunks();
     let RowPlan {
         change,
         chunks,
@@ -187,16 +205,38 @@ fn plan_for(table: TableNo, last: WriteNo, row: RowId, made: RowPlan) -> Plan
     }
 }
 
-// What is told of a write. Its content isn't copied.
-fn tell_write(alloc: Global, write: Write) -> Result<Vec<Fact>, AllocError>
+/// What is told of a write. Its content isn't copied.
+pub(crate) fn tell_write(alloc: Global, write: Write) -> Result<Vec<Fact>, AllocError>
     ensures { IfOk result (λ facts. facts.items ≡ wrote write ∷ []) }
 {
     Ok(vec![in alloc; Fact::Client(ClientFact::Wrote(write))]?)
 }
 
-// The plan of a write over these slots.
+/// A write of a row.
+pub(crate) fn write_over(
+    client: ClientNo,
+    number: WriteNo,
+    at: &OpenedRow,
+    content: Content,
+) -> Write
+    ensures { result ≡ write_of client number at.now content }
+{
+    Write {
+        client,
+        number,
+        table: at.table,
+        row: at.row,
+        read: version_in(&at.slots.shadow),
+        content,
+    }
+}
+
+// The plan of a write over these slots, which is sent later.
 fn plan_new(alloc: Global, slots: &Slots, write: Write, new: HeldNew) -> Result<Planned, AllocError>
-    ensures { IfOk result (IsWritten slots.now write new) }
+    ensures makes { IfOk result (MakesChange slots.now (written slots.now write.number new.content) new.brought
+        write.table write.number write.row) }
+    ensures facts { IfOk result (λ planned. planned.facts.items ≡ wrote write ∷ []) }
+    ensures messages { IfOk result (λ planned. planned.messages.items ≡ []) }
 {
     let HeldNew { content, brought } = new;
     let made = plan_write(alloc, slots, write.number, content, brought)?;
@@ -208,10 +248,8 @@ fn plan_new(alloc: Global, slots: &Slots, write: Write, new: HeldNew) -> Result<
     })
 }
 
-/// Prepares the write of a content, which moves into what is told.
-///
-/// What doesn't fit, then `Busy`, then `Spent`.
-pub(crate) fn prepare<D: Disk + Drop>(
+// Prepares the write of a content in a causal or an eventual table.
+fn prepare_free<D: Disk + Drop>(
     alloc: Global,
     client: ClientNo,
     devs: &mut Journal<D>,
@@ -220,25 +258,95 @@ pub(crate) fn prepare<D: Disk + Drop>(
 ) -> Result<Prepared, CallFault>
     requires up { AreUp devs.old }
     requires ready { IsReady D.state devs.old (writes_of devs.old) }
-    requires opened { IsOpenedRow (held_by D.state devs.old) at.now.table at.now.row at.now }
     requires spelled { HasSchemaSpelling at.now.opened.schema }
+    requires fits { fit_of at.now.opened.schema content ≡ Made tt }
     ensures looks { Looks D.state D.images devs.old devs.new result }
-    ensures prepares { Prepares D.state devs.old client (moves.Write at.now.table at.now.row content)
-        at.now.table at.now.row result }
+    ensures write { IfOk result (IsFreeWrite (held_by D.state devs.old) client at.now content) }
+    ensures refused { IfErr result (IsSpent (held_by D.state devs.old)) }
 {
-    fits(&at.opened.schema, &content)?;
-    check_idle(devs)?;
     let number = next_write(devs)?;
     let new = hold_new(alloc, devs, at.opened.schema.chunk, &at.slots, &content)?;
     know_words(&content);
-    let write = Write {
-        client,
-        number,
-        table: at.table,
-        row: at.row,
-        read: version_in(&at.slots.shadow),
-        content,
-    };
+    let write = write_over(client, number, at, content);
     let planned = plan_new(alloc, &at.slots, write, new)?;
     Ok(Prepared { number, planned })
+}
+
+// Whether a row isn't in conflict.
+fn check_calm(slots: &Slots) -> Result<(), CallFault>
+    ensures calm { OnOk result (slots.now.conflict ≡ None) }
+    ensures conflict { IfErr result (λ e. (x : Shadow) × (slots.now.conflict ≡ Some x)
+        × (e ≡ CallFault.Conflicted x.version)) }
+{
+    match &slots.conflict {
+        None => Ok(()),
+        Some(row) => Err(CallFault::Conflicted {
+            version: row.version,
+        }),
+    }
+}
+
+// Prepares a write by the scheme of its table.
+fn prepare_by<D: Disk + Drop>(
+    alloc: Global,
+    client: ClientNo,
+    is_linked: bool,
+    devs: &mut Journal<D>,
+    waiting: &Waiting,
+    at: &OpenedRow,
+    content: Content,
+) -> Result<Prepared, CallFault>
+    requires up { AreUp devs.old }
+    requires ready { IsReady D.state devs.old (writes_of devs.old) }
+    requires idle { IsIdle (held_by D.state devs.old) client }
+    requires opened { IsOpenedRow (held_by D.state devs.old) at.now.table at.now.row at.now }
+    requires spelled { HasSchemaSpelling at.now.opened.schema }
+    requires fits { fit_of at.now.opened.schema content ≡ Made tt }
+    ensures looks { Looks D.state D.images devs.old devs.new result }
+    ensures write { IfOk result (IsWriteBy (held_by D.state devs.old) is_linked waiting.now.outs client at.now
+        content) }
+    ensures refused { IfErr result (IsUnwritten (held_by D.state devs.old) is_linked waiting.now.outs at.now) }
+{
+    match at.opened.schema.scheme {
+        Scheme::Strong => prepare_strong(
+            alloc,
+            client,
+            is_linked,
+            devs,
+            &waiting.outs,
+            at,
+            content,
+        ),
+        Scheme::Causal | Scheme::Eventual => prepare_free(alloc, client, devs, at, content),
+    }
+}
+
+/// Prepares the write of a content, which moves into what is told.
+///
+/// What doesn't fit, then `Busy`, then `InResolution` where a phase of the table is open, then `Conflicted`, in a
+/// strong table `Offline` and `Outstanding`, then `Spent`.
+pub(crate) fn prepare<D: Disk + Drop>(
+    alloc: Global,
+    client: ClientNo,
+    gate: Gate,
+    devs: &mut Journal<D>,
+    waiting: &Waiting,
+    at: &OpenedRow,
+    content: Content,
+) -> Result<Prepared, CallFault>
+    requires up { AreUp devs.old }
+    requires ready { IsReady D.state devs.old (writes_of devs.old) }
+    requires idle { writes_of devs.old ≡ [] → IsIdle (held_by D.state devs.old) client }
+    requires opened { IsOpenedRow (held_by D.state devs.old) at.now.table at.now.row at.now }
+    requires spelled { HasSchemaSpelling at.now.opened.schema }
+    ensures looks { Looks D.state D.images devs.old devs.new result }
+    ensures prepares { (phase : ℕ → Bool) → phase at.now.table ≡ gate.is_open
+        → Prepares D.state devs.old waiting.now phase gate.is_linked client
+        (moves.Write at.now.table at.now.row content) result }
+{
+    fits(&at.opened.schema, &content)?;
+    check_idle(devs)?;
+    check_closed(gate.is_open)?;
+    check_calm(&at.slots)?;
+    prepare_by(alloc, client, gate.is_linked, devs, waiting, at, content)
 }

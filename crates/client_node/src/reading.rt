@@ -10,13 +10,14 @@ ghost use Rattle.step_tables.specs.Facts.{Shows};
 ghost use Rattle.journal_laws.specs.Moves.{shown_with};
 ghost use Rattle.journal_laws.specs.Whole.{whole};
 ghost use Rattle.held_contents.specs.Reading.{AreThereIf};
-ghost use Rattle.client_node.specs.Answers.{held_at, IsFault, IsAnswered};
+ghost use Rattle.client_node.specs.Answers.{IsFault, IsAnswered};
 ghost use Rattle.client_node.specs.Looks.{Looks};
 ghost use Rattle.client_node.specs.Node.{StandsFor};
 
 use crate::fault::CallFault;
 use crate::looking::{open_table, row_slots};
 use client_journal::Journal;
+use client_tables::{ShownAs, shown_as, shown_content};
 use disk_trait::Disk;
 use held_contents::read_whole;
 use held_value::Slots;
@@ -24,7 +25,7 @@ use stab_base::{RowId, TableNo};
 use std::alloc::Global;
 use table_model::Shown;
 
-/// What is shown of a row that isn't in conflict, its content whole.
+/// What is shown of a row, its content whole.
 pub(crate) fn read_shown<D: Disk + Drop>(
     alloc: Global,
     devs: &mut Journal<D>,
@@ -32,7 +33,6 @@ pub(crate) fn read_shown<D: Disk + Drop>(
 ) -> Result<Shown, CallFault>
     requires up { AreUp devs.old }
     requires ready { IsReady D.state devs.old (writes_of devs.old) }
-    requires calm { slots.now.conflict ≡ None }
     ensures looks { Looks D.state D.images devs.old devs.new result }
     ensures shown { IfOk result (λ shown. (meaning : LocalName → List ℕ)
         → AreThereIf meaning (held_by D.state devs.old) (shown_content slots.now)
@@ -40,16 +40,19 @@ pub(crate) fn read_shown<D: Disk + Drop>(
         ≡ Some (shown_of shown)) }
     ensures refused { IfErr result (λ e. ((e ≡ CallFault.NoRow) × (shown_as slots.now ≡ Nothing)) ⊎ IsFault e) }
 {
-    match (&slots.main, &slots.shadow) {
-        (Some(main), _) => Ok(Shown::Mine {
-            number: main.number,
-            content: read_whole(alloc, devs, &main.content)?,
+    let Some(held) = shown_content(slots) else {
+        return Err(CallFault::NoRow);
+    };
+    let content = read_whole(alloc, devs, held)?;
+    match shown_as(slots) {
+        ShownAs::Nothing => Err(CallFault::NoRow),
+        ShownAs::Clean { version } => Ok(Shown::Clean { version, content }),
+        ShownAs::Mine { number } => Ok(Shown::Mine { number, content }),
+        ShownAs::Conflict { number, version } => Ok(Shown::Conflict {
+            number,
+            version,
+            content,
         }),
-        (None, Some(shadow)) => Ok(Shown::Clean {
-            version: shadow.version,
-            content: read_whole(alloc, devs, &shadow.content)?,
-        }),
-        (None, None) => Err(CallFault::NoRow),
     }
 }
 
@@ -62,7 +65,6 @@ pub(crate) fn show<D: Disk + Drop>(
 ) -> Result<Shown, CallFault>
     requires up { AreUp devs.old }
     requires ready { IsReady D.state devs.old (writes_of devs.old) }
-    requires calm { (held_at (held_by D.state devs.old) table row.now).conflict ≡ None }
     ensures looks { Looks D.state D.images devs.old devs.new result }
     ensures answered { (c : ℕ) (disk : ClientDisk) → StandsFor c (held_by D.state devs.old) disk
         → IsAnswered (λ shown. Shows (shown_of shown)) (show_in row.now (table_at (seen disk) table)) result }

@@ -1,23 +1,28 @@
 //! How a start is taken on.
-ghost use Rattle.std.specs.Prelude.{◌≡◌, ◌∷◌, ℕ, List, [], map, IfOk, OnOk, OnErr};
+ghost use Rattle.std.specs.Prelude.{◌≡◌, ◌∷◌, ℕ, List, [], map, IfOk, IfErr, OnOk, OnErr};
 ghost use Rattle.held_value.specs.declared.local_name.LocalName.{LocalName};
 ghost use Rattle.client_journal.specs.Recover.{rolled_of};
-ghost use Rattle.client_journal.specs.Standing.{devs as held_by, writes_of, AreUp, AreSynced, AreSound};
+ghost use Rattle.client_journal.specs.Standing.{devs as held_by, writes_of, AreUp, IsReady, AreSynced, AreSound};
 ghost use Rattle.step_tables.specs.ClientMoves.{ClientDisk, told_at_start};
 ghost use Rattle.step_tables.specs.Lines.{fact_of};
 ghost use Rattle.journal_laws.specs.Holds.{Stands};
 ghost use Rattle.gathering.specs.Room.{HasRoom};
 ghost use Rattle.table_model.specs.declared.line.Fact.TheVariants.{ClientRecovered};
+ghost use Rattle.client_node.specs.Answers.{IsFault};
 ghost use Rattle.client_node.specs.Devices.{BeginsStart, OwesEnd};
+ghost use Rattle.client_node.specs.Looks.{Looks};
+ghost use Rattle.client_node.specs.Waiting.{IsMore, AreNotedOf, AreAllNoted};
 
 use crate::devices::begin_start;
 use crate::fault::CallFault;
 use crate::owed::{Owed, When};
 use crate::telling::tell_found;
+use crate::waiting::Waiting;
 use client_journal::Journal;
 use disk_trait::Disk;
 use gathering::Gathered;
-use stab_base::ClientNo;
+use slot_store::TABLE_MAX;
+use stab_base::{ClientNo, TableNo};
 use std::alloc::{AllocError, Global};
 use table_model::Fact;
 
@@ -52,12 +57,46 @@ fn gather(alloc: Global, mut told: Vec<Fact>) -> Result<Gathered<Fact>, AllocErr
     Ok(made)
 }
 
-/// Takes on the writes of a start, and gathers what it tells at once, where nothing is gathered. What the writes tell
-/// is for the caller to owe.
+// Notes each row of a table.
+fn note_table<D: Disk + Drop>(
+    devs: &mut Journal<D>,
+    table: TableNo,
+    waiting: &mut Waiting,
+) -> Result<(), CallFault>
+    requires up { AreUp devs.old }
+    requires ready { IsReady D.state devs.old (writes_of devs.old) }
+    ensures looks { Looks D.state D.images devs.old devs.new result }
+    ensures more { IsMore waiting.old waiting.new }
+    ensures noted { OnOk result (AreNotedOf (held_by D.state devs.old) waiting.new table) }
+    ensures refused { IfErr result IsFault }
+{
+    let rows = devs.rows_of(table)?;
+    waiting.note_all(table, rows.as_slice())?;
+    Ok(())
+}
+
+// Each row of the devices, noted. The first synchronization of a table finds out which of its rows wait.
+fn note_held<D: Disk + Drop>(alloc: Global, devs: &mut Journal<D>) -> Result<Waiting, CallFault>
+    requires up { AreUp devs.old }
+    requires ready { IsReady D.state devs.old (writes_of devs.old) }
+    ensures looks { Looks D.state D.images devs.old devs.new result }
+    ensures noted { IfOk result (AreAllNoted (held_by D.state devs.old)) }
+    ensures refused { IfErr result IsFault }
+{
+    let mut waiting = Waiting::new(alloc);
+    for table in 1..=TABLE_MAX {
+        note_table(devs, table, &mut waiting)?;
+    }
+    Ok(waiting)
+}
+
+/// Takes on the writes of a start, notes the rows of the devices, and gathers what the start tells at once, where nothing
+/// is gathered. What the writes tell is for the caller to owe.
 pub(crate) fn resume<D: Disk + Drop>(
     alloc: Global,
     devs: &mut Journal<D>,
     client: ClientNo,
+    waiting: &mut Waiting,
     facts: &mut Gathered<Fact>,
 ) -> Result<Owed, CallFault>
     requires up { AreUp devs.old }
@@ -72,11 +111,14 @@ pub(crate) fn resume<D: Disk + Drop>(
     ensures kept { OnErr result (facts.new.items.items ≡ facts.old.items.items) }
     ensures room { OnOk result (HasRoom facts.new 1) }
     ensures owes { IfOk result (OwesEnd client) }
+    ensures noted { OnOk result (AreAllNoted (held_by D.state devs.old) waiting.new) }
 {
     let rolled = begin_start(devs)?;
     let told = tell_found(alloc, devs, client, &rolled)?;
+    let held = note_held(alloc, devs)?;
     let owed = owed_by_start(alloc, client)?;
     let made = gather(alloc, told)?;
+    *waiting = held;
     *facts = made;
     Ok(owed)
 }

@@ -26,8 +26,8 @@ use table_model::{ClientFact, Fact, Write};
 
 // ---- the content of a write
 
-// A content whole.
-fn read_content<D: Disk + Drop>(
+/// A content whole.
+pub(crate) fn read_content<D: Disk + Drop>(
     alloc: Global,
     devs: &mut Journal<D>,
     held: &HeldContent,

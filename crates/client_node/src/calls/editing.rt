@@ -1,5 +1,5 @@
 //! How a client edits a row.
-ghost use Rattle.std.specs.Prelude.{◌≡◌, ℕ, List, true, None, Some, Ok as Made, IfSome, IfOk, IfErr, IsErrOf};
+ghost use Rattle.std.specs.Prelude.{◌≡◌, ℕ, Bool, List, [], true, None, Some, Ok as Made, IfSome, IfOk, IfErr, IsErrOf};
 ghost use Rattle.value_codec.specs.SchemaSpelling.{HasSchemaSpelling};
 ghost use Rattle.held_value.specs.declared.local_name.LocalName.{LocalName};
 ghost use Rattle.client_tables.specs.Shown.{shown_content};
@@ -8,17 +8,20 @@ ghost use Rattle.step_tables.specs.ClientMoves.{Client, Change, content_of};
 ghost use Rattle.step_tables.specs.Facts.{Number};
 ghost use Rattle.step_tables.specs.Lines.{shown_of};
 ghost use Rattle.held_contents.specs.Reading.{AreThereIf};
-ghost use Rattle.client_node.specs.Answers.{record_at, held_at};
+ghost use Rattle.client_node.specs.Answers.{record_at};
 ghost use Rattle.client_node.specs.Does.{Does};
 ghost use Rattle.client_node.specs.Editing.{edit_fault_of, edited_over, shown_whole, IsWhy};
 ghost use Rattle.client_node.specs.Looks.{Looks};
 ghost use Rattle.client_node.specs.Node.{IsClient, IsNode};
 ghost use Rattle.client_node.specs.Preparing.{Prepares};
+ghost use Rattle.client_node.specs.Readied.{IsIdle};
+ghost use Rattle.client_node.specs.Phases.{KeepsPhases};
 
 use crate::fault::CallFault;
 use crate::node::ClientNode;
-use crate::preparing::{OpenedRow, Prepared, open_row, prepare};
+use crate::preparing::{Gate, OpenedRow, Prepared, open_row, prepare};
 use crate::reading::read_shown;
+use crate::waiting::Waiting;
 use client_journal::Journal;
 use disk_trait::Disk;
 use row_edits::{Edit, EditFault, edited};
@@ -42,7 +45,9 @@ fn content_of(shown: &Shown) -> &Content
     ensures { result.now ≡ content_of (shown_of shown.now) }
 {
     match shown {
-        Shown::Clean { content, .. } | Shown::Mine { content, .. } => content,
+        Shown::Clean { content, .. }
+        | Shown::Mine { content, .. }
+        | Shown::Conflict { content, .. } => content,
     }
 }
 
@@ -75,7 +80,6 @@ fn edited_content<D: Disk + Drop>(
 ) -> Result<Content, CallFault>
     requires up { AreUp devs.old }
     requires ready { IsReady D.state devs.old (writes_of devs.old) }
-    requires calm { at.now.slots.conflict ≡ None }
     ensures looks { Looks D.state D.images devs.old devs.new result }
     ensures made { IfOk result (λ content. (meaning : LocalName → List ℕ)
         → AreThereIf meaning (held_by D.state devs.old) (shown_content at.now.slots)
@@ -94,21 +98,24 @@ fn edited_content<D: Disk + Drop>(
 fn prepare_edit<D: Disk + Drop>(
     alloc: Global,
     client: ClientNo,
+    gate: Gate,
     devs: &mut Journal<D>,
+    waiting: &Waiting,
     table: TableNo,
     row: RowId,
     edit: &Edit,
 ) -> Result<Prepared, CallFault>
     requires up { AreUp devs.old }
     requires ready { IsReady D.state devs.old (writes_of devs.old) }
+    requires idle { writes_of devs.old ≡ [] → IsIdle (held_by D.state devs.old) client }
     requires spelled { IfSome (record_at (held_by D.state devs.old) table) (λ opened. HasSchemaSpelling opened.schema) }
-    requires calm { (held_at (held_by D.state devs.old) table row).conflict ≡ None }
     ensures looks { Looks D.state D.images devs.old devs.new result }
-    ensures prepares { Prepares D.state devs.old client (Change table row edit.now) table row result }
+    ensures prepares { (phase : ℕ → Bool) → phase table ≡ gate.is_open
+        → Prepares D.state devs.old waiting.now phase gate.is_linked client (Change table row edit.now) result }
 {
     let at = open_row(devs, table, row)?;
     let content = edited_content(alloc, devs, &at, edit)?;
-    prepare(alloc, client, devs, &at, content)
+    prepare(alloc, client, gate, devs, waiting, &at, content)
 }
 
 impl<D: Disk + Drop> ClientNode<D> {
@@ -118,7 +125,8 @@ impl<D: Disk + Drop> ClientNode<D> {
     /// # Errors
     ///
     /// `NoTable`, then `NoRow` where nothing is shown of the row, or that it is gone, then what is wrong with the edit
-    /// or with its content, then `Busy`, then `Spent`.
+    /// or with its content, then `Busy`, then `InResolution`, then `Conflicted`, in a strong
+    /// table `Offline` and `Outstanding`, then `Spent`.
     pub fn edit(&mut self, table: TableNo, row: RowId, edit: &Edit) -> Result<WriteNo, CallFault>
         requires node { IsNode D.state self.old }
         requires up { self.old.is_up ≡ true }
@@ -126,8 +134,19 @@ impl<D: Disk + Drop> ClientNode<D> {
             → Does D.state D.images s (Change table row edit.now) (λ number. Number number) self.old self.new result }
         ensures node { IsNode D.state self.new }
         ensures declared { self.new.is_declared ≡ self.old.is_declared }
+        ensures phases { KeepsPhases self.old self.new }
     {
-        let found = prepare_edit(self.alloc, self.number, &mut self.devs, table, row, edit);
-        self.take_on(table, row, found)
+        let gate = self.gate_of(table);
+        let found = prepare_edit(
+            self.alloc,
+            self.number,
+            gate,
+            &mut self.devs,
+            &self.waiting,
+            table,
+            row,
+            edit,
+        );
+        self.take_on(found)
     }
 }

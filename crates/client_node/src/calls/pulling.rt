@@ -9,6 +9,7 @@ ghost use Rattle.client_node.specs.Does.{Does};
 ghost use Rattle.client_node.specs.Looks.{Looks};
 ghost use Rattle.client_node.specs.Node.{IsClient, IsNode};
 ghost use Rattle.client_node.specs.Sending.{Sends};
+ghost use Rattle.client_node.specs.Phases.{KeepsPhases};
 
 use crate::fault::CallFault;
 use crate::looking::{check_idle, open_table};
@@ -84,6 +85,7 @@ impl<D: Disk + Drop> ClientNode<D> {
             → Does D.state D.images s (Next table) (λ value. Done) self.old self.new result }
         ensures node { IsNode D.state self.new }
         ensures declared { self.new.is_declared ≡ self.old.is_declared }
+        ensures phases { KeepsPhases self.old self.new }
     {
         let found = pull(
             self.alloc,

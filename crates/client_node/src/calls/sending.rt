@@ -1,5 +1,5 @@
 //! How a client sends its writes.
-ghost use Rattle.std.specs.Prelude.{◌≡◌, true, [], Some, IfOk, IfErr, OnOk, IsSome};
+ghost use Rattle.std.specs.Prelude.{◌≡◌, ◌+◌, ◌<◌, ◌^◌, true, [], Some, IfOk, IfErr, OnOk, IsSome};
 ghost use Rattle.client_tables.specs.Transitions.{can_send};
 ghost use Rattle.client_tables.specs.Change.{version_in};
 ghost use Rattle.client_journal.specs.Standing.{devs as held_by, writes_of, AreUp, IsReady};
@@ -10,8 +10,9 @@ ghost use Rattle.client_node.specs.Does.{Does};
 ghost use Rattle.client_node.specs.Looks.{Looks};
 ghost use Rattle.client_node.specs.Node.{IsClient, IsNode};
 ghost use Rattle.client_node.specs.Readied.{IsIdle};
-ghost use Rattle.client_node.specs.Requesting.{first_ready};
-ghost use Rattle.client_node.specs.Syncing.{Syncs, IsSendOf, IsNextOf, SendsAgain};
+ghost use Rattle.client_node.specs.Requesting.{NoneSends};
+ghost use Rattle.client_node.specs.Syncing.{Syncs, AreStale, IsSendOf, IsNextIn, SendsAgain};
+ghost use Rattle.client_node.specs.Phases.{KeepsPhases};
 
 use crate::calls::pulling::check_link;
 use crate::fault::CallFault;
@@ -21,21 +22,25 @@ use crate::noted::rows_in;
 use crate::planning::Planned;
 use crate::requesting::{first_ready, request_of, requests};
 use crate::row_plan::{last_write, plan_of_row};
-use crate::waiting::Waiting;
+use crate::waiting::{Stale, Waiting};
 use client_journal::Journal;
 use client_tables::plan_send;
 use disk_trait::Disk;
 use held_contents::pieces_of;
 use held_value::{Main, Shadow, Slots};
+use slot_store::RowKey;
 use stab_base::{ClientNo, RowId, TableNo, Version};
 use std::alloc::Global;
+use std::collections::BTreeSet;
 use step_tables::Addressed;
 
-/// What a synchronization sends: requests that are sent again at once, and the plan of the next, if there is one.
+/// What a synchronization sends: requests that are sent again at once, and the plan of the next, if there is one. It
+/// passes over rows that are noted without need.
 #[derive(Drop)]
 pub(crate) struct Synced {
     pub(crate) again: Vec<Addressed>,
     pub(crate) next: Option<Planned>,
+    pub(crate) stale: Stale,
 }
 
 fn version_in(shadow: &Option<Shadow>) -> Version
@@ -112,24 +117,28 @@ fn plan_of_send<D: Disk + Drop>(
     }
 }
 
-// The plan of the first of these rows that has something to send, if one has.
+// The plan of the first row of a table in a set that has something to send, if one has. The rows before it are added to
+// those that have nothing.
 fn next_plan<D: Disk + Drop>(
     alloc: Global,
     client: ClientNo,
     devs: &mut Journal<D>,
     table: TableNo,
-    rows: &[RowId],
+    set: &BTreeSet<RowKey>,
+    stale: &mut Vec<RowId>,
 ) -> Result<Option<Planned>, CallFault>
     requires up { AreUp devs.old }
     requires ready { IsReady D.state devs.old (writes_of devs.old) }
     requires idle { IsIdle (held_by D.state devs.old) client }
     requires opened { IsSome (record_at (held_by D.state devs.old) table) }
+    requires small { table + 1 < 2 ^ 32 }
     ensures looks { Looks D.state D.images devs.old devs.new result }
-    ensures next { IfOk result (IsNextOf (held_by D.state devs.old) client table
-        (first_ready (held_by D.state devs.old) table rows.now)) }
+    ensures next { IfOk result (IsNextIn (held_by D.state devs.old) client table set.now) }
+    ensures stale { OnOk result (NoneSends (held_by D.state devs.old) table stale.old.items
+        → NoneSends (held_by D.state devs.old) table stale.new.items) }
     ensures refused { IfErr result IsFault }
 {
-    let first = first_ready(devs, table, rows)?;
+    let first = first_ready(devs, table, set, stale)?;
     match &first {
         None => Ok(None),
         Some((row, slots)) => plan_of_send(alloc, client, devs, table, row, slots),
@@ -150,13 +159,19 @@ fn sync_opened<D: Disk + Drop>(
     requires opened { IsSome (record_at (held_by D.state devs.old) table) }
     ensures looks { Looks D.state D.images devs.old devs.new result }
     ensures syncs { IfOk result (Syncs (held_by D.state devs.old) client table waiting.now) }
+    ensures stale { IfOk result (λ synced. AreStale (held_by D.state devs.old) table synced.stale) }
     ensures refused { IfErr result IsFault }
 {
-    let outs = rows_in(alloc, &waiting.outs, table)?;
-    let again = requests(alloc, client, devs, table, outs.as_slice())?;
-    let ready = rows_in(alloc, &waiting.ready, table)?;
-    let next = next_plan(alloc, client, devs, table, ready.as_slice())?;
-    Ok(Synced { again, next })
+    let rows = rows_in(alloc, &waiting.outs, table)?;
+    let mut outs = Vec::new(alloc);
+    let again = requests(alloc, client, devs, table, rows.as_slice(), &mut outs)?;
+    let mut ready = Vec::new(alloc);
+    let next = next_plan(alloc, client, devs, table, &waiting.ready, &mut ready)?;
+    Ok(Synced {
+        again,
+        next,
+        stale: Stale { outs, ready },
+    })
 }
 
 // What a synchronization sends.
@@ -183,7 +198,8 @@ fn sync<D: Disk + Drop>(
 
 impl<D: Disk + Drop> ClientNode<D> {
     /// Sends the table's requests that wait for their answers again, by rising row, and begins the plan that sends the
-    /// next row that has something to send. The number is how many requests these are.
+    /// next row that has something to send. The number is how many requests these are. Rows that it passes over, since
+    /// they wait no longer, are taken off those that are noted: each is passed over once.
     ///
     /// # Errors
     ///
@@ -195,6 +211,7 @@ impl<D: Disk + Drop> ClientNode<D> {
             → Does D.state D.images s (Sync table) (λ count. Number count) self.old self.new result }
         ensures node { IsNode D.state self.new }
         ensures declared { self.new.is_declared ≡ self.old.is_declared }
+        ensures phases { KeepsPhases self.old self.new }
     {
         let found = sync(
             self.alloc,
@@ -205,7 +222,8 @@ impl<D: Disk + Drop> ClientNode<D> {
             table,
         );
         let synced = self.settle(found)?;
-        let Synced { again, next } = synced;
+        let Synced { again, next, stale } = synced;
+        self.waiting.forget(table, &stale);
         let count = again.len() as u64;
         match next {
             None => {

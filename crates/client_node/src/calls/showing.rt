@@ -1,22 +1,23 @@
 //! What a client shows of its rows.
-ghost use Rattle.std.specs.Prelude.{◌≡◌, ◌⊎◌, ℕ, true, None, IfOk, IfErr};
+ghost use Rattle.std.specs.Prelude.{◌≡◌, ◌⊎◌, ℕ, true, IfOk, IfErr};
 ghost use Rattle.table_model.specs.Sums.{sum_answer};
 ghost use Rattle.client_journal.specs.Standing.{devs as held_by, writes_of, AreUp, IsReady};
 ghost use Rattle.step_tables.specs.ClientMoves.{ClientDisk, Client, Show, Sum, table_at, seen, show_in};
 ghost use Rattle.step_tables.specs.Facts.{Shows};
 ghost use Rattle.step_tables.specs.Lines.{shown_of, answer_of};
 ghost use Rattle.step_tables.specs.Sums.{by_digests};
-ghost use Rattle.client_node.specs.Answers.{held_at, IsFault, IsAnswered};
+ghost use Rattle.client_node.specs.Answers.{IsFault, IsAnswered};
 ghost use Rattle.client_node.specs.Does.{Does};
 ghost use Rattle.client_node.specs.Looks.{Looks};
 ghost use Rattle.client_node.specs.Node.{StandsFor, IsClient, IsNode};
+ghost use Rattle.client_node.specs.Phases.{KeepsPhases};
 
 use crate::fault::CallFault;
 use crate::node::ClientNode;
 use crate::reading::show;
 use client_journal::Journal;
 use disk_trait::Disk;
-use row_sum::{clean_sum, mine_sum};
+use row_sum::{clean_sum, conflict_sum, mine_sum};
 use stab_base::{RowId, TableNo};
 use std::alloc::{AllocError, Global};
 use table_model::{Answer, Shown};
@@ -28,6 +29,11 @@ fn by_digests(alloc: Global, shown: &Shown) -> Result<Answer, AllocError>
     match shown {
         Shown::Clean { version, content } => clean_sum(alloc, *version, content),
         Shown::Mine { number, content } => mine_sum(alloc, *number, content),
+        Shown::Conflict {
+            number,
+            version,
+            content,
+        } => conflict_sum(alloc, *number, *version, content),
     }
 }
 
@@ -40,7 +46,6 @@ fn show_sum<D: Disk + Drop>(
 ) -> Result<Answer, CallFault>
     requires up { AreUp devs.old }
     requires ready { IsReady D.state devs.old (writes_of devs.old) }
-    requires calm { (held_at (held_by D.state devs.old) table row.now).conflict ≡ None }
     ensures looks { Looks D.state D.images devs.old devs.new result }
     ensures answered { (c : ℕ) (disk : ClientDisk) → StandsFor c (held_by D.state devs.old) disk
         → IsAnswered answer_of (by_digests (show_in row.now (table_at (seen disk) table))) result }
@@ -64,6 +69,7 @@ impl<D: Disk + Drop> ClientNode<D> {
             → Does D.state D.images s (Show table row.now) (λ shown. Shows (shown_of shown)) self.old self.new result }
         ensures node { IsNode D.state self.new }
         ensures declared { self.new.is_declared ≡ self.old.is_declared }
+        ensures phases { KeepsPhases self.old self.new }
     {
         let shown = show(self.alloc, &mut self.devs, table, row);
         self.settle(shown)
@@ -82,6 +88,7 @@ impl<D: Disk + Drop> ClientNode<D> {
             → Does D.state D.images s (Sum table row.now) answer_of self.old self.new result }
         ensures node { IsNode D.state self.new }
         ensures declared { self.new.is_declared ≡ self.old.is_declared }
+        ensures phases { KeepsPhases self.old self.new }
     {
         let answer = show_sum(self.alloc, &mut self.devs, table, row);
         self.settle(answer)

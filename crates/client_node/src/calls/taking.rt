@@ -6,15 +6,16 @@ ghost use Rattle.step_tables.specs.Travels.{message_of};
 ghost use Rattle.client_node.specs.Answers.{IsFault};
 ghost use Rattle.client_node.specs.Looks.{Looks};
 ghost use Rattle.client_node.specs.Node.{IsClient, IsNode};
-ghost use Rattle.client_node.specs.Readied.{IsIdle, Readies};
+ghost use Rattle.client_node.specs.Readied.{IsIdle, Reacts};
 ghost use Rattle.client_node.specs.Taking.{Takes};
+ghost use Rattle.client_node.specs.Phases.{KeepsPhases};
 
 use crate::calls::pulling::check_link;
 use crate::fault::CallFault;
 use crate::looking::check_idle;
 use crate::node::ClientNode;
 use crate::placing::place;
-use crate::planning::Planned;
+use crate::planning::{Reaction, begins};
 use crate::responding::answer;
 use client_journal::Journal;
 use disk_trait::Disk;
@@ -22,30 +23,31 @@ use stab_base::ClientNo;
 use std::alloc::Global;
 use step_tables::Message;
 
-// The plan that a message begins, if it begins one.
+// What a message comes to.
 fn prepare<D: Disk + Drop>(
     alloc: Global,
     client: ClientNo,
     devs: &mut Journal<D>,
     message: &Message,
-) -> Result<Option<Planned>, CallFault>
+) -> Result<Reaction, CallFault>
     requires up { AreUp devs.old }
     requires ready { IsReady D.state devs.old (writes_of devs.old) }
     requires idle { IsIdle (held_by D.state devs.old) client }
     ensures looks { Looks D.state D.images devs.old devs.new result }
-    ensures readies { IfOk result (Readies (held_by D.state devs.old) client message.now) }
+    ensures reacts { IfOk result (Reacts (held_by D.state devs.old) client message.now) }
     ensures refused { IfErr result IsFault }
 {
     match message {
         Message::SyncResponse(response) => answer(alloc, client, devs, response),
-        Message::PullResponse(pulled) => place(alloc, client, devs, pulled),
-        Message::SyncRequest(_) | Message::PullRequest(_) => Ok(None),
+        Message::PullResponse(pulled) => Ok(begins(place(alloc, client, devs, pulled)?)),
+        Message::SyncRequest(_) | Message::PullRequest(_) => Ok(Reaction::Nothing),
     }
 }
 
 impl<D: Disk + Drop> ClientNode<D> {
-    /// Takes a message: the Store's answer to a request, or a row for the position that the client pulled from. Every
-    /// other message is ignored, and a row that doesn't fit its table is dropped.
+    /// Takes a message: the Store's answer to a request, or a row for the position that the client pulled from. After a
+    /// refusal and a conflict it asks for what has changed. Every other message is ignored, and a row that doesn't fit
+    /// its table is dropped.
     ///
     /// # Errors
     ///
@@ -57,15 +59,20 @@ impl<D: Disk + Drop> ClientNode<D> {
             → Takes D.state D.images s (message_of message) self.old self.new result }
         ensures node { IsNode D.state self.new }
         ensures declared { self.new.is_declared ≡ self.old.is_declared }
+        ensures phases { KeepsPhases self.old self.new }
     {
         check_link(self.is_linked)?;
         check_idle(&self.devs)?;
         let found = prepare(self.alloc, self.number, &mut self.devs, &message);
-        let next = self.settle(found)?;
+        let reaction = self.settle(found)?;
         let none = Vec::new(self.alloc);
-        match next {
-            None => Ok(()),
-            Some(planned) => self.carry_out(planned, none),
+        match reaction {
+            Reaction::Nothing => Ok(()),
+            Reaction::Sends(sends) => {
+                self.send(sends)?;
+                Ok(())
+            }
+            Reaction::Begins(planned) => self.carry_out(planned, none),
         }
     }
 }

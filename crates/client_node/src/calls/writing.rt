@@ -1,5 +1,5 @@
 //! How a client writes a row.
-ghost use Rattle.std.specs.Prelude.{◌≡◌, true, None, IfSome, IfOk};
+ghost use Rattle.std.specs.Prelude.{◌≡◌, ℕ, Bool, [], true, IfSome, IfOk};
 ghost use Rattle.disk_trait.specs.Fuse.{behind, inner_of};
 ghost use Rattle.value_codec.specs.SchemaSpelling.{HasSchemaSpelling};
 ghost use Rattle.client_journal.specs.Standing.{devs as held_by, writes_of, AreUp, IsReady};
@@ -10,12 +10,14 @@ ghost use Rattle.client_node.specs.Answers.{record_at};
 ghost use Rattle.client_node.specs.Does.{Does};
 ghost use Rattle.client_node.specs.Looks.{Looks};
 ghost use Rattle.client_node.specs.Node.{IsClient, IsNode};
+ghost use Rattle.client_node.specs.Phases.{is_open, KeepsPhases};
 ghost use Rattle.client_node.specs.Preparing.{Prepares, MayBegin};
+ghost use Rattle.client_node.specs.Readied.{IsIdle};
 
 use crate::fault::CallFault;
 use crate::node::ClientNode;
-use crate::planning::begin;
-use crate::preparing::{Prepared, open_row, prepare};
+use crate::preparing::{Gate, Prepared, open_row, prepare};
+use crate::waiting::Waiting;
 use client_journal::Journal;
 use disk_trait::Disk;
 use row_value::Content;
@@ -26,51 +28,65 @@ use std::alloc::Global;
 fn prepare_write<D: Disk + Drop>(
     alloc: Global,
     client: ClientNo,
+    gate: Gate,
     devs: &mut Journal<D>,
+    waiting: &Waiting,
     table: TableNo,
     row: RowId,
     content: Content,
 ) -> Result<Prepared, CallFault>
     requires up { AreUp devs.old }
     requires ready { IsReady D.state devs.old (writes_of devs.old) }
+    requires idle { writes_of devs.old ≡ [] → IsIdle (held_by D.state devs.old) client }
     requires spelled { IfSome (record_at (held_by D.state devs.old) table) (λ opened. HasSchemaSpelling opened.schema) }
     ensures looks { Looks D.state D.images devs.old devs.new result }
-    ensures prepares { Prepares D.state devs.old client (Write table row content) table row result }
+    ensures prepares { (phase : ℕ → Bool) → phase table ≡ gate.is_open
+        → Prepares D.state devs.old waiting.now phase gate.is_linked client (Write table row content) result }
 {
     let at = open_row(devs, table, row)?;
-    prepare(alloc, client, devs, &at, content)
+    prepare(alloc, client, gate, devs, waiting, &at, content)
 }
 
 impl<D: Disk + Drop> ClientNode<D> {
-    // Takes a write on that was prepared, or hands over why it wasn't. Its row may then come to wait.
+    // What a write of a table goes by.
+    pub(crate) fn gate_of(&self, table: TableNo) -> Gate
+        ensures linked { result.is_linked ≡ self.now.is_linked }
+        ensures open { result.is_open ≡ is_open self.now table }
+    {
+        Gate {
+            is_linked: self.is_linked,
+            is_open: self.phases.contains(&table),
+        }
+    }
+
+    // Takes a write on that was prepared, or hands over why it wasn't.
     pub(crate) fn take_on(
         &mut self,
-        table: TableNo,
-        row: RowId,
         found: Result<Prepared, CallFault>,
     ) -> Result<WriteNo, CallFault>
         requires { IfOk found (MayBegin (behind D.state) self.old.devs) }
         ensures does { (old : Node D) (s : Client) (move : ClientMove) → self.old ≡ record old { devs = self.old.devs }
             → IsClient D.state old s → old.is_up ≡ true
             → Looks (behind D.state) (λ f. D.images (inner_of f)) old.devs self.old.devs found
-            → Prepares (behind D.state) old.devs old.number move table row found
+            → Prepares (behind D.state) old.devs old.waiting (is_open old) old.is_linked old.number move found
             → Does D.state D.images s move (λ number. Number number) old self.new result }
         ensures declared { self.new.is_declared ≡ self.old.is_declared }
+        ensures phases { KeepsPhases self.old self.new }
     {
         let Prepared { number, planned } = self.settle(found)?;
-        self.waiting.note(table, row)?;
-        self.facts.reserve(planned.facts.len())?;
-        let begun = begin(&mut self.devs, planned);
-        self.owed = self.settle(begun)?;
+        let none = Vec::new(self.alloc);
+        self.carry_out(planned, none)?;
         Ok(number)
     }
 
     /// Writes a row: its next content is this one, under the client's next number, which is the answer. The writes that
-    /// this takes are then to be done; what was written is shown and told of from their commit on.
+    /// this takes are then to be done; what was written is told of from their commit on, and shown, in a strong table
+    /// once it is accepted. There the last of them sends its request.
     ///
     /// # Errors
     ///
-    /// `NoTable`, then what is wrong with the content, then `Busy`, then `Spent`.
+    /// `NoTable`, then what is wrong with the content, then `Busy`, then `InResolution`, then `Conflicted`, in a strong
+    /// table `Offline` and `Outstanding`, then `Spent`.
     pub fn write(
         &mut self,
         table: TableNo,
@@ -83,8 +99,19 @@ impl<D: Disk + Drop> ClientNode<D> {
             → Does D.state D.images s (Write table row content) (λ number. Number number) self.old self.new result }
         ensures node { IsNode D.state self.new }
         ensures declared { self.new.is_declared ≡ self.old.is_declared }
+        ensures phases { KeepsPhases self.old self.new }
     {
-        let found = prepare_write(self.alloc, self.number, &mut self.devs, table, row, content);
-        self.take_on(table, row, found)
+        let gate = self.gate_of(table);
+        let found = prepare_write(
+            self.alloc,
+            self.number,
+            gate,
+            &mut self.devs,
+            &self.waiting,
+            table,
+            row,
+            content,
+        );
+        self.take_on(found)
     }
 }

@@ -76,4 +76,4 @@ returns-clause-readies g c =
     let same = c.in_ok-last.ensures.looks.serves.same (λ is. cc) in
     placed_found d c.args.client c.args.pulled.now c.args.opened.now c.requires.opened c.args.header.now c.requires.header c.requires.next.0 c.requires.next.1 c.args.slots.now c.requires.held c.requires.newer c.in_ok-last.last c.in_ok-last.ensures.last c.in_ok-held.held
     (λ meaning there. c.in_ok-held.ensures.holds meaning (subst (λ (x : ClientDevs). AreThereIf meaning x (shown_content c.args.slots.now)) (sym same) there)) c.in_ok-held.ensures.words c.of_64_bits-version.result c.of_64_bits-version.ensures.same c.of_64_bits-version.ensures.few c.yours_in-yours.result c.yours_in-yours.ensures.same c.yours_in-yours.ensures.few
-    c.in_ok-made.made c.in_ok-made.ensures c.in_ok-found.ensures.len c.of_64_bits-position.result c.of_64_bits-position.ensures.same c.of_64_bits-position.ensures.few c.in_ok-found.ensures.known (map send_of c.in_ok-next.next.items) c.in_ok-next.ensures c.requires.idle c.in_ok-found.found c.in_ok-found.ensures.none c.in_ok-found.ensures.some
+    c.in_ok-made.made c.in_ok-made.ensures c.in_ok-found.ensures.len c.of_64_bits-position.result c.of_64_bits-position.ensures.same c.of_64_bits-position.ensures.few c.in_ok-found.ensures.known (map send_of c.in_ok-next.next.items) c.in_ok-next.ensures c.in_ok-found.found c.in_ok-found.ensures.none c.in_ok-found.ensures.some

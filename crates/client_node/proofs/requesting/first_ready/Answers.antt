@@ -1,46 +1,12 @@
-use Rattle.std.proofs.Common.{Some, None, Ok, Err, sym, ◌∙◌}
-use Rattle.std.proofs.lemmas.Result.{err_from_is_err_and}
-use Rattle.client_node.proofs.Serving.{looks_err, looks_other, looks_then}
-use Rattle.client_node.proofs.AskedAgain.{ok_not, nothing_passed, one_passed, one_found, none_found}
+use Rattle.std.proofs.Common.{refl, ◌∙◌}
+use Rattle.client_journal.specs.Standing.{devs}
+use Rattle.client_node.proofs.NotedIds.{bounds_rise}
+use Rattle.client_node.proofs.AskedAgain.{first_noted}
 use Rattle.client_node.proofs.requesting.first_ready.Goals as goal
 
-pub loop-row-init : goal.loop-row-init
-loop-row-init g c = nothing_passed g.D.Disk.state g.D.Disk.images g.met.D.Disk.only_now c.args.devs.now c.requires.up c.requires.ready c.args.table c.args.rows.now
-
-pub row_slots-requires-clause-up : goal.row_slots-requires-clause-up
-row_slots-requires-clause-up g c = c.loop-row.invariant.looks.serves.up (λ no. cc)
-
-pub row_slots-requires-clause-ready : goal.row_slots-requires-clause-ready
-row_slots-requires-clause-ready g c = c.loop-row.invariant.looks.serves.ready (λ no. cc)
-
-pub returns-in_err-slots-clause-looks : goal.returns-in_err-slots-clause-looks
-returns-in_err-slots-clause-looks g c =
-    let s = g.D.Disk.state in
-    let im = g.D.Disk.images in
-    let mid = c.loop-row.devs in
-    let l = c.loop-row.invariant.looks in
-    let p = err_from_is_err_and c.from_residual.result c.from_residual.ensures.1 in
-    rw (p.1, p.2) (looks_then s im c.args.devs.now c.row_slots.new.devs c.requires.up c.requires.ready mid tt (Err c.in_err-slots.field-0.0) l
-    (looks_err s im mid c.row_slots.new.devs (l.serves.up (λ is. cc)) (l.serves.ready (λ is. cc)) c.in_err-slots.field-0.0 c.in_err-slots.ensures.looks))
-
-pub returns-clause-looks : goal.returns-clause-looks
-returns-clause-looks g c = looks_other g.D.Disk.state g.D.Disk.images c.args.devs.now c.loop-row.devs c.requires.up c.requires.ready tt (Ok None) c.loop-row.invariant.looks (λ no. cc)
+pub first_between-requires-clause-rising : goal.first_between-requires-clause-rising
+first_between-requires-clause-rising g c = bounds_rise c.args.table c.first_key.result c.first_key-2.result c.first_key.ensures c.first_key-2.ensures
 
 pub returns-clause-found : goal.returns-clause-found
-returns-clause-found g c = none_found g.D.Disk.state g.D.Disk.images g.met.D.Disk.only_now c.args.devs.now c.requires.up c.requires.ready c.args.table c.args.rows.now c.loop-row.devs c.loop-row.row-index c.loop-row.invariant c.loop-row-test.false
-
-pub returns-then-can_send-clause-looks : goal.returns-then-can_send-clause-looks
-returns-then-can_send-clause-looks g c =
-    let s = g.D.Disk.state in
-    let im = g.D.Disk.images in
-    looks_other s im c.args.devs.now c.row_slots.new.devs c.requires.up c.requires.ready c.in_ok-slots.slots (Ok (Some (c.row-item.result, c.in_ok-slots.slots))) (looks_then s im c.args.devs.now c.row_slots.new.devs c.requires.up c.requires.ready c.loop-row.devs tt (Ok c.in_ok-slots.slots) c.loop-row.invariant.looks c.in_ok-slots.ensures.looks) (ok_not (Some (c.row-item.result, c.in_ok-slots.slots)))
-
-pub returns-then-can_send-clause-found : goal.returns-then-can_send-clause-found
-returns-then-can_send-clause-found g c =
-    one_found g.D.Disk.state g.D.Disk.images g.met.D.Disk.only_now c.args.devs.now c.requires.up c.requires.ready c.args.table c.args.rows.now c.loop-row.devs c.row_slots.new.devs c.loop-row.row-index c.row-item.result c.row-item.result c.loop-row.invariant c.loop-row-test.true c.row-item.is c.in_ok-slots.slots
-    c.in_ok-slots.ensures.looks c.in_ok-slots.ensures.slots (sym c.can_send.ensures ∙ c.if-can_send.true)
-
-pub loop-row-preserved : goal.loop-row-preserved
-loop-row-preserved g c =
-    one_passed g.D.Disk.state g.D.Disk.images g.met.D.Disk.only_now c.args.devs.now c.requires.up c.requires.ready c.args.table c.args.rows.now c.loop-row.devs c.row_slots.new.devs c.loop-row.row-index c.row-item.result c.row-item.result c.loop-row.invariant c.loop-row-test.true c.row-item.is c.in_ok-slots.slots
-    c.in_ok-slots.ensures.looks c.in_ok-slots.ensures.slots (sym c.can_send.ensures ∙ c.if-can_send.false)
+returns-clause-found g c =
+    first_noted (devs g.D.Disk.state c.args.devs.now) c.args.table c.args.set.now c.first_key.result c.first_key-2.result c.first_key.ensures c.first_key-2.ensures c.first_between.result c.first_between.ensures.found c.first_between.ensures.sorted

@@ -26,7 +26,8 @@ returns-in-None-clause-looks g c = looks_other g.D.Disk.state g.D.Disk.images c.
 pub returns-in-None-clause-next : goal.returns-in-None-clause-next
 returns-in-None-clause-next g c =
     let d = devs g.D.Disk.state c.args.devs.now in
-    subst (λ o. IsNextOf d c.args.client c.args.table o None) (sym c.in-None.is ∙ c.in_ok-first.ensures.found) refl
+    let f = c.in_ok-first.ensures.found in
+    record { rows = f.rows; noted = f.noted; is = subst (λ o. IsNextOf d c.args.client c.args.table o None) (sym c.in-None.is ∙ f.is) refl }
 
 pub plan_of_send-requires-clause-up : goal.plan_of_send-requires-clause-up
 plan_of_send-requires-clause-up g c = c.in_ok-first.ensures.looks.serves.up (λ is. cc)
@@ -41,11 +42,11 @@ pub plan_of_send-requires-clause-opened : goal.plan_of_send-requires-clause-open
 plan_of_send-requires-clause-opened g c = subst (λ (d : ClientDevs). IsSome (record_at d c.args.table)) (sym (c.in_ok-first.ensures.looks.serves.same (λ is. cc))) c.requires.opened
 
 pub plan_of_send-requires-clause-sends : goal.plan_of_send-requires-clause-sends
-plan_of_send-requires-clause-sends g c = (first_held (devs g.D.Disk.state c.args.devs.now) c.args.table c.args.rows.now (c.in-Some.row, c.in-Some.slots) (sym c.in_ok-first.ensures.found ∙ c.in-Some.is)).1
+plan_of_send-requires-clause-sends g c = (first_held (devs g.D.Disk.state c.args.devs.now) c.args.table c.in_ok-first.ensures.found.rows (c.in-Some.row, c.in-Some.slots) (sym c.in_ok-first.ensures.found.is ∙ c.in-Some.is)).1
 
 pub plan_of_send-requires-clause-held : goal.plan_of_send-requires-clause-held
 plan_of_send-requires-clause-held g c =
-    (first_held (devs g.D.Disk.state c.args.devs.now) c.args.table c.args.rows.now (c.in-Some.row, c.in-Some.slots) (sym c.in_ok-first.ensures.found ∙ c.in-Some.is)).0
+    (first_held (devs g.D.Disk.state c.args.devs.now) c.args.table c.in_ok-first.ensures.found.rows (c.in-Some.row, c.in-Some.slots) (sym c.in_ok-first.ensures.found.is ∙ c.in-Some.is)).0
     ∙ ap (λ (d : ClientDevs). held_at d c.args.table c.in-Some.row) (sym (c.in_ok-first.ensures.looks.serves.same (λ is. cc)))
 
 pub returns-clause-looks : goal.returns-clause-looks
@@ -55,5 +56,7 @@ pub returns-clause-next : goal.returns-clause-next
 returns-clause-next g c =
     let d = devs g.D.Disk.state c.args.devs.now in
     let same = c.in_ok-first.ensures.looks.serves.same (λ is. cc) in
-    let is = sym c.in_ok-first.ensures.found ∙ c.in-Some.is in
-    IfOk-weaker c.plan_of_send.result _ _ (λ o k. subst (λ f. IsNextOf d c.args.client c.args.table f o) (sym is) (subst (λ (x : ClientDevs). IsSendOf x c.args.client c.args.table c.in-Some.row o) same k)) c.plan_of_send.ensures.plan
+    let f = c.in_ok-first.ensures.found in
+    let is = sym f.is ∙ c.in-Some.is in
+    IfOk-weaker c.plan_of_send.result _ _
+    (λ o k. record { rows = f.rows; noted = f.noted; is = subst (λ f. IsNextOf d c.args.client c.args.table f o) (sym is) (subst (λ (x : ClientDevs). IsSendOf x c.args.client c.args.table c.in-Some.row o) same k) }) c.plan_of_send.ensures.plan

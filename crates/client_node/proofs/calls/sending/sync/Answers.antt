@@ -82,7 +82,7 @@ returns-clause-looks g c = looks_then g.D.Disk.state g.D.Disk.images c.args.devs
 
 pub returns-clause-sends : goal.returns-clause-sends
 returns-clause-sends g c =
-    sync_done g.D.Disk.state c.args.devs.now c.args.is_linked c.args.client c.args.table c.args.waiting.now c.open_table.new.devs (c.in_ok-_opened.ensures.looks.serves.same (λ is. cc)) c.in_ok-check_link.ensures.up c.sync_opened.result c.sync_opened.ensures.syncs c.sync_opened.ensures.refused
+    sync_done g.D.Disk.state c.args.devs.now c.args.is_linked c.args.client c.args.table c.args.waiting.now c.open_table.new.devs (c.in_ok-_opened.ensures.looks.serves.same (λ is. cc)) c.in_ok-check_link.ensures.up c.sync_opened.result c.sync_opened.ensures.syncs c.sync_opened.ensures.stale c.sync_opened.ensures.refused
 
 pub returns-clause-idle : goal.returns-clause-idle
 returns-clause-idle g c = on_ok c.sync_opened.result (sym c.in_ok-_opened.ensures.looks.agenda ∙ c.in_ok-check_idle.ensures.idle)

@@ -12,7 +12,7 @@ use Rattle.client_node.specs.Answers.{record_at, held_at}
 use Rattle.client_node.specs.Readied.{IsIdle}
 use Rattle.client_node.proofs.Serving.{looks_err, looks_none, looks_other, looks_then}
 use Rattle.client_node.specs.NotedRows.{AreNotedRows}
-use Rattle.client_node.specs.Requesting.{first_ready, all_asked_again}
+use Rattle.client_node.specs.Requesting.{first_ready, all_asked_again, NoneWaits, NoneSends}
 use Rattle.client_node.specs.Syncing.{IsNextOf}
 use Rattle.client_node.proofs.Syncs.{table_small, syncs_of}
 use Rattle.client_node.proofs.calls.sending.sync_opened.Goals as goal
@@ -20,11 +20,8 @@ use Rattle.client_node.proofs.calls.sending.sync_opened.Goals as goal
 pub rows_in-requires : goal.rows_in-requires
 rows_in-requires g c = table_small (devs g.D.Disk.state c.args.devs.now) c.args.client c.args.table c.requires.idle c.requires.opened
 
-pub rows_in-requires-2 : goal.rows_in-requires-2
-rows_in-requires-2 g c = table_small (devs g.D.Disk.state c.args.devs.now) c.args.client c.args.table c.requires.idle c.requires.opened
-
-pub returns-in_err-outs-clause-looks : goal.returns-in_err-outs-clause-looks
-returns-in_err-outs-clause-looks g c =
+pub returns-in_err-rows-clause-looks : goal.returns-in_err-rows-clause-looks
+returns-in_err-rows-clause-looks g c =
     let p = err_from_is_err_and c.from_residual.result c.from_residual.ensures.1 in
     rw (p.1, p.2) (looks_none g.D.Disk.state g.D.Disk.images g.met.D.Disk.only_now c.args.devs.now c.requires.up c.requires.ready (Err call.Memory) (λ no. cc))
 
@@ -32,11 +29,6 @@ pub returns-in_err-again-clause-looks : goal.returns-in_err-again-clause-looks
 returns-in_err-again-clause-looks g c =
     let p = err_from_is_err_and c.from_residual-in_err-again.result c.from_residual-in_err-again.ensures.1 in
     rw (p.1, p.2) (looks_err g.D.Disk.state g.D.Disk.images c.args.devs.now c.requests.new.devs c.requires.up c.requires.ready c.in_err-again.field-0.0 c.in_err-again.ensures.looks)
-
-pub returns-in_err-ready-clause-looks : goal.returns-in_err-ready-clause-looks
-returns-in_err-ready-clause-looks g c =
-    let p = err_from_is_err_and c.from_residual-in_err-ready.result c.from_residual-in_err-ready.ensures.1 in
-    rw (p.1, p.2) (looks_other g.D.Disk.state g.D.Disk.images c.args.devs.now c.requests.new.devs c.requires.up c.requires.ready c.in_ok-again.again (Err call.Memory) c.in_ok-again.ensures.looks (λ no. cc))
 
 pub next_plan-requires-clause-up : goal.next_plan-requires-clause-up
 next_plan-requires-clause-up g c = c.in_ok-again.ensures.looks.serves.up (λ is. cc)
@@ -49,6 +41,9 @@ next_plan-requires-clause-idle g c = subst (λ (d : ClientDevs). IsIdle d c.args
 
 pub next_plan-requires-clause-opened : goal.next_plan-requires-clause-opened
 next_plan-requires-clause-opened g c = subst (λ (d : ClientDevs). IsSome (record_at d c.args.table)) (sym (c.in_ok-again.ensures.looks.serves.same (λ is. cc))) c.requires.opened
+
+pub next_plan-requires-clause-small : goal.next_plan-requires-clause-small
+next_plan-requires-clause-small g c = table_small (devs g.D.Disk.state c.args.devs.now) c.args.client c.args.table c.requires.idle c.requires.opened
 
 pub returns-in_err-next-clause-looks : goal.returns-in_err-next-clause-looks
 returns-in_err-next-clause-looks g c =
@@ -70,7 +65,19 @@ pub returns-clause-syncs : goal.returns-clause-syncs
 returns-clause-syncs g c =
     let s = g.D.Disk.state in
     let same = c.in_ok-again.ensures.looks.serves.same (λ is. cc) in
-    let next = subst (λ (d : ClientDevs). IsNextOf d c.args.client c.args.table (first_ready d c.args.table c.in_ok-ready.ready.items) c.in_ok-next.next) same
-    (subst (λ (l : List (List ℕ)). IsNextOf (devs s c.requests.new.devs) c.args.client c.args.table (first_ready (devs s c.requests.new.devs) c.args.table l) c.in_ok-next.next) c.as_slice-2.ensures.value c.in_ok-next.ensures.next) in
-    syncs_of s c.args.devs.now c.args.client c.args.table c.requires.opened c.args.waiting.now c.in_ok-outs.outs.items c.in_ok-ready.ready.items c.in_ok-outs.ensures c.in_ok-ready.ensures (record { again = c.in_ok-again.again; next = c.in_ok-next.next })
+    let n = c.in_ok-next.ensures.next in
+    let next = subst (λ (d : ClientDevs). IsNextOf d c.args.client c.args.table (first_ready d c.args.table n.rows) c.in_ok-next.next) same n.is in
+    syncs_of s c.args.devs.now c.args.client c.args.table c.requires.opened c.args.waiting.now c.in_ok-rows.rows.items n.rows c.in_ok-rows.ensures n.noted
+    (record { again = c.in_ok-again.again; next = c.in_ok-next.next; stale = record { outs = c.requests.new.stale; ready = c.next_plan.new.stale } })
     (λ meaning named. c.in_ok-again.ensures.sends meaning named ∙ ap (all_asked_again meaning c.args.client (devs s c.args.devs.now) c.args.table) c.as_slice.ensures.value) next
+
+pub returns-clause-stale : goal.returns-clause-stale
+returns-clause-stale g c =
+    let s = g.D.Disk.state in
+    let same = c.in_ok-again.ensures.looks.serves.same (λ is. cc) in
+    let none = c.new-outs.ensures.items in
+    let free = c.new-ready.ensures.items in
+    record {
+      outs = c.in_ok-again.ensures.stale (subst (NoneWaits (devs s c.args.devs.now) c.args.table) (sym none) tt);
+      ready = subst (λ (d : ClientDevs). NoneSends d c.args.table c.next_plan.new.stale.items) same (c.in_ok-next.ensures.stale (subst (NoneSends (devs s c.requests.new.devs) c.args.table) (sym free) tt));
+    }

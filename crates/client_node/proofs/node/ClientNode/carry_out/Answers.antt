@@ -14,32 +14,32 @@ use Rattle.client_node.specs.Looks.{Serves}
 use Rattle.client_node.proofs.CarriedOut.{more_none, amid, short, not_begun, begun_serves, carried, refused_of, done_of}
 use Rattle.client_node.proofs.node.ClientNode.carry_out.Goals as goal
 
-pub returns-in_err-reserve : goal.returns-in_err-reserve
-returns-in_err-reserve g c =
+pub returns-in_err-reserve-clause-carries : goal.returns-in_err-reserve-clause-carries
+returns-in_err-reserve-clause-carries g c =
     let old = c.args.self.now in
     let p = err_from_is_err_and c.from_residual.result c.from_residual.ensures.1 in
     let a = amid old c.reserve.new.self old.messages old.waiting old.devs c.in_err-reserve.ensures.same refl c.in_err-reserve.ensures.kept (λ n h. h) (more_none old.waiting) in
     rw (p.1, p.2) (refused_of old g.D.Disk.state g.D.Disk.images (λ f image left. g.met.D.Disk.only_now (inner_of f) image left) _ c.args.planned (map send_of c.args.again.items) _
     (short old g.D.Disk.state g.D.Disk.images (λ f image left. g.met.D.Disk.only_now (inner_of f) image left) (record old { facts = c.reserve.new.self }) a refl c.requires.up c.requires.ready _ refl))
 
-pub returns-in_err-reserve-2 : goal.returns-in_err-reserve-2
-returns-in_err-reserve-2 g c =
+pub returns-in_err-reserve-2-clause-carries : goal.returns-in_err-reserve-2-clause-carries
+returns-in_err-reserve-2-clause-carries g c =
     let old = c.args.self.now in
     let p = err_from_is_err_and c.from_residual-in_err-reserve-2.result c.from_residual-in_err-reserve-2.ensures.1 in
     let a = amid old c.reserve.new.self c.reserve-2.new.self old.waiting old.devs c.in_ok-reserve.ensures.same c.in_err-reserve-2.ensures.same c.in_ok-reserve.ensures.kept c.in_err-reserve-2.ensures.kept (more_none old.waiting) in
     rw (p.1, p.2) (refused_of old g.D.Disk.state g.D.Disk.images (λ f image left. g.met.D.Disk.only_now (inner_of f) image left) _ c.args.planned (map send_of c.args.again.items) _
     (short old g.D.Disk.state g.D.Disk.images (λ f image left. g.met.D.Disk.only_now (inner_of f) image left) (record old { facts = c.reserve.new.self; messages = c.reserve-2.new.self }) a refl c.requires.up c.requires.ready _ refl))
 
-pub returns-in_err-note_plan : goal.returns-in_err-note_plan
-returns-in_err-note_plan g c =
+pub returns-in_err-note_plan-clause-carries : goal.returns-in_err-note_plan-clause-carries
+returns-in_err-note_plan-clause-carries g c =
     let old = c.args.self.now in
     let p = err_from_is_err_and c.from_residual-in_err-note_plan.result c.from_residual-in_err-note_plan.ensures.1 in
     let a = amid old c.reserve.new.self c.reserve-2.new.self c.note_plan.new.waiting old.devs c.in_ok-reserve.ensures.same c.in_ok-reserve-2.ensures.same c.in_ok-reserve.ensures.kept c.in_ok-reserve-2.ensures.kept c.in_err-note_plan.ensures.more in
     rw (p.1, p.2) (refused_of old g.D.Disk.state g.D.Disk.images (λ f image left. g.met.D.Disk.only_now (inner_of f) image left) _ c.args.planned (map send_of c.args.again.items) _
     (short old g.D.Disk.state g.D.Disk.images (λ f image left. g.met.D.Disk.only_now (inner_of f) image left) (record old { facts = c.reserve.new.self; messages = c.reserve-2.new.self; waiting = c.note_plan.new.waiting }) a refl c.requires.up c.requires.ready _ refl))
 
-pub returns-in_err-self : goal.returns-in_err-self
-returns-in_err-self g c =
+pub returns-in_err-self-clause-carries : goal.returns-in_err-self-clause-carries
+returns-in_err-self-clause-carries g c =
     let old = c.args.self.now in
     let p = err_from_is_err_and c.from_residual-in_err-self.result c.from_residual-in_err-self.ensures.1 in
     let a = amid old c.reserve.new.self c.reserve-2.new.self c.note_plan.new.waiting c.begin-begun.new.devs c.in_ok-reserve.ensures.same c.in_ok-reserve-2.ensures.same c.in_ok-reserve.ensures.kept c.in_ok-reserve-2.ensures.kept c.in_ok-note_plan.ensures.more in
@@ -48,8 +48,8 @@ returns-in_err-self g c =
     rw (p.1, p.2) (refused_of old g.D.Disk.state g.D.Disk.images (λ f image left. g.met.D.Disk.only_now (inner_of f) image left) _ c.args.planned (map send_of c.args.again.items) _
     (not_begun old g.D.Disk.state g.D.Disk.images (λ f image left. g.met.D.Disk.only_now (inner_of f) image left) (record old { facts = c.reserve.new.self; messages = c.reserve-2.new.self; waiting = c.note_plan.new.waiting; devs = c.begin-begun.new.devs }) _ a c.begin-begun.result c.in_err-self.field-0.0 e.same k.serves k.refused (λ d. e.disk (e.same ∙ d)) (λ n. e.other (λ d. n (sym e.same ∙ d)))))
 
-pub returns : goal.returns
-returns g c =
+pub returns-clause-carries : goal.returns-clause-carries
+returns-clause-carries g c =
     let old = c.args.self.now in
     let st = g.D.Disk.state in
     let im = g.D.Disk.images in

@@ -28,7 +28,7 @@ returns-clause-crashes g c s t =
     let works = subst (λ (l : List Write). WorksOn (behind g.D.Disk.state) (λ d. g.D.Disk.images (inner_of d)) stopped c.work.new.self c.work.result l) same (c.work.ensures.works (c.stop_after.ensures.up up)) in
     crash_done g.D.Disk.state g.D.Disk.images (λ d image left. g.met.D.Disk.only_now (inner_of d) image left) old (writes_of old.devs) refl s.disk s.agenda t c.requires.up
     stopped mid c.fall.new.self c.args.calls c.args.pick c.work.result c.stop_after.ensures.stops c.stop_after.ensures.same works c.work.ensures.once f.falls
-    (record { told = ap (λ x. map fact_of x.items.items) f.facts; sent = ap (λ x. map send_of x.items.items) f.messages; same = record { number = f.same.number; linked = f.same.linked }; declared = f.declared; waiting = f.falls.waiting }) f.down
+    (record { told = ap (λ x. map fact_of x.items.items) f.facts; sent = ap (λ x. map send_of x.items.items) f.messages; same = record { number = f.same.number; linked = f.same.linked }; declared = f.declared }) f.down
 
 pub returns-clause-node : goal.returns-clause-node
 returns-clause-node g c = let n = c.requires.node in crashes_node g.D.Disk.state g.D.Disk.images c.args.calls n.0 c.args.self.now _ (returns-clause-crashes g c n.0 n.1)

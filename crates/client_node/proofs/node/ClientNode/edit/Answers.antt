@@ -1,13 +1,15 @@
-use Rattle.std.proofs.Common.{refl}
+use Rattle.std.proofs.Common.{ℕ, Bool, refl, sym, subst}
 use Rattle.disk_trait.specs.Fuse.{behind, inner_of}
 use Rattle.client_journal.specs.Standing.{devs}
 use Rattle.step_tables.specs.ClientMoves.{Change}
 use Rattle.step_tables.specs.Facts as facts
+use Rattle.client_node.specs.Phases.{is_open}
+use Rattle.client_node.specs.Preparing.{Prepares}
 use Rattle.client_node.proofs.Answering.{does_node}
 use Rattle.client_node.proofs.Asked.{stands_now, steady_now}
 use Rattle.client_node.proofs.Opened.{record_spelled}
-use Rattle.client_node.proofs.Readers.{calm_now}
 use Rattle.client_node.proofs.Rooms.{devices_up, node_ready}
+use Rattle.client_node.proofs.SyncDone.{node_idle}
 use Rattle.client_node.proofs.TakenOn.{may_begin}
 use Rattle.client_node.proofs.node.ClientNode.edit.Goals as goal
 
@@ -17,29 +19,37 @@ prepare_edit-found-requires-clause-up g c = let n = c.requires.node in devices_u
 pub prepare_edit-found-requires-clause-ready : goal.prepare_edit-found-requires-clause-ready
 prepare_edit-found-requires-clause-ready g c = let n = c.requires.node in node_ready g.D.Disk.state c.args.self.now n.0.disk n.0.agenda n.1 c.requires.up
 
+pub prepare_edit-found-requires-clause-idle : goal.prepare_edit-found-requires-clause-idle
+prepare_edit-found-requires-clause-idle g c =
+    let n = c.requires.node in
+    node_idle g.D.Disk.state g.D.Disk.images (λ f image left. g.met.D.Disk.only_now (inner_of f) image left) c.args.self.now c.args.table n.0.disk n.0.agenda n.1 c.requires.up
+
 pub prepare_edit-found-requires-clause-spelled : goal.prepare_edit-found-requires-clause-spelled
 prepare_edit-found-requires-clause-spelled g c =
     let n = c.requires.node in
     let old = c.args.self.now in
     record_spelled old.number (devs (λ f. behind g.D.Disk.state f) old.devs) n.0.disk (stands_now g.D.Disk.state g.D.Disk.images old n.0.disk n.0.agenda n.1 c.requires.up) old.waiting
-    (steady_now g.D.Disk.state g.D.Disk.images old n.0.disk n.0.agenda n.1) c.args.table
+    (steady_now g.D.Disk.state g.D.Disk.images old n.0.disk n.0.agenda n.1 c.requires.up) c.args.table
 
 pub take_on-requires : goal.take_on-requires
 take_on-requires g c =
     let n = c.requires.node in
+    let old = c.args.self.now in
     let call = c.prepare_edit-found in
-    may_begin g.D.Disk.state g.D.Disk.images (λ f image left. g.met.D.Disk.only_now (inner_of f) image left) c.args.self.now n.0.disk (Change c.args.table c.args.row c.args.edit.now) c.args.table
-    c.args.row call.result call.new.devs call.ensures.looks call.ensures.prepares n.0.agenda n.1 c.requires.up
+    let gate = c.gate_of-gate.ensures in
+    let prepares = subst (λ (b : Bool). Prepares (λ f. behind g.D.Disk.state f) old.devs old.waiting (is_open old) b old.number (Change c.args.table c.args.row c.args.edit.now) call.result) gate.linked (call.ensures.prepares (is_open old) (sym gate.open)) in
+    may_begin g.D.Disk.state g.D.Disk.images (λ f image left. g.met.D.Disk.only_now (inner_of f) image left) old n.0.disk (Change c.args.table c.args.row c.args.edit.now) call.result call.new.devs call.ensures.looks prepares n.0.agenda n.1
+    c.requires.up
 
 pub returns-clause-does : goal.returns-clause-does
 returns-clause-does g c s t =
+    let old = c.args.self.now in
     let call = c.prepare_edit-found in
-    c.take_on.ensures.does c.args.self.now s (Change c.args.table c.args.row c.args.edit.now) refl t c.requires.up call.ensures.looks call.ensures.prepares
+    let gate = c.gate_of-gate.ensures in
+    let prepares = subst (λ (b : Bool). Prepares (λ f. behind g.D.Disk.state f) old.devs old.waiting (is_open old) b old.number (Change c.args.table c.args.row c.args.edit.now) call.result) gate.linked (call.ensures.prepares (is_open old) (sym gate.open)) in
+    c.take_on.ensures.does old s (Change c.args.table c.args.row c.args.edit.now) refl t c.requires.up call.ensures.looks prepares
 
 pub returns-clause-node : goal.returns-clause-node
 returns-clause-node g c =
     let n = c.requires.node in does_node g.D.Disk.state g.D.Disk.images n.0 (Change c.args.table c.args.row c.args.edit.now) (λ number. facts.Number number) c.args.self.now _ _
     (returns-clause-does g c n.0 n.1)
-
-pub prepare_edit-found-requires-clause-calm : goal.prepare_edit-found-requires-clause-calm
-prepare_edit-found-requires-clause-calm g c = let n = c.requires.node in calm_now g.D.Disk.state c.args.self.now n.0.disk n.0.agenda n.1 c.requires.up c.args.table c.args.row

@@ -19,7 +19,8 @@ returns-clause-falls g c =
       fresh = n.fresh;
       synced = n.synced r.synced;
       idle = ap (λ a. map write_of a.items) n.agenda ∙ r.idle;
-      waiting = refl;
+      waiting = c.new.ensures;
+      phaseless = c.new-2.ensures.empty;
       counted = own_same g.D.Disk.state mid new n.inner
           ∙ own_stays g.D.Disk.state c.args.self.now mid (omega (arith, r.chunks.faults_stay, r.slots.faults_stay, r.journal.faults_stay))
           (omega (arith, r.chunks.stops_stay, r.slots.stops_stay, r.journal.stops_stay));

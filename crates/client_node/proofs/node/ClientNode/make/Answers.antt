@@ -25,4 +25,4 @@ returns-in-Err-clause-declares g c s t =
     let old = c.args.self.now in
     let f = c.fall.ensures in
     declare_failed g.D.Disk.state old s.disk s.agenda t c.requires.undeclared g.D.Disk.images (record old { devs = c.make_tables.new.devs }) c.fall.new.self c.in-Err.fault (rw (← is) c.in-Err.ensures) f.falls
-    (record { told = ap (λ x. map fact_of x.items.items) f.facts; sent = ap (λ x. map send_of x.items.items) f.messages; same = record { number = f.same.number; linked = f.same.linked }; declared = f.declared; waiting = f.falls.waiting }) f.down f.tables
+    (record { told = ap (λ x. map fact_of x.items.items) f.facts; sent = ap (λ x. map send_of x.items.items) f.messages; same = record { number = f.same.number; linked = f.same.linked }; declared = f.declared }) f.down f.tables

@@ -22,7 +22,7 @@ returns-in_err-sends-clause-does g c s t =
     let old = c.args.self.now in
     let p = err_from_is_err_and c.from_residual.result c.from_residual.ensures.1 in
     let k = c.in_err-sends.ensures in
-    rw (p.1, p.2) (by_err g.D.Disk.state g.D.Disk.images (λ f image left. g.met.D.Disk.only_now (inner_of f) image left) old s.disk (Next c.args.table) (λ sends. facts.Done) (λ sends. map send_of sends.items) (λ value. facts.Done)
+    rw (p.1, p.2) (by_err g.D.Disk.state g.D.Disk.images (λ f image left. g.met.D.Disk.only_now (inner_of f) image left) old s.disk (Next c.args.table) (λ shape s. refl) (λ sends. facts.Done) (λ sends. map send_of sends.items) (λ value. facts.Done)
     c.pull-found.result c.pull-found.new.devs c.pull-found.ensures.looks c.pull-found.ensures.sends s.agenda t c.requires.up c.in_err-sends.field-0.0 k.same c.settle.new.self k.disk k.other)
 
 pub returns-in_err-send-clause-does : goal.returns-in_err-send-clause-does
@@ -32,7 +32,7 @@ returns-in_err-send-clause-does g c s t =
     let k = c.in_ok-sends.ensures in
     let is = k.other (λ no. cc) in
     let e = c.in_err-send.ensures in
-    rw (p.1, p.2) (by_short g.D.Disk.state g.D.Disk.images (λ f image left. g.met.D.Disk.only_now (inner_of f) image left) old s.disk (Next c.args.table) (λ sends. facts.Done) (λ sends. map send_of sends.items) (λ value. facts.Done)
+    rw (p.1, p.2) (by_short g.D.Disk.state g.D.Disk.images (λ f image left. g.met.D.Disk.only_now (inner_of f) image left) old s.disk (Next c.args.table) (λ shape s. refl) (λ sends. facts.Done) (λ sends. map send_of sends.items) (λ value. facts.Done)
     c.pull-found.result c.pull-found.new.devs c.pull-found.ensures.looks c.pull-found.ensures.sends s.agenda t c.requires.up c.in_ok-sends.sends k.same c.send.new.self (e.devs ∙ ap (λ x. x.devs) is)
     (record {
       number = e.number ∙ ap (λ x. x.number) is;
@@ -44,7 +44,7 @@ returns-in_err-send-clause-does g c s t =
       owed = e.owed ∙ ap (λ x. x.owed) is;
       fact_room = rw (e.facts, is) (λ h. h);
       message_room = λ h. e.kept _ (rw is h);
-      more = rw (e.waiting, is) (record { outs = λ key h. h; ready = λ key h. h });
+      more = rw (e.waiting, is) (record { outs = λ key h. h; ready = λ key h. h; conflicts = λ key h. h });
     }))
 
 pub returns-clause-does : goal.returns-clause-does
@@ -53,7 +53,7 @@ returns-clause-does g c s t =
     let k = c.in_ok-sends.ensures in
     let is = k.other (λ no. cc) in
     let e = c.in_ok-send.ensures in
-    by_ok g.D.Disk.state g.D.Disk.images (λ f image left. g.met.D.Disk.only_now (inner_of f) image left) old s.disk (Next c.args.table) (λ sends. facts.Done) (λ sends. map send_of sends.items) (λ value. facts.Done)
+    by_ok g.D.Disk.state g.D.Disk.images (λ f image left. g.met.D.Disk.only_now (inner_of f) image left) old s.disk (Next c.args.table) (λ shape s. refl) (λ sends. facts.Done) (λ sends. map send_of sends.items) (λ value. facts.Done)
     c.pull-found.result c.pull-found.new.devs c.pull-found.ensures.looks c.pull-found.ensures.sends s.agenda t c.requires.up c.in_ok-sends.sends _ k.same refl c.send.new.self (e.devs ∙ ap (λ x. x.devs) is)
     (record {
       sent = e.sent ∙ ap (λ x. x ++ map send_of c.in_ok-sends.sends.items) (ap (λ x. map send_of x.messages.items.items) is);

@@ -6,26 +6,26 @@ use Rattle.client_node.proofs.Resuming.{rests_down, start_done, start_failed}
 use Rattle.client_node.proofs.Rooms.{devices_up}
 use Rattle.client_node.proofs.node.ClientNode.recover.Goals as goal
 
-pub resume-requires-clause-up : goal.resume-requires-clause-up
-resume-requires-clause-up g c = let n = c.requires.node in devices_up g.D.Disk.state c.args.self.now n.0.disk n.0.agenda n.1
+pub resume-resumed-requires-clause-up : goal.resume-resumed-requires-clause-up
+resume-resumed-requires-clause-up g c = let n = c.requires.node in devices_up g.D.Disk.state c.args.self.now n.0.disk n.0.agenda n.1
 
-pub resume-requires-clause-synced : goal.resume-requires-clause-synced
-resume-requires-clause-synced g c = let n = c.requires.node in (rests_down g.D.Disk.state g.D.Disk.images (λ f image left. g.met.D.Disk.only_now (inner_of f) image left) c.args.self.now n.0.disk n.0.agenda n.1 c.requires.down).1.synced c.requires.declared
+pub resume-resumed-requires-clause-synced : goal.resume-resumed-requires-clause-synced
+resume-resumed-requires-clause-synced g c = let n = c.requires.node in (rests_down g.D.Disk.state g.D.Disk.images (λ f image left. g.met.D.Disk.only_now (inner_of f) image left) c.args.self.now n.0.disk n.0.agenda n.1 c.requires.down).1.synced c.requires.declared
 
-pub resume-requires-clause-sound : goal.resume-requires-clause-sound
-resume-requires-clause-sound g c = let n = c.requires.node in (rests_down g.D.Disk.state g.D.Disk.images (λ f image left. g.met.D.Disk.only_now (inner_of f) image left) c.args.self.now n.0.disk n.0.agenda n.1 c.requires.down).1.sound c.requires.declared
+pub resume-resumed-requires-clause-sound : goal.resume-resumed-requires-clause-sound
+resume-resumed-requires-clause-sound g c = let n = c.requires.node in (rests_down g.D.Disk.state g.D.Disk.images (λ f image left. g.met.D.Disk.only_now (inner_of f) image left) c.args.self.now n.0.disk n.0.agenda n.1 c.requires.down).1.sound c.requires.declared
 
-pub resume-requires-clause-idle : goal.resume-requires-clause-idle
-resume-requires-clause-idle g c = let n = c.requires.node in (rests_down g.D.Disk.state g.D.Disk.images (λ f image left. g.met.D.Disk.only_now (inner_of f) image left) c.args.self.now n.0.disk n.0.agenda n.1 c.requires.down).1.idle
+pub resume-resumed-requires-clause-idle : goal.resume-resumed-requires-clause-idle
+resume-resumed-requires-clause-idle g c = let n = c.requires.node in (rests_down g.D.Disk.state g.D.Disk.images (λ f image left. g.met.D.Disk.only_now (inner_of f) image left) c.args.self.now n.0.disk n.0.agenda n.1 c.requires.down).1.idle
 
 pub returns-in-Ok-clause-starts : goal.returns-in-Ok-clause-starts
 returns-in-Ok-clause-starts g c s t =
     let e = c.in-Ok.ensures in
-    start_done g.D.Disk.state g.D.Disk.images (λ f image left. g.met.D.Disk.only_now (inner_of f) image left) c.args.self.now s.disk s.agenda t c.requires.declared c.requires.down c.resume.new.devs c.in-Ok.owed c.resume.new.facts e.begins e.owes e.room c.requires.quiet e.told
+    start_done g.D.Disk.state g.D.Disk.images (λ f image left. g.met.D.Disk.only_now (inner_of f) image left) c.args.self.now s.disk s.agenda t c.requires.declared c.requires.down c.resume-resumed.new.devs c.in-Ok.owed c.resume-resumed.new.facts e.begins e.owes e.room c.requires.quiet e.told c.resume-resumed.new.waiting e.noted
 
 pub returns-in-Err-clause-starts : goal.returns-in-Err-clause-starts
 returns-in-Err-clause-starts g c s t =
     let old = c.args.self.now in
     let f = c.fall.ensures in
-    start_failed g.D.Disk.state g.D.Disk.images (λ f image left. g.met.D.Disk.only_now (inner_of f) image left) old s.disk s.agenda t c.requires.declared c.requires.down (record old { devs = c.resume.new.devs; facts = c.resume.new.facts }) c.fall.new.self c.in-Err.fault c.in-Err.ensures.begins f.falls
-    (record { told = ap (λ x. map fact_of x.items.items) f.facts ∙ ap (map fact_of) c.in-Err.ensures.kept; sent = ap (λ x. map send_of x.items.items) f.messages; same = record { number = f.same.number; linked = f.same.linked }; declared = f.declared; waiting = f.falls.waiting }) f.down
+    start_failed g.D.Disk.state g.D.Disk.images (λ f image left. g.met.D.Disk.only_now (inner_of f) image left) old s.disk s.agenda t c.requires.declared c.requires.down (record old { devs = c.resume-resumed.new.devs; facts = c.resume-resumed.new.facts; waiting = c.resume-resumed.new.waiting }) c.fall.new.self c.in-Err.fault c.in-Err.ensures.begins f.falls
+    (record { told = ap (λ x. map fact_of x.items.items) f.facts ∙ ap (map fact_of) c.in-Err.ensures.kept; sent = ap (λ x. map send_of x.items.items) f.messages; same = record { number = f.same.number; linked = f.same.linked }; declared = f.declared }) f.down

@@ -12,7 +12,7 @@ use Rattle.client_node.specs.Looks.{Looks}
 use Rattle.client_node.proofs.Answering.{does_node}
 use Rattle.client_node.proofs.Asked.{stands_now}
 use Rattle.client_node.proofs.Rooms.{devices_up, node_ready}
-use Rattle.client_node.proofs.Readers.{calm_now, sums_up}
+use Rattle.client_node.proofs.Readers.{sums_up}
 use Rattle.client_node.proofs.node.ClientNode.sum.Goals as goal
 
 pub show_sum-answer-requires-clause-up : goal.show_sum-answer-requires-clause-up
@@ -20,9 +20,6 @@ show_sum-answer-requires-clause-up g c = let n = c.requires.node in devices_up g
 
 pub show_sum-answer-requires-clause-ready : goal.show_sum-answer-requires-clause-ready
 show_sum-answer-requires-clause-ready g c = let n = c.requires.node in node_ready g.D.Disk.state c.args.self.now n.0.disk n.0.agenda n.1 c.requires.up
-
-pub show_sum-answer-requires-clause-calm : goal.show_sum-answer-requires-clause-calm
-show_sum-answer-requires-clause-calm g c = let n = c.requires.node in calm_now g.D.Disk.state c.args.self.now n.0.disk n.0.agenda n.1 c.requires.up c.args.table c.args.row.now
 
 pub returns-clause-does : goal.returns-clause-does
 returns-clause-does g c s t =

@@ -48,7 +48,7 @@ returns-in-Err-clause-works g c s t =
     let f = c.fall.ensures in
     work_failed g.D.Disk.state g.D.Disk.images (λ f image left. g.met.D.Disk.only_now (inner_of f) image left) old (writes_of old.devs) refl c.if-idle.ensures s.disk s.agenda t c.requires.up
     (record old { devs = c.work.new.self }) c.fall.new.self _ (c.in-Err.ensures.works up) c.work.ensures.fuse f.falls
-    (record { told = ap (λ x. map fact_of x.items.items) f.facts; sent = ap (λ x. map send_of x.items.items) f.messages; same = record { number = f.same.number; linked = f.same.linked }; declared = f.declared; waiting = f.falls.waiting }) f.down
+    (record { told = ap (λ x. map fact_of x.items.items) f.facts; sent = ap (λ x. map send_of x.items.items) f.messages; same = record { number = f.same.number; linked = f.same.linked }; declared = f.declared }) f.down
 
 pub returns-in-Ok-clause-node : goal.returns-in-Ok-clause-node
 returns-in-Ok-clause-node g c = let n = c.requires.node in works_node g.D.Disk.state g.D.Disk.images n.0 c.args.self.now _ _ (returns-in-Ok-clause-works g c n.0 n.1)

@@ -1,5 +1,5 @@
 -- Calls, messages and starts are moves with the work behind them.
-use Rattle.std.proofs.Common.{◌≡◌, ◌⊎◌, inl, inr, ℕ, ◌++◌, Bool, true, false, cond, List, [], ◌∷◌, Option, Some, None, Result, Ok, Err, refl, sym, ap, ◌∙◌, append-nil}
+use Rattle.std.proofs.Common.{◌≡◌, ◌⊎◌, inl, inr, ℕ, ◌++◌, Bool, true, false, cond, List, [], ◌∷◌, Option, Some, None, Result, Ok, Err, refl, sym, ap, ◌∙◌, subst, append-nil}
 use Rattle.std.specs.Prelude.{◌≢◌, if◌then◌else◌}
 use Rattle.std.specs.Ordering.{nat_cmp}
 use Rattle.std.specs.Cmp.{nat_cmp_total, unsigned_tied}
@@ -13,17 +13,25 @@ use Rattle.step_tables.specs.Facts as facts
 use Rattle.step_tables.specs.Messages.{Message, Header, Luck, SyncRequest, SyncResponse, PullRequest, PullResponse}
 use Rattle.step_tables.specs.Messages as messages
 use Rattle.step_tables.specs.Travels.{message_of}
-use Rattle.step_tables.specs.ClientMoves.{Client, ClientDisk, ClientTask, ClientStep, ClientMove, Shape, TableDisk, Write, Change, Show, Sum, Sync, Next, Resolve, Take, Work, Crash, Start, client_step, no_shape, table_at, seen}
+use Rattle.step_tables.specs.ClientMoves.{Client, ClientDisk, ClientTask, ClientStep, ClientMove, Shape, TableDisk, Write, Change, Show, Sum, Sync, Next, BeginCr, Conflicts, EndCr, Resolve, ResolveAll, Take, Work, Crash, Start, client_step, no_shape, conflicts_in, table_at, seen}
 use Rattle.step_tables.proofs.Lists.{lookup-insert}
 use Rattle.row_value.specs.declared.fit.FitFault.{FitFault}
 use Rattle.row_value.specs.Fit.{fit_of}
+use Rattle.disk_trait.specs.Calls.{DiskState}
+use Rattle.table_model.specs.declared.line.Answer.{Answer}
+use Rattle.table_model.specs.declared.line.RowPair.{RowPair}
 use Rattle.client_node.specs.Taking.{FitsTable, FitsClient}
+use Rattle.journal_host.specs.declared.fault.ClientFault.{ClientFault}
+use Rattle.journal_host.specs.declared.host.ClientHost.{ClientHost}
+use Rattle.journal_host.specs.Calls.{IsListed, Lists}
 use Rattle.world_tables.specs.World.{World, WorldStep, Moved, Outbox, client_at, client_tasks, tasks_in, client_works, client_until_idle, client_follows, client_falls, move_client, move_there, is_client_down, is_down, is_fault, has_node, still, answering, answered, first_luck, other_lucks, call, to_there, started}
-use Rattle.journal_host.specs.Asks.{FitsDisk, FitsAt}
+use Rattle.journal_host.specs.declared.asking.Ask.{Ask}
+use Rattle.journal_host.specs.declared.asking.Ask.TheVariants as asks
+use Rattle.journal_host.specs.Asks.{move_of, FitsDisk, FitsAt}
 use Rattle.journal_host.specs.Moves.{then_moves, move_alone, alone_there, call_alone, take_there, take_alone, starts_alone, start_alone, has_work}
 use Rattle.journal_host.proofs.Alone.{alone_cases, call_held, call_busy, call_idle, take_held, take_busy, take_idle, start_follows, start_up}
 use Rattle.journal_host.proofs.Clients.{given_is}
-use Rattle.journal_host.proofs.Refusals.{write_only, edit_only, show_only, sum_only, sync_only, next_only, take_only}
+use Rattle.journal_host.proofs.Refusals.{write_only, edit_only, show_only, sum_only, sync_only, next_only, phase_only, resolve_only, take_only}
 use Rattle.client_events.specs.Fits.{FitsThere, FitsMessage}
 use Rattle.client_events.proofs.Working.{some_same}
 use Rattle.client_events.proofs.Wholes.{IsEvent}
@@ -57,8 +65,22 @@ is_asked (Show table row) = true
 is_asked (Sum table row) = true
 is_asked (Sync table) = true
 is_asked (Next table) = true
+is_asked (BeginCr table) = true
+is_asked (EndCr table) = true
+is_asked (Resolve table row version choice) = true
 is_asked (Take message) = true
 is_asked other = false
+
+pub asks_are : (ask : Ask) → is_asked (move_of ask) ≡ true
+asks_are (asks.Write table row content) = refl
+asks_are (asks.Edit table row edit) = refl
+asks_are (asks.Show table row) = refl
+asks_are (asks.Sum table row) = refl
+asks_are (asks.Sync table) = refl
+asks_are (asks.Pull table) = refl
+asks_are (asks.BeginCr table) = refl
+asks_are (asks.EndCr table) = refl
+asks_are (asks.Resolve table row version choice) = refl
 
 down_never : (c : ℕ) (shape : Shape) (d : ClientDisk) (move : ClientMove) → is_asked move ≡ true
     → (client_step c shape (record { disk = d; agenda = None }) move).answer ≢ facts.Refuses facts.NoDevice
@@ -69,7 +91,11 @@ down_never c shape d (Sum table row) asked = λ is. absurd cc
 down_never c shape d (Sync table) asked = λ is. absurd cc
 down_never c shape d (Next table) asked = λ is. absurd cc
 down_never c shape d (Take message) asked = λ is. absurd cc
+down_never c shape d (BeginCr table) asked = λ is. absurd cc
+down_never c shape d (Conflicts table) asked = λ is. absurd cc
+down_never c shape d (EndCr table) asked = λ is. absurd cc
 down_never c shape d (Resolve table row version choice) asked = λ is. absurd cc
+down_never c shape d (ResolveAll table by) asked = λ is. absurd cc
 down_never c shape d (Work luck) asked = absurd cc
 down_never c shape d (Crash luck) asked = absurd cc
 down_never c shape d Start asked = absurd cc
@@ -83,7 +109,11 @@ up_never c shape d tasks (Sum table row) asked = λ is. (sum_only d tasks row (t
 up_never c shape d tasks (Sync table) asked = λ is. (sync_only c shape d tasks table (table_at (seen d) table) facts.NoDevice is).1 refl
 up_never c shape d tasks (Next table) asked = λ is. (next_only c shape d tasks table (table_at (seen d) table) facts.NoDevice is).1 refl
 up_never c shape d tasks (Take message) asked = λ is. (take_only c shape d tasks message facts.NoDevice is).1 refl
-up_never c shape d tasks (Resolve table row version choice) asked = absurd cc
+up_never c shape d tasks (BeginCr table) asked = λ is. (phase_only d tasks (table_at (seen d) table) facts.NoDevice is).1 refl
+up_never c shape d tasks (Conflicts table) asked = absurd cc
+up_never c shape d tasks (EndCr table) asked = λ is. (phase_only d tasks (table_at (seen d) table) facts.NoDevice is).1 refl
+up_never c shape d tasks (Resolve table row version choice) asked = λ is. (resolve_only c shape d tasks table row version choice (table_at (seen d) table) facts.NoDevice is).1 refl
+up_never c shape d tasks (ResolveAll table by) asked = absurd cc
 up_never c shape d tasks (Work luck) asked = absurd cc
 up_never c shape d tasks (Crash luck) asked = absurd cc
 up_never c shape d tasks Start asked = absurd cc
@@ -295,3 +325,46 @@ start_event w c = record {
   first = λ shape lucks more. refl;
   fallen = λ shape lucks idle is. start_fallen w c shape lucks idle is;
 }
+
+-- ---- no work follows a list of the rows in conflict
+
+conflicts_still : (c : ℕ) (shape : Shape) (d : ClientDisk) (agenda : Option (List ClientTask)) (table : ℕ)
+    → (client_step c shape (record { disk = d; agenda = agenda }) (Conflicts table)).client ≡ record { disk = d; agenda = agenda }
+conflicts_still c shape d None table = refl
+conflicts_still c shape d (Some tasks) table = go (table_at (seen d) table)
+  where
+    go : (o : Option TableDisk) → (conflicts_in d tasks o).client ≡ record { disk = d; agenda = Some tasks }
+    go None = refl
+    go (Some opened) = refl
+
+module _ (w : World) (c table : ℕ) (shape : Shape) (lucks : List Luck) where
+  abbrev listing : WorldStep
+  listing = call_alone w c (Conflicts table) shape lucks
+
+  conflicts_idle : has_work (client_tasks (client_at w c)) ≡ false → has_work (client_tasks (client_at listing.world c)) ≡ false
+  conflicts_idle idle = alone_cases w c (Conflicts table) shape lucks (λ s. has_work (client_tasks (client_at s.world c)) ≡ false) (λ r. idle) (falls_idle w c idle) moves (client_at w c) refl
+    where
+      moves : (node : Client) → client_at w c ≡ Some node → has_work (client_tasks (client_at (move_alone w c (Conflicts table) shape node).world c)) ≡ false
+      moves node at =
+          ap (λ (o : Option Client). has_work (client_tasks (client_at (move_there w c (Conflicts table) shape o).world c))) at
+          ∙ (ap (λ (o : Option Client). has_work (client_tasks o)) (put_here w c (client_step c shape node (Conflicts table)).client)
+          ∙ (ap (λ (s : Client). has_work (client_tasks (Some s))) (conflicts_still c shape node.disk node.agenda table)
+          ∙ (ap (λ (o : Option Client). has_work (client_tasks o)) (sym at) ∙ idle)))
+
+  pub conflicts_alone : call w c (Conflicts table) shape lucks ≡ listing
+  conflicts_alone = by_work (has_work (client_tasks (client_at w c))) refl
+    where
+      by_hold : has_work (client_tasks (client_at w c)) ≡ false → (b : Bool) → has_node w.holds (nodes.Client c) ≡ b → call w c (Conflicts table) shape lucks ≡ listing
+      by_hold idle true is = call_held w c (Conflicts table) shape lucks is
+      by_hold idle false is = call_idle w c (Conflicts table) shape lucks idle is
+          ∙ then_none listing (client_until_idle c (other_lucks lucks)) (idle_works listing.world c (other_lucks lucks) (conflicts_idle idle))
+
+      by_work : (b : Bool) → has_work (client_tasks (client_at w c)) ≡ b → call w c (Conflicts table) shape lucks ≡ listing
+      by_work true is = call_busy w c (Conflicts table) shape lucks is
+      by_work false is = by_hold is (has_node w.holds (nodes.Client c)) refl
+
+pub lists_whole : {D : Type 0} (state : D → DiskState) (old new : ClientHost D) (w : World) (c table : ℕ) (pairs : List RowPair) (result : Result Answer ClientFault)
+    → Lists state old new (call_alone w c (Conflicts table)) pairs result → Lists state old new (call w c (Conflicts table)) pairs result
+lists_whole state old new w c table pairs (Ok answer) k =
+    (k.0, k.1, subst (λ (s : WorldStep). IsListed state old new s pairs answer) (sym (conflicts_alone w c table k.0 k.1)) k.2)
+lists_whole state old new w c table pairs (Err fault) k = tt

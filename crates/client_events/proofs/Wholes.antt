@@ -53,7 +53,13 @@ fault_or (answers.Refused (refusals.RowTooLarge len)) = inr (λ bad. absurd cc)
 fault_or (answers.Refused (refusals.TooManyChunks count)) = inr (λ bad. absurd cc)
 fault_or (answers.Refused refusals.NoTable) = inr (λ bad. absurd cc)
 fault_or (answers.Refused refusals.NoRow) = inr (λ bad. absurd cc)
+fault_or (answers.Refused refusals.NotInResolution) = inr (λ bad. absurd cc)
+fault_or (answers.Refused refusals.InResolution) = inr (λ bad. absurd cc)
+fault_or (answers.Refused refusals.NoConflict) = inr (λ bad. absurd cc)
+fault_or (answers.Refused (refusals.Moved seen now)) = inr (λ bad. absurd cc)
 fault_or (answers.Refused refusals.Offline) = inr (λ bad. absurd cc)
+fault_or (answers.Refused (refusals.Outstanding number)) = inr (λ bad. absurd cc)
+fault_or (answers.Refused (refusals.Conflicted version)) = inr (λ bad. absurd cc)
 fault_or (answers.Refused (refusals.NoPacket sent)) = inr (λ bad. absurd cc)
 
 -- ---- what it makes of the clients
@@ -167,6 +173,11 @@ module _ {D : Type 0} (state : D → DiskState) (old mid new : ClientHost D) whe
   whole_fault P memory found (Ok answer) k f = tt
   whole_fault P memory found (Err fault) k (inl is) = subst P (sym is) memory
   whole_fault P memory found (Err fault) k (inr r) = subst (λ (x : Result Answer ClientFault). IfErr x P) (sym r.answer) k
+
+pub stays_kept : {D : Type 0} (state : D → DiskState) (old new : ClientHost D) (w : World) (result : Result Answer ClientFault) → OnErr result (Stays state w old new)
+    → IfErr result (λ fault. fault ≡ faults.Spent → Stays state w old new)
+stays_kept state old new w (Ok answer) k = tt
+stays_kept state old new w (Err fault) k = λ spent. k
 
 -- ---- which disks failed
 

@@ -1,41 +1,39 @@
 //! The events of a world's clients.
-ghost use Rattle.std.specs.Prelude.{◌≡◌, ℕ, suc, IfErr};
+ghost use Rattle.std.specs.Prelude.{◌≡◌, ℕ, suc, [], IfErr};
 ghost use Rattle.stab_base.specs.declared.node.Node.TheVariants as nodes;
-ghost use Rattle.step_tables.specs.ClientMoves as moves;
+ghost use Rattle.step_tables.specs.ClientMoves.{Conflicts};
 ghost use Rattle.step_tables.specs.Travels.{message_of};
-ghost use Rattle.world_tables.specs.World.{World as AWorld, call, to_there, started, client_at, has_node};
+ghost use Rattle.world_tables.specs.World as calls;
+ghost use Rattle.world_tables.specs.World.{World as AWorld, to_there, started, client_at, has_node};
+ghost use Rattle.journal_host.specs.Asks.{move_of};
 ghost use Rattle.journal_host.specs.declared.fault.ClientFault.TheVariants.{Spent, Memory};
-ghost use Rattle.journal_host.specs.Calls.{Comes, Stays, HasCause, IsNumberCause};
+ghost use Rattle.journal_host.specs.Calls.{Comes, Lists, Stays, HasCause, IsNumberCause};
 ghost use Rattle.journal_host.specs.Holds.{HoldsClients, AreClients, HavePlansBelow};
 ghost use Rattle.client_events.specs.Fits.{FitsMessage};
 
 use crate::follow::follow;
 use disk_trait::Disk;
-use journal_host::{ClientFault, ClientHost};
-use row_edits::Edit;
-use row_value::Content;
-use stab_base::{ClientNo, RowId, TableNo};
+use journal_host::{Ask, ClientFault, ClientHost};
+use stab_base::{ClientNo, TableNo};
 use step_tables::Message;
-use table_model::Answer;
+use table_model::{Answer, RowPairs};
 
-/// Writes a row whole, and does the work that follows: the number of the write.
+/// Asks a client, and does the work that follows.
 ///
 /// # Errors
 ///
 /// `Spent` where no number of a write or of a plan is left, and nothing has changed; and `Memory`, where the move may
 /// be done, and some of its work.
-pub fn write<D: Disk + Drop>(
+pub fn call<D: Disk + Drop>(
     clients: &mut ClientHost<D>,
     is_held: bool,
     client: ClientNo,
-    table: TableNo,
-    row: RowId,
-    content: Content,
+    ask: Ask,
 ) -> Result<Answer, ClientFault>
     requires { AreClients D.state clients.old }
     ensures called { (w : AWorld) → HoldsClients D.state w clients.old
         → is_held ≡ has_node w.holds (nodes.Client client)
-        → Comes D.state clients.old clients.new (call w client (moves.Write table row content)) result }
+        → Comes D.state clients.old clients.new (calls.call w client (move_of ask)) result }
     ensures spent { (w : AWorld) (n : ℕ) → HoldsClients D.state w clients.old
         → HavePlansBelow D.state n clients.old.clients
         → IfErr result (IsNumberCause n (client_at w client)) }
@@ -46,27 +44,26 @@ pub fn write<D: Disk + Drop>(
         → HavePlansBelow D.state (suc n) clients.new.clients }
 {
     let was_busy = clients.is_busy(client);
-    let found = clients.write(client, table, row, content);
+    let found = clients.ask(client, ask);
     follow(clients, is_held, was_busy, client, found)
 }
 
-/// Writes what an edit makes of the content that is shown, and does the work that follows: the number of the write.
+/// Lists the rows in conflict of a table whose conflicts the client resolves: how many there are. They are handed over
+/// by rising id. No work follows.
 ///
 /// # Errors
 ///
-/// Those of `write`.
-pub fn edit<D: Disk + Drop>(
+/// Those of `call`.
+pub fn conflicts<D: Disk + Drop>(
     clients: &mut ClientHost<D>,
-    is_held: bool,
     client: ClientNo,
     table: TableNo,
-    row: RowId,
-    edit: Edit,
+    pairs: &mut RowPairs,
 ) -> Result<Answer, ClientFault>
-    requires { AreClients D.state clients.old }
+    requires clients { AreClients D.state clients.old }
+    requires none { pairs.old ≡ [] }
     ensures called { (w : AWorld) → HoldsClients D.state w clients.old
-        → is_held ≡ has_node w.holds (nodes.Client client)
-        → Comes D.state clients.old clients.new (call w client (moves.Change table row edit)) result }
+        → Lists D.state clients.old clients.new (calls.call w client (Conflicts table)) pairs.new result }
     ensures spent { (w : AWorld) (n : ℕ) → HoldsClients D.state w clients.old
         → HavePlansBelow D.state n clients.old.clients
         → IfErr result (IsNumberCause n (client_at w client)) }
@@ -76,127 +73,7 @@ pub fn edit<D: Disk + Drop>(
     ensures plans { (n : ℕ) → HavePlansBelow D.state n clients.old.clients
         → HavePlansBelow D.state (suc n) clients.new.clients }
 {
-    let was_busy = clients.is_busy(client);
-    let found = clients.edit(client, table, row, edit);
-    follow(clients, is_held, was_busy, client, found)
-}
-
-/// What the client shows of a row.
-///
-/// # Errors
-///
-/// Those of `write`.
-pub fn show<D: Disk + Drop>(
-    clients: &mut ClientHost<D>,
-    is_held: bool,
-    client: ClientNo,
-    table: TableNo,
-    row: RowId,
-) -> Result<Answer, ClientFault>
-    requires { AreClients D.state clients.old }
-    ensures called { (w : AWorld) → HoldsClients D.state w clients.old
-        → is_held ≡ has_node w.holds (nodes.Client client)
-        → Comes D.state clients.old clients.new (call w client (moves.Show table row)) result }
-    ensures spent { (w : AWorld) (n : ℕ) → HoldsClients D.state w clients.old
-        → HavePlansBelow D.state n clients.old.clients
-        → IfErr result (IsNumberCause n (client_at w client)) }
-    ensures kept { (w : AWorld) → HoldsClients D.state w clients.old
-        → IfErr result (λ e. e ≡ Spent → Stays D.state w clients.old clients.new) }
-    ensures cause { HasCause D.state client clients.old.clients clients.new.clients result }
-    ensures plans { (n : ℕ) → HavePlansBelow D.state n clients.old.clients
-        → HavePlansBelow D.state (suc n) clients.new.clients }
-{
-    let was_busy = clients.is_busy(client);
-    let found = clients.show(client, table, row);
-    follow(clients, is_held, was_busy, client, found)
-}
-
-/// What the client shows of a row, its objects by their digests.
-///
-/// # Errors
-///
-/// Those of `write`.
-pub fn sum<D: Disk + Drop>(
-    clients: &mut ClientHost<D>,
-    is_held: bool,
-    client: ClientNo,
-    table: TableNo,
-    row: RowId,
-) -> Result<Answer, ClientFault>
-    requires { AreClients D.state clients.old }
-    ensures called { (w : AWorld) → HoldsClients D.state w clients.old
-        → is_held ≡ has_node w.holds (nodes.Client client)
-        → Comes D.state clients.old clients.new (call w client (moves.Sum table row)) result }
-    ensures spent { (w : AWorld) (n : ℕ) → HoldsClients D.state w clients.old
-        → HavePlansBelow D.state n clients.old.clients
-        → IfErr result (IsNumberCause n (client_at w client)) }
-    ensures kept { (w : AWorld) → HoldsClients D.state w clients.old
-        → IfErr result (λ e. e ≡ Spent → Stays D.state w clients.old clients.new) }
-    ensures cause { HasCause D.state client clients.old.clients clients.new.clients result }
-    ensures plans { (n : ℕ) → HavePlansBelow D.state n clients.old.clients
-        → HavePlansBelow D.state (suc n) clients.new.clients }
-{
-    let was_busy = clients.is_busy(client);
-    let found = clients.sum(client, table, row);
-    follow(clients, is_held, was_busy, client, found)
-}
-
-/// Sends a table's writes, and does the work that follows: how many requests that are.
-///
-/// # Errors
-///
-/// Those of `write`.
-pub fn sync<D: Disk + Drop>(
-    clients: &mut ClientHost<D>,
-    is_held: bool,
-    client: ClientNo,
-    table: TableNo,
-) -> Result<Answer, ClientFault>
-    requires { AreClients D.state clients.old }
-    ensures called { (w : AWorld) → HoldsClients D.state w clients.old
-        → is_held ≡ has_node w.holds (nodes.Client client)
-        → Comes D.state clients.old clients.new (call w client (moves.Sync table)) result }
-    ensures spent { (w : AWorld) (n : ℕ) → HoldsClients D.state w clients.old
-        → HavePlansBelow D.state n clients.old.clients
-        → IfErr result (IsNumberCause n (client_at w client)) }
-    ensures kept { (w : AWorld) → HoldsClients D.state w clients.old
-        → IfErr result (λ e. e ≡ Spent → Stays D.state w clients.old clients.new) }
-    ensures cause { HasCause D.state client clients.old.clients clients.new.clients result }
-    ensures plans { (n : ℕ) → HavePlansBelow D.state n clients.old.clients
-        → HavePlansBelow D.state (suc n) clients.new.clients }
-{
-    let was_busy = clients.is_busy(client);
-    let found = clients.sync(client, table);
-    follow(clients, is_held, was_busy, client, found)
-}
-
-/// Asks for a table's next change, and does the work that follows.
-///
-/// # Errors
-///
-/// Those of `write`.
-pub fn pull<D: Disk + Drop>(
-    clients: &mut ClientHost<D>,
-    is_held: bool,
-    client: ClientNo,
-    table: TableNo,
-) -> Result<Answer, ClientFault>
-    requires { AreClients D.state clients.old }
-    ensures called { (w : AWorld) → HoldsClients D.state w clients.old
-        → is_held ≡ has_node w.holds (nodes.Client client)
-        → Comes D.state clients.old clients.new (call w client (moves.Next table)) result }
-    ensures spent { (w : AWorld) (n : ℕ) → HoldsClients D.state w clients.old
-        → HavePlansBelow D.state n clients.old.clients
-        → IfErr result (IsNumberCause n (client_at w client)) }
-    ensures kept { (w : AWorld) → HoldsClients D.state w clients.old
-        → IfErr result (λ e. e ≡ Spent → Stays D.state w clients.old clients.new) }
-    ensures cause { HasCause D.state client clients.old.clients clients.new.clients result }
-    ensures plans { (n : ℕ) → HavePlansBelow D.state n clients.old.clients
-        → HavePlansBelow D.state (suc n) clients.new.clients }
-{
-    let was_busy = clients.is_busy(client);
-    let found = clients.pull(client, table);
-    follow(clients, is_held, was_busy, client, found)
+    clients.conflicts(client, table, pairs)
 }
 
 /// Takes a message, and does the work that follows. One for a client that hasn't joined is lost, and so is a row that
@@ -204,7 +81,7 @@ pub fn pull<D: Disk + Drop>(
 ///
 /// # Errors
 ///
-/// Those of `write`.
+/// Those of `call`.
 pub fn deliver<D: Disk + Drop>(
     clients: &mut ClientHost<D>,
     is_held: bool,

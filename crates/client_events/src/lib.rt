@@ -4,4 +4,4 @@
 mod events;
 mod follow;
 
-pub use events::{deliver, edit, pull, show, start, sum, sync, write};
+pub use events::{call, conflicts, deliver, start};

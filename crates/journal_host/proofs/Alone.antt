@@ -11,9 +11,9 @@ use Rattle.step_tables.specs.Facts.{Answer}
 use Rattle.step_tables.specs.Facts as facts
 use Rattle.step_tables.specs.Messages.{Message, Luck}
 use Rattle.step_tables.specs.Messages as messages
-use Rattle.step_tables.specs.ClientMoves.{ClientTask, Client, ClientMove, ClientStep, Shape, Take, Start, Crash, client_step, is_cut_off, no_shape}
+use Rattle.step_tables.specs.ClientMoves.{ClientTask, Client, ClientMove, ClientStep, Shape, Take, Start, Crash, client_step, is_cut_off, kept_out, no_shape}
 use Rattle.step_tables.proofs.Lists.{lookup-insert_nat}
-use Rattle.world_tables.specs.World.{World, WorldStep, Moved, Outbox, client_at, client_tasks, move_client, still, failing, answering, answered, refused, reads, unless_cut, calls, call, call_there, to_there, started, starts_by}
+use Rattle.world_tables.specs.World.{World, WorldStep, Moved, Outbox, client_at, client_tasks, move_client, still, failing, answering, answered, refused, reads, unless_kept, unless_cut, is_resolving, calls, call, call_there, to_there, started, starts_by}
 use Rattle.world_tables.specs.World.{and_then, client_falls, move_there, tasks_in, client_follows, client_follows_from, client_until_idle, gets_tasks, first_luck, other_lucks, is_down, is_client_down, is_cut, has_node, client_works}
 use Rattle.journal_host.specs.Moves.{then_moves, agenda_in, move_alone, alone_there, call_alone, take_there, take_alone, starts_alone, start_alone, has_work}
 
@@ -126,24 +126,36 @@ module _ (w : World) (c : ℕ) (move : ClientMove) (shape : Shape) (lucks : List
   behind node = client_follows_from node.agenda c (other_lucks lucks)
 
   module _ (node : Client) (is : client_at w c ≡ Some node) where
+    -- what the phases keep it from, and whether its link does
+    abbrev kept : Option facts.Refusal
+    kept = kept_out (is_resolving w c) move (client_step c shape node move).answer
+
+    abbrev is_off : Bool
+    is_off = is_cut w c && is_cut_off c shape node move
+
     by_cut : (b : Bool) → unless_cut w b (calls w c move shape (other_lucks lucks) node) ≡ then_moves (unless_cut w b (move_alone w c move shape node)) (behind node)
     by_cut true = sym (then_none (refused w facts.Offline) (behind node) (none_follows node.agenda c (other_lucks lucks) w (as_it_was w c node is)))
     by_cut false = answering_then (client_step c shape node move).answer (move_client c move shape w) (behind node)
+
+    by_kept : (o : Option facts.Refusal) → unless_kept w o (unless_cut w is_off (calls w c move shape (other_lucks lucks) node))
+        ≡ then_moves (unless_kept w o (unless_cut w is_off (move_alone w c move shape node))) (behind node)
+    by_kept (Some r) = sym (then_none (refused w r) (behind node) (none_follows node.agenda c (other_lucks lucks) w (as_it_was w c node is)))
+    by_kept None = by_cut is_off
 
     failed_read : answering facts.Done (failing (client_falls c w)) ≡ then_moves (answering facts.Done (failing (client_falls c w))) (behind node)
     failed_read = sym (then_none (answering facts.Done (failing (client_falls c w))) (behind node)
         (none_follows node.agenda c (other_lucks lucks) (client_falls c w).world (fell w c node node.agenda is)))
 
-    by_luck : (luck : Luck) → reads w c luck (unless_cut w (is_cut w c && is_cut_off c shape node move) (calls w c move shape (other_lucks lucks) node))
-        ≡ then_moves (reads w c luck (unless_cut w (is_cut w c && is_cut_off c shape node move) (move_alone w c move shape node))) (behind node)
-    by_luck messages.Done = by_cut (is_cut w c && is_cut_off c shape node move)
+    by_luck : (luck : Luck) → reads w c luck (unless_kept w kept (unless_cut w is_off (calls w c move shape (other_lucks lucks) node)))
+        ≡ then_moves (reads w c luck (unless_kept w kept (unless_cut w is_off (move_alone w c move shape node)))) (behind node)
+    by_luck messages.Done = by_kept kept
     by_luck messages.FailedBefore = failed_read
     by_luck messages.FailedAfter = failed_read
 
     by_down : (b : Bool) → (if b then refused w (facts.NodeDown (nodes.Client c)) else reads w c (first_luck lucks)
-        (unless_cut w (is_cut w c && is_cut_off c shape node move) (calls w c move shape (other_lucks lucks) node)))
+        (unless_kept w kept (unless_cut w is_off (calls w c move shape (other_lucks lucks) node))))
         ≡ then_moves (if b then refused w (facts.NodeDown (nodes.Client c)) else reads w c (first_luck lucks)
-        (unless_cut w (is_cut w c && is_cut_off c shape node move) (move_alone w c move shape node))) (behind node)
+        (unless_kept w kept (unless_cut w is_off (move_alone w c move shape node)))) (behind node)
     by_down true = sym (then_none (refused w (facts.NodeDown (nodes.Client c))) (behind node) (none_follows node.agenda c (other_lucks lucks) w (as_it_was w c node is)))
     by_down false = by_luck (first_luck lucks)
 
@@ -164,13 +176,17 @@ module _ (w : World) (c : ℕ) (move : ClientMove) (shape : Shape) (lucks : List
         cut true = refuses facts.Offline
         cut false = moves node is
 
-        read : (luck : Luck) → P (reads w c luck (unless_cut w (is_cut w c && is_cut_off c shape node move) (move_alone w c move shape node)))
-        read messages.Done = cut (is_cut w c && is_cut_off c shape node move)
+        keep : (o : Option facts.Refusal) → P (unless_kept w o (unless_cut w (is_off node is) (move_alone w c move shape node)))
+        keep (Some r) = refuses r
+        keep None = cut (is_off node is)
+
+        read : (luck : Luck) → P (reads w c luck (unless_kept w (kept node is) (unless_cut w (is_off node is) (move_alone w c move shape node))))
+        read messages.Done = keep (kept node is)
         read messages.FailedBefore = falls
         read messages.FailedAfter = falls
 
         down : (b : Bool) → P (if b then refused w (facts.NodeDown (nodes.Client c)) else reads w c (first_luck lucks)
-            (unless_cut w (is_cut w c && is_cut_off c shape node move) (move_alone w c move shape node)))
+            (unless_kept w (kept node is) (unless_cut w (is_off node is) (move_alone w c move shape node))))
         down true = refuses (facts.NodeDown (nodes.Client c))
         down false = read (first_luck lucks)
 
@@ -211,7 +227,7 @@ module _ (w : World) (c : ℕ) (move : ClientMove) (shape : Shape) (lucks : List
       out None is none = refl
       out (Some node) is none =
           ap (λ (b : Bool). (if b then refused w (facts.NodeDown (nodes.Client c)) else reads w c (first_luck lucks)
-          (unless_cut w (is_cut w c && is_cut_off c shape node move) (move_alone w c move shape node))).world)
+          (unless_kept w (kept node is) (unless_cut w (is_off node is) (move_alone w c move shape node)))).world)
           (ap is_client_down is ∙ ap (λ (a : Option (List ClientTask)). is_client_down (Some (record node { agenda = a }))) none)
 
       go : (agenda : Option (List ClientTask)) → agenda_in (client_at w c) ≡ agenda → client_follows_from agenda c (other_lucks lucks) after ≡ client_until_idle c (other_lucks lucks) after

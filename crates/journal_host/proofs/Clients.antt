@@ -17,23 +17,26 @@ use Rattle.step_tables.specs.Facts as facts
 use Rattle.step_tables.specs.Lines.{answer_of}
 use Rattle.step_tables.specs.Messages.{Luck, Message}
 use Rattle.step_tables.specs.Messages as messages
-use Rattle.step_tables.specs.ClientMoves.{ClientDisk, ClientTask, Client, ClientStep, ClientMove, Shape, Take, Crash, client_step, no_shape, quiet, is_cut_off}
+use Rattle.step_tables.specs.ClientMoves.{ClientDisk, ClientTask, Client, ClientStep, ClientMove, Shape, Take, Crash, client_step, no_shape, quiet, is_cut_off, kept_out}
 use Rattle.step_tables.proofs.Lists.{lookup-insert}
 use Rattle.client_node.specs.declared.fault.CallFault.{CallFault}
 use Rattle.client_node.specs.declared.node.ClientNode.{ClientNode}
 use Rattle.client_node.specs.Node.{IsClient, IsNode, told_by, has_task, HasPlansBelow}
 use Rattle.client_node.proofs.PlanNumbers.{next_below}
-use Rattle.client_node.specs.Linked.{linked_step}
-use Rattle.world_tables.specs.World.{World, WorldStep, Packet, client_at, is_cut, is_down, is_client_down, is_fault, first_luck, move_client, answered, refused, reads, unless_cut, packets_from, client_tasks, tasks_in}
-use Rattle.journal_host.specs.declared.asking.Ask.{Ask}
+use Rattle.client_node.specs.Linked.{linked_step, phased_step, unless_kept as kept_step}
+use Rattle.client_node.specs.Phases.{is_open}
+use Rattle.world_tables.specs.World.{World, WorldStep, Packet, client_at, is_cut, is_resolving, is_down, is_client_down, is_fault, first_luck, move_client, answered, refused, reads, unless_kept, unless_cut, packets_from, client_tasks, tasks_in}
+use Rattle.journal_host.specs.declared.asking.Request.{Request}
+use Rattle.journal_host.specs.declared.asking.Request.TheVariants as requests
 use Rattle.journal_host.specs.declared.fault.ClientFault.{ClientFault}
-use Rattle.journal_host.specs.declared.out.ClientOut.{ClientOut}
 use Rattle.journal_host.specs.declared.host.ClientHost.{ClientHost}
-use Rattle.journal_host.specs.Asks.{move_of, FitsDisk, FitsAt, FitsIn}
-use Rattle.journal_host.specs.Holds.{IsHosted, ClientThere, HasClients, HoldsClients, KeepsClients, AreClients, outs_in, node_faults, faults_in, faults_at, SameFaults, RisenFaults, HavePlansBelow}
+use Rattle.journal_host.specs.Asks.{asked_by, FitsDisk, FitsAt, FitsIn}
+use Rattle.journal_host.specs.Holds.{IsHosted, ClientThere, HasClients, HasPhases, HavePhases, HoldsClients, KeepsClients, AreClients, outs_in, node_faults, faults_in, faults_at, SameFaults, RisenFaults, HavePlansBelow}
+use Rattle.journal_host.specs.Phases.{SamePhases, MovesPhases, answer_in}
 use Rattle.journal_host.specs.Steps.{HasTold, IsMade, IsFallen, IsDropped, HasNodeCause, HasAnswerCause}
 use Rattle.journal_host.specs.Calls.{IsMoved, IsCalled, Comes, Stays, HasCause, HasMoveCause, HasLuck, IsNumberCause}
 use Rattle.journal_host.specs.Moves.{move_alone, alone_there, call_alone, take_there, take_alone, has_work}
+use Rattle.journal_host.proofs.Phased.{LeavesPhases, refusal_leaves, moves_as, open_stays, kept_same, phases_at, phases_same, phases_moved}
 
 pub at_same : (k q : ℕ) → is_at (nat_cmp k) q ≡ true → k ≡ q
 at_same k q h = eqb-true k q (sym (unsigned_tied k q) ∙ h)
@@ -51,10 +54,13 @@ given_is (facts.Sums sum) = refl
 given_is (facts.Stores version content) = refl
 given_is (facts.Did step) = refl
 given_is (facts.Names names) = refl
+given_is (facts.Pairs pairs) = refl
 given_is (facts.Refuses facts.NoDevice) = refl
 given_is (facts.Refuses (facts.Unfit fault)) = refl
 given_is (facts.Refuses (facts.Busy with)) = refl
 given_is (facts.Refuses facts.NoTable) = refl
+given_is (facts.Refuses facts.NotInResolution) = refl
+given_is (facts.Refuses facts.InResolution) = refl
 given_is (facts.Refuses facts.NoConflict) = refl
 given_is (facts.Refuses (facts.Moved seen now)) = refl
 given_is (facts.Refuses facts.Offline) = refl
@@ -125,48 +131,68 @@ module _ {D : Type 0} (state : D → DiskState) where
   clients_stay w after host h k = record {
     there = λ c. subst (λ (cs : List (ℕ × Client)). ClientThere state (is_cut after c) c (lookup (is_at (nat_cmp c)) cs) (tree.get nat_cmp host.clients c)) (sym k.clients)
         (subst (λ (cuts : List Node). ClientThere state (is_cut (record w { cuts = cuts }) c) c (client_at w c) (tree.get nat_cmp host.clients c)) (sym k.cuts) (h.there c));
+    phases = λ c. subst (λ (phases : List (ℕ × ℕ)). HasPhases (is_resolving (record w { phases = phases }) c) (tree.get nat_cmp host.clients c)) (sym k.phases) (h.phases c);
   }
 
 -- ---- a call
 
-not_twice : (cut off : Bool) → (not (not cut) && off) ≡ (cut && off)
+pub not_twice : (cut off : Bool) → (not (not cut) && off) ≡ (cut && off)
 not_twice true off = refl
 not_twice false off = refl
 
 module _ {D : Type 0} (state : D → DiskState) (w : World) (old new : ClientHost D) (c : ℕ) (node after : ClientNode D) (h : HoldsClients state w old)
+    (there_is : Some node ≡ tree.get nat_cmp old.clients c)
     (u : (q : ℕ) → tree.get nat_cmp new.clients q ≡ cond (is_at (nat_cmp c) q) (Some after) (tree.get nat_cmp old.clients q))
     (s : Client) (at : client_at w c ≡ Some s) where
   -- a move
   pub move_done : (move : ClientMove) (shape : Shape) → HasTold state (is_cut w c) c (client_step c shape s move) after old.outs.items new.outs.items
-      → IsMoved state old new (move_client c move shape w)
-  move_done move shape t = rw at (record {
+      → MovesPhases move (client_step c shape s move).answer node after → IsMoved state old new (move_client c move shape w)
+  move_done move shape t k = rw at (record {
     held = record {
       there = moved_clients state w old.clients new.clients c after h.there u (client_step c shape s move).client
           (w.packets ++ packets_from (nodes.Client c) (client_step c shape s move).sends) t.behind;
+      phases = phases_moved w old.clients new.clients c after h.phases u node there_is state (client_step c shape s move).client.disk (client_step c shape s move).client.agenda move
+          (client_step c shape s move).answer t.behind.client k;
     };
     outs = t.outs;
   })
 
   -- one that changes nothing
+  pub held_still : IsHosted state (is_cut w c) c s after → SamePhases node after → HoldsClients state w new
+  held_still t same = record { there = same_clients state w old.clients new.clients c after h.there u s at t; phases = phases_same w old.clients new.clients c after h.phases u node there_is same }
+
   pub nothing_done : (a : facts.Answer) (answer : Answer) → a ≡ answer_of answer → HasTold state (is_cut w c) c (quiet s.disk s.agenda a) after old.outs.items new.outs.items
-      → IsCalled state old new (answered w a) answer
-  nothing_done a answer is t = record {
+      → SamePhases node after → IsCalled state old new (answered w a) answer
+  nothing_done a answer is t same = record {
     answer_is = ap Some is;
-    held = record { there = same_clients state w old.clients new.clients c after h.there u s at t.behind };
+    held = held_still t.behind same;
     outs = t.outs;
   }
 
-  module _ (move : ClientMove) where
+  module _ (move : ClientMove) (hosted : IsHosted state (is_cut w c) c s node) where
+    abbrev kept : Shape → Option facts.Refusal
+    kept shape = kept_out (is_resolving w c) move (client_step c shape s move).answer
+
+    abbrev alone : Shape → WorldStep
+    alone shape = unless_kept w (kept shape) (unless_cut w (is_cut w c && is_cut_off c shape s move) (move_alone w c move shape s))
+
     move_alone_done : (shape : Shape) (answer : Answer) → HasTold state (is_cut w c) c (client_step c shape s move) after old.outs.items new.outs.items
-        → (client_step c shape s move).answer ≡ answer_of answer → IsCalled state old new (move_alone w c move shape s) answer
-    move_alone_done shape answer t is =
-        let m = move_done move shape t in
+        → (client_step c shape s move).answer ≡ answer_of answer → MovesPhases move (answer_of answer) node after → IsCalled state old new (move_alone w c move shape s) answer
+    move_alone_done shape answer t is k =
+        let m = move_done move shape t (subst (λ (a : facts.Answer). MovesPhases move a node after) (sym is) k) in
         record { answer_is = rw at (ap Some (given_is (client_step c shape s move).answer ∙ is)); held = m.held; outs = m.outs }
 
-    made_called : (shape : Shape) (answer : Answer) → HasTold state (is_cut w c) c (linked_step (not (is_cut w c)) c shape s move) after old.outs.items new.outs.items
-        → (linked_step (not (is_cut w c)) c shape s move).answer ≡ answer_of answer
+    -- a refusal leaves the phases
+    refused_done : (r : facts.Refusal) (answer : Answer) → facts.Refuses r ≡ answer_of answer → HasTold state (is_cut w c) c (quiet s.disk s.agenda (facts.Refuses r)) after old.outs.items new.outs.items
+        → MovesPhases move (answer_of answer) node after → IsCalled state old new (refused w r) answer
+    refused_done r answer is t k = nothing_done (facts.Refuses r) answer is t
+        (open_stays state node after s.disk s.agenda move (facts.Refuses r) hosted.client t.behind.client (refusal_leaves move r)
+        (subst (λ (a : facts.Answer). MovesPhases move a node after) (sym is) k))
+
+    link_called : (shape : Shape) (answer : Answer) → HasTold state (is_cut w c) c (linked_step (not (is_cut w c)) c shape s move) after old.outs.items new.outs.items
+        → (linked_step (not (is_cut w c)) c shape s move).answer ≡ answer_of answer → MovesPhases move (answer_of answer) node after
         → IsCalled state old new (unless_cut w (is_cut w c && is_cut_off c shape s move) (move_alone w c move shape s)) answer
-    made_called shape answer t is =
+    link_called shape answer t is k =
         let same : (if not (not (is_cut w c)) && is_cut_off c shape s move then quiet s.disk s.agenda (facts.Refuses facts.Offline) else client_step c shape s move)
         ≡ (if is_cut w c && is_cut_off c shape s move then quiet s.disk s.agenda (facts.Refuses facts.Offline) else client_step c shape s move) =
         ap (λ (b : Bool). if b then quiet s.disk s.agenda (facts.Refuses facts.Offline) else client_step c shape s move) (not_twice (is_cut w c) (is_cut_off c shape s move)) in
@@ -176,26 +202,42 @@ module _ {D : Type 0} (state : D → DiskState) (w : World) (old new : ClientHos
         either : (b : Bool) → HasTold state (is_cut w c) c (if b then quiet s.disk s.agenda (facts.Refuses facts.Offline) else client_step c shape s move) after old.outs.items new.outs.items
             → (if b then quiet s.disk s.agenda (facts.Refuses facts.Offline) else client_step c shape s move).answer ≡ answer_of answer
             → IsCalled state old new (unless_cut w b (move_alone w c move shape s)) answer
-        either true t is = nothing_done (facts.Refuses facts.Offline) answer is t
-        either false t is = move_alone_done shape answer t is
+        either true t is = refused_done facts.Offline answer is t k
+        either false t is = move_alone_done shape answer t is k
+
+    made_called : (shape : Shape) (answer : Answer) → HasTold state (is_cut w c) c (phased_step (is_open node) (not (is_cut w c)) c shape s move) after old.outs.items new.outs.items
+        → (phased_step (is_open node) (not (is_cut w c)) c shape s move).answer ≡ answer_of answer → MovesPhases move (answer_of answer) node after
+        → IsCalled state old new (alone shape) answer
+    made_called shape answer t is k =
+        let same = ap (λ (o : Option facts.Refusal). kept_step s o (linked_step (not (is_cut w c)) c shape s move))
+        (kept_same (is_open node) (is_resolving w c) (phases_at w old.clients c node h.phases there_is) move (client_step c shape s move).answer) in
+        by (kept shape) (subst (λ (x : ClientStep). HasTold state (is_cut w c) c x after old.outs.items new.outs.items) same t) (ap (λ (x : ClientStep). x.answer) (sym same) ∙ is)
+      where
+        by : (o : Option facts.Refusal) → HasTold state (is_cut w c) c (kept_step s o (linked_step (not (is_cut w c)) c shape s move)) after old.outs.items new.outs.items
+            → (kept_step s o (linked_step (not (is_cut w c)) c shape s move)).answer ≡ answer_of answer
+            → IsCalled state old new (unless_kept w o (unless_cut w (is_cut w c && is_cut_off c shape s move) (move_alone w c move shape s))) answer
+        by (Some r) t is = refused_done r answer is t k
+        by None t is = link_called shape answer t is k
 
     -- ---- by whether it is up
 
     abbrev body : Shape → List Luck → WorldStep
-    body shape lucks = reads w c (first_luck lucks) (unless_cut w (is_cut w c && is_cut_off c shape s move) (move_alone w c move shape s))
+    body shape lucks = reads w c (first_luck lucks) (alone shape)
 
     up_called : (shape : Shape) (lucks : List Luck) (answer : Answer) → is_client_down (client_at w c) ≡ false → IsCalled state old new (body shape lucks) answer
         → IsCalled state old new (alone_there w c move shape lucks (Some s)) answer
     up_called shape lucks answer up k = subst (λ (b : Bool). IsCalled state old new (if b then refused w (facts.NodeDown (nodes.Client c)) else body shape lucks) answer) (sym up) k
 
-    pub is_made : (answer : Answer) → is_client_down (client_at w c) ≡ false → IsMade state (is_cut w c) c s move after old.outs.items new.outs.items answer
-        → (shape : Shape) × (lucks : List Luck) × IsCalled state old new (alone_there w c move shape lucks (Some s)) answer
-    is_made answer up k = (k.shape, [], up_called k.shape [] answer up (made_called k.shape answer k.told k.answer_is))
+    pub is_made : (answer : Answer) → is_client_down (client_at w c) ≡ false → IsMade state (is_open node) (is_cut w c) c s move after old.outs.items new.outs.items answer
+        → MovesPhases move (answer_of answer) node after → (shape : Shape) × (lucks : List Luck) × IsCalled state old new (alone_there w c move shape lucks (Some s)) answer
+    is_made answer up k m = (k.shape, [], up_called k.shape [] answer up (made_called k.shape answer k.told k.answer_is m))
 
     pub is_fallen : (answer : Answer) → is_client_down (client_at w c) ≡ false → IsFallen state (is_cut w c) c s after old.outs.items new.outs.items answer
-        → (shape : Shape) × (lucks : List Luck) × IsCalled state old new (alone_there w c move shape lucks (Some s)) answer
-    is_fallen answer up k =
-        let m = move_done (Crash messages.FailedBefore) no_shape k.told in (
+        → MovesPhases move (facts.Refuses facts.NoDevice) node after → (shape : Shape) × (lucks : List Luck) × IsCalled state old new (alone_there w c move shape lucks (Some s)) answer
+    is_fallen answer up k p =
+        let m = move_done (Crash messages.FailedBefore) no_shape k.told
+        (moves_as node after move (Crash messages.FailedBefore) (facts.Refuses facts.NoDevice) (client_step c no_shape s (Crash messages.FailedBefore)).answer (refusal_leaves move facts.NoDevice)
+        (λ phase table. refl) p) in (
           no_shape,
           messages.FailedBefore ∷ [],
           up_called no_shape (messages.FailedBefore ∷ []) answer up
@@ -204,12 +246,12 @@ module _ {D : Type 0} (state : D → DiskState) (w : World) (old new : ClientHos
 
     pub is_down_called : (answer : Answer) → is_client_down (client_at w c) ≡ true → answer ≡ answers.Refused (refusals.Down (nodes.Client c))
         → HasTold state (is_cut w c) c (quiet s.disk s.agenda (facts.Refuses (facts.NodeDown (nodes.Client c)))) after old.outs.items new.outs.items
-        → (shape : Shape) × (lucks : List Luck) × IsCalled state old new (alone_there w c move shape lucks (Some s)) answer
-    is_down_called answer down is t = (
+        → SamePhases node after → (shape : Shape) × (lucks : List Luck) × IsCalled state old new (alone_there w c move shape lucks (Some s)) answer
+    is_down_called answer down is t same = (
       no_shape,
       [],
       subst (λ (b : Bool). IsCalled state old new (if b then refused w (facts.NodeDown (nodes.Client c)) else body no_shape []) answer) (sym down)
-          (nothing_done (facts.Refuses (facts.NodeDown (nodes.Client c))) answer (sym (ap answer_of is)) t),
+          (nothing_done (facts.Refuses (facts.NodeDown (nodes.Client c))) answer (sym (ap answer_of is)) t same),
     )
 
 -- ---- a call of a client that is there
@@ -224,96 +266,105 @@ pub down_is : {D : Type 0} (state : D → DiskState) (node : ClientNode D) (d : 
 down_is state node d None t down = refl
 down_is state node d (Some tasks) t down = let up = t.at.0 in absurd cc
 
-abbrev pub Asked : {D : Type 0} → (D → DiskState) → ℕ → Ask → (before after : ClientNode D) → (olds news : List ClientOut) → Answer → Type 0
-Asked state c ask before after olds news answer = (cut : Bool) (s : Client) → IsHosted state cut c s before → FitsDisk s.disk ask → before.is_up ≡ true
-    → IsMade state cut c s (move_of ask) after olds news answer ⊎ IsFallen state cut c s after olds news answer
+-- a dropped message leaves the phases
+dropped_leaves : (d : ClientDisk) (request : Request) → (FitsDisk d request → ⊥) → (a : facts.Answer) → LeavesPhases (asked_by request) a
+dropped_leaves d (requests.Ask ask) unfit a = absurd (unfit tt)
+dropped_leaves d (requests.Deliver message) unfit a = λ phase table. refl
 
 module _ {D : Type 0} (state : D → DiskState) (w : World) (old new : ClientHost D) (c : ℕ) (node after : ClientNode D) (h : HoldsClients state w old)
     (is : Some node ≡ tree.get nat_cmp old.clients c)
-    (u : (q : ℕ) → tree.get nat_cmp new.clients q ≡ cond (is_at (nat_cmp c) q) (Some after) (tree.get nat_cmp old.clients q)) (ask : Ask) where
+    (u : (q : ℕ) → tree.get nat_cmp new.clients q ≡ cond (is_at (nat_cmp c) q) (Some after) (tree.get nat_cmp old.clients q)) (request : Request) where
   there : (s : Client) × (client_at w c ≡ Some s) × IsHosted state (is_cut w c) c s node
   there = found state w old.clients c h.there node is
 
   abbrev Calls : Answer → Type 0
-  Calls answer = (shape : Shape) × (lucks : List Luck) × IsCalled state old new (call_alone w c (move_of ask) shape lucks) answer
+  Calls answer = (shape : Shape) × (lucks : List Luck) × IsCalled state old new (call_alone w c (asked_by request) shape lucks) answer
 
-  at_client : (answer : Answer) → ((shape : Shape) × (lucks : List Luck) × IsCalled state old new (alone_there w c (move_of ask) shape lucks (Some there.0)) answer) → Calls answer
-  at_client answer k = subst (λ (o : Option Client). (shape : Shape) × (lucks : List Luck) × IsCalled state old new (alone_there w c (move_of ask) shape lucks o) answer) (sym there.1) k
+  at_client : (answer : Answer) → ((shape : Shape) × (lucks : List Luck) × IsCalled state old new (alone_there w c (asked_by request) shape lucks (Some there.0)) answer) → Calls answer
+  at_client answer k = subst (λ (o : Option Client). (shape : Shape) × (lucks : List Luck) × IsCalled state old new (alone_there w c (asked_by request) shape lucks o) answer) (sym there.1) k
 
   module _ (down : node.is_up ≡ false → (after ≡ node) × (new.outs.items ≡ old.outs.items)) where
     when_down : (answer : Answer) → node.is_up ≡ false → answer ≡ answers.Refused (refusals.Down (nodes.Client c)) → Calls answer
     when_down answer is_down says =
         let d = down is_down in
-        at_client answer (is_down_called state w old new c node after h u there.0 there.1 (move_of ask) answer
+        at_client answer (is_down_called state w old new c node after h is u there.0 there.1 (asked_by request) there.2 answer
         (ap is_client_down there.1 ∙ down_is state node there.0.disk there.0.agenda there.2.client is_down) says
-        (record { behind = subst (λ (n : ClientNode D). IsHosted state (is_cut w c) c there.0 n) (sym d.0) there.2; outs = ap outs_in d.1 ∙ sym (append-nil (outs_in old.outs.items)) }))
+        (record { behind = subst (λ (n : ClientNode D). IsHosted state (is_cut w c) c there.0 n) (sym d.0) there.2; outs = ap outs_in d.1 ∙ sym (append-nil (outs_in old.outs.items)) })
+        (λ table. ap (λ (n : ClientNode D). is_open n table) d.0))
 
   up_there : node.is_up ≡ true → is_client_down (client_at w c) ≡ false
   up_there up = ap is_client_down there.1 ∙ up_is state node there.0.disk there.0.agenda there.2.client up
 
-  when_up : (answer : Answer) → node.is_up ≡ true → IsMade state (is_cut w c) c there.0 (move_of ask) after old.outs.items new.outs.items answer
+  when_up : (answer : Answer) → node.is_up ≡ true → MovesPhases (asked_by request) (answer_of answer) node after → IsMade state (is_open node) (is_cut w c) c there.0 (asked_by request) after old.outs.items new.outs.items answer
       ⊎ IsFallen state (is_cut w c) c there.0 after old.outs.items new.outs.items answer
       → Calls answer
-  when_up answer up k = at_client answer (⊎_elim (λ m. is_made state w old new c node after h u there.0 there.1 (move_of ask) answer (up_there up) m)
-      (λ m. is_fallen state w old new c node after h u there.0 there.1 (move_of ask) answer (up_there up) m) k)
+  when_up answer up p k = at_client answer (⊎_elim (λ m. is_made state w old new c node after h is u there.0 there.1 (asked_by request) there.2 answer (up_there up) m p)
+      (λ m. is_fallen state w old new c node after h is u there.0 there.1 (asked_by request) there.2 answer (up_there up) m
+      (subst (λ (a : Answer). MovesPhases (asked_by request) (answer_of a) node after) m.answer_is p)) k)
 
-  fits_there : FitsIn w c ask → FitsDisk there.0.disk ask
-  fits_there fits = subst (λ (o : Option Client). FitsAt o ask) there.1 fits
+  fits_there : FitsIn w c request → FitsDisk there.0.disk request
+  fits_there fits = subst (λ (o : Option Client). FitsAt o request) there.1 fits
 
-  fits_back : FitsDisk there.0.disk ask → FitsIn w c ask
-  fits_back fits = subst (λ (o : Option Client). FitsAt o ask) (sym there.1) fits
+  fits_back : FitsDisk there.0.disk request → FitsIn w c request
+  fits_back fits = subst (λ (o : Option Client). FitsAt o request) (sym there.1) fits
 
-  module _ (r : Result Answer ClientFault)
+  module _ (r : Result Answer ClientFault) (moves : MovesPhases (asked_by request) (answer_in r) node after)
       (down : node.is_up ≡ false → (after ≡ node) × (new.outs.items ≡ old.outs.items) × IfOk r (λ answer. answer ≡ answers.Refused (refusals.Down (nodes.Client c)))) where
-    pub client_called : ((cut : Bool) (s : Client) → IsHosted state cut c s node → FitsDisk s.disk ask → node.is_up ≡ true
-        → IfOk r (λ answer. IsMade state cut c s (move_of ask) after old.outs.items new.outs.items answer ⊎ IsFallen state cut c s after old.outs.items new.outs.items answer))
-        → FitsIn w c ask → IfOk r Calls
-    client_called made fits = by node.is_up refl r (λ up. made (is_cut w c) there.0 there.2 (fits_there fits) up) (λ d. (down d).2)
+    pub client_called : ((cut : Bool) (s : Client) → IsHosted state cut c s node → FitsDisk s.disk request → node.is_up ≡ true
+        → IfOk r (λ answer. IsMade state (is_open node) cut c s (asked_by request) after old.outs.items new.outs.items answer ⊎ IsFallen state cut c s after old.outs.items new.outs.items answer))
+        → FitsIn w c request → IfOk r Calls
+    client_called made fits = by node.is_up refl r moves (λ up. made (is_cut w c) there.0 there.2 (fits_there fits) up) (λ d. (down d).2)
       where
-        by : (b : Bool) → node.is_up ≡ b → (r : Result Answer ClientFault)
-            → (node.is_up ≡ true → IfOk r (λ answer. IsMade state (is_cut w c) c there.0 (move_of ask) after old.outs.items new.outs.items answer
+        by : (b : Bool) → node.is_up ≡ b → (r : Result Answer ClientFault) → MovesPhases (asked_by request) (answer_in r) node after
+            → (node.is_up ≡ true → IfOk r (λ answer. IsMade state (is_open node) (is_cut w c) c there.0 (asked_by request) after old.outs.items new.outs.items answer
             ⊎ IsFallen state (is_cut w c) c there.0 after old.outs.items new.outs.items answer))
             → (node.is_up ≡ false → IfOk r (λ answer. answer ≡ answers.Refused (refusals.Down (nodes.Client c)))) → IfOk r Calls
-        by b is (Err e) made says = tt
-        by true is (Ok answer) made says = when_up answer is (made is)
-        by false is (Ok answer) made says = when_down (λ d. let x = down d in (x.0, x.1)) answer is (says is)
+        by b is (Err e) p made says = tt
+        by true is (Ok answer) p made says = when_up answer is p (made is)
+        by false is (Ok answer) p made says = when_down (λ d. let x = down d in (x.0, x.1)) answer is (says is)
 
-    pub client_dropped : ((cut : Bool) (s : Client) → IsHosted state cut c s node → (FitsDisk s.disk ask → ⊥) → node.is_up ≡ true
+    pub client_dropped : ((cut : Bool) (s : Client) → IsHosted state cut c s node → (FitsDisk s.disk request → ⊥) → node.is_up ≡ true
         → IfOk r (λ answer. IsDropped state cut c s after old.outs.items new.outs.items answer
-        ⊎ (IsMade state cut c s (move_of ask) after old.outs.items new.outs.items answer ⊎ IsFallen state cut c s after old.outs.items new.outs.items answer)))
-        → (FitsIn w c ask → ⊥) → IfOk r (λ answer. ((answer ≡ answers.Done) × Stays state w old new) ⊎ Calls answer)
-    client_dropped made unfit = by node.is_up refl r (λ up. made (is_cut w c) there.0 there.2 (λ fits. unfit (fits_back fits)) up) (λ d. (down d).2)
+        ⊎ (IsMade state (is_open node) cut c s (asked_by request) after old.outs.items new.outs.items answer ⊎ IsFallen state cut c s after old.outs.items new.outs.items answer)))
+        → (FitsIn w c request → ⊥) → IfOk r (λ answer. ((answer ≡ answers.Done) × Stays state w old new) ⊎ Calls answer)
+    client_dropped made unfit = by node.is_up refl r moves (λ up. made (is_cut w c) there.0 there.2 (λ fits. unfit (fits_back fits)) up) (λ d. (down d).2)
       where
-        by : (b : Bool) → node.is_up ≡ b → (r : Result Answer ClientFault)
+        by : (b : Bool) → node.is_up ≡ b → (r : Result Answer ClientFault) → MovesPhases (asked_by request) (answer_in r) node after
             → (node.is_up ≡ true → IfOk r (λ answer. IsDropped state (is_cut w c) c there.0 after old.outs.items new.outs.items answer
-            ⊎ (IsMade state (is_cut w c) c there.0 (move_of ask) after old.outs.items new.outs.items answer
+            ⊎ (IsMade state (is_open node) (is_cut w c) c there.0 (asked_by request) after old.outs.items new.outs.items answer
             ⊎ IsFallen state (is_cut w c) c there.0 after old.outs.items new.outs.items answer)))
             → (node.is_up ≡ false → IfOk r (λ answer. answer ≡ answers.Refused (refusals.Down (nodes.Client c))))
             → IfOk r (λ answer. ((answer ≡ answers.Done) × Stays state w old new) ⊎ Calls answer)
-        by b is (Err e) made says = tt
-        by true is (Ok answer) made says = ⊎_elim
+        by b up (Err e) p made says = tt
+        by true up (Ok answer) p made says = ⊎_elim
             (λ x. inl (
               x.answer_is,
               record {
-                held = record { there = same_clients state w old.clients new.clients c after h.there u there.0 there.1 x.told.behind };
+                held = held_still state w old new c node after h is u there.0 there.1 x.told.behind
+                    (open_stays state node after there.0.disk there.0.agenda (asked_by request) (answer_of answer) there.2.client x.told.behind.client
+                    (dropped_leaves there.0.disk request (λ fits. unfit (fits_back fits)) (answer_of answer)) p);
                 outs = x.told.outs
                     ∙ append-nil (outs_in old.outs.items);
               },
             ))
-            (λ x. inr (when_up answer is x)) (made is)
-        by false is (Ok answer) made says = inr (when_down (λ d. let x = down d in (x.0, x.1)) answer is (says is))
+            (λ x. inr (when_up answer up p x)) (made up)
+        by false up (Ok answer) p made says = inr (when_down (λ d. let x = down d in (x.0, x.1)) answer up (says up))
 
     pub client_kept : ((cut : Bool) (s : Client) → IsHosted state cut c s node → OnErr r (IsHosted state cut c s after × (outs_in new.outs.items ≡ outs_in old.outs.items)))
         → OnErr r (Stays state w old new)
-    client_kept kept = by r (kept (is_cut w c) there.0 there.2)
+    client_kept kept = by r moves (kept (is_cut w c) there.0 there.2)
       where
-        by : (r : Result Answer ClientFault) → OnErr r (IsHosted state (is_cut w c) c there.0 after × (outs_in new.outs.items ≡ outs_in old.outs.items)) → OnErr r (Stays state w old new)
-        by (Ok answer) k = tt
-        by (Err e) k = record { held = record { there = same_clients state w old.clients new.clients c after h.there u there.0 there.1 k.0 }; outs = k.1 }
+        by : (r : Result Answer ClientFault) → MovesPhases (asked_by request) (answer_in r) node after → OnErr r (IsHosted state (is_cut w c) c there.0 after × (outs_in new.outs.items ≡ outs_in old.outs.items)) → OnErr r (Stays state w old new)
+        by (Ok answer) p k = tt
+        by (Err e) p k = record {
+          held = held_still state w old new c node after h is u there.0 there.1 k.0
+              (open_stays state node after there.0.disk there.0.agenda (asked_by request) (facts.Refuses facts.NoDevice) there.2.client k.0.client (refusal_leaves (asked_by request) facts.NoDevice) p);
+          outs = k.1;
+        }
 
     pub client_spent : (n : ℕ) → HavePlansBelow state n old.clients
-        → ((cut : Bool) (s : Client) (n : ℕ) → IsHosted state cut c s node → HasPlansBelow state n node → FitsDisk s.disk ask → IfErr r (IsNumberCause n (Some s)))
-        → FitsIn w c ask → IfErr r (IsNumberCause n (client_at w c))
+        → ((cut : Bool) (s : Client) (n : ℕ) → IsHosted state cut c s node → HasPlansBelow state n node → FitsDisk s.disk request → IfErr r (IsNumberCause n (Some s)))
+        → FitsIn w c request → IfErr r (IsNumberCause n (client_at w c))
     client_spent n below spent fits =
         subst (λ (o : Option Client). IfErr r (IsNumberCause n o)) (sym there.1) (spent (is_cut w c) there.0 n there.2 (below c node (sym is)) (fits_there fits))
 
@@ -395,14 +446,17 @@ module _ {D : Type 0} (state : D → DiskState) (old new : tree.BTreeMap ℕ (Cl
 
 -- ---- a client that isn't there
 
-pub fits_at : (o : Option Client) (ask : Ask) → ((d : ClientDisk) → FitsDisk d ask) → FitsAt o ask
-fits_at None ask fits = tt
-fits_at (Some s) ask fits = fits s.disk
+pub fits_at : (o : Option Client) (request : Request) → ((d : ClientDisk) → FitsDisk d request) → FitsAt o request
+fits_at None request fits = tt
+fits_at (Some s) request fits = fits s.disk
 
 module _ {D : Type 0} (state : D → DiskState) (w : World) (old new : ClientHost D) (c : ℕ) (h : HoldsClients state w old) (none : None ≡ tree.get nat_cmp old.clients c)
     (same : new.clients ≡ old.clients) (outs : new.outs.items ≡ old.outs.items) where
   pub nowhere_held : HoldsClients state w new
-  nowhere_held = record { there = subst (λ (m : tree.BTreeMap ℕ (ClientNode D)). HasClients state w m) (sym same) h.there }
+  nowhere_held = record {
+    there = subst (λ (m : tree.BTreeMap ℕ (ClientNode D)). HasClients state w m) (sym same) h.there;
+    phases = subst (λ (m : tree.BTreeMap ℕ (ClientNode D)). HavePhases w m) (sym same) h.phases;
+  }
 
   -- it answers so, and nothing happens
   pub nowhere_answers : (a : facts.Answer) (answer : Answer) → a ≡ answer_of answer → IsCalled state old new (answered w a) answer
@@ -416,8 +470,8 @@ module _ {D : Type 0} (state : D → DiskState) (w : World) (old new : ClientHos
         (nowhere_answers (facts.Refuses facts.NoTable) (answers.Refused refusals.NoTable) refl),
   )
 
-  pub nowhere_unfit : (ask : Ask) → (FitsIn w c ask → ⊥) → ⊥
-  nowhere_unfit ask unfit = unfit (subst (λ (o : Option Client). FitsAt o ask) (sym (not_found state w old.clients c h.there none).0) tt)
+  pub nowhere_unfit : (request : Request) → (FitsIn w c request → ⊥) → ⊥
+  nowhere_unfit request unfit = unfit (subst (λ (o : Option Client). FitsAt o request) (sym (not_found state w old.clients c h.there none).0) tt)
 
 pub none_failed : {D : Type 0} (state : D → DiskState) (c : ℕ) (old new : tree.BTreeMap ℕ (ClientNode D)) → new ≡ old → (answer : Answer) → answer ≢ answers.Refused refusals.NoDevice
     → HasCause state c old new (Ok answer)

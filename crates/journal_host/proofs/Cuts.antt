@@ -19,9 +19,11 @@ use Rattle.step_tables.specs.ClientMoves.{Client}
 use Rattle.client_node.specs.declared.node.ClientNode.{ClientNode}
 use Rattle.world_tables.specs.World.{World, client_at, is_cut, is_client_down, same_node, with_link, linked, answered, refused}
 use Rattle.journal_host.specs.declared.host.ClientHost.{ClientHost}
-use Rattle.journal_host.specs.Holds.{IsHosted, HoldsClients, outs_in, outs_of}
+use Rattle.journal_host.specs.Holds.{IsHosted, HavePhases, HoldsClients, outs_in, outs_of}
+use Rattle.journal_host.specs.Phases.{SamePhases}
 use Rattle.journal_host.specs.Calls.{IsCalled}
-use Rattle.journal_host.proofs.Clients.{at_same, found, not_found, put_client, same_clients, nowhere_answers, up_is, down_is}
+use Rattle.journal_host.proofs.Clients.{at_same, found, not_found, put_client, held_still, nowhere_answers, up_is, down_is}
+use Rattle.journal_host.proofs.Phased.{phases_same}
 
 -- ---- whose link is down
 
@@ -83,7 +85,8 @@ not_not false = refl
 
 module _ {D : Type 0} (state : D → DiskState) (w : World) (old new : ClientHost D) (c : ℕ) (up : Bool) (h : HoldsClients state w old) where
   module _ (node after : ClientNode D) (is : Some node ≡ tree.get nat_cmp old.clients c)
-      (u : (q : ℕ) → tree.get nat_cmp new.clients q ≡ cond (is_at (nat_cmp c) q) (Some after) (tree.get nat_cmp old.clients q)) (outs : new.outs.items ≡ old.outs.items) (answer : Answer) where
+      (u : (q : ℕ) → tree.get nat_cmp new.clients q ≡ cond (is_at (nat_cmp c) q) (Some after) (tree.get nat_cmp old.clients q)) (outs : new.outs.items ≡ old.outs.items) (answer : Answer)
+      (phases : SamePhases node after) where
     here : (s : Client) × (client_at w c ≡ Some s) × IsHosted state (is_cut w c) c s node
     here = found state w old.clients c h.there node is
 
@@ -97,10 +100,15 @@ module _ {D : Type 0} (state : D → DiskState) (w : World) (old new : ClientHos
         there = put_client state w (with_link c up w) old.clients new.clients c here.0 after h.there u (λ q. same_links w c q up ∙ same q (is_at (nat_cmp c) q) refl)
             (λ q off. cut_apart w c q up off)
             (subst (λ (cut : Bool). IsHosted state cut c here.0 after) (sym (cut_here w c up)) at);
+        phases = link_phases up (phases_same w old.clients new.clients c after h.phases u node is phases);
       };
       outs = no_outs;
     }
       where
+        link_phases : (b : Bool) → HavePhases w new.clients → HavePhases (with_link c b w) new.clients
+        link_phases true k = k
+        link_phases false k = k
+
         same : (q : ℕ) (b : Bool) → is_at (nat_cmp c) q ≡ b → client_at w q ≡ cond b (Some here.0) (client_at w q)
         same q true at_q = ap (λ (k : ℕ). client_at w k) (sym (at_same c q at_q)) ∙ here.1
         same q false at_q = refl
@@ -108,7 +116,7 @@ module _ {D : Type 0} (state : D → DiskState) (w : World) (old new : ClientHos
     link_down : after ≡ node → answer ≡ answers.Refused (refusals.Down (nodes.Client c)) → IsCalled state old new (refused w (facts.NodeDown (nodes.Client c))) answer
     link_down same says = record {
       answer_is = ap (λ (a : Answer). Some (answer_of a)) (sym says);
-      held = record { there = same_clients state w old.clients new.clients c after h.there u here.0 here.1 (subst (λ (n : ClientNode D). IsHosted state (is_cut w c) c here.0 n) (sym same) here.2) };
+      held = held_still state w old new c node after h is u here.0 here.1 (subst (λ (n : ClientNode D). IsHosted state (is_cut w c) c here.0 n) (sym same) here.2) phases;
       outs = no_outs;
     }
 

@@ -18,25 +18,31 @@ use Rattle.table_model.specs.declared.line.Refusal.TheVariants as refusals
 use Rattle.step_tables.specs.Facts as facts
 use Rattle.step_tables.specs.Messages.{Luck}
 use Rattle.step_tables.specs.Messages as messages
-use Rattle.step_tables.specs.ClientMoves.{ClientDisk, ClientTask, Client, ClientStep, Work, changed, client_step, no_shape}
+use Rattle.step_tables.specs.ClientMoves.{ClientDisk, ClientTask, Client, ClientStep, Work, changed, client_step, no_shape, phases_by}
 use Rattle.step_tables.proofs.Lists.{lookup-insert}
 use Rattle.client_node.specs.declared.fault.CallFault.{CallFault}
 use Rattle.client_node.specs.declared.fault.CallFault.TheVariants.{Disk as DiskFailed, Memory}
 use Rattle.client_node.specs.declared.node.ClientNode.{ClientNode}
 use Rattle.client_node.specs.Node.{IsClient, has_task}
-use Rattle.world_tables.specs.World.{World, Outbox, Packet, Moved, and_then, still, client_at, is_cut, client_tasks, tasks_in, client_writes, client_works, client_until_idle, worked, all_worked, move_there, after_client, next_write, is_fault}
+use Rattle.client_node.specs.Phases.{KeepsPhases}
+use Rattle.world_tables.specs.World.{World, Outbox, Packet, Moved, and_then, still, client_at, is_cut, client_tasks, tasks_in, client_writes, client_works, client_until_idle, worked, all_worked, move_there, moved_client, is_resolving, next_write, is_fault}
 use Rattle.journal_host.specs.declared.fault.ClientFault.TheVariants as faults
 use Rattle.journal_host.specs.declared.host.ClientHost.{ClientHost}
 use Rattle.journal_host.specs.Asks.{as_answer, refused_as, answered_as}
-use Rattle.journal_host.specs.Holds.{IsHosted, ClientThere, HoldsClients, outs_in, outs_of, said, says_something, SameFaults}
+use Rattle.journal_host.specs.Holds.{IsHosted, ClientThere, HasPhases, HoldsClients, outs_in, outs_of, said, says_something, SameFaults}
+use Rattle.journal_host.specs.Phases.{MovesPhases}
 use Rattle.journal_host.specs.Steps.{HasTold}
 use Rattle.journal_host.specs.Calls.{IsMoved, IsCalled, HasMoveCause, HasCause}
 use Rattle.journal_host.specs.Moves.{has_work}
 use Rattle.journal_host.proofs.Replying.{same_err}
-use Rattle.journal_host.proofs.Clients.{at_same, found, not_found, move_done, same_clients, nowhere_held}
+use Rattle.journal_host.proofs.Clients.{at_same, found, not_found, move_done, held_still, nowhere_held}
+use Rattle.journal_host.proofs.Phased.{keeps_moves, keeps_stays, down_closed, has_as, resolving_left, resolving_apart}
 
 put_here : (w : World) (c : ℕ) (s : Client) → lookup (is_at (nat_cmp c)) (insert_entry nat_cmp w.clients c s) ≡ Some s
 put_here w c s = lookup-insert nat_cmp nat_cmp_total w.clients c s c ∙ ap (λ (b : Bool). cond b (Some s) (client_at w c)) (unsigned_tied c c ∙ eq-eqb c c refl)
+
+some_client : (a b : Client) → Some a ≡ Some b → a ≡ b
+some_client a b e = cc
 
 -- ---- the next write
 
@@ -45,7 +51,7 @@ working d task rest = record { disk = d; agenda = Some (task ∷ rest) }
 
 -- of a client that has one
 writes_are : (w : World) (c : ℕ) (d : ClientDisk) (task : ClientTask) (rest : List ClientTask) (luck : Luck) → client_at w c ≡ Some (working d task rest)
-    → client_writes c luck (client_tasks (client_at w c)) w ≡ after_client w c (client_step c no_shape (working d task rest) (Work luck))
+    → client_writes c luck (client_tasks (client_at w c)) w ≡ moved_client w c (Work luck) (client_step c no_shape (working d task rest) (Work luck))
 writes_are w c d task rest luck at = ap (λ (o : Option Client). client_writes c luck (client_tasks o) w) at ∙ ap (λ (o : Option Client). move_there w c (Work luck) no_shape o) at
 
 -- one that goes well doesn't fail
@@ -64,17 +70,29 @@ writes_well w c = by (client_at w c) refl
 
 module _ {D : Type 0} (state : D → DiskState) (w : World) (old new : ClientHost D) (c : ℕ) (node after : ClientNode D) (h : HoldsClients state w old)
     (is : Some node ≡ tree.get nat_cmp old.clients c)
-    (u : (q : ℕ) → tree.get nat_cmp new.clients q ≡ cond (is_at (nat_cmp c) q) (Some after) (tree.get nat_cmp old.clients q)) where
+    (u : (q : ℕ) → tree.get nat_cmp new.clients q ≡ cond (is_at (nat_cmp c) q) (Some after) (tree.get nat_cmp old.clients q)) (keeps : KeepsPhases node after) where
+  there : (s : Client) × (client_at w c ≡ Some s) × IsHosted state (is_cut w c) c s node
+  there = found state w old.clients c h.there node is
+
+  -- a client that does nothing stays
+  stays : (d : ClientDisk) (agenda : Option (List ClientTask)) → client_at w c ≡ Some (record { disk = d; agenda = agenda }) → IsHosted state (is_cut w c) c (record { disk = d; agenda = agenda }) after
+      → HoldsClients state w new
+  stays d agenda at t =
+      let same : there.0 ≡ record { disk = d; agenda = agenda } = some_client there.0 (record { disk = d; agenda = agenda }) (sym there.1 ∙ at) in
+      held_still state w old new c node after h is u (record { disk = d; agenda = agenda }) at t
+      (keeps_stays state node after d agenda (subst (λ (s : Client). IsClient state node s) same there.2.client) t.client keeps)
+
+  -- the phases are those that a write leaves
+  moves : (luck : Luck) (a : facts.Answer) → MovesPhases (Work luck) a node after
+  moves luck a = keeps_moves node after (Work luck) a (λ phase table. refl) keeps
+
   well : (d : ClientDisk) (agenda : Option (List ClientTask)) → client_at w c ≡ Some (record { disk = d; agenda = agenda })
       → HasTold state (is_cut w c) c (client_step c no_shape (record { disk = d; agenda = agenda }) (Work messages.Done)) after old.outs.items new.outs.items
       → IsMoved state old new (client_writes c messages.Done (client_tasks (client_at w c)) w)
-  well d None at t = rw at (record { held = record { there = same_clients state w old.clients new.clients c after h.there u (record { disk = d; agenda = None }) at t.behind }; outs = t.outs })
-  well d (Some []) at t = rw at (record {
-    held = record { there = same_clients state w old.clients new.clients c after h.there u (record { disk = d; agenda = Some [] }) at t.behind };
-    outs = t.outs;
-  })
+  well d None at t = let k = stays d None at t.behind in rw at (record { held = k; outs = t.outs })
+  well d (Some []) at t = let k = stays d (Some []) at t.behind in rw at (record { held = k; outs = t.outs })
   well d (Some (task ∷ rest)) at t = subst (λ (m : Moved). IsMoved state old new m) (sym (ap (λ (o : Option Client). client_writes c messages.Done (client_tasks o) w) at))
-      (move_done state w old new c node after h u (working d task rest) at (Work messages.Done) no_shape t)
+      (move_done state w old new c node after h is u (working d task rest) at (Work messages.Done) no_shape t (moves messages.Done (client_step c no_shape (working d task rest) (Work messages.Done)).answer))
 
   badly : (d : ClientDisk) (agenda : Option (List ClientTask)) → client_at w c ≡ Some (record { disk = d; agenda = agenda }) → has_task agenda ≡ true → (luck : Luck) → (luck ≡ messages.Done → ⊥)
       → HasTold state (is_cut w c) c (client_step c no_shape (record { disk = d; agenda = agenda }) (Work luck)) after old.outs.items new.outs.items
@@ -85,16 +103,13 @@ module _ {D : Type 0} (state : D → DiskState) (w : World) (old new : ClientHos
     luck,
     ap (λ (m : Moved). m.failed) (writes_are w c d task rest luck at) ∙ fails luck failing,
     subst (λ (m : Moved). IsMoved state old new m) (sym (ap (λ (o : Option Client). client_writes c luck (client_tasks o) w) at))
-        (move_done state w old new c node after h u (working d task rest) at (Work luck) no_shape t),
+        (move_done state w old new c node after h is u (working d task rest) at (Work luck) no_shape t (moves luck (client_step c no_shape (working d task rest) (Work luck)).answer)),
   )
     where
       fails : (luck : Luck) → (luck ≡ messages.Done → ⊥) → is_fault (client_step c no_shape (working d task rest) (Work luck)).answer ≡ true
       fails messages.Done failing = absurd (failing refl)
       fails messages.FailedBefore failing = refl
       fails messages.FailedAfter failing = refl
-
-  there : (s : Client) × (client_at w c ≡ Some s) × IsHosted state (is_cut w c) c s node
-  there = found state w old.clients c h.there node is
 
   pub work_moved : (r : Result Step CallFault)
       → ((cut : Bool) (s : Client) → IsHosted state cut c s node
@@ -149,24 +164,43 @@ pub record RestsAt {D : Type 0} (state : D → DiskState) (new : ClientHost D) (
   pub rests_said : said m.outs ≡ []
 
 module _ {D : Type 0} (state : D → DiskState) (c : ℕ) (new : ClientHost D) where
-  put_again : (x : World) (s : Client) (packets : List Packet) → client_at x c ≡ Some s → HoldsClients state x new
-      → HoldsClients state (record x { clients = insert_entry nat_cmp x.clients c s; packets = packets }) new
-  put_again x s packets at h = record {
+  -- nor has it a phase
+  closed_in : (x : World) (d : ClientDisk) → client_at x c ≡ Some (record { disk = d; agenda = None }) → HoldsClients state x new → (table : ℕ) → is_resolving x c table ≡ false
+  closed_in x d at h table = by (tree.get nat_cmp new.clients c) (subst (λ (o : Option Client). ClientThere state (is_cut x c) c o (tree.get nat_cmp new.clients c)) at (h.there c)) (h.phases c)
+    where
+      by : (o : Option (ClientNode D)) → ClientThere state (is_cut x c) c (Some (record { disk = d; agenda = None })) o → HasPhases (is_resolving x c) o → is_resolving x c table ≡ false
+      by None k p = absurd k
+      by (Some node) k p = sym (p table) ∙ down_closed state node d k.client table
+
+  put_again : (x : World) (d : ClientDisk) (packets : List Packet) (a : facts.Answer) → client_at x c ≡ Some (record { disk = d; agenda = None }) → HoldsClients state x new
+      → HoldsClients state
+      (record x { clients = insert_entry nat_cmp x.clients c (record { disk = d; agenda = None }); packets = packets; phases = phases_by c (Work messages.Done) a None x.phases }) new
+  put_again x d packets a at h = record {
     there = λ q. subst (λ (o : Option Client). ClientThere state (is_cut x q) q o (tree.get nat_cmp new.clients q))
-        (sym (lookup-insert nat_cmp nat_cmp_total x.clients c s q ∙ same q (is_at (nat_cmp c) q) refl)) (h.there q);
+        (sym (lookup-insert nat_cmp nat_cmp_total x.clients c (record { disk = d; agenda = None }) q ∙ same q (is_at (nat_cmp c) q) refl)) (h.there q);
+    phases = λ q. has_as (is_resolving x q) (is_resolving after q) (λ table. resolves q table (is_at (nat_cmp c) q) refl) (tree.get nat_cmp new.clients q) (h.phases q);
   }
     where
-      same : (q : ℕ) (b : Bool) → is_at (nat_cmp c) q ≡ b → cond b (Some s) (client_at x q) ≡ client_at x q
+      after : World
+      after = record x { phases = phases_by c (Work messages.Done) a None x.phases }
+
+      same : (q : ℕ) (b : Bool) → is_at (nat_cmp c) q ≡ b → cond b (Some (record { disk = d; agenda = None })) (client_at x q) ≡ client_at x q
       same q true is = sym at ∙ ap (λ (k : ℕ). client_at x k) (at_same c q is)
       same q false is = refl
+
+      resolves : (q table : ℕ) (b : Bool) → is_at (nat_cmp c) q ≡ b → is_resolving after q table ≡ is_resolving x q table
+      resolves q table true is = subst (λ (k : ℕ). is_resolving after k table ≡ is_resolving x k table) (at_same c q is)
+          (resolving_left x c (Work messages.Done) a None table ∙ sym (closed_in x d at h table))
+      resolves q table false is = resolving_apart x c q is (Work messages.Done) a None table
 
   down_rests : (ts : List ClientTask) (x : World) (disk : ClientDisk) → client_at x c ≡ Some (record { disk = disk; agenda = None }) → HoldsClients state x new
       → RestsAt state new (client_works c ts [] x)
   down_rests [] x disk at h = record { rests_held = h; rests_said = refl }
   down_rests (task ∷ ts) x disk at h =
       let it : Client = record { disk = disk; agenda = None } in
-      let m : Moved = after_client x c (client_step c no_shape it (Work messages.Done)) in
-      let more = down_rests ts m.world disk (put_here x c it) (put_again x it m.world.packets at h) in
+      let s : ClientStep = client_step c no_shape it (Work messages.Done) in
+      let m : Moved = moved_client x c (Work messages.Done) s in
+      let more = down_rests ts m.world disk (put_here x c it) (put_again x disk m.world.packets s.answer at h) in
       subst (λ (y : Moved). RestsAt state new (and_then y (client_works c ts []))) (sym (ap (λ (o : Option Client). move_there x c (Work messages.Done) no_shape o) at))
       (record { rests_held = more.rests_held; rests_said = more.rests_said })
 
@@ -203,7 +237,7 @@ module _ {D : Type 0} (state : D → DiskState) (w : World) (start : ClientHost 
       step = client_step c no_shape (working disk task rest) (Work luck)
 
       abbrev m : Moved
-      m = after_client d.here c step
+      m = moved_client d.here c (Work luck) step
 
       module _ (moved : IsMoved state host new (client_writes c luck (client_tasks (client_at d.here c)) d.here)) where
         next : IsMoved state host new m
@@ -223,7 +257,7 @@ module _ {D : Type 0} (state : D → DiskState) (w : World) (start : ClientHost 
         → IsMoved state host new (client_writes c messages.Done (client_tasks (client_at d.here c)) d.here) → Drains state w start new c (count + 1)
     drains_next_at disk task rest at new moved =
         let s : ClientStep = client_step c no_shape (working disk task rest) (Work messages.Done) in
-        let x : Moved = after_client d.here c s in
+        let x : Moved = moved_client d.here c (Work messages.Done) s in
         let left : client_tasks (client_at x.world c) ≡ rest = ap client_tasks (put_here d.here c s.client) in
         let now : length (client_tasks (client_at d.here c)) ≡ suc (length rest) = ap (λ (o : Option Client). length (client_tasks o)) at in
         let then_left : length (client_tasks (client_at x.world c)) ≡ length rest = ap (λ (ts : List ClientTask). length ts) left in
@@ -270,7 +304,7 @@ module _ {D : Type 0} (state : D → DiskState) (w : World) (start : ClientHost 
         → (lucks : List Luck) × ((client_until_idle c lucks w).failed ≡ true) × IsMoved state start new (client_until_idle c lucks w)
     bad_at disk task rest at new luck fails moved =
         let s : ClientStep = client_step c no_shape (working disk task rest) (Work luck) in
-        let x : Moved = after_client d.here c s in
+        let x : Moved = moved_client d.here c (Work luck) s in
         let failed : x.failed ≡ true = ap (λ (y : Moved). y.failed) (sym (writes_are d.here c disk task rest luck at)) ∙ fails in
         let gone = after_bad c disk task rest luck failed in
         let r : Moved = client_works c rest [] x.world in

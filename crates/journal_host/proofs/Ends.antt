@@ -18,6 +18,7 @@ use Rattle.step_tables.specs.Messages as messages
 use Rattle.step_tables.specs.ClientMoves.{TableDisk, ClientDisk, ClientTask, Client, Shape, Crash, Start, client_step, no_shape}
 use Rattle.client_node.specs.declared.node.ClientNode.{ClientNode}
 use Rattle.client_node.specs.Node.{IsToOpen, IsClient, to_open, opened_all, told_by, sent_by}
+use Rattle.client_node.specs.Phases.{is_open, KeepsPhases}
 use Rattle.client_node.specs.Calls.{Stays as NodeStays}
 use Rattle.world_tables.specs.World.{World, Moved, client_at, schema_at, is_cut, is_client_down, move_there, client_crashes, luck_of, crash_luck, first_luck, other_lucks, answering, answered, joined, open_all, with_opened, new_client, first_agenda}
 use Rattle.journal_host.specs.declared.fault.ClientFault.{ClientFault}
@@ -27,21 +28,25 @@ use Rattle.journal_host.specs.Steps.{HasTold, HasCrashed, IsStarted, IsNotStarte
 use Rattle.journal_host.specs.Calls.{IsMoved, IsCalled, Stays, HasLuck}
 use Rattle.journal_host.specs.Moves.{start_alone, starts_alone}
 use Rattle.journal_host.specs.Opening.{put_before, declared_among, HasJoinLuck}
-use Rattle.journal_host.proofs.Clients.{at_same, busy_is, found, not_found, luck_there, move_done, nothing_done, same_clients, moved_clients, nowhere_held, nowhere_answers}
+use Rattle.journal_host.proofs.Clients.{at_same, busy_is, found, not_found, luck_there, move_done, held_still, moved_clients, nowhere_held, nowhere_answers}
+use Rattle.journal_host.proofs.Phased.{keeps_moves, keeps_stays, put_phases, none_resolves}
+
+some_client : (a b : Client) → Some a ≡ Some b → a ≡ b
+some_client a b e = cc
 
 -- ---- a crash
 
 module _ {D : Type 0} (state : D → DiskState) (w : World) (old new : ClientHost D) (c calls : ℕ) (h : HoldsClients state w old) where
   pub crash_moved : (node after : ClientNode D) (is : Some node ≡ tree.get nat_cmp old.clients c)
-      → ((q : ℕ) → tree.get nat_cmp new.clients q ≡ cond (is_at (nat_cmp c) q) (Some after) (tree.get nat_cmp old.clients q)) → new.outs.items ≡ old.outs.items
+      → ((q : ℕ) → tree.get nat_cmp new.clients q ≡ cond (is_at (nat_cmp c) q) (Some after) (tree.get nat_cmp old.clients q)) → new.outs.items ≡ old.outs.items → KeepsPhases node after
       → ((cut : Bool) (n : ℕ) (s : Client) → IsHosted state cut n s node → HasCrashed state cut n calls s node after)
       → (lucks : List Luck) × IsMoved state old new (client_crashes c calls lucks w) × HasLuck state w c old.clients new.clients lucks
-  crash_moved node after is u same k =
+  crash_moved node after is u same keeps k =
       let f = found state w old.clients c h.there node is in
       let t = k (is_cut w c) c f.0 f.2 in
       let luck = crash_luck calls (other_lucks t.lucks) (first_luck t.lucks) in (
         t.lucks,
-        move_done state w old new c node after h u f.0 f.1 (Crash luck) no_shape (silent f.0 luck t.told),
+        move_done state w old new c node after h is u f.0 f.1 (Crash luck) no_shape (silent f.0 luck t.told) (keeps_moves node after (Crash luck) (client_step c no_shape f.0 (Crash luck)).answer (λ phase table. refl) keeps),
         luck_there state old.clients new.clients c node after is u w t.lucks t.done t.counted t.later (λ none. t.idle (busy_is w c f.0 f.1 ∙ none)),
       )
     where
@@ -63,7 +68,15 @@ module _ {D : Type 0} (state : D → DiskState) (w : World) (old new : ClientHos
 
 module _ {D : Type 0} (state : D → DiskState) (w : World) (old new : ClientHost D) (c : ℕ) (h : HoldsClients state w old) where
   module _ (node after : ClientNode D) (is : Some node ≡ tree.get nat_cmp old.clients c)
-      (u : (q : ℕ) → tree.get nat_cmp new.clients q ≡ cond (is_at (nat_cmp c) q) (Some after) (tree.get nat_cmp old.clients q)) where
+      (u : (q : ℕ) → tree.get nat_cmp new.clients q ≡ cond (is_at (nat_cmp c) q) (Some after) (tree.get nat_cmp old.clients q)) (keeps : KeepsPhases node after) where
+    -- the client stays
+    stays_held : (s : Client) → client_at w c ≡ Some s → IsHosted state (is_cut w c) c s after → HoldsClients state w new
+    stays_held s at t =
+        let f = found state w old.clients c h.there node is in
+        let same : f.0 ≡ s = some_client f.0 s (sym f.1 ∙ at) in
+        held_still state w old new c node after h is u s at t
+        (keeps_stays state node after s.disk s.agenda (subst (λ (x : Client). IsClient state node x) same f.2.client) t.client keeps)
+
     abbrev Starts : Answer → Type 0
     Starts answer = (shape : Shape) × (lucks : List Luck) × IsCalled state old new (start_alone w c shape lucks) answer
 
@@ -71,7 +84,7 @@ module _ {D : Type 0} (state : D → DiskState) (w : World) (old new : ClientHos
         → IsStarted state (is_cut w c) c (record { disk = d; agenda = agenda }) after old.outs.items new.outs.items answer → Starts answer
     is_started d None at answer k =
         let it : Client = record { disk = d; agenda = None } in
-        let m = move_done state w old new c node after h u it at Start k.shape k.told in
+        let m = move_done state w old new c node after h is u it at Start k.shape k.told (keeps_moves node after Start (client_step c k.shape it Start).answer (λ phase table. refl) keeps) in
         let well = ap (λ (o : Option Client). (move_there w c Start k.shape o).failed) at in (
           k.shape,
           [],
@@ -87,7 +100,7 @@ module _ {D : Type 0} (state : D → DiskState) (w : World) (old new : ClientHos
       no_shape,
       [],
       subst (λ (b : Bool). IsCalled state old new (if b then answering facts.Done (starts_alone c no_shape messages.Done w) else answered w facts.Done) answer) (sym (ap is_client_down at))
-          (nothing_done state w old new c node after h u (record { disk = d; agenda = Some tasks }) at facts.Done answer (sym (ap answer_of k.answer_is)) k.told),
+          (record { answer_is = ap (λ (a : Answer). Some (answer_of a)) (sym k.answer_is); held = stays_held (record { disk = d; agenda = Some tasks }) at k.told.behind; outs = k.told.outs }),
     )
 
     not_started : (d : ClientDisk) (agenda : Option (List ClientTask)) → client_at w c ≡ Some (record { disk = d; agenda = agenda }) → (answer : Answer)
@@ -99,7 +112,7 @@ module _ {D : Type 0} (state : D → DiskState) (w : World) (old new : ClientHos
       subst (λ (b : Bool). IsCalled state old new (if b then answering facts.Done (starts_alone c no_shape messages.FailedBefore w) else answered w facts.Done) answer) (sym (ap is_client_down at))
           (record {
             answer_is = ap (λ (a : Answer). Some (answer_of a)) (sym k.answer_is);
-            held = record { there = same_clients state w old.clients new.clients c after h.there u (record { disk = d; agenda = None }) at k.held };
+            held = stays_held (record { disk = d; agenda = None }) at k.held;
             outs = k.outs ∙ sym (append-nil (outs_of old));
           }),
     )
@@ -123,7 +136,7 @@ module _ {D : Type 0} (state : D → DiskState) (w : World) (old new : ClientHos
         by : (s : Client) → client_at w c ≡ Some s → (r : Result Answer ClientFault) → OnErr r (IsHosted state (is_cut w c) c s after × (outs_in new.outs.items ≡ outs_in old.outs.items))
             → OnErr r (Stays state w old new)
         by s at (Ok answer) x = tt
-        by s at (Err e) x = record { held = record { there = same_clients state w old.clients new.clients c after h.there u s at x.0 }; outs = x.1 }
+        by s at (Err e) x = record { held = stays_held s at x.0; outs = x.1 }
 
   pub start_none : None ≡ tree.get nat_cmp old.clients c → new.clients ≡ old.clients → new.outs.items ≡ old.outs.items → (shape : Shape) × (lucks : List Luck)
       × IsCalled state old new (start_alone w c shape lucks) answers.Done
@@ -187,15 +200,16 @@ module _ {D : Type 0} (state : D → DiskState) (w : World) (old new : ClientHos
   count_there = sym (ap (λ (o : Option (ClientNode D)). faults_in state o) (u c)
       ∙ ap (λ (b : Bool). faults_in state (cond b (Some node) (tree.get nat_cmp old.clients c))) (unsigned_tied c c ∙ eq-eqb c c refl))
 
-  pub was_joined : (disks : D × D × D) → HoldsClients state w old → tree.get nat_cmp old.clients c ≡ None
+  pub was_joined : (disks : D × D × D) → HoldsClients state w old → tree.get nat_cmp old.clients c ≡ None → ((table : ℕ) → is_open node table ≡ false)
       → (luck : Luck) × IsHosted state false c (new_client (open_all w [] tables) (first_agenda luck)) node × HasJoinLuck state disks luck (node_faults state node)
       → (luck : Luck) × HoldsClients state (joined w c tables luck (client_at w c)) new × HasJoinLuck state disks luck (faults_at state new.clients c)
-  was_joined disks h absent k =
+  was_joined disks h absent closed k =
       let gone = not_found state w old.clients c h.there (sym absent) in
       let held = moved_clients state w old.clients new.clients c node h.there u (new_client (open_all w [] tables) (first_agenda k.0)) w.packets
       (subst (λ (cut : Bool). IsHosted state cut c (new_client (open_all w [] tables) (first_agenda k.0)) node) (sym gone.1) k.1) in (
         k.0,
-        subst (λ (o : Option Client). HoldsClients state (joined w c tables k.0 o) new) (sym gone.0) (record { there = held }),
+        subst (λ (o : Option Client). HoldsClients state (joined w c tables k.0 o) new) (sym gone.0)
+            (record { there = held; phases = put_phases w old.clients new.clients c node h.phases u w (λ q off table. refl) (λ table. closed table ∙ sym (none_resolves w old.clients c h.phases (sym absent) table)) }),
         subst (λ (count : ℕ). HasJoinLuck state disks k.0 count) count_there k.2,
       )
 

@@ -1,5 +1,5 @@
 -- A client's node behind a call, and what it tells put behind what was told.
-use Rattle.std.proofs.Common.{◌≡◌, ◌⊎◌, inl, inr, ⊎_elim, ℕ, suc, ◌<◌, ◌++◌, Bool, true, false, List, [], ◌∷◌, Option, Some, None, Result, Ok, Err, refl, sym, ap, ◌∙◌, subst, append-nil}
+use Rattle.std.proofs.Common.{◌≡◌, ◌⊎◌, inl, inr, ⊎_elim, ℕ, suc, ◌<◌, ◌++◌, length, Bool, true, false, List, [], ◌∷◌, Option, Some, None, Result, Ok, Err, refl, sym, ap, ◌∙◌, subst, append-nil}
 use Rattle.std.specs.Prelude.{not, ◌&&◌, ◌≢◌, IfOk, IfErr, OnErr, IsErrOf, if◌then◌else◌}
 use Rattle.disk_trait.specs.Calls.{DiskState}
 use Rattle.stab_base.specs.declared.step.Step.{Step}
@@ -7,54 +7,78 @@ use Rattle.stab_base.specs.declared.step.Step.TheVariants as steps
 use Rattle.table_model.specs.declared.line.Answer.{Answer}
 use Rattle.table_model.specs.declared.line.Answer.TheVariants as answers
 use Rattle.table_model.specs.declared.line.Refusal.{Refusal}
+use Rattle.table_model.specs.declared.line.RowPair.{RowPair}
 use Rattle.table_model.specs.declared.line.Refusal.TheVariants as refusals
 use Rattle.step_tables.specs.Facts.{Fact}
 use Rattle.step_tables.specs.Facts as facts
 use Rattle.step_tables.specs.Lines.{answer_of, refusal_of}
 use Rattle.step_tables.specs.Messages.{Luck, Send}
 use Rattle.step_tables.specs.Messages as messages
-use Rattle.step_tables.specs.ClientMoves.{ClientDisk, ClientTask, Client, ClientStep, ClientMove, Shape, Work, Crash, Start, client_step, no_shape, quiet, is_cut_off, table_at, seen}
+use Rattle.step_tables.specs.ClientMoves.{ClientDisk, ClientTask, Client, ClientStep, ClientMove, Shape, Conflicts, Work, Crash, Start, client_step, no_shape, quiet, is_cut_off, kept_out, table_at, seen}
 use Rattle.client_node.specs.declared.fault.CallFault.{CallFault}
 use Rattle.client_node.specs.declared.fault.CallFault.TheVariants as call
 use Rattle.client_node.specs.declared.node.ClientNode.{ClientNode}
 use Rattle.client_node.specs.Node.{IsClient, IsNode, has_task, HasPlansBelow}
 use Rattle.client_node.specs.Calls.{IsBehind, Stays, Works, named}
-use Rattle.client_node.specs.Does.{IsOfNode, refusal_in, step_with}
-use Rattle.client_node.specs.Linked.{linked_step}
+use Rattle.client_node.specs.Does.{Does, IsOfNode, refusal_in, step_with}
+use Rattle.client_node.specs.Linked.{linked_step, phased_step, unless_kept}
+use Rattle.client_node.specs.Phases.{is_open}
 use Rattle.client_node.specs.Starts.{Starts}
 use Rattle.world_tables.specs.World.{next_write, tasks_in, packets_from}
 use Rattle.stab_base.specs.declared.node.Node.TheVariants as nodes
 use Rattle.journal_host.specs.declared.asking.Ask.{Ask}
 use Rattle.journal_host.specs.declared.asking.Ask.TheVariants as asks
+use Rattle.journal_host.specs.declared.asking.Request.{Request}
+use Rattle.journal_host.specs.declared.asking.Request.TheVariants as requests
 use Rattle.journal_host.specs.declared.fault.ClientFault.{ClientFault}
 use Rattle.journal_host.specs.declared.fault.ClientFault.TheVariants as faults
 use Rattle.journal_host.specs.declared.out.ClientOut.{ClientOut}
-use Rattle.journal_host.specs.Asks.{move_of, FitsDisk, as_answer, refused_as, answered_as}
+use Rattle.journal_host.specs.Asks.{move_of, asked_by, FitsDisk, as_answer, refused_as, answered_as}
 use Rattle.journal_host.specs.Calls.{IsNumberCause}
 use Rattle.journal_host.specs.Holds.{IsHosted, outs_in, said, node_faults}
-use Rattle.journal_host.specs.Steps.{HasMade, HasDropped, Replies, IsTelling, HasTold, IsMade, IsFallen, IsDropped, IsStarted, IsNotStarted, IsDeviceFault, HasNodeCause, HasAnswerCause, outbox_at}
-use Rattle.journal_host.proofs.Replying.{same_err}
-use Rattle.journal_host.proofs.Refusals.{RefusesOnly, write_only, edit_only, show_only, sum_only, sync_only, next_only, take_only}
+use Rattle.journal_host.specs.Steps.{HasMade, HasDropped, Replies, IsTelling, HasTold, IsMade, IsListing, IsFallen, IsDropped, IsStarted, IsNotStarted, IsDeviceFault, HasNodeCause, HasAnswerCause, outbox_at}
+use Rattle.journal_host.proofs.Replying.{same_err, replies_any}
+use Rattle.journal_host.proofs.Refusals.{RefusesOnly, kept_only, write_only, edit_only, show_only, sum_only, sync_only, next_only, phase_only, conflicts_only, resolve_only, take_only}
 
 -- ---- what it is asked for, it refuses and does nothing else
 
-pub asked_only : (c : ℕ) (shape : Shape) (d : ClientDisk) (tasks : List ClientTask) (ask : Ask) → RefusesOnly d tasks (client_step c shape (record { disk = d; agenda = Some tasks }) (move_of ask))
-asked_only c shape d tasks (asks.Write table row content) = write_only c shape d tasks table row content (table_at (seen d) table)
-asked_only c shape d tasks (asks.Edit table row edit) = edit_only c shape d tasks table row edit (table_at (seen d) table)
-asked_only c shape d tasks (asks.Show table row) = show_only d tasks row (table_at (seen d) table)
-asked_only c shape d tasks (asks.Sum table row) = sum_only d tasks row (table_at (seen d) table)
-asked_only c shape d tasks (asks.Sync table) = sync_only c shape d tasks table (table_at (seen d) table)
-asked_only c shape d tasks (asks.Pull table) = next_only c shape d tasks table (table_at (seen d) table)
-asked_only c shape d tasks (asks.Deliver message) = take_only c shape d tasks _
+move_only : (c : ℕ) (shape : Shape) (d : ClientDisk) (tasks : List ClientTask) (ask : Ask) → RefusesOnly d tasks (client_step c shape (record { disk = d; agenda = Some tasks }) (move_of ask))
+move_only c shape d tasks (asks.Write table row content) = write_only c shape d tasks table row content (table_at (seen d) table)
+move_only c shape d tasks (asks.Edit table row edit) = edit_only c shape d tasks table row edit (table_at (seen d) table)
+move_only c shape d tasks (asks.Show table row) = show_only d tasks row (table_at (seen d) table)
+move_only c shape d tasks (asks.Sum table row) = sum_only d tasks row (table_at (seen d) table)
+move_only c shape d tasks (asks.Sync table) = sync_only c shape d tasks table (table_at (seen d) table)
+move_only c shape d tasks (asks.Pull table) = next_only c shape d tasks table (table_at (seen d) table)
+move_only c shape d tasks (asks.BeginCr table) = phase_only d tasks (table_at (seen d) table)
+move_only c shape d tasks (asks.EndCr table) = phase_only d tasks (table_at (seen d) table)
+move_only c shape d tasks (asks.Resolve table row version choice) = resolve_only c shape d tasks table row version choice (table_at (seen d) table)
+
+pub asked_only : (c : ℕ) (shape : Shape) (d : ClientDisk) (tasks : List ClientTask) (request : Request)
+    → RefusesOnly d tasks (client_step c shape (record { disk = d; agenda = Some tasks }) (asked_by request))
+asked_only c shape d tasks (requests.Ask ask) = move_only c shape d tasks ask
+asked_only c shape d tasks (requests.Deliver message) = take_only c shape d tasks _
 
 -- the same of one whose link may be down
-linked_only : (up : Bool) (c : ℕ) (shape : Shape) (d : ClientDisk) (tasks : List ClientTask) (ask : Ask)
-    → RefusesOnly d tasks (linked_step up c shape (record { disk = d; agenda = Some tasks }) (move_of ask))
-linked_only up c shape d tasks ask = either (not up && is_cut_off c shape (record { disk = d; agenda = Some tasks }) (move_of ask))
+linked_only : (up : Bool) (c : ℕ) (shape : Shape) (d : ClientDisk) (tasks : List ClientTask) (move : ClientMove)
+    → RefusesOnly d tasks (client_step c shape (record { disk = d; agenda = Some tasks }) move)
+    → RefusesOnly d tasks (linked_step up c shape (record { disk = d; agenda = Some tasks }) move)
+linked_only up c shape d tasks move only = either (not up && is_cut_off c shape (record { disk = d; agenda = Some tasks }) move)
   where
-    either : (b : Bool) → RefusesOnly d tasks (if b then quiet d (Some tasks) (facts.Refuses facts.Offline) else client_step c shape (record { disk = d; agenda = Some tasks }) (move_of ask))
+    either : (b : Bool) → RefusesOnly d tasks (if b then quiet d (Some tasks) (facts.Refuses facts.Offline) else client_step c shape (record { disk = d; agenda = Some tasks }) move)
     either true = λ r is. (ap (λ (a : facts.Answer). quiet d (Some tasks) a) is, λ bad. absurd cc)
-    either false = asked_only c shape d tasks ask
+    either false = only
+
+-- and that resolves the conflicts of some tables
+phased_only : (phase : ℕ → Bool) (up : Bool) (c : ℕ) (shape : Shape) (d : ClientDisk) (tasks : List ClientTask) (move : ClientMove)
+    → RefusesOnly d tasks (client_step c shape (record { disk = d; agenda = Some tasks }) move)
+    → RefusesOnly d tasks (phased_step phase up c shape (record { disk = d; agenda = Some tasks }) move)
+phased_only phase up c shape d tasks move only =
+    either (kept_out phase move (client_step c shape (record { disk = d; agenda = Some tasks }) move).answer) refl
+  where
+    either : (o : Option facts.Refusal) → kept_out phase move (client_step c shape (record { disk = d; agenda = Some tasks }) move).answer ≡ o
+        → RefusesOnly d tasks (unless_kept (record { disk = d; agenda = Some tasks }) o (linked_step up c shape (record { disk = d; agenda = Some tasks }) move))
+    either None is = linked_only up c shape d tasks move only
+    either (Some r) is = kept_only phase move (client_step c shape (record { disk = d; agenda = Some tasks }) move).answer d tasks r is
 
 module _ {D : Type 0} (state : D → DiskState) where
   pub up_tasks : (node : ClientNode D) (d : ClientDisk) (agenda : Option (List ClientTask)) → IsClient state node (record { disk = d; agenda = agenda }) → node.is_up ≡ true
@@ -93,8 +117,9 @@ module _ {D : Type 0} (state : D → DiskState) where
       sent = k.sent ∙ h.sent;
     }
 
-    pub linked_is : (shape : Shape) (move : ClientMove) → step_with old shape s move ≡ linked_step (not cut) c shape s move
-    linked_is shape move = ap (λ (up : Bool). linked_step up old.number shape s move) h.linked ∙ ap (λ (n : ℕ). linked_step (not cut) n shape s move) h.number
+    pub step_is : (shape : Shape) (move : ClientMove) → step_with old shape s move ≡ phased_step (is_open old) (not cut) c shape s move
+    step_is shape move =
+        ap (λ (up : Bool). phased_step (is_open old) up old.number shape s move) h.linked ∙ ap (λ (n : ℕ). phased_step (is_open old) (not cut) n shape s move) h.number
 
   -- one that tells nothing
   pub told_none : (cut : Bool) (c : ℕ) (d : ClientDisk) (agenda : Option (List ClientTask)) (a : facts.Answer) (node : ClientNode D) (before after : List ClientOut)
@@ -103,32 +128,33 @@ module _ {D : Type 0} (state : D → DiskState) where
 
 -- ---- calls
 
-module _ {D : Type 0} (state : D → DiskState) (images : D → ℕ → List ℕ → Type 0) (cut : Bool) (c : ℕ) (d : ClientDisk) (tasks : List ClientTask) (ask : Ask)
+module _ {D : Type 0} (state : D → DiskState) (images : D → ℕ → List ℕ → Type 0) (cut : Bool) (c : ℕ) (d : ClientDisk) (tasks : List ClientTask) (move : ClientMove)
+    (only : (shape : Shape) → RefusesOnly d tasks (client_step c shape (record { disk = d; agenda = Some tasks }) move))
     (old mid new : ClientNode D) (before after : List ClientOut) (h : IsHosted state cut c (record { disk = d; agenda = Some tasks }) old)
     (tells : (step : ClientStep) → IsTelling state cut c step mid → HasTold state cut c step new before after) where
   abbrev s : Client
   s = record { disk = d; agenda = Some tasks }
 
-  made : (shape : Shape) (answer : Answer) → IsBehind state old mid (step_with old shape s (move_of ask)) → (step_with old shape s (move_of ask)).answer ≡ answer_of answer
-      → IsMade state cut c s (move_of ask) new before after answer
-  made shape answer b is = let same = linked_is state cut c s old h shape (move_of ask) in record {
+  made : (shape : Shape) (answer : Answer) → IsBehind state old mid (step_with old shape s move) → (step_with old shape s move).answer ≡ answer_of answer
+      → IsMade state (is_open old) cut c s move new before after answer
+  made shape answer b is = let same = step_is state cut c s old h shape move in record {
     shape = shape;
-    told = tells (linked_step (not cut) c shape s (move_of ask))
-        (telling state cut c s old h mid (linked_step (not cut) c shape s (move_of ask)) (subst (λ (x : ClientStep). IsBehind state old mid x) same b));
+    told = tells (phased_step (is_open old) (not cut) c shape s move)
+        (telling state cut c s old h mid (phased_step (is_open old) (not cut) c shape s move) (subst (λ (x : ClientStep). IsBehind state old mid x) same b));
     answer_is = ap (λ (x : ClientStep). x.answer) (sym same) ∙ is;
   }
 
   -- a refusal is the step of its move
-  refused : (shape : Shape) (r : Refusal) → Stays state old mid s → (step_with old shape s (move_of ask)).answer ≡ facts.Refuses (refusal_of r)
-      → IsMade state cut c s (move_of ask) new before after (answers.Refused r)
+  refused : (shape : Shape) (r : Refusal) → Stays state old mid s → (step_with old shape s move).answer ≡ facts.Refuses (refusal_of r)
+      → IsMade state (is_open old) cut c s move new before after (answers.Refused r)
   refused shape r k is =
-      let same = linked_is state cut c s old h shape (move_of ask) in
-      let here : (linked_step (not cut) c shape s (move_of ask)).answer ≡ facts.Refuses (refusal_of r) = ap (λ (x : ClientStep). x.answer) (sym same) ∙ is in
-      let only = linked_only (not cut) c shape d tasks ask (refusal_of r) here in
+      let same = step_is state cut c s old h shape move in
+      let here : (phased_step (is_open old) (not cut) c shape s move).answer ≡ facts.Refuses (refusal_of r) = ap (λ (x : ClientStep). x.answer) (sym same) ∙ is in
+      let does = phased_only (is_open old) (not cut) c shape d tasks move (only shape) (refusal_of r) here in
       record {
         shape = shape;
-        told = tells (linked_step (not cut) c shape s (move_of ask))
-            (subst (λ (x : ClientStep). IsTelling state cut c x mid) (sym only.0) (telling_none state cut c s old h mid d (Some tasks) (facts.Refuses (refusal_of r)) k));
+        told = tells (phased_step (is_open old) (not cut) c shape s move)
+            (subst (λ (x : ClientStep). IsTelling state cut c x mid) (sym does.0) (telling_none state cut c s old h mid d (Some tasks) (facts.Refuses (refusal_of r)) k));
         answer_is = here;
       }
 
@@ -141,14 +167,14 @@ module _ {D : Type 0} (state : D → DiskState) (images : D → ℕ → List ℕ
 
   module _ (done_so : Answer → Type 0) where
     -- one that refused, or fell
-    badly : (e : CallFault) → Replies state images s (move_of ask) old mid done_so (Err e)
-        → IfOk (refused_as e) (λ answer. IsMade state cut c s (move_of ask) new before after answer ⊎ IsFallen state cut c s new before after answer)
+    badly : (e : CallFault) → Replies state images s move old mid done_so (Err e)
+        → IfOk (refused_as e) (λ answer. IsMade state (is_open old) cut c s move new before after answer ⊎ IsFallen state cut c s new before after answer)
     badly e k = by e (k.kept) (k.fallen) (λ r is. k.refused (refusal_of r) (shape_of state old).0 is (shape_of state old).1)
       where
         by : (e : CallFault) → ((IsErrOf {T = Answer} (Err e) call.Disk → ⊥) → Stays state old mid s)
             → (IsErrOf {T = Answer} (Err e) call.Disk → Stays state old mid (record { disk = d; agenda = None }))
-            → ((r : Refusal) → refusal_in e ≡ Some (refusal_of r) → (step_with old (shape_of state old).0 s (move_of ask)).answer ≡ facts.Refuses (refusal_of r))
-            → IfOk (refused_as e) (λ answer. IsMade state cut c s (move_of ask) new before after answer ⊎ IsFallen state cut c s new before after answer)
+            → ((r : Refusal) → refusal_in e ≡ Some (refusal_of r) → (step_with old (shape_of state old).0 s move).answer ≡ facts.Refuses (refusal_of r))
+            → IfOk (refused_as e) (λ answer. IsMade state (is_open old) cut c s move new before after answer ⊎ IsFallen state cut c s new before after answer)
         by call.NoTable kept fell was = inl (refused (shape_of state old).0 refusals.NoTable (kept (λ bad. absurd cc)) (was refusals.NoTable refl))
         by (call.BadCell column) kept fell was = inl (refused (shape_of state old).0 (refusals.BadCell column) (kept (λ bad. absurd cc)) (was (refusals.BadCell column) refl))
         by (call.BadObject column len) kept fell was = inl (refused (shape_of state old).0 (refusals.BadObject column len) (kept (λ bad. absurd cc)) (was (refusals.BadObject column len) refl))
@@ -156,29 +182,35 @@ module _ {D : Type 0} (state : D → DiskState) (images : D → ℕ → List ℕ
         by (call.TooManyChunks count) kept fell was = inl (refused (shape_of state old).0 (refusals.TooManyChunks count) (kept (λ bad. absurd cc)) (was (refusals.TooManyChunks count) refl))
         by call.NoRow kept fell was = inl (refused (shape_of state old).0 refusals.NoRow (kept (λ bad. absurd cc)) (was refusals.NoRow refl))
         by (call.Busy with) kept fell was = inl (refused (shape_of state old).0 (refusals.Busy with) (kept (λ bad. absurd cc)) (was (refusals.Busy with) refl))
+        by call.NotInResolution kept fell was = inl (refused (shape_of state old).0 refusals.NotInResolution (kept (λ bad. absurd cc)) (was refusals.NotInResolution refl))
+        by call.InResolution kept fell was = inl (refused (shape_of state old).0 refusals.InResolution (kept (λ bad. absurd cc)) (was refusals.InResolution refl))
+        by call.NoConflict kept fell was = inl (refused (shape_of state old).0 refusals.NoConflict (kept (λ bad. absurd cc)) (was refusals.NoConflict refl))
+        by (call.Moved seen now) kept fell was = inl (refused (shape_of state old).0 (refusals.Moved seen now) (kept (λ bad. absurd cc)) (was (refusals.Moved seen now) refl))
+        by (call.Outstanding number) kept fell was = inl (refused (shape_of state old).0 (refusals.Outstanding number) (kept (λ bad. absurd cc)) (was (refusals.Outstanding number) refl))
+        by (call.Conflicted version) kept fell was = inl (refused (shape_of state old).0 (refusals.Conflicted version) (kept (λ bad. absurd cc)) (was (refusals.Conflicted version) refl))
         by call.Offline kept fell was = inl (refused (shape_of state old).0 refusals.Offline (kept (λ bad. absurd cc)) (was refusals.Offline refl))
         by (call.Spent last) kept fell was = tt
         by call.Disk kept fell was = inr (fallen (fell refl))
         by call.Memory kept fell was = tt
 
-  pub called : (r : Result Answer CallFault) → Replies state images s (move_of ask) old mid (HasMade state s (move_of ask) old mid) r
-      → IfOk (answered_as r) (λ answer. IsMade state cut c s (move_of ask) new before after answer ⊎ IsFallen state cut c s new before after answer)
+  pub called : (r : Result Answer CallFault) → Replies state images s move old mid (HasMade state s move old mid) r
+      → IfOk (answered_as r) (λ answer. IsMade state (is_open old) cut c s move new before after answer ⊎ IsFallen state cut c s new before after answer)
   called (Ok answer) k = let x = k.done in inl (made x.0 answer x.2 x.3)
-  called (Err e) k = badly (HasMade state s (move_of ask) old mid) e k
+  called (Err e) k = badly (HasMade state s move old mid) e k
 
-  pub dropped : (r : Result Answer CallFault) → Replies state images s (move_of ask) old mid (HasDropped state s old mid) r
+  pub dropped : (r : Result Answer CallFault) → Replies state images s move old mid (HasDropped state s old mid) r
       → IfOk (answered_as r) (λ answer. IsDropped state cut c s new before after answer
-      ⊎ (IsMade state cut c s (move_of ask) new before after answer ⊎ IsFallen state cut c s new before after answer))
+      ⊎ (IsMade state (is_open old) cut c s move new before after answer ⊎ IsFallen state cut c s new before after answer))
   dropped (Ok answer) k = inl (record { told = tells (quiet d (Some tasks) facts.Done) (telling_none state cut c s old h mid d (Some tasks) facts.Done k.done.1); answer_is = k.done.0 })
   dropped (Err e) k = weaker (refused_as e) (badly (HasDropped state s old mid) e k)
     where
-      weaker : (a : Result Answer ClientFault) → IfOk a (λ answer. IsMade state cut c s (move_of ask) new before after answer ⊎ IsFallen state cut c s new before after answer)
-          → IfOk a (λ answer. IsDropped state cut c s new before after answer ⊎ (IsMade state cut c s (move_of ask) new before after answer ⊎ IsFallen state cut c s new before after answer))
+      weaker : (a : Result Answer ClientFault) → IfOk a (λ answer. IsMade state (is_open old) cut c s move new before after answer ⊎ IsFallen state cut c s new before after answer)
+          → IfOk a (λ answer. IsDropped state cut c s new before after answer ⊎ (IsMade state (is_open old) cut c s move new before after answer ⊎ IsFallen state cut c s new before after answer))
       weaker (Ok answer) k = inr k
       weaker (Err e) k = tt
 
   -- what a fault leaves
-  pub kept : (done_so : Answer → Type 0) (r : Result Answer CallFault) → Replies state images s (move_of ask) old mid done_so r
+  pub kept : (done_so : Answer → Type 0) (r : Result Answer CallFault) → Replies state images s move old mid done_so r
       → OnErr (answered_as r) (IsHosted state cut c s new × (outs_in after ≡ outs_in before))
   kept done_so (Ok answer) k = tt
   kept done_so (Err e) k = by e k.kept
@@ -194,6 +226,12 @@ module _ {D : Type 0} (state : D → DiskState) (images : D → ℕ → List ℕ
       by (call.TooManyChunks count) was = tt
       by call.NoRow was = tt
       by (call.Busy with) was = tt
+      by call.NotInResolution was = tt
+      by call.InResolution was = tt
+      by call.NoConflict was = tt
+      by (call.Moved seen now) was = tt
+      by (call.Outstanding number) was = tt
+      by (call.Conflicted version) was = tt
       by call.Offline was = tt
       by (call.Spent last) was = stays (was (λ bad. absurd cc))
       by call.Disk was = tt
@@ -209,6 +247,12 @@ spent_so n s (Err (call.RowTooLarge len)) k = tt
 spent_so n s (Err (call.TooManyChunks count)) k = tt
 spent_so n s (Err call.NoRow) k = tt
 spent_so n s (Err (call.Busy with)) k = tt
+spent_so n s (Err call.NotInResolution) k = tt
+spent_so n s (Err call.InResolution) k = tt
+spent_so n s (Err call.NoConflict) k = tt
+spent_so n s (Err (call.Moved seen now)) k = tt
+spent_so n s (Err (call.Outstanding number)) k = tt
+spent_so n s (Err (call.Conflicted version)) k = tt
 spent_so n s (Err call.Offline) k = tt
 spent_so n s (Err (call.Spent last)) k = k last refl
 spent_so n s (Err call.Disk) k = tt
@@ -230,6 +274,12 @@ module _ {D : Type 0} (state : D → DiskState) (old mid new : ClientNode D) (de
   fault_is (Err (call.TooManyChunks count)) other is = absurd cc
   fault_is (Err call.NoRow) other is = absurd cc
   fault_is (Err (call.Busy with)) other is = absurd cc
+  fault_is (Err call.NotInResolution) other is = absurd cc
+  fault_is (Err call.InResolution) other is = absurd cc
+  fault_is (Err call.NoConflict) other is = absurd cc
+  fault_is (Err (call.Moved seen now)) other is = absurd cc
+  fault_is (Err (call.Outstanding number)) other is = absurd cc
+  fault_is (Err (call.Conflicted version)) other is = absurd cc
   fault_is (Err call.Offline) other is = absurd cc
   fault_is (Err (call.Spent last)) other is = absurd cc
   fault_is (Err call.Disk) other is = refl
@@ -250,76 +300,143 @@ module _ {D : Type 0} (state : D → DiskState) (old mid new : ClientNode D) (de
   }
 
 -- what was made or dropped isn't answered by a device fault
-module _ {D : Type 0} (state : D → DiskState) (images : D → ℕ → List ℕ → Type 0) (d : ClientDisk) (ask : Ask) (old mid new : ClientNode D) (devs : new.devs ≡ mid.devs) where
+module _ {D : Type 0} (state : D → DiskState) (images : D → ℕ → List ℕ → Type 0) (d : ClientDisk) (request : Request) (old mid new : ClientNode D) (devs : new.devs ≡ mid.devs) where
   other_made : (agenda : Option (List ClientTask)) (tasks : List ClientTask) → agenda ≡ Some tasks → (r : Result Answer CallFault)
-      → Replies state images (record { disk = d; agenda = agenda }) (move_of ask) old mid (HasMade state (record { disk = d; agenda = agenda }) (move_of ask) old mid) r
+      → Replies state images (record { disk = d; agenda = agenda }) (asked_by request) old mid (HasMade state (record { disk = d; agenda = agenda }) (asked_by request) old mid) r
       → IfOk r (λ answer. answer ≢ answers.Refused refusals.NoDevice)
   other_made agenda tasks is (Err e) k = tt
   other_made agenda tasks is (Ok answer) k = λ bad.
       let x = k.done in
-      let same = ap (λ (o : Option (List ClientTask)). (step_with old x.0 (record { disk = d; agenda = o }) (move_of ask)).answer) (sym is) ∙ (x.3 ∙ ap answer_of bad) in
-      (linked_only old.is_linked old.number x.0 d tasks ask facts.NoDevice same).1 refl
+      let same = ap (λ (o : Option (List ClientTask)). (step_with old x.0 (record { disk = d; agenda = o }) (asked_by request)).answer) (sym is) ∙ (x.3 ∙ ap answer_of bad) in
+      (phased_only (is_open old) old.is_linked old.number x.0 d tasks (asked_by request) (asked_only old.number x.0 d tasks request) facts.NoDevice same).1 refl
 
-  other_dropped : (s : Client) (r : Result Answer CallFault) → Replies state images s (move_of ask) old mid (HasDropped state s old mid) r
+  other_dropped : (s : Client) (r : Result Answer CallFault) → Replies state images s (asked_by request) old mid (HasDropped state s old mid) r
       → IfOk r (λ answer. answer ≢ answers.Refused refusals.NoDevice)
   other_dropped it (Err e) k = tt
   other_dropped it (Ok answer) k = λ bad. let was = k.done.0 in absurd cc
 
   pub called_cause : (agenda : Option (List ClientTask)) (tasks : List ClientTask) → agenda ≡ Some tasks → (r : Result Answer CallFault)
-      → Replies state images (record { disk = d; agenda = agenda }) (move_of ask) old mid (HasMade state (record { disk = d; agenda = agenda }) (move_of ask) old mid) r
-      ⊎ Replies state images (record { disk = d; agenda = agenda }) (move_of ask) old mid (HasDropped state (record { disk = d; agenda = agenda }) old mid) r
+      → Replies state images (record { disk = d; agenda = agenda }) (asked_by request) old mid (HasMade state (record { disk = d; agenda = agenda }) (asked_by request) old mid) r
+      ⊎ Replies state images (record { disk = d; agenda = agenda }) (asked_by request) old mid (HasDropped state (record { disk = d; agenda = agenda }) old mid) r
       → HasAnswerCause state old new (answered_as r)
   called_cause agenda tasks is r (inl k) = answer_cause state old mid new devs r (other_made agenda tasks is r k) k.counted k.cause
   called_cause agenda tasks is r (inr k) = answer_cause state old mid new devs r (other_dropped (record { disk = d; agenda = agenda }) r k) k.counted k.cause
 
 -- ---- a call of a node that is up
 
-module _ {D : Type 0} (state : D → DiskState) (images : D → ℕ → List ℕ → Type 0) (cut : Bool) (c : ℕ) (ask : Ask) (old mid new : ClientNode D) (before after : List ClientOut)
+module _ {D : Type 0} (state : D → DiskState) (images : D → ℕ → List ℕ → Type 0) (cut : Bool) (c : ℕ) (request : Request) (old mid new : ClientNode D) (before after : List ClientOut)
     (tells : (step : ClientStep) → IsTelling state cut c step mid → HasTold state cut c step new before after) (r : Result Answer CallFault) where
   pub call_made : (d : ClientDisk) (agenda : Option (List ClientTask)) → IsHosted state cut c (record { disk = d; agenda = agenda }) old → old.is_up ≡ true
-      → Replies state images (record { disk = d; agenda = agenda }) (move_of ask) old mid (HasMade state (record { disk = d; agenda = agenda }) (move_of ask) old mid) r
-      → IfOk (answered_as r) (λ answer. IsMade state cut c (record { disk = d; agenda = agenda }) (move_of ask) new before after answer
+      → Replies state images (record { disk = d; agenda = agenda }) (asked_by request) old mid (HasMade state (record { disk = d; agenda = agenda }) (asked_by request) old mid) r
+      → IfOk (answered_as r) (λ answer. IsMade state (is_open old) cut c (record { disk = d; agenda = agenda }) (asked_by request) new before after answer
       ⊎ IsFallen state cut c (record { disk = d; agenda = agenda }) new before after answer)
   call_made d None h up k = let down = h.client.at.0 in absurd cc
-  call_made d (Some tasks) h up k = called state images cut c d tasks ask old mid new before after h tells r k
+  call_made d (Some tasks) h up k = called state images cut c d tasks (asked_by request) (λ shape. asked_only c shape d tasks request) old mid new before after h tells r k
 
   pub call_dropped : (d : ClientDisk) (agenda : Option (List ClientTask)) → IsHosted state cut c (record { disk = d; agenda = agenda }) old → old.is_up ≡ true
-      → Replies state images (record { disk = d; agenda = agenda }) (move_of ask) old mid (HasDropped state (record { disk = d; agenda = agenda }) old mid) r
+      → Replies state images (record { disk = d; agenda = agenda }) (asked_by request) old mid (HasDropped state (record { disk = d; agenda = agenda }) old mid) r
       → IfOk (answered_as r) (λ answer. IsDropped state cut c (record { disk = d; agenda = agenda }) new before after answer
-      ⊎ (IsMade state cut c (record { disk = d; agenda = agenda }) (move_of ask) new before after answer ⊎ IsFallen state cut c (record { disk = d; agenda = agenda }) new before after answer))
+      ⊎ (IsMade state (is_open old) cut c (record { disk = d; agenda = agenda }) (asked_by request) new before after answer ⊎ IsFallen state cut c (record { disk = d; agenda = agenda }) new before after answer))
   call_dropped d None h up k = let down = h.client.at.0 in absurd cc
-  call_dropped d (Some tasks) h up k = dropped state images cut c d tasks ask old mid new before after h tells r k
+  call_dropped d (Some tasks) h up k = dropped state images cut c d tasks (asked_by request) (λ shape. asked_only c shape d tasks request) old mid new before after h tells r k
 
   pub call_kept : (d : ClientDisk) (agenda : Option (List ClientTask)) → IsHosted state cut c (record { disk = d; agenda = agenda }) old → old.is_up ≡ true
-      → Replies state images (record { disk = d; agenda = agenda }) (move_of ask) old mid (HasMade state (record { disk = d; agenda = agenda }) (move_of ask) old mid) r
-      ⊎ Replies state images (record { disk = d; agenda = agenda }) (move_of ask) old mid (HasDropped state (record { disk = d; agenda = agenda }) old mid) r
+      → Replies state images (record { disk = d; agenda = agenda }) (asked_by request) old mid (HasMade state (record { disk = d; agenda = agenda }) (asked_by request) old mid) r
+      ⊎ Replies state images (record { disk = d; agenda = agenda }) (asked_by request) old mid (HasDropped state (record { disk = d; agenda = agenda }) old mid) r
       → OnErr (answered_as r) (IsHosted state cut c (record { disk = d; agenda = agenda }) new × (outs_in after ≡ outs_in before))
   call_kept d None h up k = let down = h.client.at.0 in absurd cc
-  call_kept d (Some tasks) h up (inl k) = kept state images cut c d tasks ask old mid new before after h tells (HasMade state (record { disk = d; agenda = Some tasks }) (move_of ask) old mid) r k
-  call_kept d (Some tasks) h up (inr k) = kept state images cut c d tasks ask old mid new before after h tells (HasDropped state (record { disk = d; agenda = Some tasks }) old mid) r k
+  call_kept d (Some tasks) h up (inl k) = kept state images cut c d tasks (asked_by request) (λ shape. asked_only c shape d tasks request) old mid new before after h tells (HasMade state (record { disk = d; agenda = Some tasks }) (asked_by request) old mid) r k
+  call_kept d (Some tasks) h up (inr k) = kept state images cut c d tasks (asked_by request) (λ shape. asked_only c shape d tasks request) old mid new before after h tells (HasDropped state (record { disk = d; agenda = Some tasks }) old mid) r k
 
-pub call_cause : {D : Type 0} (state : D → DiskState) (images : D → ℕ → List ℕ → Type 0) (ask : Ask) (old mid new : ClientNode D) → new.devs ≡ mid.devs
+pub call_cause : {D : Type 0} (state : D → DiskState) (images : D → ℕ → List ℕ → Type 0) (request : Request) (old mid new : ClientNode D) → new.devs ≡ mid.devs
     → (d : ClientDisk) (agenda : Option (List ClientTask))
     → IsClient state old (record { disk = d; agenda = agenda }) → old.is_up ≡ true → (r : Result Answer CallFault)
-    → Replies state images (record { disk = d; agenda = agenda }) (move_of ask) old mid (HasMade state (record { disk = d; agenda = agenda }) (move_of ask) old mid) r
-    ⊎ Replies state images (record { disk = d; agenda = agenda }) (move_of ask) old mid (HasDropped state (record { disk = d; agenda = agenda }) old mid) r
+    → Replies state images (record { disk = d; agenda = agenda }) (asked_by request) old mid (HasMade state (record { disk = d; agenda = agenda }) (asked_by request) old mid) r
+    ⊎ Replies state images (record { disk = d; agenda = agenda }) (asked_by request) old mid (HasDropped state (record { disk = d; agenda = agenda }) old mid) r
     → HasAnswerCause state old new (answered_as r)
-call_cause state images ask old mid new devs d agenda t up r k = let some = up_tasks state old d agenda t up in called_cause state images d ask old mid new devs agenda some.0 some.1 r k
+call_cause state images request old mid new devs d agenda t up r k = let some = up_tasks state old d agenda t up in called_cause state images d request old mid new devs agenda some.0 some.1 r k
 
 -- in one of the two ways
-pub either_way : {D : Type 0} (state : D → DiskState) (images : D → ℕ → List ℕ → Type 0) (ask : Ask) (s : Client) (old mid : ClientNode D) (r : Result Answer CallFault)
-    → FitsDisk s.disk ask ⊎ (FitsDisk s.disk ask → ⊥) → (FitsDisk s.disk ask → Replies state images s (move_of ask) old mid (HasMade state s (move_of ask) old mid) r)
-    → ((FitsDisk s.disk ask → ⊥) → Replies state images s (move_of ask) old mid (HasDropped state s old mid) r)
-    → Replies state images s (move_of ask) old mid (HasMade state s (move_of ask) old mid) r ⊎ Replies state images s (move_of ask) old mid (HasDropped state s old mid) r
-either_way state images ask s old mid r (inl fits) made dropped = inl (made fits)
-either_way state images ask s old mid r (inr unfit) made dropped = inr (dropped unfit)
+pub either_way : {D : Type 0} (state : D → DiskState) (images : D → ℕ → List ℕ → Type 0) (request : Request) (s : Client) (old mid : ClientNode D) (r : Result Answer CallFault)
+    → FitsDisk s.disk request ⊎ (FitsDisk s.disk request → ⊥) → (FitsDisk s.disk request → Replies state images s (asked_by request) old mid (HasMade state s (asked_by request) old mid) r)
+    → ((FitsDisk s.disk request → ⊥) → Replies state images s (asked_by request) old mid (HasDropped state s old mid) r)
+    → Replies state images s (asked_by request) old mid (HasMade state s (asked_by request) old mid) r ⊎ Replies state images s (asked_by request) old mid (HasDropped state s old mid) r
+either_way state images request s old mid r (inl fits) made dropped = inl (made fits)
+either_way state images request s old mid r (inr unfit) made dropped = inr (dropped unfit)
 
 -- one plan more at most
-pub either_plans : {D : Type 0} (state : D → DiskState) (images : D → ℕ → List ℕ → Type 0) (ask : Ask) (s : Client) (old mid : ClientNode D) (r : Result Answer CallFault)
-    → Replies state images s (move_of ask) old mid (HasMade state s (move_of ask) old mid) r ⊎ Replies state images s (move_of ask) old mid (HasDropped state s old mid) r
+pub either_plans : {D : Type 0} (state : D → DiskState) (images : D → ℕ → List ℕ → Type 0) (request : Request) (s : Client) (old mid : ClientNode D) (r : Result Answer CallFault)
+    → Replies state images s (asked_by request) old mid (HasMade state s (asked_by request) old mid) r ⊎ Replies state images s (asked_by request) old mid (HasDropped state s old mid) r
     → (n : ℕ) → HasPlansBelow state n old → HasPlansBelow state (suc n) mid
-either_plans state images ask s old mid r (inl k) = k.plans
-either_plans state images ask s old mid r (inr k) = k.plans
+either_plans state images request s old mid r (inl k) = k.plans
+either_plans state images request s old mid r (inr k) = k.plans
+
+-- ---- the rows in conflict
+
+module _ {D : Type 0} (state : D → DiskState) (images : D → ℕ → List ℕ → Type 0) (cut : Bool) (c : ℕ) (table : ℕ) (old mid new : ClientNode D) (before after : List ClientOut)
+    (tells : (step : ClientStep) → IsTelling state cut c step mid → HasTold state cut c step new before after) where
+  abbrev gives : List RowPair → Answer
+  gives listed = answers.Number (length listed)
+
+  -- these were listed, or none were, and listing_by refused or fell
+  abbrev Lists : (d : ClientDisk) (agenda : Option (List ClientTask)) → (pairs none : List RowPair) → Answer → Type 0
+  Lists d agenda pairs none answer = IsListing state (is_open old) cut c (record { disk = d; agenda = agenda }) table new before after pairs answer
+      ⊎ ((pairs ≡ none) × (IsMade state (is_open old) cut c (record { disk = d; agenda = agenda }) (Conflicts table) new before after answer
+      ⊎ IsFallen state cut c (record { disk = d; agenda = agenda }) new before after answer))
+
+  module _ (d : ClientDisk) (tasks : List ClientTask) (h : IsHosted state cut c (record { disk = d; agenda = Some tasks }) old) where
+    abbrev listing_by : Client
+    listing_by = record { disk = d; agenda = Some tasks }
+
+    listing : (shape : Shape) (pairs : List RowPair) → IsBehind state old mid (step_with old shape listing_by (Conflicts table)) → (step_with old shape listing_by (Conflicts table)).answer ≡ facts.Pairs pairs
+        → IsListing state (is_open old) cut c listing_by table new before after pairs (gives pairs)
+    listing shape pairs b is = let same = step_is state cut c listing_by old h shape (Conflicts table) in record {
+      shape = shape;
+      told = tells (phased_step (is_open old) (not cut) c shape listing_by (Conflicts table))
+          (telling state cut c listing_by old h mid (phased_step (is_open old) (not cut) c shape listing_by (Conflicts table)) (subst (λ (x : ClientStep). IsBehind state old mid x) same b));
+      pairs_are = ap (λ (x : ClientStep). x.answer) (sym same) ∙ is;
+      answer_is = refl;
+    }
+
+    one_only : (shape : Shape) → RefusesOnly d tasks (client_step c shape listing_by (Conflicts table))
+    one_only shape = conflicts_only d tasks (table_at (seen d) table)
+
+    lists_up : (pairs none : List RowPair) (r : Result (List RowPair) CallFault) → Does state images listing_by (Conflicts table) (λ listed. facts.Pairs listed) old mid r → IfOk r (λ listed. pairs ≡ listed)
+        → IfErr r (λ e. pairs ≡ none) → IfOk (answered_as (as_answer gives r)) (Lists d (Some tasks) pairs none)
+    lists_up pairs none (Ok listed) k same kept = let x = k.done in
+        subst (λ (l : List RowPair). Lists d (Some tasks) pairs none (gives l)) same
+        (inl (listing x.0 pairs x.2 (subst (λ (l : List RowPair). (step_with old x.0 listing_by (Conflicts table)).answer ≡ facts.Pairs l) (sym same) x.3)))
+    lists_up pairs none (Err e) k same kept = by (refused_as e)
+        (badly state images cut c d tasks (Conflicts table) one_only old mid new before after h tells (λ answer. Unit {0}) e (replies_any state images listing_by old mid (Conflicts table) (λ listed. facts.Pairs listed) gives (Err e) k))
+      where
+        by : (a : Result Answer ClientFault) → IfOk a (λ answer. IsMade state (is_open old) cut c listing_by (Conflicts table) new before after answer ⊎ IsFallen state cut c listing_by new before after answer)
+            → IfOk a (Lists d (Some tasks) pairs none)
+        by (Ok answer) x = inr (kept, x)
+        by (Err f) x = tt
+
+  module _ (r : Result (List RowPair) CallFault) where
+    pub call_lists : (d : ClientDisk) (agenda : Option (List ClientTask)) → IsHosted state cut c (record { disk = d; agenda = agenda }) old → old.is_up ≡ true → (pairs none : List RowPair)
+        → Does state images (record { disk = d; agenda = agenda }) (Conflicts table) (λ listed. facts.Pairs listed) old mid r → IfOk r (λ listed. pairs ≡ listed) → IfErr r (λ e. pairs ≡ none)
+        → IfOk (answered_as (as_answer gives r)) (Lists d agenda pairs none)
+    call_lists d None h up pairs none k same kept = let down = h.client.at.0 in absurd cc
+    call_lists d (Some tasks) h up pairs none k same kept = lists_up d tasks h pairs none r k same kept
+
+    pub list_kept : (d : ClientDisk) (agenda : Option (List ClientTask)) → IsHosted state cut c (record { disk = d; agenda = agenda }) old → old.is_up ≡ true
+        → Does state images (record { disk = d; agenda = agenda }) (Conflicts table) (λ listed. facts.Pairs listed) old mid r
+        → OnErr (answered_as (as_answer gives r)) (IsHosted state cut c (record { disk = d; agenda = agenda }) new × (outs_in after ≡ outs_in before))
+    list_kept d None h up k = let down = h.client.at.0 in absurd cc
+    list_kept d (Some tasks) h up k = kept state images cut c d tasks (Conflicts table) (one_only d tasks h) old mid new before after h tells (λ answer. Unit {0}) (as_answer gives r)
+        (replies_any state images (record { disk = d; agenda = Some tasks }) old mid (Conflicts table) (λ listed. facts.Pairs listed) gives r k)
+
+pub list_cause : {D : Type 0} (state : D → DiskState) (images : D → ℕ → List ℕ → Type 0) (s : Client) (table : ℕ) (old mid new : ClientNode D) → new.devs ≡ mid.devs → (r : Result (List RowPair) CallFault)
+    → Does state images s (Conflicts table) (λ listed. facts.Pairs listed) old mid r → HasAnswerCause state old new (answered_as (as_answer (λ (listed : List RowPair). answers.Number (length listed)) r))
+list_cause state images s table old mid new devs r k =
+    let x = replies_any state images s old mid (Conflicts table) (λ listed. facts.Pairs listed) (λ (listed : List RowPair). answers.Number (length listed)) r k in
+    answer_cause state old mid new devs (as_answer (λ (listed : List RowPair). answers.Number (length listed)) r) (other r) x.counted x.cause
+  where
+    other : (r : Result (List RowPair) CallFault) → IfOk (as_answer (λ (listed : List RowPair). answers.Number (length listed)) r) (λ answer. answer ≢ answers.Refused refusals.NoDevice)
+    other (Ok listed) = λ bad. absurd cc
+    other (Err e) = tt
 
 -- ---- a write
 
@@ -426,6 +543,12 @@ module _ {D : Type 0} (state : D → DiskState) (images : D → ℕ → List ℕ
   start_answered (Err (call.TooManyChunks count)) k = absurd (⊎_elim (λ is. absurd cc) (λ is. absurd cc) k.only)
   start_answered (Err call.NoRow) k = absurd (⊎_elim (λ is. absurd cc) (λ is. absurd cc) k.only)
   start_answered (Err (call.Busy with)) k = absurd (⊎_elim (λ is. absurd cc) (λ is. absurd cc) k.only)
+  start_answered (Err call.NotInResolution) k = absurd (⊎_elim (λ is. absurd cc) (λ is. absurd cc) k.only)
+  start_answered (Err call.InResolution) k = absurd (⊎_elim (λ is. absurd cc) (λ is. absurd cc) k.only)
+  start_answered (Err call.NoConflict) k = absurd (⊎_elim (λ is. absurd cc) (λ is. absurd cc) k.only)
+  start_answered (Err (call.Moved seen now)) k = absurd (⊎_elim (λ is. absurd cc) (λ is. absurd cc) k.only)
+  start_answered (Err (call.Outstanding number)) k = absurd (⊎_elim (λ is. absurd cc) (λ is. absurd cc) k.only)
+  start_answered (Err (call.Conflicted version)) k = absurd (⊎_elim (λ is. absurd cc) (λ is. absurd cc) k.only)
   start_answered (Err call.Offline) k = absurd (⊎_elim (λ is. absurd cc) (λ is. absurd cc) k.only)
   start_answered (Err (call.Spent last)) k = absurd (⊎_elim (λ is. absurd cc) (λ is. absurd cc) k.only)
 
@@ -455,5 +578,11 @@ module _ {D : Type 0} (state : D → DiskState) (images : D → ℕ → List ℕ
   start_memory (Err (call.TooManyChunks count)) k = tt
   start_memory (Err call.NoRow) k = tt
   start_memory (Err (call.Busy with)) k = tt
+  start_memory (Err call.NotInResolution) k = tt
+  start_memory (Err call.InResolution) k = tt
+  start_memory (Err call.NoConflict) k = tt
+  start_memory (Err (call.Moved seen now)) k = tt
+  start_memory (Err (call.Outstanding number)) k = tt
+  start_memory (Err (call.Conflicted version)) k = tt
   start_memory (Err call.Offline) k = tt
   start_memory (Err (call.Spent last)) k = absurd (⊎_elim (λ is. absurd cc) (λ is. absurd cc) k.only)

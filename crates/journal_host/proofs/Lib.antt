@@ -1,10 +1,12 @@
 pub mod Lists
+pub mod Phased
 pub mod Alone
 pub mod Refusals
 pub mod Replying
 pub mod Hosting
 pub mod Crashed
 pub mod Clients
+pub mod Listed
 pub mod Cuts
 pub mod Draining
 pub mod Ends

@@ -1,6 +1,6 @@
 -- Where a client refuses what it is asked for, it does nothing else.
 use Rattle.std.proofs.Common.{◌≡◌, ℕ, Bool, true, false, List, [], ◌∷◌, Option, Some, None, Result, Ok, Err, refl, ap, ◌∙◌}
-use Rattle.std.specs.Prelude.{◌≢◌, ◌==◌, nat_le, if◌then◌else◌}
+use Rattle.std.specs.Prelude.{◌≢◌, ◌==◌, ◌&&◌, ◌||◌, not, nat_le, if◌then◌else◌}
 use Rattle.row_value.specs.declared.content.Content.{Content}
 use Rattle.row_value.specs.declared.content.Content.TheVariants.{Gone, Row}
 use Rattle.row_value.specs.declared.fit.FitFault.{FitFault}
@@ -9,7 +9,11 @@ use Rattle.row_value.specs.declared.schema.Scheme.TheVariants.{Strong, Causal, E
 use Rattle.row_value.specs.Fit.{fit_of}
 use Rattle.row_edits.specs.declared.change.Edit.{Edit}
 use Rattle.row_edits.specs.Edit.{edited_to}
+use Rattle.conflicts.specs.declared.pair.Choice.{Choice}
+use Rattle.conflicts.specs.declared.pair.Choice.TheVariants.{Mine, Theirs, New}
+use Rattle.row_value.specs.declared.schema.Schema.{Schema}
 use Rattle.step_tables.specs.declared.slots.InFlight.{InFlight}
+use Rattle.step_tables.specs.declared.slots.Main.{Main}
 use Rattle.step_tables.specs.declared.slots.Shadow.{Shadow}
 use Rattle.step_tables.specs.Facts.{Answer, Refusal, Shown, ShownSum}
 use Rattle.step_tables.specs.Facts as facts
@@ -17,6 +21,7 @@ use Rattle.step_tables.specs.Messages.{Header, Message, Outcome, Pulled, Respons
 use Rattle.step_tables.specs.Messages as messages
 use Rattle.step_tables.specs.Sums.{by_digests, or_whole, sum_of}
 use Rattle.step_tables.specs.ClientMoves.{Slots, TableDisk, ClientDisk, ClientTask, ClientStep, Shape, RowOut, quiet, table_at, seen, slots_at, shown_in, show_answer, show_in, content_of, first_out, first_to_send, resent, top}
+use Rattle.step_tables.specs.ClientMoves.{ClientMove, is_before_write, is_before_phase, kept_out, phase_in, conflicts_in, choose, over_fitting, resolve_over, resolve_in}
 use Rattle.step_tables.specs.ClientMoves.{write_strong, write_by, write_free, write_idle, write_fitting, write_to, edit_made, edit_over, edit_in, sync_first, sync_in, next_in, outcome_taken, response_taken, response_in, row_taken, pulled_taken, pulled_in, take_step}
 use Rattle.step_tables.specs.ClientMoves as moves
 
@@ -101,6 +106,7 @@ digests_answer (facts.Sums sum) other = λ is. absurd cc
 digests_answer (facts.Stores version content) other = λ is. absurd cc
 digests_answer (facts.Did step) other = λ is. absurd cc
 digests_answer (facts.Names names) other = λ is. absurd cc
+digests_answer (facts.Pairs pairs) other = λ is. absurd cc
 digests_answer (facts.Refuses r) other = other
 
 pub show_only : (d : ClientDisk) (tasks : List ClientTask) (row : List ℕ) (o : Option TableDisk) → RefusesOnly d tasks (quiet d (Some tasks) (show_in row o))
@@ -124,6 +130,65 @@ pub next_only : (c : ℕ) (shape : Shape) (d : ClientDisk) (tasks : List ClientT
 next_only c shape d tasks table None = only_answers d tasks (facts.Refuses facts.NoTable) (λ bad. absurd cc)
 next_only c shape d (task ∷ more) table (Some opened) = only_answers d (task ∷ more) (facts.Refuses (facts.Busy shape.plan)) (λ bad. absurd cc)
 next_only c shape d [] table (Some opened) = λ r is. absurd cc
+
+-- ---- phases, and what is resolved in one
+
+pub phase_only : (d : ClientDisk) (tasks : List ClientTask) (o : Option TableDisk) → RefusesOnly d tasks (phase_in d tasks o)
+phase_only d tasks None = only_answers d tasks (facts.Refuses facts.NoTable) (λ bad. absurd cc)
+phase_only d tasks (Some opened) = λ r is. absurd cc
+
+pub conflicts_only : (d : ClientDisk) (tasks : List ClientTask) (o : Option TableDisk) → RefusesOnly d tasks (conflicts_in d tasks o)
+conflicts_only d tasks None = only_answers d tasks (facts.Refuses facts.NoTable) (λ bad. absurd cc)
+conflicts_only d tasks (Some opened) = λ r is. absurd cc
+
+choose_only : (c : ℕ) (shape : Shape) (d : ClientDisk) (table : ℕ) (row : List ℕ) (schema : Schema) (slots : Slots) (main : Main) (x : Shadow) (choice : Choice)
+    → RefusesOnly d [] (choose c shape d table row schema slots main x choice)
+choose_only c shape d table row schema slots main x Mine = λ r is. absurd cc
+choose_only c shape d table row schema slots main x Theirs = λ r is. absurd cc
+choose_only c shape d table row schema slots main x (New content) = fitting (fit_of schema content)
+  where
+    fitting : (fit : Result (Unit {0}) FitFault) → RefusesOnly d [] (over_fitting c shape d table row slots main x content fit)
+    fitting (Ok fits) = λ r is. absurd cc
+    fitting (Err fault) = only_answers d [] (facts.Refuses (facts.Unfit fault)) (λ bad. absurd cc)
+
+resolve_over_only : (c : ℕ) (shape : Shape) (d : ClientDisk) (table : ℕ) (row : List ℕ) (schema : Schema) (slots : Slots) (version : ℕ) (choice : Choice) (m : Option Main) (k : Option Shadow)
+    → RefusesOnly d [] (resolve_over c shape d table row schema slots version choice m k)
+resolve_over_only c shape d table row schema slots version choice None k = only_answers d [] (facts.Refuses facts.NoConflict) (λ bad. absurd cc)
+resolve_over_only c shape d table row schema slots version choice (Some main) None = only_answers d [] (facts.Refuses facts.NoConflict) (λ bad. absurd cc)
+resolve_over_only c shape d table row schema slots version choice (Some main) (Some x) = either (x.version == version)
+  where
+    either : (b : Bool)
+        → RefusesOnly d [] (if b then choose c shape d table row schema slots main x choice else quiet d (Some []) (facts.Refuses (facts.Moved version x.version)))
+    either true = choose_only c shape d table row schema slots main x choice
+    either false = only_answers d [] (facts.Refuses (facts.Moved version x.version)) (λ bad. absurd cc)
+
+pub resolve_only : (c : ℕ) (shape : Shape) (d : ClientDisk) (tasks : List ClientTask) (table : ℕ) (row : List ℕ) (version : ℕ) (choice : Choice) (o : Option TableDisk)
+    → RefusesOnly d tasks (resolve_in c shape d tasks table row version choice o)
+resolve_only c shape d tasks table row version choice None = only_answers d tasks (facts.Refuses facts.NoTable) (λ bad. absurd cc)
+resolve_only c shape d (task ∷ more) table row version choice (Some opened) = only_answers d (task ∷ more) (facts.Refuses (facts.Busy shape.plan)) (λ bad. absurd cc)
+resolve_only c shape d [] table row version choice (Some opened) =
+    resolve_over_only c shape d table row opened.schema (slots_at opened row) version choice (slots_at opened row).main (slots_at opened row).conflict
+
+-- ---- what the phases keep a client from
+
+in_phase : (b : Bool) (x r : Refusal) → x ≢ facts.NoDevice → (if b then Some x else None) ≡ Some r → r ≢ facts.NoDevice
+in_phase true x r other is = λ bad. other (let same : x ≡ r = cc in same ∙ bad)
+in_phase false x r other is = absurd cc
+
+kept_other : (phase : ℕ → Bool) (move : ClientMove) (answer : Answer) (r : Refusal) → kept_out phase move answer ≡ Some r → r ≢ facts.NoDevice
+kept_other phase (moves.Write table row content) answer r is = in_phase (phase table && not (is_before_write answer)) facts.InResolution r (λ bad. absurd cc) is
+kept_other phase (moves.Change table row edit) answer r is = in_phase (phase table && not (is_before_write answer)) facts.InResolution r (λ bad. absurd cc) is
+kept_other phase (moves.BeginCr table) answer r is = in_phase (phase table && not (is_before_phase (moves.BeginCr table) answer)) facts.InResolution r (λ bad. absurd cc) is
+kept_other phase (moves.Conflicts table) answer r is = in_phase (not (phase table || is_before_phase (moves.Conflicts table) answer)) facts.NotInResolution r (λ bad. absurd cc) is
+kept_other phase (moves.EndCr table) answer r is = in_phase (not (phase table || is_before_phase (moves.EndCr table) answer)) facts.NotInResolution r (λ bad. absurd cc) is
+kept_other phase (moves.Resolve table row version choice) answer r is =
+    in_phase (not (phase table || is_before_phase (moves.Resolve table row version choice) answer)) facts.NotInResolution r (λ bad. absurd cc) is
+kept_other phase (moves.ResolveAll table by) answer r is = in_phase (not (phase table || is_before_phase (moves.ResolveAll table by) answer)) facts.NotInResolution r (λ bad. absurd cc) is
+kept_other phase other answer r is = absurd cc
+
+pub kept_only : (phase : ℕ → Bool) (move : ClientMove) (answer : Answer) (d : ClientDisk) (tasks : List ClientTask) (r : Refusal) → kept_out phase move answer ≡ Some r
+    → RefusesOnly d tasks (quiet d (Some tasks) (facts.Refuses r))
+kept_only phase move answer d tasks r is = only_answers d tasks (facts.Refuses r) (λ bad. kept_other phase move answer r is (let same : r ≡ facts.NoDevice = cc in same))
 
 -- ---- a message
 

@@ -16,8 +16,8 @@ use Rattle.client_node.specs.declared.fault.CallFault.TheVariants.{Disk, Spent}
 use Rattle.client_node.specs.declared.node.ClientNode.{ClientNode}
 use Rattle.client_node.specs.Does.{Does, HasNoNumber}
 use Rattle.client_node.specs.Taking.{FitsTable, FitsClient, Drops}
-use Rattle.journal_host.specs.declared.asking.Ask.{Ask}
-use Rattle.journal_host.specs.declared.asking.Ask.TheVariants as asks
+use Rattle.journal_host.specs.declared.asking.Request.{Request}
+use Rattle.journal_host.specs.declared.asking.Request.TheVariants as requests
 use Rattle.journal_host.specs.Asks.{FitsDisk, as_answer}
 use Rattle.journal_host.specs.Steps.{HasMade, HasDropped, Replies}
 
@@ -65,6 +65,35 @@ module _ {D : Type 0} (state : D → DiskState) (images : D → ℕ → List ℕ
         → HasNoNumber state old s.disk
     spent r a is k last err = spent_as r k last (sym is ∙ err)
 
+  -- what a call promises of which nothing is told but what it leaves
+  pub replies_any : {T : Type 0} (move : ClientMove) (said : T → facts.Answer) (gives : T → Answer) (r : Result T CallFault) → Does state images s move said old new r
+      → Replies state images s move old new (λ answer. Unit {0}) (as_answer gives r)
+  replies_any move said gives (Ok x) k = record {
+    done = tt;
+    refused = tt;
+    kept = λ is. tt;
+    fallen = λ bad. absurd cc;
+    counted = λ is. k.counted (λ bad. absurd cc);
+    cause = λ bad. absurd cc;
+    any_moment = k.any_moment;
+    plans = k.plans;
+  }
+  replies_any move said gives (Err e) k = record {
+    done = tt;
+    refused = k.refused;
+    kept = λ is. k.kept (λ bad. is (same_err e Disk bad));
+    fallen = λ is. k.fallen (same_err e Disk is);
+    counted = λ is. k.counted (λ bad. is (same_err e Disk bad));
+    cause = λ is. k.cause (same_err e Disk is);
+    any_moment = k.any_moment;
+    plans = k.plans;
+  }
+
+  pub spent_any : {T : Type 0} (move : ClientMove) (said : T → facts.Answer) (gives : T → Answer) (r : Result T CallFault) → Does state images s move said old new r → (last : ℕ)
+      → IsErrOf (as_answer gives r) (Spent last) → HasNoNumber state old s.disk
+  spent_any move said gives (Ok x) k last is = absurd cc
+  spent_any move said gives (Err e) k last is = (k.spent last (same_err e (Spent last) is)).1
+
   module _ (message : Message) where
     drops_as : (r : Result (Unit {0}) CallFault) → Drops state images s message old new r
         → Replies state images s (Take message) old new (HasDropped state s old new) (as_answer (λ x. answers.Done) r)
@@ -110,11 +139,6 @@ fits_client d (SyncRequest request) = inl tt
 fits_client d (SyncResponse response) = inl tt
 fits_client d (PullRequest pull) = inl tt
 
-pub fits_or : (d : ClientDisk) (ask : Ask) → FitsDisk d ask ⊎ (FitsDisk d ask → ⊥)
-fits_or d (asks.Write table row content) = inl tt
-fits_or d (asks.Edit table row edit) = inl tt
-fits_or d (asks.Show table row) = inl tt
-fits_or d (asks.Sum table row) = inl tt
-fits_or d (asks.Sync table) = inl tt
-fits_or d (asks.Pull table) = inl tt
-fits_or d (asks.Deliver message) = fits_client d (message_of message)
+pub fits_or : (d : ClientDisk) (request : Request) → FitsDisk d request ⊎ (FitsDisk d request → ⊥)
+fits_or d (requests.Ask ask) = inl tt
+fits_or d (requests.Deliver message) = fits_client d (message_of message)

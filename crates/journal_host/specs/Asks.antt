@@ -4,6 +4,7 @@ use Rattle.table_model.specs.declared.line.Answer.{Answer}
 use Rattle.table_model.specs.declared.line.Answer.TheVariants as answers
 use Rattle.table_model.specs.declared.line.Refusal.TheVariants as refusals
 use Rattle.step_tables.specs.ClientMoves.{Client, ClientDisk, ClientMove, Write, Change, Show, Sum, Sync, Next, Take}
+use Rattle.step_tables.specs.ClientMoves.{BeginCr, EndCr, Resolve}
 use Rattle.step_tables.specs.Travels.{message_of}
 use Rattle.client_node.specs.declared.fault.CallFault.{CallFault}
 use Rattle.client_node.specs.declared.fault.CallFault.TheVariants as call
@@ -11,6 +12,8 @@ use Rattle.client_node.specs.Taking.{FitsClient}
 use Rattle.world_tables.specs.World.{World, client_at}
 use Rattle.journal_host.specs.declared.asking.Ask.{Ask}
 use Rattle.journal_host.specs.declared.asking.Ask.TheVariants as asks
+use Rattle.journal_host.specs.declared.asking.Request.{Request}
+use Rattle.journal_host.specs.declared.asking.Request.TheVariants as requests
 use Rattle.journal_host.specs.declared.fault.ClientFault.{ClientFault}
 use Rattle.journal_host.specs.declared.fault.ClientFault.TheVariants.{Spent, Memory}
 
@@ -21,20 +24,26 @@ move_of (asks.Show table row) = Show table row
 move_of (asks.Sum table row) = Sum table row
 move_of (asks.Sync table) = Sync table
 move_of (asks.Pull table) = Next table
-move_of (asks.Deliver message) = Take (message_of message)
+move_of (asks.BeginCr table) = BeginCr table
+move_of (asks.EndCr table) = EndCr table
+move_of (asks.Resolve table row seen choice) = Resolve table row seen choice
+
+abbrev pub asked_by : Request → ClientMove
+asked_by (requests.Ask ask) = move_of ask
+asked_by (requests.Deliver message) = Take (message_of message)
 
 -- the row that a message brings fits its table; all else is fit
-abbrev pub FitsDisk : ClientDisk → Ask → Type 0
-FitsDisk disk (asks.Deliver message) = FitsClient disk (message_of message)
-FitsDisk disk other = Unit {0}
+abbrev pub FitsDisk : ClientDisk → Request → Type 0
+FitsDisk disk (requests.Ask ask) = Unit {0}
+FitsDisk disk (requests.Deliver message) = FitsClient disk (message_of message)
 
-abbrev pub FitsAt : Option Client → Ask → Type 0
-FitsAt None ask = Unit {0}
-FitsAt (Some s) ask = FitsDisk s.disk ask
+abbrev pub FitsAt : Option Client → Request → Type 0
+FitsAt None request = Unit {0}
+FitsAt (Some s) request = FitsDisk s.disk request
 
 -- where the client is there
-abbrev pub FitsIn : World → ℕ → Ask → Type 0
-FitsIn w c ask = FitsAt (client_at w c) ask
+abbrev pub FitsIn : World → ℕ → Request → Type 0
+FitsIn w c request = FitsAt (client_at w c) request
 
 -- ---- answers
 
@@ -51,7 +60,13 @@ refused_as (call.RowTooLarge len) = Ok (answers.Refused (refusals.RowTooLarge le
 refused_as (call.TooManyChunks count) = Ok (answers.Refused (refusals.TooManyChunks count))
 refused_as call.NoRow = Ok (answers.Refused refusals.NoRow)
 refused_as (call.Busy with) = Ok (answers.Refused (refusals.Busy with))
+refused_as call.NotInResolution = Ok (answers.Refused refusals.NotInResolution)
+refused_as call.InResolution = Ok (answers.Refused refusals.InResolution)
+refused_as call.NoConflict = Ok (answers.Refused refusals.NoConflict)
+refused_as (call.Moved seen now) = Ok (answers.Refused (refusals.Moved seen now))
 refused_as call.Offline = Ok (answers.Refused refusals.Offline)
+refused_as (call.Outstanding number) = Ok (answers.Refused (refusals.Outstanding number))
+refused_as (call.Conflicted version) = Ok (answers.Refused (refusals.Conflicted version))
 refused_as (call.Spent last) = Err Spent
 refused_as call.Disk = Ok (answers.Refused refusals.NoDevice)
 refused_as call.Memory = Err Memory

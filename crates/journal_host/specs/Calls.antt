@@ -1,16 +1,19 @@
 -- What the calls of clients on their devices promise, in the moves of the world.
-use Rattle.std.specs.Prelude.{◌≡◌, ◌⊎◌, ℕ, ◌≤◌, ◌++◌, false, List, Option, Some, None, Result, IfOk, IfErr, IsErrOf}
+use Rattle.std.specs.Prelude.{◌≡◌, ◌⊎◌, ℕ, ◌≤◌, ◌++◌, false, List, map, Option, Some, None, Result, IfOk, IfErr}
+use Rattle.std.specs.Prelude.{IsErrOf}
 use Rattle.std.specs.BTreeMap as tree
 use Rattle.disk_trait.specs.Calls.{DiskState}
 use Rattle.stab_base.specs.declared.limits.TheConstants.{NUMBER_MAX}
 use Rattle.table_model.specs.declared.line.Answer.{Answer}
+use Rattle.table_model.specs.declared.line.RowPair.{RowPair}
+use Rattle.step_tables.specs.Facts.{PairLine}
 use Rattle.step_tables.specs.Lines.{answer_of}
 use Rattle.step_tables.specs.Messages.{Luck, Done}
 use Rattle.step_tables.specs.ClientMoves.{Shape, Client, seen}
 use Rattle.client_node.specs.declared.fault.CallFault.{CallFault}
 use Rattle.client_node.specs.declared.fault.CallFault.TheVariants.{Disk, Memory}
 use Rattle.client_node.specs.declared.node.ClientNode.{ClientNode}
-use Rattle.world_tables.specs.World.{World, WorldStep, Moved, client_at, client_tasks, first_luck}
+use Rattle.world_tables.specs.World.{World, WorldStep, Moved, listed, client_at, client_tasks, first_luck}
 use Rattle.journal_host.specs.declared.fault.ClientFault.{ClientFault}
 use Rattle.journal_host.specs.declared.fault.ClientFault.TheVariants as fault
 use Rattle.journal_host.specs.declared.host.ClientHost.{ClientHost}
@@ -37,6 +40,18 @@ abbrev pub Comes : {D : Type 0} → (D → DiskState) → (old new : ClientHost 
     → Result Answer ClientFault → Type 0
 Comes state old new f result =
     IfOk result (λ answer. (shape : Shape) × (lucks : List Luck) × IsCalled state old new (f shape lucks) answer)
+
+-- The same of an event whose answer has these rows in conflict, on lines of their own.
+pub record IsListed {D : Type 0} (state : D → DiskState) (old new : ClientHost D) (s : WorldStep)
+    (pairs : List RowPair) (answer : Answer) : Type 0 where
+  pub called : IsCalled state old new (listed s) answer
+  pub counted : (listed s).counted ≡ map PairLine pairs
+
+-- with some shape and some lucks
+abbrev pub Lists : {D : Type 0} → (D → DiskState) → (old new : ClientHost D) → (Shape → List Luck → WorldStep)
+    → List RowPair → Result Answer ClientFault → Type 0
+Lists state old new f pairs result = IfOk result (λ answer. (shape : Shape) × (lucks : List Luck)
+    × IsListed state old new (f shape lucks) pairs answer)
 
 -- Nothing has changed.
 pub record Stays {D : Type 0} (state : D → DiskState) (w : World) (old new : ClientHost D) : Type 0 where

@@ -1,5 +1,5 @@
--- What the clients on their devices hold of the world of the laws: its clients, and whose link is down. Tables,
--- packets, holds, and the Stores that are down are whoever's.
+-- What the clients on their devices hold of the world of the laws: its clients, whose link is down, and which phases
+-- are open. Tables, packets, holds, and the Stores that are down are whoever's.
 use Rattle.std.specs.Prelude.{◌≡◌, ◌≢◌, ℕ, ◌<◌, Bool, true, false, not, ◌&&◌, List, [], ◌∷◌, map}
 use Rattle.std.specs.Prelude.{filter, Option, Some, None}
 use Rattle.std.specs.Ordering.{nat_cmp}
@@ -17,7 +17,8 @@ use Rattle.step_tables.specs.Lines.{fact_of}
 use Rattle.step_tables.specs.Travels.{send_of}
 use Rattle.client_node.specs.declared.node.ClientNode.{ClientNode}
 use Rattle.client_node.specs.Node.{IsClient, IsToOpen, told_by, sent_by, own_faults, HasPlansBelow}
-use Rattle.world_tables.specs.World.{World, Outbox, schema_at, client_at, is_cut, packets_from}
+use Rattle.client_node.specs.Phases.{is_open}
+use Rattle.world_tables.specs.World.{World, Outbox, schema_at, client_at, is_cut, is_resolving, packets_from}
 use Rattle.journal_host.specs.declared.out.ClientOut.{ClientOut}
 use Rattle.journal_host.specs.declared.host.ClientHost.{ClientHost}
 
@@ -45,9 +46,18 @@ abbrev pub HasClients : {D : Type 0} → (D → DiskState) → World → tree.BT
 HasClients state w clients =
     (c : ℕ) → ClientThere state (is_cut w c) c (client_at w c) (tree.get nat_cmp clients c)
 
--- The host's clients are the world's.
+-- these phases are open; of a client that isn't there none is
+abbrev pub HasPhases : {D : Type 0} → (ℕ → Bool) → Option (ClientNode D) → Type 0
+HasPhases phase None = (table : ℕ) → phase table ≡ false
+HasPhases phase (Some node) = (table : ℕ) → is_open node table ≡ phase table
+
+abbrev pub HavePhases : {D : Type 0} → World → tree.BTreeMap ℕ (ClientNode D) → Type 0
+HavePhases w clients = (c : ℕ) → HasPhases (is_resolving w c) (tree.get nat_cmp clients c)
+
+-- The host's clients are the world's, and resolve the conflicts of the same tables.
 pub record HoldsClients {D : Type 0} (state : D → DiskState) (w : World) (host : ClientHost D) : Type 0 where
   pub there : HasClients state w host.clients
+  pub phases : HavePhases w host.clients
 
 -- it holds some world
 abbrev pub AreClients : {D : Type 0} → (D → DiskState) → ClientHost D → Type 0
@@ -55,10 +65,11 @@ AreClients state host = (w : World) × HoldsClients state w host
 
 -- ---- what stays of a world
 
--- the world has the clients of another, and the same links are down
+-- the world has the clients of another, the same links are down, and the same phases are open
 pub record KeepsClients (before after : World) : Type 0 where
   pub clients : after.clients ≡ before.clients
   pub cuts : after.cuts ≡ before.cuts
+  pub phases : after.phases ≡ before.phases
 
 -- ---- the declared tables
 

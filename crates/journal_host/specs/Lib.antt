@@ -1,3 +1,4 @@
+pub mod Phases
 pub mod Holds
 pub mod Moves
 pub mod Asks

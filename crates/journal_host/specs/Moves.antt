@@ -5,8 +5,10 @@ use Rattle.step_tables.specs.Facts as facts
 use Rattle.step_tables.specs.Messages.{Message, Luck}
 use Rattle.step_tables.specs.Messages as messages
 use Rattle.step_tables.specs.ClientMoves.{Client, ClientTask, ClientMove, Shape, Take, Start, client_step, is_cut_off}
+use Rattle.step_tables.specs.ClientMoves.{kept_out}
 use Rattle.world_tables.specs.World.{World, WorldStep, Moved, client_at, move_client, still, failing, answering}
-use Rattle.world_tables.specs.World.{answered, refused, unless_down, reads, unless_cut, first_luck, is_down, is_cut}
+use Rattle.world_tables.specs.World.{answered, refused, unless_down, reads, unless_kept, unless_cut, first_luck}
+use Rattle.world_tables.specs.World.{is_down, is_cut, is_resolving}
 
 -- more moves behind those of an event: where one of them fails, that is the answer
 abbrev pub then_moves : WorldStep → (World → Moved) → WorldStep
@@ -24,7 +26,7 @@ agenda_in (Some node) = node.agenda
 
 -- ---- calls
 
--- of a client that is up, reads its disks, and has its link or needs none
+-- of a client that is up, reads its disks, isn't kept from it by its phases, and has its link or needs none
 abbrev pub move_alone : World → ℕ → ClientMove → Shape → Client → WorldStep
 move_alone w c move shape node = answering (client_step c shape node move).answer (move_client c move shape w)
 
@@ -33,7 +35,8 @@ alone_there w c move shape lucks None = refused w facts.NoTable
 alone_there w c move shape lucks (Some node) =
     unless_down w (nodes.Client c)
     (reads w c (first_luck lucks)
-    (unless_cut w (is_cut w c && is_cut_off c shape node move) (move_alone w c move shape node)))
+    (unless_kept w (kept_out (is_resolving w c) move (client_step c shape node move).answer)
+    (unless_cut w (is_cut w c && is_cut_off c shape node move) (move_alone w c move shape node))))
 
 -- a client's move
 abbrev pub call_alone : World → ℕ → ClientMove → Shape → List Luck → WorldStep

@@ -1,15 +1,16 @@
 -- A client's step, what it tells put behind what was told, and the causes of its calls.
-use Rattle.std.specs.Prelude.{◌≡◌, ◌⊎◌, ℕ, suc, ◌<◌, ◌≤◌, ◌++◌, Bool, false, not, List, [], ◌∷◌, Some, None, Result, Ok}
-use Rattle.std.specs.Prelude.{IfOk, IfErr, IsErrOf}
+use Rattle.std.specs.Prelude.{◌≡◌, ◌⊎◌, ℕ, suc, ◌<◌, ◌≤◌, ◌++◌, Bool, false, not, List, [], ◌∷◌, length, Some, None}
+use Rattle.std.specs.Prelude.{Result, Ok, IfOk, IfErr, IsErrOf}
 use Rattle.disk_trait.specs.Calls.{DiskState}
 use Rattle.stab_base.specs.declared.node.Node.TheVariants as nodes
 use Rattle.table_model.specs.declared.line.Answer.{Answer}
+use Rattle.table_model.specs.declared.line.RowPair.{RowPair}
 use Rattle.table_model.specs.declared.line.Answer.TheVariants as answers
 use Rattle.table_model.specs.declared.line.Refusal.TheVariants as refusals
 use Rattle.step_tables.specs.Facts as facts
 use Rattle.step_tables.specs.Lines.{answer_of}
 use Rattle.step_tables.specs.Messages.{Luck, Done, FailedBefore}
-use Rattle.step_tables.specs.ClientMoves.{Shape, Client, ClientStep, ClientMove, Crash, Start, client_step}
+use Rattle.step_tables.specs.ClientMoves.{Shape, Client, ClientStep, ClientMove, Conflicts, Crash, Start, client_step}
 use Rattle.step_tables.specs.ClientMoves.{no_shape, quiet}
 use Rattle.client_node.specs.declared.fault.CallFault.{CallFault}
 use Rattle.client_node.specs.declared.fault.CallFault.TheVariants.{Disk, Memory}
@@ -17,7 +18,7 @@ use Rattle.client_node.specs.declared.node.ClientNode.{ClientNode}
 use Rattle.client_node.specs.Node.{IsClient, told_by, sent_by, has_task, LeavesEither, HasPlansBelow}
 use Rattle.client_node.specs.Calls.{IsBehind, Stays}
 use Rattle.client_node.specs.Does.{IsOfNode, refusal_in, step_with}
-use Rattle.client_node.specs.Linked.{linked_step}
+use Rattle.client_node.specs.Linked.{phased_step}
 use Rattle.world_tables.specs.World.{Outbox, packets_from, crash_luck, first_luck, other_lucks}
 use Rattle.journal_host.specs.declared.fault.ClientFault.{ClientFault}
 use Rattle.journal_host.specs.declared.out.ClientOut.{ClientOut}
@@ -73,12 +74,21 @@ pub record HasTold {D : Type 0} (state : D → DiskState) (cut : Bool) (c : ℕ)
 
 -- ---- calls
 
--- The client made the move, and this is the answer.
-pub record IsMade {D : Type 0} (state : D → DiskState) (cut : Bool) (c : ℕ) (s : Client) (move : ClientMove)
-    (new : ClientNode D) (before after : List ClientOut) (answer : Answer) : Type 0 where
+-- The client, which had these phases open, made the move, and this is the answer.
+pub record IsMade {D : Type 0} (state : D → DiskState) (phase : ℕ → Bool) (cut : Bool) (c : ℕ) (s : Client)
+    (move : ClientMove) (new : ClientNode D) (before after : List ClientOut) (answer : Answer) : Type 0 where
   pub shape : Shape
-  pub told : HasTold state cut c (linked_step (not cut) c shape s move) new before after
-  pub answer_is : (linked_step (not cut) c shape s move).answer ≡ answer_of answer
+  pub told : HasTold state cut c (phased_step phase (not cut) c shape s move) new before after
+  pub answer_is : (phased_step phase (not cut) c shape s move).answer ≡ answer_of answer
+
+-- The client, which had these phases open, listed these rows in conflict of a table.
+pub record IsListing {D : Type 0} (state : D → DiskState) (phase : ℕ → Bool) (cut : Bool) (c : ℕ) (s : Client)
+    (table : ℕ) (new : ClientNode D) (before after : List ClientOut) (pairs : List RowPair) (answer : Answer)
+    : Type 0 where
+  pub shape : Shape
+  pub told : HasTold state cut c (phased_step phase (not cut) c shape s (Conflicts table)) new before after
+  pub pairs_are : (phased_step phase (not cut) c shape s (Conflicts table)).answer ≡ facts.Pairs pairs
+  pub answer_is : answer ≡ answers.Number (length pairs)
 
 -- A disk has failed, and the client is down with its disk as it was.
 pub record IsFallen {D : Type 0} (state : D → DiskState) (cut : Bool) (c : ℕ) (s : Client) (new : ClientNode D)

@@ -1,51 +1,79 @@
 //! What a client is asked for, and what its node makes of it.
-ghost use Rattle.std.specs.Prelude.{◌≡◌, ℕ, true, IsErrOf};
+ghost use Rattle.std.specs.Prelude.{◌≡◌, ℕ, true, length, IfOk, IfErr, IsErrOf};
 ghost use Rattle.table_model.specs.declared.line.Answer.TheVariants as answers;
 ghost use Rattle.step_tables.specs.ClientMoves.{Client};
 ghost use Rattle.client_node.specs.declared.fault.CallFault.TheVariants.{Spent};
 ghost use Rattle.client_node.specs.Does.{HasNoNumber};
 ghost use Rattle.client_node.specs.Node.{IsClient, IsNode};
-ghost use Rattle.journal_host.specs.Asks.{move_of, FitsDisk, as_answer};
+ghost use Rattle.journal_host.specs.Asks.{move_of, asked_by, FitsDisk, as_answer};
+ghost use Rattle.journal_host.specs.Phases.{MovesPhases, answer_in};
 ghost use Rattle.journal_host.specs.Steps.{HasMade, HasDropped, Replies};
 
 use client_node::{CallFault, ClientNode};
+use conflicts::Choice;
 use disk_trait::Disk;
 use row_edits::Edit;
 use row_value::Content;
-use stab_base::{RowId, Step, TableNo};
+use stab_base::{RowId, Step, TableNo, Version};
 use step_tables::Message;
-use table_model::{Answer, Shown};
+use table_model::{Answer, RowPairs, Shown};
 
-/// What a client is asked for.
+/// What a client is asked for by a call.
 #[derive(Drop)]
-pub(crate) enum Ask {
+pub enum Ask {
+    /// To write a row whole. It is answered by the number of the write that was begun.
     Write {
         table: TableNo,
         row: RowId,
         content: Content,
     },
+    /// To write what an edit makes of the content that is shown. It is answered by the number of the write.
     Edit {
         table: TableNo,
         row: RowId,
         edit: Edit,
     },
+    /// To show a row, whatever is still to be done.
     Show {
         table: TableNo,
         row: RowId,
     },
+    /// To show a row with its objects by their digests.
     Sum {
         table: TableNo,
         row: RowId,
     },
+    /// To send a table's writes. It is answered by how many requests that are.
     Sync {
         table: TableNo,
     },
+    /// To ask for a table's next change.
     Pull {
         table: TableNo,
     },
-    Deliver {
-        message: Message,
+    /// To resolve the conflicts of a table from now on, and write none of its rows.
+    BeginCr {
+        table: TableNo,
     },
+    /// To resolve them no more.
+    EndCr {
+        table: TableNo,
+    },
+    /// To resolve the conflict of a row with the version that was seen. It is answered by the number of the write that
+    /// was begun, or 0.
+    Resolve {
+        table: TableNo,
+        row: RowId,
+        seen: Version,
+        choice: Choice,
+    },
+}
+
+/// What a client is asked for, or a message for it.
+#[derive(Drop)]
+pub(crate) enum Request {
+    Ask(Ask),
+    Deliver(Message),
 }
 
 /// What was begun or done has this number.
@@ -87,17 +115,34 @@ pub(crate) fn done(found: Result<(), CallFault>) -> Result<Answer, CallFault>
     }
 }
 
-/// What a node that is up answers.
-pub(crate) fn reply<D: Disk + Drop>(node: &mut ClientNode<D>, ask: Ask) -> Result<Answer, CallFault>
+/// How many rows in conflict were found. They are handed over.
+pub(crate) fn counted(
+    found: Result<RowPairs, CallFault>,
+    pairs: &mut RowPairs,
+) -> Result<Answer, CallFault>
+    ensures answer { result ≡ as_answer (λ listed. answers.Number (length listed)) found }
+    ensures listed { IfOk found (λ listed. pairs.new ≡ listed) }
+    ensures kept { IfErr found (λ e. pairs.new ≡ pairs.old) }
+{
+    match found {
+        Ok(listed) => {
+            let count = listed.len() as u64;
+            *pairs = listed;
+            Ok(Answer::Number(count))
+        }
+        Err(fault) => Err(fault),
+    }
+}
+
+// What a node that is up answers to a call.
+fn answer<D: Disk + Drop>(node: &mut ClientNode<D>, ask: Ask) -> Result<Answer, CallFault>
     requires node { IsNode D.state node.old }
     requires up { node.old.is_up ≡ true }
-    ensures made { (s : Client) → IsClient D.state node.old s → FitsDisk s.disk ask
-        → Replies D.state D.images s (move_of ask) node.old node.new (HasMade D.state s (move_of ask) node.old node.new)
-        result }
-    ensures dropped { (s : Client) → IsClient D.state node.old s → (FitsDisk s.disk ask → ⊥)
-        → Replies D.state D.images s (move_of ask) node.old node.new (HasDropped D.state s node.old node.new) result }
-    ensures spent { (s : Client) → IsClient D.state node.old s → FitsDisk s.disk ask → (last : ℕ)
-        → IsErrOf result (Spent last) → HasNoNumber D.state node.old s.disk }
+    ensures made { (s : Client) → IsClient D.state node.old s → Replies D.state D.images s (move_of ask) node.old
+        node.new (HasMade D.state s (move_of ask) node.old node.new) result }
+    ensures spent { (s : Client) → IsClient D.state node.old s → (last : ℕ) → IsErrOf result (Spent last)
+        → HasNoNumber D.state node.old s.disk }
+    ensures phases { MovesPhases (move_of ask) (answer_in result) node.old node.new }
     ensures declared { node.new.is_declared ≡ node.old.is_declared }
 {
     match ask {
@@ -111,6 +156,37 @@ pub(crate) fn reply<D: Disk + Drop>(node: &mut ClientNode<D>, ask: Ask) -> Resul
         Ask::Sum { table, row } => node.sum(table, &row),
         Ask::Sync { table } => numbered(node.sync_now(table)),
         Ask::Pull { table } => done(node.pull_now(table)),
-        Ask::Deliver { message } => done(node.deliver(message)),
+        Ask::BeginCr { table } => done(node.begin_cr(table)),
+        Ask::EndCr { table } => done(node.end_cr(table)),
+        Ask::Resolve {
+            table,
+            row,
+            seen,
+            choice,
+        } => numbered(node.resolve(table, row, seen, choice)),
+    }
+}
+
+/// What a node that is up answers.
+pub(crate) fn reply<D: Disk + Drop>(
+    node: &mut ClientNode<D>,
+    request: Request,
+) -> Result<Answer, CallFault>
+    requires node { IsNode D.state node.old }
+    requires up { node.old.is_up ≡ true }
+    ensures made { (s : Client) → IsClient D.state node.old s → FitsDisk s.disk request
+        → Replies D.state D.images s (asked_by request) node.old node.new
+        (HasMade D.state s (asked_by request) node.old node.new) result }
+    ensures dropped { (s : Client) → IsClient D.state node.old s → (FitsDisk s.disk request → ⊥)
+        → Replies D.state D.images s (asked_by request) node.old node.new (HasDropped D.state s node.old node.new)
+        result }
+    ensures spent { (s : Client) → IsClient D.state node.old s → FitsDisk s.disk request → (last : ℕ)
+        → IsErrOf result (Spent last) → HasNoNumber D.state node.old s.disk }
+    ensures phases { MovesPhases (asked_by request) (answer_in result) node.old node.new }
+    ensures declared { node.new.is_declared ≡ node.old.is_declared }
+{
+    match request {
+        Request::Ask(ask) => answer(node, ask),
+        Request::Deliver(message) => done(node.deliver(message)),
     }
 }

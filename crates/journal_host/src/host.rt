@@ -4,7 +4,7 @@ ghost use Rattle.std.specs.Prelude.{IfOk, IfErr, OnOk, OnErr, IfSome, IsErrOf, o
 ghost use Rattle.std.specs.Ordering.{nat_cmp};
 ghost use Rattle.std.specs.BTreeMap as tree;
 ghost use Rattle.stab_base.specs.declared.node.Node.TheVariants as nodes;
-ghost use Rattle.step_tables.specs.ClientMoves as moves;
+ghost use Rattle.step_tables.specs.ClientMoves.{Conflicts};
 ghost use Rattle.step_tables.specs.Messages.{Luck};
 ghost use Rattle.step_tables.specs.Messages as lucks;
 ghost use Rattle.step_tables.specs.Travels.{message_of};
@@ -12,30 +12,29 @@ ghost use Rattle.client_node.specs.declared.fault.CallFault.TheVariants.{Disk as
 ghost use Rattle.world_tables.specs.World.{World as AWorld, client_at, client_tasks, is_down, joined, linked};
 ghost use Rattle.world_tables.specs.World.{worked, all_worked, client_crashes, client_writes, client_until_idle};
 ghost use Rattle.world_tables.specs.World.{next_write};
-ghost use Rattle.journal_host.specs.declared.asking.Ask.TheVariants as asks;
+ghost use Rattle.journal_host.specs.declared.asking.Request.TheVariants as requests;
 ghost use Rattle.journal_host.specs.declared.fault.ClientFault.TheVariants.{Memory};
-ghost use Rattle.journal_host.specs.Asks.{move_of, FitsIn};
-ghost use Rattle.journal_host.specs.Calls.{IsMoved, IsCalled, Comes, Stays, HasCause, HasMoveCause, HasLuck};
-ghost use Rattle.journal_host.specs.Calls.{IsNumberCause};
+ghost use Rattle.journal_host.specs.Asks.{move_of, asked_by, FitsIn};
+ghost use Rattle.journal_host.specs.Calls.{IsMoved, IsCalled, Comes, Lists, Stays, HasCause, HasMoveCause};
+ghost use Rattle.journal_host.specs.Calls.{HasLuck, IsNumberCause};
 ghost use Rattle.journal_host.specs.Holds.{HoldsClients, AreClients, HasSchemas, AreToOpen, SameFaults, disks_at};
 ghost use Rattle.journal_host.specs.Holds.{outs_of, outs_in, faults_at, HavePlansBelow};
 ghost use Rattle.journal_host.specs.Opening.{HasJoinLuck};
 ghost use Rattle.journal_host.specs.Moves.{call_alone, take_alone, start_alone, has_work};
 
-use crate::asking::{Ask, did, numbered};
+use crate::asking::{Ask, Request, did, numbered};
 use crate::fault::ClientFault;
-use crate::hosted::{answered, call, crash, link, start, work};
+use crate::hosted::{answered, call, crash, link, list, start, work};
 use crate::opening::joining;
 use crate::out::ClientOut;
 use client_node::{CallFault, ClientNode};
 use disk_trait::Disk;
-use row_edits::Edit;
-use row_value::{Content, Schema};
-use stab_base::{ClientNo, RowId, Sequence, Step, TableNo};
+use row_value::Schema;
+use stab_base::{ClientNo, Sequence, Step, TableNo};
 use std::alloc::Global;
 use std::collections::BTreeMap;
 use step_tables::Message;
-use table_model::{Answer, Refusal};
+use table_model::{Answer, Refusal, RowPairs};
 
 /// The clients of a world, by their numbers, each on its three disks.
 ///
@@ -52,7 +51,8 @@ pub struct ClientHost<D: Disk> {
 impl<D: Disk + Drop> ClientHost<D> {
     /// No clients.
     pub fn new(alloc: Global) -> ClientHost<D>
-        ensures held { (w : AWorld) → w.clients ≡ [] → w.cuts ≡ [] → HoldsClients D.state w result }
+        ensures held { (w : AWorld) → w.clients ≡ [] → w.cuts ≡ [] → w.phases ≡ []
+            → HoldsClients D.state w result }
         ensures told { outs_of result ≡ [] }
         ensures plans { (n : ℕ) → HavePlansBelow D.state n result.clients }
     {
@@ -149,16 +149,16 @@ impl<D: Disk + Drop> ClientHost<D> {
         }
     }
 
-    // Asks a client. One that hasn't joined refuses, as one that hasn't opened the table does.
-    fn call(&mut self, client: ClientNo, ask: Ask) -> Result<Answer, ClientFault>
+    // Hands a client what is for it. One that hasn't joined refuses, as one that hasn't opened the table does.
+    fn call(&mut self, client: ClientNo, request: Request) -> Result<Answer, ClientFault>
         requires { AreClients D.state self.old }
-        ensures called { (w : AWorld) → HoldsClients D.state w self.old → FitsIn w client ask
-            → Comes D.state self.old self.new (call_alone w client (move_of ask)) result }
-        ensures dropped { (w : AWorld) → HoldsClients D.state w self.old → (FitsIn w client ask → ⊥)
+        ensures called { (w : AWorld) → HoldsClients D.state w self.old → FitsIn w client request
+            → Comes D.state self.old self.new (call_alone w client (asked_by request)) result }
+        ensures dropped { (w : AWorld) → HoldsClients D.state w self.old → (FitsIn w client request → ⊥)
             → IfOk result (λ answer. ((answer ≡ Answer.Done) × Stays D.state w self.old self.new)
-            ⊎ Comes D.state self.old self.new (call_alone w client (move_of ask)) (Ok answer)) }
+            ⊎ Comes D.state self.old self.new (call_alone w client (asked_by request)) (Ok answer)) }
         ensures spent { (w : AWorld) (n : ℕ) → HoldsClients D.state w self.old
-            → HavePlansBelow D.state n self.old.clients → FitsIn w client ask
+            → HavePlansBelow D.state n self.old.clients → FitsIn w client request
             → IfErr result (IsNumberCause n (client_at w client)) }
         ensures kept { (w : AWorld) → HoldsClients D.state w self.old
             → OnErr result (Stays D.state w self.old self.new) }
@@ -167,26 +167,48 @@ impl<D: Disk + Drop> ClientHost<D> {
             → HavePlansBelow D.state (suc n) self.new.clients }
     {
         match self.clients.get_mut(&client) {
-            Some(node) => call(node, &mut self.outs, client, ask),
+            Some(node) => call(node, &mut self.outs, client, request),
             None => Ok(Answer::Refused(Refusal::NoTable)),
         }
     }
 
-    /// Writes a row whole: the number of the write that was begun.
+    /// Asks a client: its answer, or what it refuses. One that hasn't joined refuses, as one that hasn't opened the
+    /// table does.
     ///
     /// # Errors
     ///
     /// `Spent` where no number of a write or of a plan is left, and `Memory`.
-    pub fn write(
+    pub fn ask(&mut self, client: ClientNo, ask: Ask) -> Result<Answer, ClientFault>
+        requires { AreClients D.state self.old }
+        ensures called { (w : AWorld) → HoldsClients D.state w self.old
+            → Comes D.state self.old self.new (call_alone w client (move_of ask)) result }
+        ensures spent { (w : AWorld) (n : ℕ) → HoldsClients D.state w self.old
+            → HavePlansBelow D.state n self.old.clients → IfErr result (IsNumberCause n (client_at w client)) }
+        ensures kept { (w : AWorld) → HoldsClients D.state w self.old
+            → OnErr result (Stays D.state w self.old self.new) }
+        ensures cause { HasCause D.state client self.old.clients self.new.clients result }
+        ensures plans { (n : ℕ) → HavePlansBelow D.state n self.old.clients
+            → HavePlansBelow D.state (suc n) self.new.clients }
+    {
+        self.call(client, Request::Ask(ask))
+    }
+
+    /// Lists the rows in conflict of a table whose conflicts the client resolves: how many there are. They are handed
+    /// over by rising id.
+    ///
+    /// # Errors
+    ///
+    /// Those of `ask`.
+    pub fn conflicts(
         &mut self,
         client: ClientNo,
         table: TableNo,
-        row: RowId,
-        content: Content,
+        pairs: &mut RowPairs,
     ) -> Result<Answer, ClientFault>
-        requires { AreClients D.state self.old }
+        requires clients { AreClients D.state self.old }
+        requires none { pairs.old ≡ [] }
         ensures called { (w : AWorld) → HoldsClients D.state w self.old
-            → Comes D.state self.old self.new (call_alone w client (moves.Write table row content)) result }
+            → Lists D.state self.old self.new (call_alone w client (Conflicts table)) pairs.new result }
         ensures spent { (w : AWorld) (n : ℕ) → HoldsClients D.state w self.old
             → HavePlansBelow D.state n self.old.clients → IfErr result (IsNumberCause n (client_at w client)) }
         ensures kept { (w : AWorld) → HoldsClients D.state w self.old
@@ -195,147 +217,27 @@ impl<D: Disk + Drop> ClientHost<D> {
         ensures plans { (n : ℕ) → HavePlansBelow D.state n self.old.clients
             → HavePlansBelow D.state (suc n) self.new.clients }
     {
-        self.call(
-            client,
-            Ask::Write {
-                table,
-                row,
-                content,
-            },
-        )
-    }
-
-    /// Writes what an edit makes of the content that is shown: the number of the write that was begun.
-    ///
-    /// # Errors
-    ///
-    /// Those of `write`.
-    pub fn edit(
-        &mut self,
-        client: ClientNo,
-        table: TableNo,
-        row: RowId,
-        edit: Edit,
-    ) -> Result<Answer, ClientFault>
-        requires { AreClients D.state self.old }
-        ensures called { (w : AWorld) → HoldsClients D.state w self.old
-            → Comes D.state self.old self.new (call_alone w client (moves.Change table row edit)) result }
-        ensures spent { (w : AWorld) (n : ℕ) → HoldsClients D.state w self.old
-            → HavePlansBelow D.state n self.old.clients → IfErr result (IsNumberCause n (client_at w client)) }
-        ensures kept { (w : AWorld) → HoldsClients D.state w self.old
-            → OnErr result (Stays D.state w self.old self.new) }
-        ensures cause { HasCause D.state client self.old.clients self.new.clients result }
-        ensures plans { (n : ℕ) → HavePlansBelow D.state n self.old.clients
-            → HavePlansBelow D.state (suc n) self.new.clients }
-    {
-        self.call(client, Ask::Edit { table, row, edit })
-    }
-
-    /// What the client shows of a row, whatever is still to be done.
-    ///
-    /// # Errors
-    ///
-    /// Those of `write`.
-    pub fn show(
-        &mut self,
-        client: ClientNo,
-        table: TableNo,
-        row: RowId,
-    ) -> Result<Answer, ClientFault>
-        requires { AreClients D.state self.old }
-        ensures called { (w : AWorld) → HoldsClients D.state w self.old
-            → Comes D.state self.old self.new (call_alone w client (moves.Show table row)) result }
-        ensures spent { (w : AWorld) (n : ℕ) → HoldsClients D.state w self.old
-            → HavePlansBelow D.state n self.old.clients → IfErr result (IsNumberCause n (client_at w client)) }
-        ensures kept { (w : AWorld) → HoldsClients D.state w self.old
-            → OnErr result (Stays D.state w self.old self.new) }
-        ensures cause { HasCause D.state client self.old.clients self.new.clients result }
-        ensures plans { (n : ℕ) → HavePlansBelow D.state n self.old.clients
-            → HavePlansBelow D.state (suc n) self.new.clients }
-    {
-        self.call(client, Ask::Show { table, row })
-    }
-
-    /// What the client shows of a row, its objects by their digests.
-    ///
-    /// # Errors
-    ///
-    /// Those of `write`.
-    pub fn sum(
-        &mut self,
-        client: ClientNo,
-        table: TableNo,
-        row: RowId,
-    ) -> Result<Answer, ClientFault>
-        requires { AreClients D.state self.old }
-        ensures called { (w : AWorld) → HoldsClients D.state w self.old
-            → Comes D.state self.old self.new (call_alone w client (moves.Sum table row)) result }
-        ensures spent { (w : AWorld) (n : ℕ) → HoldsClients D.state w self.old
-            → HavePlansBelow D.state n self.old.clients → IfErr result (IsNumberCause n (client_at w client)) }
-        ensures kept { (w : AWorld) → HoldsClients D.state w self.old
-            → OnErr result (Stays D.state w self.old self.new) }
-        ensures cause { HasCause D.state client self.old.clients self.new.clients result }
-        ensures plans { (n : ℕ) → HavePlansBelow D.state n self.old.clients
-            → HavePlansBelow D.state (suc n) self.new.clients }
-    {
-        self.call(client, Ask::Sum { table, row })
-    }
-
-    /// Sends a table's writes: how many requests that are.
-    ///
-    /// # Errors
-    ///
-    /// Those of `write`.
-    pub fn sync(&mut self, client: ClientNo, table: TableNo) -> Result<Answer, ClientFault>
-        requires { AreClients D.state self.old }
-        ensures called { (w : AWorld) → HoldsClients D.state w self.old
-            → Comes D.state self.old self.new (call_alone w client (moves.Sync table)) result }
-        ensures spent { (w : AWorld) (n : ℕ) → HoldsClients D.state w self.old
-            → HavePlansBelow D.state n self.old.clients → IfErr result (IsNumberCause n (client_at w client)) }
-        ensures kept { (w : AWorld) → HoldsClients D.state w self.old
-            → OnErr result (Stays D.state w self.old self.new) }
-        ensures cause { HasCause D.state client self.old.clients self.new.clients result }
-        ensures plans { (n : ℕ) → HavePlansBelow D.state n self.old.clients
-            → HavePlansBelow D.state (suc n) self.new.clients }
-    {
-        self.call(client, Ask::Sync { table })
-    }
-
-    /// Asks for a table's next change.
-    ///
-    /// # Errors
-    ///
-    /// Those of `write`.
-    pub fn pull(&mut self, client: ClientNo, table: TableNo) -> Result<Answer, ClientFault>
-        requires { AreClients D.state self.old }
-        ensures called { (w : AWorld) → HoldsClients D.state w self.old
-            → Comes D.state self.old self.new (call_alone w client (moves.Next table)) result }
-        ensures spent { (w : AWorld) (n : ℕ) → HoldsClients D.state w self.old
-            → HavePlansBelow D.state n self.old.clients → IfErr result (IsNumberCause n (client_at w client)) }
-        ensures kept { (w : AWorld) → HoldsClients D.state w self.old
-            → OnErr result (Stays D.state w self.old self.new) }
-        ensures cause { HasCause D.state client self.old.clients self.new.clients result }
-        ensures plans { (n : ℕ) → HavePlansBelow D.state n self.old.clients
-            → HavePlansBelow D.state (suc n) self.new.clients }
-    {
-        self.call(client, Ask::Pull { table })
+        match self.clients.get_mut(&client) {
+            Some(node) => list(node, &mut self.outs, client, table, pairs),
+            None => Ok(Answer::Refused(Refusal::NoTable)),
+        }
     }
 
     /// Takes a message; one for a client that hasn't joined is lost, and so is a row that doesn't fit its table.
     ///
     /// # Errors
     ///
-    /// Those of `write`.
+    /// Those of `ask`.
     pub fn deliver(&mut self, client: ClientNo, message: Message) -> Result<Answer, ClientFault>
         requires { AreClients D.state self.old }
-        ensures called { (w : AWorld) → HoldsClients D.state w self.old → FitsIn w client (asks.Deliver message)
+        ensures called { (w : AWorld) → HoldsClients D.state w self.old → FitsIn w client (requests.Deliver message)
             → Comes D.state self.old self.new (take_alone w client (message_of message)) result }
         ensures dropped { (w : AWorld) → HoldsClients D.state w self.old
-            → (FitsIn w client (asks.Deliver message) → ⊥)
+            → (FitsIn w client (requests.Deliver message) → ⊥)
             → IfOk result (λ answer. ((answer ≡ Answer.Done) × Stays D.state w self.old self.new)
             ⊎ Comes D.state self.old self.new (take_alone w client (message_of message)) (Ok answer)) }
         ensures spent { (w : AWorld) (n : ℕ) → HoldsClients D.state w self.old
-            → HavePlansBelow D.state n self.old.clients → FitsIn w client (asks.Deliver message)
+            → HavePlansBelow D.state n self.old.clients → FitsIn w client (requests.Deliver message)
             → IfErr result (IsNumberCause n (client_at w client)) }
         ensures kept { (w : AWorld) → HoldsClients D.state w self.old
             → OnErr result (Stays D.state w self.old self.new) }
@@ -344,7 +246,7 @@ impl<D: Disk + Drop> ClientHost<D> {
             → HavePlansBelow D.state (suc n) self.new.clients }
     {
         if self.clients.contains_key(&client) {
-            return self.call(client, Ask::Deliver { message });
+            return self.call(client, Request::Deliver(message));
         }
         Ok(Answer::Done)
     }

@@ -5,26 +5,29 @@ ghost use Rattle.std.specs.Vec.{vec_capacity, vec_len};
 ghost use Rattle.stab_base.specs.declared.node.Node.TheVariants as nodes;
 ghost use Rattle.table_model.specs.declared.line.Answer.TheVariants as answers;
 ghost use Rattle.table_model.specs.declared.line.Refusal.TheVariants as refusals;
-ghost use Rattle.step_tables.specs.ClientMoves.{Client, ClientStep, Work, client_step, no_shape};
+ghost use Rattle.step_tables.specs.ClientMoves.{Client, ClientStep, Conflicts, Work, client_step, no_shape};
 ghost use Rattle.step_tables.specs.Messages as lucks;
 ghost use Rattle.client_node.specs.declared.fault.CallFault.TheVariants.{Disk as DiskFailed};
 ghost use Rattle.client_node.specs.Node.{IsClient, IsNode, told_by, has_task, HasPlansBelow};
+ghost use Rattle.client_node.specs.Phases.{is_open, KeepsPhases};
 ghost use Rattle.world_tables.specs.World.{next_write, tasks_in};
 ghost use Rattle.journal_host.specs.declared.fault.ClientFault.TheVariants as faults;
-ghost use Rattle.journal_host.specs.Asks.{move_of, FitsDisk, answered_as};
+ghost use Rattle.journal_host.specs.Asks.{asked_by, FitsDisk, answered_as};
 ghost use Rattle.journal_host.specs.Calls.{IsNumberCause};
 ghost use Rattle.journal_host.specs.Holds.{IsHosted, outs_in, outbox_of, says_something, said, node_faults};
-ghost use Rattle.journal_host.specs.Steps.{IsTelling, HasTold, IsMade, IsFallen, IsDropped, HasNodeCause};
+ghost use Rattle.journal_host.specs.Phases.{SamePhases, MovesPhases, answer_in};
+ghost use Rattle.journal_host.specs.Steps.{IsTelling, HasTold, IsMade, IsListing, IsFallen, IsDropped};
+ghost use Rattle.journal_host.specs.Steps.{HasNodeCause};
 ghost use Rattle.journal_host.specs.Steps.{HasAnswerCause, HasCrashed, IsStarted, IsNotStarted};
 
-use crate::asking::{Ask, done, reply};
+use crate::asking::{Request, counted, done, reply};
 use crate::fault::ClientFault;
 use crate::out::ClientOut;
 use client_node::{CallFault, ClientNode};
 use disk_trait::Disk;
-use stab_base::{ClientNo, Node, Step};
+use stab_base::{ClientNo, Node, Step, TableNo};
 use step_tables::Out;
-use table_model::{Answer, Refusal};
+use table_model::{Answer, Refusal, RowPairs};
 
 /// What a node's fault is answered by. It tells the refusals of the client from the faults of the call.
 pub(crate) fn answered(found: Result<Answer, CallFault>) -> Result<Answer, ClientFault>
@@ -39,7 +42,13 @@ pub(crate) fn answered(found: Result<Answer, CallFault>) -> Result<Answer, Clien
         Err(CallFault::TooManyChunks { count }) => Refusal::TooManyChunks { count },
         Err(CallFault::NoRow) => Refusal::NoRow,
         Err(CallFault::Busy { with }) => Refusal::Busy { with },
+        Err(CallFault::NotInResolution) => Refusal::NotInResolution,
+        Err(CallFault::InResolution) => Refusal::InResolution,
+        Err(CallFault::NoConflict) => Refusal::NoConflict,
+        Err(CallFault::Moved { seen, now }) => Refusal::Moved { seen, now },
         Err(CallFault::Offline) => Refusal::Offline,
+        Err(CallFault::Outstanding { number }) => Refusal::Outstanding { number },
+        Err(CallFault::Conflicted { version }) => Refusal::Conflicted { version },
         Err(CallFault::Disk) => Refusal::NoDevice,
         Err(CallFault::Spent { .. }) => return Err(ClientFault::Spent),
         Err(CallFault::Memory) => return Err(ClientFault::Memory),
@@ -75,6 +84,7 @@ fn tell<D: Disk + Drop>(node: &mut ClientNode<D>, outs: &mut Vec<ClientOut>, cli
     ensures devs { node.new.devs ≡ node.old.devs }
     ensures up { node.new.is_up ≡ node.old.is_up }
     ensures declared { node.new.is_declared ≡ node.old.is_declared }
+    ensures phases { node.new.phases ≡ node.old.phases }
     ensures plans { (n : ℕ) → HasPlansBelow D.state n node.old → HasPlansBelow D.state n node.new }
 {
     let out = node.take_out();
@@ -86,26 +96,29 @@ fn call_up<D: Disk + Drop>(
     node: &mut ClientNode<D>,
     outs: &mut Vec<ClientOut>,
     client: ClientNo,
-    ask: Ask,
+    request: Request,
 ) -> Result<Answer, ClientFault>
     requires node { IsNode D.state node.old }
     requires up { node.old.is_up ≡ true }
-    ensures made { (cut : Bool) (s : Client) → IsHosted D.state cut client s node.old → FitsDisk s.disk ask
-        → IfOk result (λ answer. IsMade D.state cut client s (move_of ask) node.new outs.old.items outs.new.items answer
+    ensures made { (cut : Bool) (s : Client) → IsHosted D.state cut client s node.old → FitsDisk s.disk request
+        → IfOk result (λ answer. IsMade D.state (is_open node.old) cut client s (asked_by request) node.new
+        outs.old.items outs.new.items answer
         ⊎ IsFallen D.state cut client s node.new outs.old.items outs.new.items answer) }
-    ensures dropped { (cut : Bool) (s : Client) → IsHosted D.state cut client s node.old → (FitsDisk s.disk ask → ⊥)
+    ensures dropped { (cut : Bool) (s : Client) → IsHosted D.state cut client s node.old → (FitsDisk s.disk request → ⊥)
         → IfOk result (λ answer. IsDropped D.state cut client s node.new outs.old.items outs.new.items answer
-        ⊎ (IsMade D.state cut client s (move_of ask) node.new outs.old.items outs.new.items answer
+        ⊎ (IsMade D.state (is_open node.old) cut client s (asked_by request) node.new outs.old.items outs.new.items
+        answer
         ⊎ IsFallen D.state cut client s node.new outs.old.items outs.new.items answer)) }
     ensures spent { (cut : Bool) (s : Client) (n : ℕ) → IsHosted D.state cut client s node.old
-        → HasPlansBelow D.state n node.old → FitsDisk s.disk ask → IfErr result (IsNumberCause n (Some s)) }
+        → HasPlansBelow D.state n node.old → FitsDisk s.disk request → IfErr result (IsNumberCause n (Some s)) }
     ensures kept { (cut : Bool) (s : Client) → IsHosted D.state cut client s node.old
         → OnErr result (IsHosted D.state cut client s node.new × (outs_in outs.new.items ≡ outs_in outs.old.items)) }
+    ensures phases { MovesPhases (asked_by request) (answer_in result) node.old node.new }
     ensures cause { HasAnswerCause D.state node.old node.new result }
     ensures plans { (n : ℕ) → HasPlansBelow D.state n node.old → HasPlansBelow D.state (suc n) node.new }
 {
     outs.reserve(1)?;
-    let found = reply(node, ask);
+    let found = reply(node, request);
     tell(node, outs, client);
     answered(found)
 }
@@ -115,29 +128,96 @@ pub(crate) fn call<D: Disk + Drop>(
     node: &mut ClientNode<D>,
     outs: &mut Vec<ClientOut>,
     client: ClientNo,
-    ask: Ask,
+    request: Request,
 ) -> Result<Answer, ClientFault>
     requires { IsNode D.state node.old }
-    ensures made { (cut : Bool) (s : Client) → IsHosted D.state cut client s node.old → FitsDisk s.disk ask
+    ensures made { (cut : Bool) (s : Client) → IsHosted D.state cut client s node.old → FitsDisk s.disk request
         → node.old.is_up ≡ true
-        → IfOk result (λ answer. IsMade D.state cut client s (move_of ask) node.new outs.old.items outs.new.items answer
+        → IfOk result (λ answer. IsMade D.state (is_open node.old) cut client s (asked_by request) node.new
+        outs.old.items outs.new.items answer
         ⊎ IsFallen D.state cut client s node.new outs.old.items outs.new.items answer) }
-    ensures dropped { (cut : Bool) (s : Client) → IsHosted D.state cut client s node.old → (FitsDisk s.disk ask → ⊥)
+    ensures dropped { (cut : Bool) (s : Client) → IsHosted D.state cut client s node.old → (FitsDisk s.disk request → ⊥)
         → node.old.is_up ≡ true
         → IfOk result (λ answer. IsDropped D.state cut client s node.new outs.old.items outs.new.items answer
-        ⊎ (IsMade D.state cut client s (move_of ask) node.new outs.old.items outs.new.items answer
+        ⊎ (IsMade D.state (is_open node.old) cut client s (asked_by request) node.new outs.old.items outs.new.items
+        answer
         ⊎ IsFallen D.state cut client s node.new outs.old.items outs.new.items answer)) }
     ensures down { node.old.is_up ≡ false → (node.new ≡ node.old) × (outs.new.items ≡ outs.old.items)
         × IfOk result (λ answer. answer ≡ answers.Refused (refusals.Down (nodes.Client client))) }
     ensures spent { (cut : Bool) (s : Client) (n : ℕ) → IsHosted D.state cut client s node.old
-        → HasPlansBelow D.state n node.old → FitsDisk s.disk ask → IfErr result (IsNumberCause n (Some s)) }
+        → HasPlansBelow D.state n node.old → FitsDisk s.disk request → IfErr result (IsNumberCause n (Some s)) }
     ensures kept { (cut : Bool) (s : Client) → IsHosted D.state cut client s node.old
         → OnErr result (IsHosted D.state cut client s node.new × (outs_in outs.new.items ≡ outs_in outs.old.items)) }
+    ensures phases { MovesPhases (asked_by request) (answer_in result) node.old node.new }
     ensures cause { HasAnswerCause D.state node.old node.new result }
     ensures plans { (n : ℕ) → HasPlansBelow D.state n node.old → HasPlansBelow D.state (suc n) node.new }
 {
     if node.is_up() {
-        return call_up(node, outs, client, ask);
+        return call_up(node, outs, client, request);
+    }
+    Ok(Answer::Refused(Refusal::Down {
+        node: Node::Client(client),
+    }))
+}
+
+// Asks a node that is up for the rows in conflict of a table.
+fn list_up<D: Disk + Drop>(
+    node: &mut ClientNode<D>,
+    outs: &mut Vec<ClientOut>,
+    client: ClientNo,
+    table: TableNo,
+    pairs: &mut RowPairs,
+) -> Result<Answer, ClientFault>
+    requires node { IsNode D.state node.old }
+    requires up { node.old.is_up ≡ true }
+    ensures listed { (cut : Bool) (s : Client) → IsHosted D.state cut client s node.old → IfOk result (λ answer.
+        IsListing D.state (is_open node.old) cut client s table node.new outs.old.items outs.new.items pairs.new answer
+        ⊎ ((pairs.new ≡ pairs.old) × (IsMade D.state (is_open node.old) cut client s (Conflicts table) node.new
+        outs.old.items outs.new.items answer
+        ⊎ IsFallen D.state cut client s node.new outs.old.items outs.new.items answer))) }
+    ensures spent { (cut : Bool) (s : Client) (n : ℕ) → IsHosted D.state cut client s node.old
+        → HasPlansBelow D.state n node.old → IfErr result (IsNumberCause n (Some s)) }
+    ensures kept { (cut : Bool) (s : Client) → IsHosted D.state cut client s node.old
+        → OnErr result (IsHosted D.state cut client s node.new × (outs_in outs.new.items ≡ outs_in outs.old.items)) }
+    ensures phases { KeepsPhases node.old node.new }
+    ensures cause { HasAnswerCause D.state node.old node.new result }
+    ensures plans { (n : ℕ) → HasPlansBelow D.state n node.old → HasPlansBelow D.state (suc n) node.new }
+{
+    outs.reserve(1)?;
+    let found = node.conflicted(table);
+    let count = counted(found, pairs);
+    tell(node, outs, client);
+    answered(count)
+}
+
+/// Asks a node for the rows in conflict of a table: how many there are. One that is down refuses.
+pub(crate) fn list<D: Disk + Drop>(
+    node: &mut ClientNode<D>,
+    outs: &mut Vec<ClientOut>,
+    client: ClientNo,
+    table: TableNo,
+    pairs: &mut RowPairs,
+) -> Result<Answer, ClientFault>
+    requires { IsNode D.state node.old }
+    ensures listed { (cut : Bool) (s : Client) → IsHosted D.state cut client s node.old → node.old.is_up ≡ true
+        → IfOk result (λ answer. IsListing D.state (is_open node.old) cut client s table node.new outs.old.items
+        outs.new.items pairs.new answer
+        ⊎ ((pairs.new ≡ pairs.old) × (IsMade D.state (is_open node.old) cut client s (Conflicts table) node.new
+        outs.old.items outs.new.items answer
+        ⊎ IsFallen D.state cut client s node.new outs.old.items outs.new.items answer))) }
+    ensures down { node.old.is_up ≡ false → (node.new ≡ node.old) × (outs.new.items ≡ outs.old.items)
+        × (pairs.new ≡ pairs.old)
+        × IfOk result (λ answer. answer ≡ answers.Refused (refusals.Down (nodes.Client client))) }
+    ensures spent { (cut : Bool) (s : Client) (n : ℕ) → IsHosted D.state cut client s node.old
+        → HasPlansBelow D.state n node.old → IfErr result (IsNumberCause n (Some s)) }
+    ensures kept { (cut : Bool) (s : Client) → IsHosted D.state cut client s node.old
+        → OnErr result (IsHosted D.state cut client s node.new × (outs_in outs.new.items ≡ outs_in outs.old.items)) }
+    ensures phases { KeepsPhases node.old node.new }
+    ensures cause { HasAnswerCause D.state node.old node.new result }
+    ensures plans { (n : ℕ) → HasPlansBelow D.state n node.old → HasPlansBelow D.state (suc n) node.new }
+{
+    if node.is_up() {
+        return list_up(node, outs, client, table, pairs);
     }
     Ok(Answer::Refused(Refusal::Down {
         node: Node::Client(client),
@@ -150,6 +230,7 @@ pub(crate) fn link<D: Disk + Drop>(node: &mut ClientNode<D>, client: ClientNo, u
         → IsHosted D.state (not up) client s node.new × (result ≡ answers.Done) }
     ensures down { node.old.is_up ≡ false → (node.new ≡ node.old)
         × (result ≡ answers.Refused (refusals.Down (nodes.Client client))) }
+    ensures phases { SamePhases node.old node.new }
     ensures counted { node_faults D.state node.new ≡ node_faults D.state node.old }
     ensures plans { (n : ℕ) → HasPlansBelow D.state n node.old → HasPlansBelow D.state n node.new }
 {
@@ -178,6 +259,7 @@ fn work_up<D: Disk + Drop>(
         outs.new.items
         ⊎ HasTold D.state cut client (client_step client no_shape s (Work lucks.FailedAfter)) node.new outs.old.items
         outs.new.items }
+    ensures phases { KeepsPhases node.old node.new }
     ensures cause { HasNodeCause D.state node.old node.new result }
     ensures plans { (n : ℕ) → HasPlansBelow D.state n node.old → HasPlansBelow D.state n node.new }
 {
@@ -203,6 +285,7 @@ pub(crate) fn work<D: Disk + Drop>(
         ⊎ HasTold D.state cut client (client_step client no_shape s (Work lucks.FailedAfter)) node.new outs.old.items
         outs.new.items }
     ensures busy { (s : Client) → IsClient D.state node.old s → IsErrOf result DiskFailed → has_task s.agenda ≡ true }
+    ensures phases { KeepsPhases node.old node.new }
     ensures cause { HasNodeCause D.state node.old node.new result }
     ensures plans { (n : ℕ) → HasPlansBelow D.state n node.old → HasPlansBelow D.state n node.new }
 {
@@ -217,6 +300,7 @@ pub(crate) fn crash<D: Disk + Drop>(node: &mut ClientNode<D>, calls: u32, pick: 
     requires { IsNode D.state node.old }
     ensures crashed { (cut : Bool) (c : ℕ) (s : Client) → IsHosted D.state cut c s node.old
         → HasCrashed D.state cut c calls s node.old node.new }
+    ensures phases { KeepsPhases node.old node.new }
     ensures plans { (n : ℕ) → HasPlansBelow D.state n node.old → HasPlansBelow D.state n node.new }
 {
     if node.is_up() {
@@ -238,6 +322,7 @@ fn start_down<D: Disk + Drop>(
         ⊎ IsNotStarted D.state cut client s node.new outs.old.items outs.new.items answer) }
     ensures kept { (cut : Bool) (s : Client) → IsHosted D.state cut client s node.old
         → OnErr result (IsHosted D.state cut client s node.new × (outs_in outs.new.items ≡ outs_in outs.old.items)) }
+    ensures phases { KeepsPhases node.old node.new }
     ensures cause { HasAnswerCause D.state node.old node.new result }
     ensures memory { IfErr result (λ e. e ≡ faults.Memory) }
     ensures plans { (n : ℕ) → HasPlansBelow D.state n node.old → HasPlansBelow D.state n node.new }
@@ -261,6 +346,7 @@ pub(crate) fn start<D: Disk + Drop>(
         ⊎ IsNotStarted D.state cut client s node.new outs.old.items outs.new.items answer) }
     ensures kept { (cut : Bool) (s : Client) → IsHosted D.state cut client s node.old
         → OnErr result (IsHosted D.state cut client s node.new × (outs_in outs.new.items ≡ outs_in outs.old.items)) }
+    ensures phases { KeepsPhases node.old node.new }
     ensures cause { HasAnswerCause D.state node.old node.new result }
     ensures memory { IfErr result (λ e. e ≡ faults.Memory) }
     ensures plans { (n : ℕ) → HasPlansBelow D.state n node.old → HasPlansBelow D.state n node.new }

@@ -9,6 +9,7 @@ mod laws;
 mod opening;
 mod out;
 
+pub use asking::Ask;
 pub use fault::ClientFault;
 pub use host::ClientHost;
 pub use laws::{calls_are_followed, messages_are_followed, starts_are_followed};

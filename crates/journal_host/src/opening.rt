@@ -5,6 +5,7 @@ ghost use Rattle.std.specs.BTreeMap as tree;
 ghost use Rattle.row_value.specs.declared.schema.Schema.{Schema as ASchema};
 ghost use Rattle.step_tables.specs.Messages.{Luck};
 ghost use Rattle.client_node.specs.Node.{HasPlansBelow};
+ghost use Rattle.client_node.specs.Phases.{is_open};
 ghost use Rattle.world_tables.specs.World.{World as AWorld, new_client, open_all, first_agenda};
 ghost use Rattle.journal_host.specs.declared.fault.ClientFault.TheVariants.{Memory};
 ghost use Rattle.journal_host.specs.Holds.{IsHosted, HasSchemas, AreToOpen, node_faults};
@@ -77,6 +78,7 @@ pub(crate) fn joining<D: Disk + Drop>(
     ensures joined { (w : AWorld) → HasSchemas w schemas.now → IfOk result (λ node. (luck : Luck)
         × IsHosted D.state false client (new_client (open_all w [] tables.now) (first_agenda luck)) node
         × HasJoinLuck D.state disks luck (node_faults D.state node)) }
+    ensures phases { IfOk result (λ node. (table : ℕ) → is_open node table ≡ false) }
     ensures plans { IfOk result (λ node. (n : ℕ) → HasPlansBelow D.state n node) }
     ensures memory { IfErr result (λ e. e ≡ Memory) }
 {

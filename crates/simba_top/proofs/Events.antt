@@ -102,15 +102,15 @@ table_made : (names : Names) (words : List (List ℕ)) (table : ℕ) (schema : S
 table_made names words table schema s = record {
   least = s.1.0;
   most = s.1.1;
-  eventual = s.2;
-  size = sized schema.chunk s.3;
-  spelled = schema_spelled schema s.5 s.3 s.4;
-  short = payload_short schema s.5 s.3 s.4;
+  size = sized schema.chunk s.2;
+  spelled = schema_spelled schema s.4 s.2 s.3;
+  short = payload_short schema s.4 s.2 s.3;
 }
 
 spelled_built : (names : Names) (words : List (List ℕ)) (event : Event) → SpelledBy names words event → IsBuilt event
 spelled_built names words (events.Table table schema) s = table_made names words table schema s
 spelled_built names words (events.Client client gate tables) s = record { least = s.1.0; most = s.1.1 }
+spelled_built names words (events.ResolveAll client table by) s = s
 spelled_built names words other s = tt
 
 pub built : (names : Names) (line : List ℕ) (event : Event) → Spells names line event → IsBuilt event

@@ -30,6 +30,7 @@ fn row_in(event: &Event) -> Option<(TableNo, &RowId)>
         | Event::Edit { table, row, .. }
         | Event::Show { table, row, .. }
         | Event::Sum { table, row, .. }
+        | Event::Resolve { table, row, .. }
         | Event::StoreShow { table, row } => Some((*table, row)),
         Event::Store { .. }
         | Event::Table { .. }
@@ -37,6 +38,10 @@ fn row_in(event: &Event) -> Option<(TableNo, &RowId)>
         | Event::Link { .. }
         | Event::Sync { .. }
         | Event::Pull { .. }
+        | Event::BeginCr { .. }
+        | Event::Conflicts { .. }
+        | Event::EndCr { .. }
+        | Event::ResolveAll { .. }
         | Event::Deliver { .. }
         | Event::History { .. }
         | Event::Chunks { .. }

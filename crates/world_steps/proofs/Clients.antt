@@ -10,14 +10,15 @@ use Rattle.table_model.specs.declared.line.Refusal.TheVariants as refusals
 use Rattle.table_model.specs.declared.line.TextLine.{TextLine}
 use Rattle.step_tables.specs.declared.message.Message.{Message}
 use Rattle.step_tables.specs.ClientMoves.{Client, ClientTask, TableDisk, Shape, no_shape, table_at, seen}
-use Rattle.step_tables.specs.Facts.{Line, AnswerLine}
+use Rattle.table_model.specs.declared.line.RowPair.{RowPair}
+use Rattle.step_tables.specs.Facts.{Line, AnswerLine, PairLine}
 use Rattle.step_tables.specs.Facts as facts
 use Rattle.step_tables.specs.Lines.{answer_of}
 use Rattle.step_tables.specs.Members.{Among}
 use Rattle.step_tables.specs.Messages.{Luck, Header}
 use Rattle.step_tables.specs.Messages as messages
 use Rattle.step_tables.specs.Travels.{message_of}
-use Rattle.world_tables.specs.World.{Lucks, Moved, Outbox, Packet, WorldStep, answering, answered, refused, is_down, linked, with_link, client_at, client_tasks, client_crashes, hosted_at, is_fault, lines_from, lines_of, first_luck}
+use Rattle.world_tables.specs.World.{Lucks, listed, Moved, Outbox, Packet, WorldStep, answering, answered, refused, is_down, linked, with_link, client_at, client_tasks, client_crashes, hosted_at, is_fault, lines_from, lines_of, first_luck}
 use Rattle.world_tables.specs.World as moves
 use Rattle.world_tables.specs.Faults.{is_failure, is_fault_answer, fails_write}
 use Rattle.fault_laws.proofs.Same.{done_alone}
@@ -42,19 +43,22 @@ use Rattle.world_steps.specs.declared.fault.WorldFault.TheVariants as fault
 use Rattle.world_steps.specs.declared.world.World.{World}
 use Rattle.world_steps.specs.Holds.{Holds}
 use Rattle.world_steps.specs.Outs.{packets_of}
-use Rattle.world_steps.specs.Calls.{IsDone, Comes, HasToldClients, by_lucks}
+use Rattle.world_steps.specs.Calls.{IsDone, Comes, HasToldPairs, HasToldClients, by_lucks}
 use Rattle.world_steps.specs.Faults.{AreCounted}
 use Rattle.world_steps.specs.Steps.{HavePlansBelow, IsStill, SpendsNumber}
 use Rattle.world_steps.proofs.Counted.{sent_counted, clients_same, clients_still, tables_same, tables_still, all_same}
-use Rattle.world_steps.proofs.Keeping.{Keeps, changed, crash_quiet}
+use Rattle.world_steps.proofs.Keeping.{KeepsBeside, Keeps, changed, listed_keeps, crash_quiet}
 use Rattle.world_steps.proofs.Said.{client_lines, client_packets}
 
 -- ---- what is told
 
 -- what an event answered, and what waited at the clients behind it
+abbrev pub HasListed : {D : Type 0} → (D → DiskState) → World D → ClientHost D → World D → List RowPair → Result Answer ClientFault → Result (List TextLine) WorldFault → Type 0
+HasListed state old mid new pairs found result =
+    IfOk result (λ lines. (answer : Answer) × (found ≡ Ok answer) × HasToldPairs state (record old { clients = mid }) new (answer_of answer) pairs lines)
+
 abbrev pub HasFound : {D : Type 0} → (D → DiskState) → World D → ClientHost D → World D → Result Answer ClientFault → Result (List TextLine) WorldFault → Type 0
-HasFound state old mid new found result =
-    IfOk result (λ lines. (answer : Answer) × (found ≡ Ok answer) × HasToldClients state (record old { clients = mid }) new (answer_of answer) lines)
+HasFound state old mid new found result = HasListed state old mid new [] found result
 
 pub answer_found : {D : Type 0} (state : D → DiskState) (old new : World D) (mid : ClientHost D) (answer : Answer) (found : Result Answer ClientFault) (result : Result (List TextLine) WorldFault)
     → found ≡ Ok answer → IfOk result (λ lines. HasToldClients state (record old { clients = mid }) new (answer_of answer) lines) → HasFound state old mid new found result
@@ -62,18 +66,23 @@ answer_found state old new mid answer found (Err e) is k = tt
 answer_found state old new mid answer found (Ok lines) is k = (answer, is, k)
 
 -- the same of the world in which it waits
+pub pairs_told : {D : Type 0} (state : D → DiskState) (old new : World D) (pairs : List RowPair) (answer : Answer) (found : Result Answer ClientFault) (result : Result (List TextLine) WorldFault)
+    → found ≡ Ok answer → IfOk result (λ lines. HasToldPairs state old new (answer_of answer) pairs lines)
+    → IfOk result (λ lines. (answer : Answer) × (found ≡ Ok answer) × HasToldPairs state old new (answer_of answer) pairs lines)
+pairs_told state old new pairs answer found (Err e) is k = tt
+pairs_told state old new pairs answer found (Ok lines) is k = (answer, is, k)
+
 pub answer_told : {D : Type 0} (state : D → DiskState) (old new : World D) (answer : Answer) (found : Result Answer ClientFault) (result : Result (List TextLine) WorldFault)
     → found ≡ Ok answer → IfOk result (λ lines. HasToldClients state old new (answer_of answer) lines)
     → IfOk result (λ lines. (answer : Answer) × (found ≡ Ok answer) × HasToldClients state old new (answer_of answer) lines)
-answer_told state old new answer found (Err e) is k = tt
-answer_told state old new answer found (Ok lines) is k = (answer, is, k)
+answer_told state old new answer found result is k = pairs_told state old new [] answer found result is k
 
-module _ {D : Type 0} (state : D → DiskState) (w : moves.World) (old : World D) (h : Holds state w old) (s : WorldStep) (keeps : Keeps w s) (mid : ClientHost D) (answer : Answer)
-    (k : IsCalled state old.clients mid s answer) where
+module _ {D : Type 0} (state : D → DiskState) (w : moves.World) (old : World D) (h : Holds state w old) (s : WorldStep) (pairs : List RowPair) (keeps : KeepsBeside w s pairs) (mid : ClientHost D)
+    (answer : Answer) (k : IsCalled state old.clients mid s answer) where
   waiting : host.outs_of mid ≡ said s.outs
   waiting = k.outs ∙ ap (λ (os : List Outbox). os ++ said s.outs) h.clients_told
 
-  held_behind : (new : World D) (lines : List TextLine) → HasToldClients state (record old { clients = mid }) new (answer_of answer) lines
+  held_behind : (new : World D) (lines : List TextLine) → HasToldPairs state (record old { clients = mid }) new (answer_of answer) pairs lines
       → Holds state (changed w s.world) (record old { clients = new.clients; network = new.network })
   held_behind new lines t = record {
     schemas = h.schemas;
@@ -93,19 +102,19 @@ module _ {D : Type 0} (state : D → DiskState) (w : moves.World) (old : World D
     numbered = record { both = h.numbered.both; tables = h.numbered.tables; clients = λ q there. h.numbered.clients q (sym (keeps.clients q) ∙ there) };
   }
 
-  pub told_one : (new : World D) (lines : List TextLine) → HasToldClients state (record old { clients = mid }) new (answer_of answer) lines → IsDone state w s lines new
+  pub told_one : (new : World D) (lines : List TextLine) → HasToldPairs state (record old { clients = mid }) new (answer_of answer) pairs lines → IsDone state w s lines new
   told_one new lines t = record {
-    lines_are = t.lines_are ∙ (ap (λ (ps : List Packet). AnswerLine (answer_of answer) ∷ lines_from (length ps) (host.outs_of mid)) h.packets
-        ∙ (ap (λ (os : List Outbox). AnswerLine (answer_of answer) ∷ lines_from (length w.packets) os) waiting
-        ∙ (ap (λ (ls : List Line). AnswerLine (answer_of answer) ∷ ls) (client_lines (length w.packets) s.outs)
-        ∙ (ap (λ (o : Option facts.Answer). map AnswerLine (option_to_list o) ++ ([] ++ lines_from (length w.packets) s.outs)) (sym k.answer_is)
+    lines_are = t.lines_are ∙ (ap (λ (ps : List Packet). AnswerLine (answer_of answer) ∷ (map PairLine pairs ++ lines_from (length ps) (host.outs_of mid))) h.packets
+        ∙ (ap (λ (os : List Outbox). AnswerLine (answer_of answer) ∷ (map PairLine pairs ++ lines_from (length w.packets) os)) waiting
+        ∙ (ap (λ (ls : List Line). AnswerLine (answer_of answer) ∷ (map PairLine pairs ++ ls)) (client_lines (length w.packets) s.outs)
+        ∙ (ap (λ (o : Option facts.Answer). map AnswerLine (option_to_list o) ++ (map PairLine pairs ++ lines_from (length w.packets) s.outs)) (sym k.answer_is)
         ∙ ap (λ (ls : List Line). map AnswerLine (option_to_list s.answer) ++ (ls ++ lines_from (length w.packets) s.outs)) (sym keeps.counted)))));
     held = subst (λ (x : moves.World). Holds state x new) (sym keeps.same) (subst (λ (x : World D). Holds state (changed w s.world) x) (sym t.same) (held_behind new lines t));
     tables = λ table. ap (λ (x : moves.World). is_some (hosted_at x table)) keeps.same;
     clients = keeps.clients;
   }
 
-  pub told_ok : (new : World D) (result : Result (List TextLine) WorldFault) → IfOk result (λ lines. HasToldClients state (record old { clients = mid }) new (answer_of answer) lines)
+  pub told_ok : (new : World D) (result : Result (List TextLine) WorldFault) → IfOk result (λ lines. HasToldPairs state (record old { clients = mid }) new (answer_of answer) pairs lines)
       → IfOk result (λ lines. IsDone state w s lines new)
   told_ok new (Err e) t = tt
   told_ok new (Ok lines) t = told_one new lines t
@@ -128,7 +137,17 @@ module _ {D : Type 0} (state : D → DiskState) (w : moves.World) (old : World D
   client_comes new found (Err e) k t = tt
   client_comes new found (Ok lines) k t =
       let x : events.Comes state old.clients mid f (Ok t.0) = subst (λ (r : Result Answer ClientFault). events.Comes state old.clients mid f r) t.1 k in
-      (record { calls = x.1; shape = x.0 }, told_one state w old h (f x.0 x.1) (keeps x.0 x.1) mid t.0 x.2 new lines t.2)
+      (record { calls = x.1; shape = x.0; shapes = [] }, told_one state w old h (f x.0 x.1) [] (keeps x.0 x.1) mid t.0 x.2 new lines t.2)
+
+  -- the same of one that lists the rows in conflict
+  pub client_lists : (new : World D) (pairs : List RowPair) (found : Result Answer ClientFault) (result : Result (List TextLine) WorldFault) → events.Lists state old.clients mid f pairs found
+      → HasListed state old mid new pairs found result → Comes state w (λ lucks. listed (by_lucks f lucks)) result new
+  client_lists new pairs found (Err e) k t = tt
+  client_lists new pairs found (Ok lines) k t =
+      let x : events.Lists state old.clients mid f pairs (Ok t.0) = subst (λ (r : Result Answer ClientFault). events.Lists state old.clients mid f pairs r) t.1 k in (
+        record { calls = x.1; shape = x.0; shapes = [] },
+        told_one state w old h (listed (f x.0 x.1)) pairs (listed_keeps w (f x.0 x.1) pairs (keeps x.0 x.1) x.2.counted) mid t.0 x.2.called new lines t.2,
+      )
 
 -- ---- which disks failed
 
@@ -148,7 +167,13 @@ fault_only (answers.Refused (refusals.BadObject column len)) e = absurd cc
 fault_only (answers.Refused (refusals.RowTooLarge len)) e = absurd cc
 fault_only (answers.Refused (refusals.Busy with)) e = absurd cc
 fault_only (answers.Refused refusals.NoTable) e = absurd cc
+fault_only (answers.Refused refusals.NotInResolution) e = absurd cc
+fault_only (answers.Refused refusals.InResolution) e = absurd cc
+fault_only (answers.Refused refusals.NoConflict) e = absurd cc
+fault_only (answers.Refused (refusals.Moved seen now)) e = absurd cc
 fault_only (answers.Refused refusals.Offline) e = absurd cc
+fault_only (answers.Refused (refusals.Outstanding number)) e = absurd cc
+fault_only (answers.Refused (refusals.Conflicted version)) e = absurd cc
 fault_only (answers.Refused refusals.NoRow) e = absurd cc
 fault_only (answers.Refused (refusals.NoPacket sent)) e = absurd cc
 fault_only (answers.Refused (refusals.Down node)) e = absurd cc
@@ -165,12 +190,16 @@ module _ {D : Type 0} (state : D → DiskState) (c : ℕ) (old mid : tree.BTreeM
   fault_same e = cause.counted (λ failed. let no : true ≡ false = ap (λ (a : Answer). is_fault (answer_of a)) (some_answer (answers.Refused refusals.NoDevice) answer found failed is) ∙ e in absurd cc)
 
 module _ {D : Type 0} (state : D → DiskState) (w : moves.World) (f : Lucks → WorldStep) (old : World D) (mid : ClientHost D) (c : ℕ) where
+  pub lists_count : (new : World D) (pairs : List RowPair) (found : Result Answer ClientFault) (result : Result (List TextLine) WorldFault) → HasCause state c old.clients.clients mid.clients found
+      → HasListed state old mid new pairs found result → Comes state w f result new → AreCounted state result old new
+  lists_count new pairs found (Err e) cause t k = tt
+  lists_count new pairs found (Ok lines) cause t k =
+      sent_counted state w f (Ok lines) (answer_of t.0) old new mid c pairs (fault_rose state c old.clients.clients mid.clients found cause t.0 t.1)
+      (fault_same state c old.clients.clients mid.clients found cause t.0 t.1) t.2 k
+
   pub client_counts : (new : World D) (found : Result Answer ClientFault) (result : Result (List TextLine) WorldFault) → HasCause state c old.clients.clients mid.clients found
       → HasFound state old mid new found result → Comes state w f result new → AreCounted state result old new
-  client_counts new found (Err e) cause t k = tt
-  client_counts new found (Ok lines) cause t k =
-      sent_counted state w f (Ok lines) (answer_of t.0) old new mid c (fault_rose state c old.clients.clients mid.clients found cause t.0 t.1)
-      (fault_same state c old.clients.clients mid.clients found cause t.0 t.1) t.2 k
+  client_counts new found result cause t k = lists_count new [] found result cause t k
 
 -- a call in which no disk fails
 pub none_cause : {D : Type 0} (state : D → DiskState) (c : ℕ) (old mid : tree.BTreeMap ℕ (ClientNode D)) (answer : Answer) → is_fault (answer_of answer) ≡ false → SameFaults state old mid

@@ -7,6 +7,7 @@ use Rattle.std.proofs.lemmas.Bool.Decides.{eqb_tells}
 use Rattle.disk_trait.specs.Calls.{DiskState}
 use Rattle.table_model.specs.declared.event.Event.{Event}
 use Rattle.table_model.specs.declared.line.Answer.{Answer}
+use Rattle.table_model.specs.declared.line.RowPair.{RowPair}
 use Rattle.table_model.specs.declared.line.TextLine.{TextLine}
 use Rattle.step_tables.specs.Facts.{Line, AnswerLine}
 use Rattle.step_tables.specs.ClientMoves.{Client}
@@ -30,7 +31,7 @@ use Rattle.journal_host.specs.Holds as clients
 use Rattle.world_steps.specs.declared.fault.WorldFault.{WorldFault}
 use Rattle.world_steps.specs.declared.fault.WorldFault.TheVariants.{Memory}
 use Rattle.world_steps.specs.declared.world.World.{World}
-use Rattle.world_steps.specs.Calls.{IsDone, Comes, HasTold, HasToldClients}
+use Rattle.world_steps.specs.Calls.{IsDone, Comes, HasTold, HasToldPairs, HasToldClients}
 use Rattle.world_steps.specs.Faults.{IsCounted, AreTotals, AreCounted, ComesCounted, IsUndone, table_faults, client_faults, all_faults, tell_fault}
 use Rattle.world_steps.specs.Holds.{Holds, AreOut}
 use Rattle.world_steps.specs.Rows.{ComesLeft}
@@ -215,11 +216,11 @@ module _ {D : Type 0} (state : D → DiskState) where
       (ap (λ (x : World D). x.clients.clients) k.same))
 
   -- what a client told and sent
-  pub sent_counted : (w : moves.World) (f : Lucks → WorldStep) (result : Result (List TextLine) WorldFault) (a : facts.Answer) (old new : World D) (mid : ClientHost D) (c : ℕ)
+  pub sent_counted : (w : moves.World) (f : Lucks → WorldStep) (result : Result (List TextLine) WorldFault) (a : facts.Answer) (old new : World D) (mid : ClientHost D) (c : ℕ) (pairs : List RowPair)
       → (is_fault a ≡ true → clients.RisenFaults state c old.clients.clients mid.clients) → (is_fault a ≡ false → clients.SameFaults state old.clients.clients mid.clients)
-      → IfOk result (λ lines. HasToldClients state (record old { clients = mid }) new a lines) → Comes state w f result new → AreCounted state result old new
-  sent_counted w f (Err e) a old new mid c rose same k d = tt
-  sent_counted w f (Ok lines) a old new mid c rose same k d =
+      → IfOk result (λ lines. HasToldPairs state (record old { clients = mid }) new a pairs lines) → Comes state w f result new → AreCounted state result old new
+  sent_counted w f (Err e) a old new mid c pairs rose same k d = tt
+  sent_counted w f (Ok lines) a old new mid c pairs rose same k d =
       totals_as old new (tell_fault (map line_of lines)) (is_fault a) (tells (map line_of lines) a _ k.lines_are)
       (client_counted (f d.0).world old new c (is_fault a) d.1.held
       (λ t. subst (λ (m : tree.BTreeMap ℕ (ClientNode D)). clients.RisenFaults state c old.clients.clients m) (sym k.nodes) (rose t))

@@ -90,7 +90,7 @@ module _ {D : Type 0} (state : D → DiskState) (w : moves.World) (table : ℕ) 
   rest_with : (made up : Bool) → Rest state (with_table w table schema made up) (record old { schemas = schemas })
   rest_with made up = record {
     schemas = λ q. put q ∙ (ap (λ (o : Option Schema). cond (is_at (nat_cmp table) q) (Some schema) o) (r.schemas q) ∙ sym (known made up q));
-    clients = clients_stay state w (with_table w table schema made up) old.clients r.clients (record { clients = refl; cuts = refl });
+    clients = clients_stay state w (with_table w table schema made up) old.clients r.clients (record { clients = refl; cuts = refl; phases = refl });
     clients_told = r.clients_told;
     packets = r.packets;
     held = r.held;
@@ -281,7 +281,6 @@ record_short table schema short =
 pub to_open : (table : ℕ) (schema : Schema) → IsMade table schema → IsToOpen (table, schema)
 to_open table schema m = record {
   numbered = record { least = m.least; most = m.most };
-  eventual = m.eventual;
   spelled = m.spelled;
   short = record_short table schema m.short;
 }

@@ -132,7 +132,7 @@ module _ {D : Type 0} (state : D → DiskState) (w : moves.World) (old : World D
       → Rest state m.world (record old { store = store; network = network })
   rest_behind store network packets = record {
     schemas = λ table. r.schemas table ∙ sym (schema_same w m.world g.schemas table);
-    clients = clients_stay state w m.world old.clients r.clients (record { clients = g.clients; cuts = g.cuts });
+    clients = clients_stay state w m.world old.clients r.clients (record { clients = g.clients; cuts = g.cuts; phases = g.phases });
     clients_told = r.clients_told;
     packets = packets ∙ (ap (λ (ps : List Packet). ps ++ packets_of m.outs) r.packets ∙ sym g.packets);
     held = λ node. r.held node ∙ ap (λ (ns : List Node). has_node ns node) (sym g.holds);

@@ -1,19 +1,22 @@
--- What a client's event keeps of a world: all but the clients, what was sent, and which links are down.
+-- What a client's event keeps of a world: all but the clients, what was sent, which links are down, and which phases are
+-- open.
 use Rattle.std.proofs.Common.{◌≡◌, ℕ, Bool, true, false, List, [], ◌∷◌, ◌++◌, Option, Some, None, refl, sym, ◌∙◌, ap, append-nil, append_assoc, arith}
-use Rattle.std.specs.Prelude.{if◌then◌else◌, is_some, ◌&&◌}
+use Rattle.std.specs.Prelude.{if◌then◌else◌, is_some, ◌&&◌, map}
 use Rattle.std.specs.Ordering.{nat_cmp}
 use Rattle.std.specs.Map.{lookup}
 use Rattle.std.specs.BTreeMap.{is_at, insert_entry}
 use Rattle.std.proofs.lemmas.Bool.Decides.{nat_tests}
 use Rattle.stab_base.specs.declared.node.Node.TheVariants as nodes
-use Rattle.step_tables.specs.ClientMoves.{Client, ClientDisk, ClientTask, ClientMove, ClientStep, Shape, Work, Start, Crash, Take, no_shape, client_step, is_cut_off}
+use Rattle.step_tables.specs.ClientMoves.{Client, ClientDisk, ClientTask, ClientMove, ClientStep, Shape, Work, Start, Crash, Take, no_shape, client_step, is_cut_off, kept_out}
+use Rattle.table_model.specs.declared.line.RowPair.{RowPair}
+use Rattle.step_tables.specs.Facts.{PairLine}
 use Rattle.step_tables.specs.Facts as facts
 use Rattle.step_tables.specs.Messages.{Luck, Message}
 use Rattle.step_tables.specs.Messages as messages
 use Rattle.step_tables.proofs.Lists.{lookup-insert_nat}
-use Rattle.world_tables.specs.World.{World, WorldStep, Packet, Moved, client_at, is_down, is_cut, has_node, still, and_then, failing, packets_from, answering, answered, refused, unless_down, reads, unless_cut}
+use Rattle.world_tables.specs.World.{World, WorldStep, Packet, Outbox, Moved, client_at, is_down, is_cut, has_node, still, and_then, failing, packets_from, answering, answered, refused, unless_down, reads, unless_kept, unless_cut, is_resolving}
 use Rattle.world_tables.specs.World.{move_client, move_there, client_works, client_tasks, client_until_idle, client_follows, client_follows_from, gets_tasks, client_writes, client_falls, client_crashes, client_starts}
-use Rattle.world_tables.specs.World.{starts_by, first_luck, other_lucks, crash_luck, next_write, calls, call, call_there, to_there, worked, all_worked, crashed, started, linked, with_link}
+use Rattle.world_tables.specs.World.{starts_by, listed, first_luck, other_lucks, crash_luck, next_write, calls, call, call_there, to_there, worked, all_worked, crashed, started, linked, with_link}
 use Rattle.world_steps.specs.Outs.{packets_of}
 use Rattle.world_steps.proofs.Going.{packets_join}
 
@@ -23,9 +26,9 @@ use Rattle.world_steps.proofs.Going.{packets_join}
 abbrev pub SameClients : World → World → Type 0
 SameClients w after = (q : ℕ) → is_some (client_at after q) ≡ is_some (client_at w q)
 
--- the world with the clients, the packets and the links of another
+-- the world with the clients, the packets, the links and the phases of another
 abbrev pub changed : World → World → World
-changed w after = record w { clients = after.clients; packets = after.packets; cuts = after.cuts }
+changed w after = record w { clients = after.clients; packets = after.packets; cuts = after.cuts; phases = after.phases }
 
 pub record KeepsMoved (w : World) (m : Moved) : Type 0 where
   pub same : m.world ≡ changed w m.world
@@ -97,11 +100,15 @@ starts_keeps c shape messages.FailedAfter lucks w = failing_keeps w (still w) (s
 
 -- ---- events
 
-pub record Keeps (w : World) (s : WorldStep) : Type 0 where
+-- beside the rows in conflict that its answer counts
+pub record KeepsBeside (w : World) (s : WorldStep) (pairs : List RowPair) : Type 0 where
   pub same : s.world ≡ changed w s.world
   pub packets : s.world.packets ≡ w.packets ++ packets_of s.outs
   pub clients : SameClients w s.world
-  pub counted : s.counted ≡ []
+  pub counted : s.counted ≡ map PairLine pairs
+
+abbrev pub Keeps : World → WorldStep → Type 0
+Keeps w s = KeepsBeside w s []
 
 answering_keeps : (w : World) (a : facts.Answer) (m : Moved) → KeepsMoved w m → Keeps w (answering a m)
 answering_keeps w a m k = record { same = k.same; packets = k.packets; clients = k.clients; counted = refl }
@@ -126,6 +133,10 @@ cut_keeps : (w : World) (cut : Bool) (s : WorldStep) → Keeps w s → Keeps w (
 cut_keeps w true s k = answered_keeps w (facts.Refuses facts.Offline)
 cut_keeps w false s k = k
 
+kept_keeps : (w : World) (o : Option facts.Refusal) (s : WorldStep) → Keeps w s → Keeps w (unless_kept w o s)
+kept_keeps w (Some r) s k = answered_keeps w (facts.Refuses r)
+kept_keeps w None s k = k
+
 falls_keeps : (w : World) (c : ℕ) → Keeps w (answering facts.Done (failing (client_falls c w)))
 falls_keeps w c = answering_keeps w facts.Done (failing (client_falls c w)) (failing_keeps w (client_falls c w) (move_keeps w c (Crash messages.FailedBefore) no_shape))
 
@@ -138,9 +149,11 @@ call_at_keeps : (w : World) (c : ℕ) (move : ClientMove) (shape : Shape) (lucks
 call_at_keeps w c move shape lucks None = answered_keeps w (facts.Refuses facts.NoTable)
 call_at_keeps w c move shape lucks (Some node) =
     let cut : Bool = is_cut w c && is_cut_off c shape node move in
+    let kept : Option facts.Refusal = kept_out (is_resolving w c) move (client_step c shape node move).answer in
     let s : WorldStep = calls w c move shape (other_lucks lucks) node in
-    unless_keeps w c (reads w c (first_luck lucks) (unless_cut w cut s))
-    (reads_keeps w c (first_luck lucks) (unless_cut w cut s) (cut_keeps w cut s (calls_keeps w c move shape (other_lucks lucks) node)))
+    unless_keeps w c (reads w c (first_luck lucks) (unless_kept w kept (unless_cut w cut s)))
+    (reads_keeps w c (first_luck lucks) (unless_kept w kept (unless_cut w cut s))
+    (kept_keeps w kept (unless_cut w cut s) (cut_keeps w cut s (calls_keeps w c move shape (other_lucks lucks) node))))
 
 pub call_keeps : (w : World) (c : ℕ) (move : ClientMove) (shape : Shape) (lucks : List Luck) → Keeps w (call w c move shape lucks)
 call_keeps w c move shape lucks = call_at_keeps w c move shape lucks (client_at w c)
@@ -181,6 +194,28 @@ linked_keeps w c up = go (client_at w c)
     go : (o : Option Client) → Keeps w (linked w c up o)
     go None = answered_keeps w facts.Done
     go (Some node) = unless_keeps w c (answered (with_link c up w) facts.Done) (behind up)
+
+-- ---- a list of the rows in conflict
+
+listed_as : (s : WorldStep) (o : Option facts.Answer) → s.answer ≡ o → ((listed s).world ≡ s.world) × ((listed s).outs ≡ s.outs)
+listed_as s None is = rw is (refl, refl)
+listed_as s (Some facts.Done) is = rw is (refl, refl)
+listed_as s (Some (facts.Number number)) is = rw is (refl, refl)
+listed_as s (Some (facts.Shows what)) is = rw is (refl, refl)
+listed_as s (Some (facts.Sums sum)) is = rw is (refl, refl)
+listed_as s (Some (facts.Stores version content)) is = rw is (refl, refl)
+listed_as s (Some (facts.Did step)) is = rw is (refl, refl)
+listed_as s (Some (facts.Names names)) is = rw is (refl, refl)
+listed_as s (Some (facts.Pairs pairs)) is = rw is (refl, refl)
+listed_as s (Some (facts.Refuses refusal)) is = rw is (refl, refl)
+
+pub listed_keeps : (w : World) (s : WorldStep) (pairs : List RowPair) → Keeps w s → (listed s).counted ≡ map PairLine pairs → KeepsBeside w (listed s) pairs
+listed_keeps w s pairs k counted = let same = listed_as s s.answer refl in record {
+  same = same.0 ∙ (k.same ∙ ap (λ (x : World). changed w x) (sym same.0));
+  packets = ap (λ (x : World). x.packets) same.0 ∙ (k.packets ∙ ap (λ (outs : List Outbox). w.packets ++ packets_of outs) (sym same.1));
+  clients = λ q. ap (λ (x : World). is_some (client_at x q)) same.0 ∙ k.clients q;
+  counted = counted;
+}
 
 -- ---- a crash is answered as done
 

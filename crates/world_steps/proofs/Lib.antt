@@ -12,6 +12,7 @@ pub mod Taken
 pub mod Showing
 pub mod Stepping
 pub mod Starting
+pub mod AsCalls
 pub mod Sums
 pub mod Counted
 pub mod Closing

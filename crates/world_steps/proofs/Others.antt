@@ -64,7 +64,7 @@ module _ {D : Type 0} (state : D → DiskState) (w : moves.World) (world : World
       tables = record { there = h.store.tables.there; all = h.store.tables.all; keys = h.store.tables.keys; rising = h.store.tables.rising };
       ups = λ e. h.store.ups (sym same ∙ e);
     };
-    clients = clients_stay state w (record w { holds = holds; downs = downs }) world.clients h.clients (record { clients = refl; cuts = refl });
+    clients = clients_stay state w (record w { holds = holds; downs = downs }) world.clients h.clients (record { clients = refl; cuts = refl; phases = refl });
     store_told = h.store_told;
     clients_told = h.clients_told;
     packets = h.packets;

@@ -18,10 +18,7 @@ use Rattle.world_steps.specs.declared.fault.WorldFault.TheVariants.{Memory, Limi
 use Rattle.world_steps.specs.declared.world.World.{World}
 use Rattle.world_steps.specs.Places.{IsPlace, ArePlaces}
 use Rattle.world_steps.specs.Holds.{Holds, IsWorld, AreOut}
-use Rattle.world_steps.specs.Calls.{Comes}
 use Rattle.world_steps.specs.Steps.{HavePlansBelow, IsStep}
-use Rattle.row_value.specs.declared.content.Content.{Content}
-use Rattle.row_edits.specs.declared.change.Edit.{Edit}
 use Rattle.world_steps.proofs.Rows.{over_first, stay_over}
 use Rattle.fair_laws.specs.Reached.{IsReached}
 use Rattle.fair_laws.specs.Worlds.{IsFair}
@@ -70,16 +67,6 @@ pub joins_as : {D : Type 0} (state : D → DiskState) (images : D → ℕ → Li
     → IfOk result (λ lines. IsStep state images w (events.Client c gate tables) lines is_out old new)
 joins_as state images w c gate made tables is_out old new result same k =
     subst (λ (ts : List ℕ). IfOk result (λ lines. IsStep state images w (events.Client c gate ts) lines is_out old new)) same k
-
--- and so is the content
-pub writes_as : {D : Type 0} (state : D → DiskState) (w : moves.World) (c table : ℕ) (row : List ℕ) (made content : Content) (new : World D) (result : Result (List TextLine) WorldFault)
-    → made ≡ content → Comes state w (step w (events.Write c table row made)) result new → Comes state w (step w (events.Write c table row content)) result new
-writes_as state w c table row made content new result same k = subst (λ (x : Content). Comes state w (step w (events.Write c table row x)) result new) same k
-
--- and the edit
-pub edits_as : {D : Type 0} (state : D → DiskState) (w : moves.World) (c table : ℕ) (row : List ℕ) (made edit : Edit) (new : World D) (result : Result (List TextLine) WorldFault)
-    → made ≡ edit → Comes state w (step w (events.Edit c table row made)) result new → Comes state w (step w (events.Edit c table row edit)) result new
-edits_as state w c table row made edit new result same k = subst (λ (x : Edit). Comes state w (step w (events.Edit c table row x)) result new) same k
 
 -- ---- plans
 

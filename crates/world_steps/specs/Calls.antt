@@ -1,9 +1,10 @@
 -- What the calls of the world promise.
 use Rattle.std.specs.Prelude.{◌≡◌, ℕ, ◌++◌, List, [], ◌∷◌, map, length, is_some, Result, IfOk}
 use Rattle.disk_trait.specs.Calls.{DiskState}
+use Rattle.table_model.specs.declared.line.RowPair.{RowPair}
 use Rattle.table_model.specs.declared.line.TextLine.{TextLine}
 use Rattle.step_tables.specs.Facts as facts
-use Rattle.step_tables.specs.Facts.{AnswerLine, FactLine}
+use Rattle.step_tables.specs.Facts.{AnswerLine, PairLine, FactLine}
 use Rattle.step_tables.specs.Lines.{line_of}
 use Rattle.step_tables.specs.Messages.{Luck}
 use Rattle.step_tables.specs.ClientMoves.{Shape}
@@ -48,13 +49,17 @@ pub record HasTold {D : Type 0} (old new : World D) (answer : facts.Answer) (lin
   pub store : new.store ≡ record old.store { outs = [] }
   pub same : new ≡ record old { store = new.store; network = new.network }
 
--- The same of what waits at the clients.
-pub record HasToldClients {D : Type 0} (state : D → DiskState) (old new : World D) (answer : facts.Answer)
-    (lines : List TextLine) : Type 0 where
-  pub lines_are : map line_of lines
-      ≡ AnswerLine answer ∷ lines_from (length (packets_in old.network)) (clients.outs_of old.clients)
+-- The same of what waits at the clients, behind the rows in conflict that the answer counts.
+pub record HasToldPairs {D : Type 0} (state : D → DiskState) (old new : World D) (answer : facts.Answer)
+    (pairs : List RowPair) (lines : List TextLine) : Type 0 where
+  pub lines_are : map line_of lines ≡ AnswerLine answer
+      ∷ (map PairLine pairs ++ lines_from (length (packets_in old.network)) (clients.outs_of old.clients))
   pub packets : packets_in new.network ≡ packets_in old.network ++ packets_of (clients.outs_of old.clients)
   pub held : (w : moves.World) → HoldsClients state w old.clients → HoldsClients state w new.clients
   pub nodes : new.clients.clients ≡ old.clients.clients
   pub told : clients.outs_of new.clients ≡ []
   pub same : new ≡ record old { clients = new.clients; network = new.network }
+
+-- where it counts none
+abbrev pub HasToldClients : {D : Type 0} → (D → DiskState) → (old new : World D) → facts.Answer → List TextLine → Type 0
+HasToldClients state old new answer lines = HasToldPairs state old new answer [] lines

@@ -4,7 +4,7 @@ use Rattle.std.specs.Prelude.{is_some, Result, IfOk, if◌then◌else◌}
 use Rattle.std.specs.BTreeMap as tree
 use Rattle.disk_trait.specs.Calls.{DiskState}
 use Rattle.table_model.specs.declared.line.TextLine.{TextLine}
-use Rattle.step_tables.specs.Facts.{Line, AnswerLine, EntryLine, FactLine}
+use Rattle.step_tables.specs.Facts.{Line, AnswerLine, EntryLine, PairLine, FactLine}
 use Rattle.step_tables.specs.Lines.{line_of}
 use Rattle.world_tables.specs.World.{WorldStep, Lucks, hosted_at, client_at, is_fault}
 use Rattle.world_tables.specs.World as moves
@@ -80,6 +80,7 @@ abbrev pub tell_fault : List Line → Bool
 tell_fault [] = false
 tell_fault (AnswerLine answer ∷ more) = is_fault answer
 tell_fault (EntryLine table entry ∷ more) = false
+tell_fault (PairLine pair ∷ more) = false
 tell_fault (FactLine fact ∷ more) = false
 
 -- unless the call ends the run, its lines say so

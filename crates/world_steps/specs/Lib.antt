@@ -1,3 +1,4 @@
+pub mod Asked
 pub mod Network
 pub mod Nodes
 pub mod Places

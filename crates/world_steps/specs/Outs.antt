@@ -26,6 +26,7 @@ pub record Goes (w : World) (m : Moved) : Type 0 where
   pub clients : m.world.clients ≡ w.clients
   pub holds : m.world.holds ≡ w.holds
   pub cuts : m.world.cuts ≡ w.cuts
+  pub phases : m.world.phases ≡ w.phases
   pub packets : m.world.packets ≡ w.packets ++ packets_of m.outs
   pub downs : (node : Node) → same_node node the_store ≡ false → has_node m.world.downs node ≡ has_node w.downs node
   pub tables : (table : ℕ) → is_some (hosted_at m.world table) ≡ is_some (hosted_at w table)

@@ -8,22 +8,41 @@ ghost use Rattle.world_tables.specs.World.{World as AWorld, step, worked, all_wo
 ghost use Rattle.world_tables.specs.Faults.{fails_crash};
 ghost use Rattle.journal_host.specs.declared.fault.ClientFault.TheVariants as fault;
 ghost use Rattle.world_steps.specs.declared.fault.WorldFault.TheVariants.{Memory};
-ghost use Rattle.world_steps.specs.Calls.{Comes, HasToldClients};
+ghost use Rattle.world_steps.specs.Calls.{Comes, HasToldPairs, HasToldClients};
 ghost use Rattle.world_steps.specs.Faults.{AreCounted, ComesCounted};
 ghost use Rattle.world_steps.specs.Holds.{Holds};
 ghost use Rattle.world_steps.specs.Steps.{HavePlansBelow};
 
 use crate::fault::WorldFault;
-use crate::outs::tell_clients;
+use crate::outs::{list, tell_clients};
 use crate::world::{Lines, World};
 use client_events::start;
 use disk_trait::Disk;
 use journal_host::ClientFault;
 use row_value::ClientNo;
 use stab_base::Node;
-use table_model::Answer;
+use table_model::{Answer, RowPairs};
 
 impl<D: Disk + Drop> World<D> {
+    /// An answer, the rows in conflict that it counts, and then what the clients told and sent.
+    pub(crate) fn tell_pairs(
+        &mut self,
+        answer: Answer,
+        pairs: RowPairs,
+    ) -> Result<Lines, WorldFault>
+        ensures told { IfOk result (λ lines.
+            HasToldPairs D.state self.old self.new (answer_of answer) pairs lines) }
+        ensures store { self.new.store ≡ self.old.store }
+        ensures nodes { self.new.clients.clients ≡ self.old.clients.clients }
+        ensures memory { IfErr result (λ e. e ≡ Memory) }
+    {
+        let mut lines = self.only(answer)?;
+        list(pairs, &mut lines)?;
+        let outs = self.clients.take_outs();
+        tell_clients(&mut self.network, outs, &mut lines)?;
+        Ok(lines)
+    }
+
     /// An answer, and then what the clients told and sent.
     pub(crate) fn tell_clients(&mut self, answer: Answer) -> Result<Lines, WorldFault>
         ensures told { IfOk result (λ lines. HasToldClients D.state self.old self.new (answer_of answer) lines) }

@@ -1,6 +1,7 @@
 //! The world: the Store's tables and the clients on their disks, and the network between them.
 #![tactic(auto)]
 
+mod asking;
 mod calls;
 mod client_moves;
 mod close;

@@ -2,7 +2,7 @@
 ghost use Rattle.std.specs.Prelude.{◌≡◌, ◌++◌, ◌∷◌, [], List, ℕ, map, false, true, Ok, Err, IfOk, IfErr, OnOk};
 ghost use Rattle.disk_trait.specs.Calls.{DiskState};
 ghost use Rattle.step_tables.specs.Facts as moves;
-ghost use Rattle.step_tables.specs.Facts.{FactLine};
+ghost use Rattle.step_tables.specs.Facts.{FactLine, PairLine};
 ghost use Rattle.step_tables.specs.Lines.{line_of};
 ghost use Rattle.step_tables.specs.Lines as lines;
 ghost use Rattle.store_node.specs.Due.{fact_of};
@@ -18,7 +18,18 @@ use row_value::Sequence;
 use stab_base::Node;
 use step_tables::Out;
 use store_node::{StoreFact, StoreOut};
-use table_model::{Fact, TextLine};
+use table_model::{Fact, RowPairs, TextLine};
+
+/// Adds a line for each row in conflict.
+pub(crate) fn list(pairs: RowPairs, lines: &mut Sequence<TextLine>) -> Result<(), WorldFault>
+    ensures lines { OnOk result (map line_of lines.new ≡ map line_of lines.old ++ map PairLine pairs) }
+    ensures memory { IfErr result (λ e. e ≡ Memory) }
+{
+    for pair in pairs.into_vec() {
+        lines.push(TextLine::Pair(pair))?;
+    }
+    Ok(())
+}
 
 fn told(fact: StoreFact) -> Fact
     ensures { lines.fact_of result ≡ fact_of fact }

@@ -8,12 +8,12 @@ ghost use Rattle.world_steps.specs.Holds.{Holds, IsWorld, AreOut};
 ghost use Rattle.world_steps.specs.Faults.{IsUndone};
 ghost use Rattle.world_steps.specs.Steps.{HavePlansBelow, IsStep, Spends};
 
+use crate::asking::asked;
 use crate::fault::WorldFault;
 use crate::network::Network;
 use crate::nodes::NodeSet;
 use disk_trait::{Depot, Disk};
 use journal_host::ClientHost;
-use row_edits::Edit;
 use row_value::{Schema, Sequence, TableNo};
 use std::alloc::Global;
 use std::collections::BTreeMap;
@@ -33,14 +33,6 @@ pub struct World<D: Disk> {
     pub(crate) held: NodeSet,
     pub(crate) downs: NodeSet,
     pub(crate) alloc: Global,
-}
-
-// An edit again: the event stays whose it is.
-fn copied(edit: &Edit) -> Result<Edit, WorldFault>
-    ensures same { IfOk result (λ made. made ≡ edit.now) }
-    ensures memory { IfErr result (λ e. e ≡ Memory) }
-{
-    Ok(edit.clone()?)
 }
 
 impl<D: Disk + Drop> World<D> {
@@ -85,27 +77,15 @@ impl<D: Disk + Drop> World<D> {
             → IfErr result (λ e. e ≢ Memory → IsUndone D.state w (P.state depot.new).is_out self.old self.new) }
         ensures depot { IsCounted DepotFailed (P.state depot.old).faults (P.state depot.new).faults result }
     {
+        if let Some((client, ask)) = asked(event)? {
+            return self.call(client, ask);
+        }
         match event {
             Event::Store { .. } => Ok(Sequence::new(self.alloc)),
             Event::Table { table, schema } => self.declare(depot, *table, schema),
             Event::Client { client, tables, .. } => self.join(depot, *client, tables.as_slice()),
-            Event::Write {
-                client,
-                table,
-                row,
-                content,
-            } => self.write(*client, *table, *row, content.copy()?),
-            Event::Edit {
-                client,
-                table,
-                row,
-                edit,
-            } => self.edit(*client, *table, *row, copied(edit)?),
             Event::Link { client, up } => self.link(*client, *up),
-            Event::Show { client, table, row } => self.show(*client, *table, *row),
-            Event::Sum { client, table, row } => self.sum(*client, *table, *row),
-            Event::Sync { client, table } => self.sync(*client, *table),
-            Event::Pull { client, table } => self.pull(*client, *table),
+            Event::Conflicts { client, table } => self.conflicts(*client, *table),
             Event::Deliver { packet } => self.deliver(*packet),
             Event::StoreShow { table, row } => self.store_show(*table, row),
             Event::History { table } => self.history(*table),
@@ -116,6 +96,8 @@ impl<D: Disk + Drop> World<D> {
             Event::WorkAll { node } => self.work_all(*node),
             Event::Crash { node, calls, pick } => self.crash(*node, *calls, *pick),
             Event::Start { node } => self.start(*node),
+            // Calls are made above, and no conflicts are resolved all at once.
+            _ => unreachable!(),
         }
     }
 }

@@ -1,5 +1,10 @@
 use Rattle.std.proofs.Common.{refl, sym, ◌∙◌}
 use Rattle.client_node.proofs.PlanNumbers.{next_below}
+use Rattle.stab_base.specs.declared.node.Node.TheVariants as nodes
+use Rattle.client_node.specs.Phases.{is_open}
+use Rattle.step_tables.specs.Facts as facts
+use Rattle.journal_host.specs.Asks.{asked_by}
+use Rattle.journal_host.proofs.Phased.{refusal_leaves}
 use Rattle.journal_host.proofs.hosted.call.Goals as goal
 
 pub call_up-requires : goal.call_up-requires
@@ -46,3 +51,9 @@ returns-then-is_up-clause-plans g c n below = c.call_up.ensures.plans n below
 
 pub returns-clause-plans : goal.returns-clause-plans
 returns-clause-plans g c n below = next_below g.D.Disk.state n c.args.node.now below
+
+pub returns-then-is_up-clause-phases : goal.returns-then-is_up-clause-phases
+returns-then-is_up-clause-phases g c = c.call_up.ensures.phases
+
+pub returns-clause-phases : goal.returns-clause-phases
+returns-clause-phases g c up table = sym (refusal_leaves (asked_by c.args.request) (facts.NodeDown (nodes.Client c.args.client)) (is_open c.args.node.now) table)

@@ -1,4 +1,4 @@
-use Rattle.std.proofs.Common.{suc, List, Some, ap, subst}
+use Rattle.std.proofs.Common.{suc, List, Some, ap, sym, subst}
 use Rattle.std.proofs.lemmas.Result.{err_from_is_err_and}
 use Rattle.journal_host.specs.declared.out.ClientOut.{ClientOut}
 use Rattle.journal_host.specs.Holds.{outs_in}
@@ -6,6 +6,10 @@ use Rattle.journal_host.specs.Steps.{HasTold}
 use Rattle.journal_host.proofs.Replying.{fits_or}
 use Rattle.journal_host.proofs.Hosting.{call_made, call_dropped, call_kept, call_cause, spent_so, either_way, either_plans}
 use Rattle.client_node.proofs.PlanNumbers.{next_below, spent_plans}
+use Rattle.client_node.specs.Phases.{is_open}
+use Rattle.step_tables.specs.Facts as facts
+use Rattle.journal_host.specs.Asks.{asked_by}
+use Rattle.journal_host.proofs.Phased.{refusal_leaves, answered_moves}
 use Rattle.journal_host.proofs.hosted.call_up.Goals as goal
 
 pub returns-in_err-reserve-clause-kept : goal.returns-in_err-reserve-clause-kept
@@ -15,25 +19,25 @@ returns-in_err-reserve-clause-kept g c cut s h =
 
 pub returns-clause-made : goal.returns-clause-made
 returns-clause-made g c cut s h fits =
-    rw c.answered.ensures (call_made g.D.Disk.state g.D.Disk.images cut c.args.client c.args.ask c.args.node.now c.reply-found.new.node c.tell.new.node c.args.outs.now.items c.tell.new.outs.items
+    rw c.answered.ensures (call_made g.D.Disk.state g.D.Disk.images cut c.args.client c.args.request c.args.node.now c.reply-found.new.node c.tell.new.node c.args.outs.now.items c.tell.new.outs.items
     (λ step t. subst (λ (l : List ClientOut). HasTold g.D.Disk.state cut c.args.client step c.tell.new.node l c.tell.new.outs.items) c.reserve.ensures.items (c.tell.ensures.told cut step t))
     c.reply-found.result
     s.disk s.agenda h c.requires.up (c.reply-found.ensures.made s h.client fits))
 
 pub returns-clause-dropped : goal.returns-clause-dropped
 returns-clause-dropped g c cut s h unfit =
-    rw c.answered.ensures (call_dropped g.D.Disk.state g.D.Disk.images cut c.args.client c.args.ask c.args.node.now c.reply-found.new.node c.tell.new.node c.args.outs.now.items c.tell.new.outs.items
+    rw c.answered.ensures (call_dropped g.D.Disk.state g.D.Disk.images cut c.args.client c.args.request c.args.node.now c.reply-found.new.node c.tell.new.node c.args.outs.now.items c.tell.new.outs.items
     (λ step t. subst (λ (l : List ClientOut). HasTold g.D.Disk.state cut c.args.client step c.tell.new.node l c.tell.new.outs.items) c.reserve.ensures.items (c.tell.ensures.told cut step t))
     c.reply-found.result
     s.disk s.agenda h c.requires.up (c.reply-found.ensures.dropped s h.client unfit))
 
 pub returns-clause-kept : goal.returns-clause-kept
 returns-clause-kept g c cut s h =
-    rw c.answered.ensures (call_kept g.D.Disk.state g.D.Disk.images cut c.args.client c.args.ask c.args.node.now c.reply-found.new.node c.tell.new.node c.args.outs.now.items c.tell.new.outs.items
+    rw c.answered.ensures (call_kept g.D.Disk.state g.D.Disk.images cut c.args.client c.args.request c.args.node.now c.reply-found.new.node c.tell.new.node c.args.outs.now.items c.tell.new.outs.items
     (λ step t. subst (λ (l : List ClientOut). HasTold g.D.Disk.state cut c.args.client step c.tell.new.node l c.tell.new.outs.items) c.reserve.ensures.items (c.tell.ensures.told cut step t))
     c.reply-found.result
     s.disk s.agenda h c.requires.up
-    (either_way g.D.Disk.state g.D.Disk.images c.args.ask s c.args.node.now c.reply-found.new.node c.reply-found.result (fits_or s.disk c.args.ask)
+    (either_way g.D.Disk.state g.D.Disk.images c.args.request s c.args.node.now c.reply-found.new.node c.reply-found.result (fits_or s.disk c.args.request)
     (λ fits. c.reply-found.ensures.made s h.client fits)
     (λ unfit. c.reply-found.ensures.dropped s h.client unfit)))
 
@@ -44,9 +48,9 @@ returns-clause-spent g c cut s n h below fits = rw c.answered.ensures (spent_so 
 pub returns-clause-cause : goal.returns-clause-cause
 returns-clause-cause g c =
     let n = c.requires.node in
-    rw c.answered.ensures (call_cause g.D.Disk.state g.D.Disk.images c.args.ask c.args.node.now c.reply-found.new.node c.tell.new.node c.tell.ensures.devs n.0.disk n.0.agenda n.1 c.requires.up
+    rw c.answered.ensures (call_cause g.D.Disk.state g.D.Disk.images c.args.request c.args.node.now c.reply-found.new.node c.tell.new.node c.tell.ensures.devs n.0.disk n.0.agenda n.1 c.requires.up
     c.reply-found.result
-    (either_way g.D.Disk.state g.D.Disk.images c.args.ask n.0 c.args.node.now c.reply-found.new.node c.reply-found.result (fits_or n.0.disk c.args.ask)
+    (either_way g.D.Disk.state g.D.Disk.images c.args.request n.0 c.args.node.now c.reply-found.new.node c.reply-found.result (fits_or n.0.disk c.args.request)
     (λ fits. c.reply-found.ensures.made n.0 n.1 fits)
     (λ unfit. c.reply-found.ensures.dropped n.0 n.1 unfit)))
 
@@ -61,7 +65,16 @@ returns-in_err-reserve-clause-plans g c n below = next_below g.D.Disk.state n c.
 pub returns-clause-plans : goal.returns-clause-plans
 returns-clause-plans g c n below =
     let a = c.requires.node in
-    c.tell.ensures.plans (suc n) (either_plans g.D.Disk.state g.D.Disk.images c.args.ask a.0 c.args.node.now c.reply-found.new.node c.reply-found.result
-    (either_way g.D.Disk.state g.D.Disk.images c.args.ask a.0 c.args.node.now c.reply-found.new.node c.reply-found.result (fits_or a.0.disk c.args.ask)
+    c.tell.ensures.plans (suc n) (either_plans g.D.Disk.state g.D.Disk.images c.args.request a.0 c.args.node.now c.reply-found.new.node c.reply-found.result
+    (either_way g.D.Disk.state g.D.Disk.images c.args.request a.0 c.args.node.now c.reply-found.new.node c.reply-found.result (fits_or a.0.disk c.args.request)
     (λ fits. c.reply-found.ensures.made a.0 a.1 fits)
     (λ unfit. c.reply-found.ensures.dropped a.0 a.1 unfit)) n below)
+
+pub returns-in_err-reserve-clause-phases : goal.returns-in_err-reserve-clause-phases
+returns-in_err-reserve-clause-phases g c =
+    let p = err_from_is_err_and c.from_residual.result c.from_residual.ensures.1 in
+    rw p.1 (λ up table. sym (refusal_leaves (asked_by c.args.request) facts.NoDevice (is_open c.args.node.now) table))
+
+pub returns-clause-phases : goal.returns-clause-phases
+returns-clause-phases g c =
+    rw c.answered.ensures (answered_moves c.args.node.now c.tell.new.node c.reply-found.new.node (asked_by c.args.request) c.reply-found.result c.tell.ensures.phases c.tell.ensures.up c.reply-found.ensures.phases)

@@ -1,4 +1,4 @@
-use Rattle.std.proofs.Common.{sym, ◌∙◌}
+use Rattle.std.proofs.Common.{refl, sym, ◌∙◌}
 use Rattle.journal_host.proofs.Crashed.{crashed_up, crashed_down}
 use Rattle.journal_host.proofs.hosted.crash.Goals as goal
 
@@ -13,3 +13,9 @@ returns-then-is_up-clause-plans g c n below = let a = c.requires in (c.crash.ens
 
 pub returns-else-is_up-clause-plans : goal.returns-else-is_up-clause-plans
 returns-else-is_up-clause-plans g c n below = below
+
+pub returns-then-is_up-clause-phases : goal.returns-then-is_up-clause-phases
+returns-then-is_up-clause-phases g c up = let down = c.crash.ensures.down in absurd cc
+
+pub returns-else-is_up-clause-phases : goal.returns-else-is_up-clause-phases
+returns-else-is_up-clause-phases g c up = refl

@@ -2,6 +2,7 @@ use Rattle.std.proofs.Common.{refl, sym, ap, ◌∙◌}
 use Rattle.client_node.specs.Node.{told_by, sent_by}
 use Rattle.journal_host.specs.Holds.{node_faults}
 use Rattle.journal_host.proofs.Cuts.{not_not}
+use Rattle.client_node.specs.Phases.{is_open}
 use Rattle.journal_host.proofs.hosted.link.Goals as goal
 
 pub returns-then-is_up-clause-linked : goal.returns-then-is_up-clause-linked
@@ -37,3 +38,9 @@ returns-then-is_up-clause-plans g c n below = c.link.ensures.plans n below
 
 pub returns-clause-plans : goal.returns-clause-plans
 returns-clause-plans g c n below = below
+
+pub returns-then-is_up-clause-phases : goal.returns-then-is_up-clause-phases
+returns-then-is_up-clause-phases g c table = ap (λ n. is_open n table) c.link.ensures.same
+
+pub returns-clause-phases : goal.returns-clause-phases
+returns-clause-phases g c table = refl

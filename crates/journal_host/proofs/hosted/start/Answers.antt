@@ -34,3 +34,9 @@ returns-then-is_up-clause-plans g c n below = below
 
 pub returns-clause-plans : goal.returns-clause-plans
 returns-clause-plans g c n below = c.start_down.ensures.plans n below
+
+pub returns-then-is_up-clause-phases : goal.returns-then-is_up-clause-phases
+returns-then-is_up-clause-phases g c up = refl
+
+pub returns-clause-phases : goal.returns-clause-phases
+returns-clause-phases g c = c.start_down.ensures.phases

@@ -1,9 +1,10 @@
-use Rattle.std.proofs.Common.{List, ap, subst}
+use Rattle.std.proofs.Common.{List, refl, ap, subst}
 use Rattle.std.proofs.lemmas.Result.{err_from_is_err_and}
 use Rattle.journal_host.specs.declared.out.ClientOut.{ClientOut}
 use Rattle.journal_host.specs.Holds.{outs_in}
 use Rattle.journal_host.specs.Steps.{HasTold}
 use Rattle.journal_host.proofs.Hosting.{start_answered, start_kept, start_cause, start_memory}
+use Rattle.journal_host.proofs.Phased.{told_keeps}
 use Rattle.journal_host.proofs.hosted.start_down.Goals as goal
 
 pub returns-in_err-reserve-clause-kept : goal.returns-in_err-reserve-clause-kept
@@ -41,3 +42,9 @@ returns-in_err-reserve-clause-plans g c n below = below
 
 pub returns-clause-plans : goal.returns-clause-plans
 returns-clause-plans g c n below = let a = c.requires.node in c.tell.ensures.plans n ((c.start-started.ensures.starts a.0 a.1).plans n below)
+
+pub returns-in_err-reserve-clause-phases : goal.returns-in_err-reserve-clause-phases
+returns-in_err-reserve-clause-phases g c up = refl
+
+pub returns-clause-phases : goal.returns-clause-phases
+returns-clause-phases g c = told_keeps c.args.node.now c.tell.new.node c.start-started.new.self c.tell.ensures.phases c.tell.ensures.up c.start-started.ensures.phases

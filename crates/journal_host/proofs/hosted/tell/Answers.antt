@@ -18,3 +18,6 @@ returns-clause-told g c cut s t =
 
 pub returns-clause-plans : goal.returns-clause-plans
 returns-clause-plans g c n below = c.take_out-out.ensures.plans n below
+
+pub returns-clause-phases : goal.returns-clause-phases
+returns-clause-phases g c = c.take_out-out.ensures.phases

@@ -35,3 +35,9 @@ returns-then-is_busy-clause-plans g c n below = c.work_up.ensures.plans n below
 
 pub returns-clause-plans : goal.returns-clause-plans
 returns-clause-plans g c n below = below
+
+pub returns-then-is_busy-clause-phases : goal.returns-then-is_busy-clause-phases
+returns-then-is_busy-clause-phases g c = c.work_up.ensures.phases
+
+pub returns-clause-phases : goal.returns-clause-phases
+returns-clause-phases g c up = refl

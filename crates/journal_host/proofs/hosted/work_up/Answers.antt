@@ -3,6 +3,7 @@ use Rattle.std.proofs.lemmas.Result.{err_from_is_err_and}
 use Rattle.journal_host.specs.declared.out.ClientOut.{ClientOut}
 use Rattle.journal_host.specs.Steps.{HasTold}
 use Rattle.journal_host.proofs.Hosting.{works_done, works_failed, works_cause, node_cause}
+use Rattle.journal_host.proofs.Phased.{told_keeps}
 use Rattle.journal_host.proofs.hosted.work_up.Goals as goal
 
 pub returns-in_err-reserve-clause-cause : goal.returns-in_err-reserve-clause-cause
@@ -33,3 +34,9 @@ returns-in_err-reserve-clause-plans g c n below = below
 
 pub returns-clause-plans : goal.returns-clause-plans
 returns-clause-plans g c n below = let a = c.requires.node in c.tell.ensures.plans n ((c.work-done.ensures.works a.0 a.1).plans n below)
+
+pub returns-in_err-reserve-clause-phases : goal.returns-in_err-reserve-clause-phases
+returns-in_err-reserve-clause-phases g c up = refl
+
+pub returns-clause-phases : goal.returns-clause-phases
+returns-clause-phases g c = told_keeps c.args.node.now c.tell.new.node c.work-done.new.self c.tell.ensures.phases c.tell.ensures.up c.work-done.ensures.phases

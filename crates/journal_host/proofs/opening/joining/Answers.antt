@@ -7,6 +7,7 @@ use Rattle.std.specs.List.{AllByRecursion}
 use Rattle.std.proofs.Common.{◌≡◌, ℕ, List, sym, subst}
 use Rattle.row_value.specs.declared.schema.Schema.{Schema}
 use Rattle.journal_host.proofs.Ends.{all_to_open, opens_all, joins}
+use Rattle.journal_host.proofs.Phased.{same_open, down_closed}
 use Rattle.journal_host.proofs.opening.joining.Goals as goal
 
 pub new-node-requires : goal.new-node-requires
@@ -57,3 +58,14 @@ returns-in-Ok-clause-plans g c n = (c.in-Ok.ensures.declares (record { disk = to
 
 pub returns-in-Err-Disk-clause-plans : goal.returns-in-Err-Disk-clause-plans
 returns-in-Err-Disk-clause-plans g c n = (c.declare.ensures.declares (record { disk = to_open c.in_ok-found.found.items; agenda = None }) c.new-node.ensures.at).plans n
+
+pub returns-in-Ok-clause-phases : goal.returns-in-Ok-clause-phases
+returns-in-Ok-clause-phases g c table =
+    same_open c.new-node.result c.declare.new.self (c.in-Ok.ensures.phases c.in-Ok.ensures.up) table
+    ∙ down_closed g.D.Disk.state c.new-node.result (to_open c.in_ok-found.found.items) c.new-node.ensures.at table
+
+pub returns-in-Err-Disk-clause-phases : goal.returns-in-Err-Disk-clause-phases
+returns-in-Err-Disk-clause-phases g c table =
+    let k = c.declare.ensures.declares (record { disk = to_open c.in_ok-found.found.items; agenda = None }) c.new-node.ensures.at in
+    let r = rw c.in-Err-Disk.is at k.refused in
+    down_closed g.D.Disk.state c.declare.new.self (to_open c.in_ok-found.found.items) r.client table

@@ -1,7 +1,7 @@
 use Rattle.std.proofs.Common.{refl}
 use Rattle.table_model.specs.declared.line.Answer.TheVariants as answers
 use Rattle.table_model.specs.declared.line.Refusal.TheVariants as refusals
-use Rattle.journal_host.specs.Asks.{move_of}
+use Rattle.journal_host.specs.Asks.{asked_by}
 use Rattle.journal_host.proofs.Clients.{some_there, found_node, client_called, client_dropped, client_spent, client_kept, client_cause, plans_more, plans_stay_more, nowhere, nowhere_unfit, none_failed}
 use Rattle.journal_host.proofs.host.ClientHost.call.Goals as goal
 
@@ -12,25 +12,25 @@ pub returns-in-Some-clause-called : goal.returns-in-Some-clause-called
 returns-in-Some-clause-called g c w h fits =
     client_called g.D.Disk.state w c.args.self.now (record c.args.self.now { clients = c.get_mut.follows.lender c.call.new.node; outs = c.call.new.outs }) c.args.client c.in-Some.node.now
     c.call.new.node h c.in-Some.ensures.value
-    ((c.get_mut.follows.holds c.call.new.node).3 (some_there _ _ c.in-Some.ensures.value)).0 c.args.ask c.call.result c.call.ensures.down c.call.ensures.made fits
+    ((c.get_mut.follows.holds c.call.new.node).3 (some_there _ _ c.in-Some.ensures.value)).0 c.args.request c.call.result c.call.ensures.phases c.call.ensures.down c.call.ensures.made fits
 
 pub returns-in-Some-clause-dropped : goal.returns-in-Some-clause-dropped
 returns-in-Some-clause-dropped g c w h unfit =
     client_dropped g.D.Disk.state w c.args.self.now (record c.args.self.now { clients = c.get_mut.follows.lender c.call.new.node; outs = c.call.new.outs }) c.args.client c.in-Some.node.now
     c.call.new.node h c.in-Some.ensures.value
-    ((c.get_mut.follows.holds c.call.new.node).3 (some_there _ _ c.in-Some.ensures.value)).0 c.args.ask c.call.result c.call.ensures.down c.call.ensures.dropped unfit
+    ((c.get_mut.follows.holds c.call.new.node).3 (some_there _ _ c.in-Some.ensures.value)).0 c.args.request c.call.result c.call.ensures.phases c.call.ensures.down c.call.ensures.dropped unfit
 
 pub returns-in-Some-clause-spent : goal.returns-in-Some-clause-spent
 returns-in-Some-clause-spent g c w n h below fits =
     client_spent g.D.Disk.state w c.args.self.now (record c.args.self.now { clients = c.get_mut.follows.lender c.call.new.node; outs = c.call.new.outs }) c.args.client c.in-Some.node.now
     c.call.new.node h c.in-Some.ensures.value
-    ((c.get_mut.follows.holds c.call.new.node).3 (some_there _ _ c.in-Some.ensures.value)).0 c.args.ask c.call.result c.call.ensures.down n below c.call.ensures.spent fits
+    ((c.get_mut.follows.holds c.call.new.node).3 (some_there _ _ c.in-Some.ensures.value)).0 c.args.request c.call.result c.call.ensures.phases c.call.ensures.down n below c.call.ensures.spent fits
 
 pub returns-in-Some-clause-kept : goal.returns-in-Some-clause-kept
 returns-in-Some-clause-kept g c w h =
     client_kept g.D.Disk.state w c.args.self.now (record c.args.self.now { clients = c.get_mut.follows.lender c.call.new.node; outs = c.call.new.outs }) c.args.client c.in-Some.node.now
     c.call.new.node h c.in-Some.ensures.value
-    ((c.get_mut.follows.holds c.call.new.node).3 (some_there _ _ c.in-Some.ensures.value)).0 c.args.ask c.call.result c.call.ensures.down c.call.ensures.kept
+    ((c.get_mut.follows.holds c.call.new.node).3 (some_there _ _ c.in-Some.ensures.value)).0 c.args.request c.call.result c.call.ensures.phases c.call.ensures.down c.call.ensures.kept
 
 pub returns-in-Some-clause-cause : goal.returns-in-Some-clause-cause
 returns-in-Some-clause-cause g c =
@@ -38,10 +38,10 @@ returns-in-Some-clause-cause g c =
     ((c.get_mut.follows.holds c.call.new.node).3 (some_there _ _ c.in-Some.ensures.value)).0 c.call.result c.call.ensures.cause
 
 pub returns-in-None-clause-called : goal.returns-in-None-clause-called
-returns-in-None-clause-called g c w h fits = nowhere g.D.Disk.state w c.args.self.now _ c.args.client h c.in-None.ensures.value c.get_mut.follows.holds-at-none refl (move_of c.args.ask)
+returns-in-None-clause-called g c w h fits = nowhere g.D.Disk.state w c.args.self.now _ c.args.client h c.in-None.ensures.value c.get_mut.follows.holds-at-none refl (asked_by c.args.request)
 
 pub returns-in-None-clause-dropped : goal.returns-in-None-clause-dropped
-returns-in-None-clause-dropped g c w h unfit = absurd (nowhere_unfit g.D.Disk.state w c.args.self.now c.args.self.now c.args.client h c.in-None.ensures.value refl refl c.args.ask unfit)
+returns-in-None-clause-dropped g c w h unfit = absurd (nowhere_unfit g.D.Disk.state w c.args.self.now c.args.self.now c.args.client h c.in-None.ensures.value refl refl c.args.request unfit)
 
 pub returns-in-None-clause-spent : goal.returns-in-None-clause-spent
 returns-in-None-clause-spent g c w n h below fits = tt

@@ -11,7 +11,7 @@ pub returns-in-Some-clause-crashed : goal.returns-in-Some-clause-crashed
 returns-in-Some-clause-crashed g c w h =
     crash_moved g.D.Disk.state w c.args.self.now (record c.args.self.now { clients = c.get_mut.follows.lender c.crash.new.node }) c.args.client c.args.calls h c.in-Some.node.now c.crash.new.node
     c.in-Some.ensures.value
-    ((c.get_mut.follows.holds c.crash.new.node).3 (some_there _ _ c.in-Some.ensures.value)).0 refl c.crash.ensures.crashed
+    ((c.get_mut.follows.holds c.crash.new.node).3 (some_there _ _ c.in-Some.ensures.value)).0 refl c.crash.ensures.phases c.crash.ensures.crashed
 
 pub returns-in-Some-clause-others : goal.returns-in-Some-clause-others
 returns-in-Some-clause-others g c q off =

@@ -3,7 +3,7 @@ use Rattle.std.specs.Ordering.{nat_cmp}
 use Rattle.std.specs.BTreeMap as tree
 use Rattle.table_model.specs.declared.line.Answer.TheVariants as answers
 use Rattle.step_tables.specs.Travels.{message_of}
-use Rattle.journal_host.specs.declared.asking.Ask.TheVariants as asks
+use Rattle.journal_host.specs.declared.asking.Request.TheVariants as requests
 use Rattle.journal_host.specs.Calls.{Stays}
 use Rattle.journal_host.proofs.Clients.{is_there, is_absent, found, taken_all, taken_or, lost, nowhere_unfit, none_failed, plans_stay_more}
 use Rattle.journal_host.proofs.host.ClientHost.deliver.Goals as goal
@@ -37,7 +37,7 @@ returns-clause-called g c w h fits = lost g.D.Disk.state w c.args.self.now c.arg
 pub returns-clause-dropped : goal.returns-clause-dropped
 returns-clause-dropped g c w h unfit = absurd
     (nowhere_unfit g.D.Disk.state w c.args.self.now c.args.self.now c.args.client h
-    (is_absent (tree.get nat_cmp c.args.self.now.clients c.args.client) (sym c.contains_key.ensures ∙ c.if-contains_key.false)) refl refl (asks.Deliver c.args.message) unfit)
+    (is_absent (tree.get nat_cmp c.args.self.now.clients c.args.client) (sym c.contains_key.ensures ∙ c.if-contains_key.false)) refl refl (requests.Deliver c.args.message) unfit)
 
 pub returns-clause-spent : goal.returns-clause-spent
 returns-clause-spent g c w n h below fits = tt

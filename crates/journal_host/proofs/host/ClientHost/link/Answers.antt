@@ -8,7 +8,7 @@ pub returns-in-Some-clause-called : goal.returns-in-Some-clause-called
 returns-in-Some-clause-called g c w h =
     link_there g.D.Disk.state w c.args.self.now (record c.args.self.now { clients = c.get_mut.follows.lender c.link.new.node }) c.args.client c.args.up h c.in-Some.node.now c.link.new.node
     c.in-Some.ensures.value
-    ((c.get_mut.follows.holds c.link.new.node).3 (some_there _ _ c.in-Some.ensures.value)).0 refl c.link.result c.link.ensures.linked c.link.ensures.down
+    ((c.get_mut.follows.holds c.link.new.node).3 (some_there _ _ c.in-Some.ensures.value)).0 refl c.link.result c.link.ensures.phases c.link.ensures.linked c.link.ensures.down
 
 pub returns-in-Some-clause-counted : goal.returns-in-Some-clause-counted
 returns-in-Some-clause-counted g c =

@@ -15,14 +15,14 @@ returns-in-Some-clause-called g c w h =
     start_called g.D.Disk.state w c.args.self.now (record c.args.self.now { clients = c.get_mut.follows.lender c.start.new.node; outs = c.start.new.outs }) c.args.client h c.in-Some.node.now
     c.start.new.node
     c.in-Some.ensures.value
-    ((c.get_mut.follows.holds c.start.new.node).3 (some_there _ _ c.in-Some.ensures.value)).0 c.start.result c.start.ensures.started
+    ((c.get_mut.follows.holds c.start.new.node).3 (some_there _ _ c.in-Some.ensures.value)).0 c.start.ensures.phases c.start.result c.start.ensures.started
 
 pub returns-in-Some-clause-kept : goal.returns-in-Some-clause-kept
 returns-in-Some-clause-kept g c w h =
     start_stays g.D.Disk.state w c.args.self.now (record c.args.self.now { clients = c.get_mut.follows.lender c.start.new.node; outs = c.start.new.outs }) c.args.client h c.in-Some.node.now
     c.start.new.node
     c.in-Some.ensures.value
-    ((c.get_mut.follows.holds c.start.new.node).3 (some_there _ _ c.in-Some.ensures.value)).0 c.start.result c.start.ensures.kept
+    ((c.get_mut.follows.holds c.start.new.node).3 (some_there _ _ c.in-Some.ensures.value)).0 c.start.ensures.phases c.start.result c.start.ensures.kept
 
 pub returns-in-Some-clause-cause : goal.returns-in-Some-clause-cause
 returns-in-Some-clause-cause g c =

@@ -11,13 +11,13 @@ pub returns-in-Some-clause-done : goal.returns-in-Some-clause-done
 returns-in-Some-clause-done g c w h =
     work_moved g.D.Disk.state w c.args.self.now (record c.args.self.now { clients = c.get_mut.follows.lender c.work.new.node; outs = c.work.new.outs }) c.args.client c.in-Some.node.now
     c.work.new.node h c.in-Some.ensures.value
-    ((c.get_mut.follows.holds c.work.new.node).3 (some_there _ _ c.in-Some.ensures.value)).0 c.work.result c.work.ensures.done
+    ((c.get_mut.follows.holds c.work.new.node).3 (some_there _ _ c.in-Some.ensures.value)).0 c.work.ensures.phases c.work.result c.work.ensures.done
 
 pub returns-in-Some-clause-failed : goal.returns-in-Some-clause-failed
 returns-in-Some-clause-failed g c w h is =
     work_failed g.D.Disk.state w c.args.self.now (record c.args.self.now { clients = c.get_mut.follows.lender c.work.new.node; outs = c.work.new.outs }) c.args.client c.in-Some.node.now
     c.work.new.node h c.in-Some.ensures.value
-    ((c.get_mut.follows.holds c.work.new.node).3 (some_there _ _ c.in-Some.ensures.value)).0 (λ cut s k. c.work.ensures.failed cut s k is) (λ s t. c.work.ensures.busy s t is)
+    ((c.get_mut.follows.holds c.work.new.node).3 (some_there _ _ c.in-Some.ensures.value)).0 c.work.ensures.phases (λ cut s k. c.work.ensures.failed cut s k is) (λ s t. c.work.ensures.busy s t is)
 
 pub returns-in-Some-clause-cause : goal.returns-in-Some-clause-cause
 returns-in-Some-clause-cause g c =

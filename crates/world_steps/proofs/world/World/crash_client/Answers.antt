@@ -1,3 +1,4 @@
+use Rattle.std.proofs.Common.{[]}
 use Rattle.stab_base.specs.declared.node.Node.TheVariants as nodes
 use Rattle.step_tables.specs.Facts as facts
 use Rattle.table_model.specs.declared.line.Answer.TheVariants as answers
@@ -15,7 +16,7 @@ returns-clause-done g c w h =
     client_done g.D.Disk.state w (λ lucks. crashed w c.args.calls lucks.calls (nodes.Client c.args.client)) (λ lucks. crashed w c.args.calls lucks.calls (nodes.Client c.args.client))
     (λ lucks. fails_crash w lucks.calls (nodes.Client c.args.client)) (λ lucks. fails_crash w lucks.calls (nodes.Client c.args.client)) c.tell_clients.result old c.tell_clients.new.self
     (with_calls k.0) mid c.args.client facts.Done
-    (told_ok g.D.Disk.state w old h (crashed w c.args.calls k.0 (nodes.Client c.args.client)) (crashed_keeps w c.args.client c.args.calls k.0) mid answers.Done
+    (told_ok g.D.Disk.state w old h (crashed w c.args.calls k.0 (nodes.Client c.args.client)) [] (crashed_keeps w c.args.client c.args.calls k.0) mid answers.Done
     (crash_called g.D.Disk.state w c.args.client c.args.calls old.clients mid k.0 k.1) c.tell_clients.new.self c.tell_clients.result c.tell_clients.ensures.told) c.tell_clients.ensures.told
     (crash_rose g.D.Disk.state w c.args.client c.args.calls old.clients mid k.0 k.2) (crash_same g.D.Disk.state w c.args.client c.args.calls old.clients mid k.0 k.2)
 

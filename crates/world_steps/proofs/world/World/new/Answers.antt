@@ -12,7 +12,7 @@ pub returns-clause-held : goal.returns-clause-held
 returns-clause-held g c = record {
   schemas = λ table. ap (λ (es : List (ℕ × Schema)). lookup (is_at (nat_cmp table)) es) c.new.ensures.empty;
   store = c.new-2.ensures.held start refl refl;
-  clients = c.new-3.ensures.held start refl refl;
+  clients = c.new-3.ensures.held start refl refl refl;
   store_told = ap outs_in c.new-2.ensures.told;
   clients_told = c.new-3.ensures.told;
   packets = c.new-4.ensures;

@@ -1,4 +1,4 @@
-use Rattle.std.proofs.Common.{◌≡◌, ℕ, false, refl, sym, subst}
+use Rattle.std.proofs.Common.{◌≡◌, ℕ, false, refl, sym, ◌∙◌, subst}
 use Rattle.std.specs.Prelude.{IfOk, IfErr}
 use Rattle.table_model.specs.declared.event.Event.{Event}
 use Rattle.table_model.specs.declared.event.Event.TheVariants as events
@@ -6,18 +6,46 @@ use Rattle.world_tables.specs.Faults.{is_device_fault, is_fault_answer}
 use Rattle.fault_laws.proofs.Answered.{is_declaration}
 use Rattle.fault_laws.proofs.Well.{fine_step}
 use Rattle.world_tables.specs.Passed.{first_part}
-use Rattle.world_tables.specs.World.{Lucks, step}
+use Rattle.world_tables.specs.World.{Lucks, step, call}
+use Rattle.journal_host.specs.Asks.{move_of}
 use Rattle.fair_laws.specs.Reached.{IsBuilt}
 use Rattle.fair_laws.proofs.Worlds.{reached_fair}
 use Rattle.world_steps.specs.declared.fault.WorldFault.TheVariants.{Limit as LimitPassed}
-use Rattle.world_steps.specs.Calls.{Comes}
+use Rattle.world_steps.specs.Calls.{Comes, by_lucks}
 use Rattle.world_steps.specs.Faults.{ComesCounted}
 use Rattle.world_steps.specs.Rows.{ComesLeft}
 use Rattle.world_steps.specs.Steps.{IsStep, Spends}
 use Rattle.world_steps.proofs.Counted.{stepped, stepped_first, stepped_still, stepped_counted, never_left, left_still}
 use Rattle.world_steps.proofs.Rows.{Stays, any_ok, none_left, stay_left, stay_still, stay_taken}
-use Rattle.world_steps.proofs.Stepping.{nothing_done, memory_limit, either_limit, other_counted, memory_other, places, fair_there, nodes_same, joins_as, writes_as, edits_as, plans_later, plans_kept}
+use Rattle.world_steps.proofs.Stepping.{nothing_done, memory_limit, either_limit, other_counted, memory_other, places, fair_there, nodes_same, joins_as, plans_later, plans_kept}
+use Rattle.world_steps.proofs.Done.{comes_as}
+use Rattle.world_steps.proofs.AsCalls.{as_call, spent_limit}
 use Rattle.world_steps.proofs.world.World.step.Goals as goal
+
+pub returns-in-Some-clause-done : goal.returns-in-Some-clause-done
+returns-in-Some-clause-done g c w r h out =
+    let is = as_call c.args.event.now c.in-Some.client c.in-Some.ask (sym c.in_ok-client.ensures.asked ∙ c.in-Some.is) in
+    stepped g.D.Disk.state g.D.Disk.images w c.args.event.now (g.P.Depot.state c.args.depot.now).is_out c.args.self.now c.call.new.self c.call.result out is.told (is.fails w)
+    (comes_as g.D.Disk.state w (step w c.args.event.now) (by_lucks (call w c.in-Some.client (move_of c.in-Some.ask))) c.call.result c.call.new.self (is.steps w) (c.call.ensures.done w h))
+    c.call.ensures.counted
+    (stay_still g.D.Disk.state g.D.Disk.images w r c.args.event.now c.call.result c.args.self.now c.call.new.self g.met.D.Disk.only_now h (any_ok c.call.result _ c.call.ensures.store))
+
+pub returns-in-Some-clause-limit : goal.returns-in-Some-clause-limit
+returns-in-Some-clause-limit g c w n r h k =
+    let is = as_call c.args.event.now c.in-Some.client c.in-Some.ask (sym c.in_ok-client.ensures.asked ∙ c.in-Some.is) in
+    spent_limit w n c.args.event.now c.in-Some.client (is.spends n w) c.call.result (c.call.ensures.limit w n h k)
+
+pub returns-in-Some-clause-left : goal.returns-in-Some-clause-left
+returns-in-Some-clause-left g c w r h out =
+    left_still g.D.Disk.state w c.args.event.now (g.P.Depot.state c.args.depot.now).is_out c.args.self.now c.call.new.self c.call.result out (c.call.ensures.left w h)
+
+pub returns-in-Some-clause-depot : goal.returns-in-Some-clause-depot
+returns-in-Some-clause-depot g c =
+    other_counted c.call.result c.call.ensures.only (g.P.Depot.state c.args.depot.now).faults
+
+pub returns-in-Some-clause-plans : goal.returns-in-Some-clause-plans
+returns-in-Some-clause-plans g c n k =
+    c.call.ensures.plans n k
 
 pub returns-in-Store-clause-done : goal.returns-in-Store-clause-done
 returns-in-Store-clause-done g c w r h out =
@@ -79,156 +107,6 @@ pub returns-in-Client-clause-plans : goal.returns-in-Client-clause-plans
 returns-in-Client-clause-plans g c n k =
     plans_later g.D.Disk.state n c.join.new.self (c.join.ensures.plans n k)
 
-pub returns-in_ok-copy-in-Write-clause-done : goal.returns-in_ok-copy-in-Write-clause-done
-returns-in_ok-copy-in-Write-clause-done g c w r h out =
-    stepped g.D.Disk.state g.D.Disk.images w c.args.event.now (g.P.Depot.state c.args.depot.now).is_out c.args.self.now c.write.new.self c.write.result out
-    (subst (λ (e : Event). is_declaration e ≡ false) (sym c.in-Write.is) refl)
-    (subst (λ (e : Event). (lucks : Lucks) → is_device_fault w e lucks ≡ is_fault_answer (step w e lucks).answer) (sym c.in-Write.is) (λ lucks. refl))
-    (subst (λ (e : Event). Comes g.D.Disk.state w (step w e) c.write.result c.write.new.self) (sym c.in-Write.is) (writes_as g.D.Disk.state w _ _ _ _ _ c.write.new.self c.write.result c.in_ok-copy-in-Write.ensures (c.write.ensures.done w h)))
-    c.write.ensures.counted
-    (stay_still g.D.Disk.state g.D.Disk.images w r c.args.event.now c.write.result c.args.self.now c.write.new.self g.met.D.Disk.only_now h (any_ok c.write.result _ c.write.ensures.store))
-
-pub returns-in_ok-copy-in-Write-clause-limit : goal.returns-in_ok-copy-in-Write-clause-limit
-returns-in_ok-copy-in-Write-clause-limit g c w n r h k =
-    subst (λ (e : Event). IfErr c.write.result (λ f. (code count : ℕ) → f ≡ LimitPassed code count → (code ≡ 11) × Spends n w e)) (sym c.in-Write.is) (c.write.ensures.limit w n h k)
-
-pub returns-in_ok-copy-in-Write-clause-left : goal.returns-in_ok-copy-in-Write-clause-left
-returns-in_ok-copy-in-Write-clause-left g c w r h out =
-    left_still g.D.Disk.state w c.args.event.now (g.P.Depot.state c.args.depot.now).is_out c.args.self.now c.write.new.self c.write.result out (c.write.ensures.left w h)
-
-pub returns-in_ok-copy-in-Write-clause-depot : goal.returns-in_ok-copy-in-Write-clause-depot
-returns-in_ok-copy-in-Write-clause-depot g c =
-    other_counted c.write.result c.write.ensures.only (g.P.Depot.state c.args.depot.now).faults
-
-pub returns-in_ok-copy-in-Write-clause-plans : goal.returns-in_ok-copy-in-Write-clause-plans
-returns-in_ok-copy-in-Write-clause-plans g c n k =
-    c.write.ensures.plans n k
-
-pub returns-in_ok-copied-in-Edit-clause-done : goal.returns-in_ok-copied-in-Edit-clause-done
-returns-in_ok-copied-in-Edit-clause-done g c w r h out =
-    stepped g.D.Disk.state g.D.Disk.images w c.args.event.now (g.P.Depot.state c.args.depot.now).is_out c.args.self.now c.edit.new.self c.edit.result out
-    (subst (λ (e : Event). is_declaration e ≡ false) (sym c.in-Edit.is) refl)
-    (subst (λ (e : Event). (lucks : Lucks) → is_device_fault w e lucks ≡ is_fault_answer (step w e lucks).answer) (sym c.in-Edit.is) (λ lucks. refl))
-    (subst (λ (e : Event). Comes g.D.Disk.state w (step w e) c.edit.result c.edit.new.self) (sym c.in-Edit.is) (edits_as g.D.Disk.state w _ _ _ _ _ c.edit.new.self c.edit.result c.in_ok-copied-in-Edit.ensures.same (c.edit.ensures.done w h)))
-    c.edit.ensures.counted
-    (stay_still g.D.Disk.state g.D.Disk.images w r c.args.event.now c.edit.result c.args.self.now c.edit.new.self g.met.D.Disk.only_now h (any_ok c.edit.result _ c.edit.ensures.store))
-
-pub returns-in_ok-copied-in-Edit-clause-limit : goal.returns-in_ok-copied-in-Edit-clause-limit
-returns-in_ok-copied-in-Edit-clause-limit g c w n r h k =
-    subst (λ (e : Event). IfErr c.edit.result (λ f. (code count : ℕ) → f ≡ LimitPassed code count → (code ≡ 11) × Spends n w e)) (sym c.in-Edit.is) (c.edit.ensures.limit w n h k)
-
-pub returns-in_ok-copied-in-Edit-clause-left : goal.returns-in_ok-copied-in-Edit-clause-left
-returns-in_ok-copied-in-Edit-clause-left g c w r h out =
-    left_still g.D.Disk.state w c.args.event.now (g.P.Depot.state c.args.depot.now).is_out c.args.self.now c.edit.new.self c.edit.result out (c.edit.ensures.left w h)
-
-pub returns-in_ok-copied-in-Edit-clause-depot : goal.returns-in_ok-copied-in-Edit-clause-depot
-returns-in_ok-copied-in-Edit-clause-depot g c =
-    other_counted c.edit.result c.edit.ensures.only (g.P.Depot.state c.args.depot.now).faults
-
-pub returns-in_ok-copied-in-Edit-clause-plans : goal.returns-in_ok-copied-in-Edit-clause-plans
-returns-in_ok-copied-in-Edit-clause-plans g c n k =
-    c.edit.ensures.plans n k
-
-pub returns-in-Show-clause-done : goal.returns-in-Show-clause-done
-returns-in-Show-clause-done g c w r h out =
-    stepped g.D.Disk.state g.D.Disk.images w c.args.event.now (g.P.Depot.state c.args.depot.now).is_out c.args.self.now c.show.new.self c.show.result out
-    (subst (λ (e : Event). is_declaration e ≡ false) (sym c.in-Show.is) refl)
-    (subst (λ (e : Event). (lucks : Lucks) → is_device_fault w e lucks ≡ is_fault_answer (step w e lucks).answer) (sym c.in-Show.is) (λ lucks. refl))
-    (subst (λ (e : Event). Comes g.D.Disk.state w (step w e) c.show.result c.show.new.self) (sym c.in-Show.is) (c.show.ensures.done w h))
-    c.show.ensures.counted
-    (stay_still g.D.Disk.state g.D.Disk.images w r c.args.event.now c.show.result c.args.self.now c.show.new.self g.met.D.Disk.only_now h (any_ok c.show.result _ c.show.ensures.store))
-
-pub returns-in-Show-clause-limit : goal.returns-in-Show-clause-limit
-returns-in-Show-clause-limit g c w n r h k =
-    subst (λ (e : Event). IfErr c.show.result (λ f. (code count : ℕ) → f ≡ LimitPassed code count → (code ≡ 11) × Spends n w e)) (sym c.in-Show.is) (c.show.ensures.limit w n h k)
-
-pub returns-in-Show-clause-left : goal.returns-in-Show-clause-left
-returns-in-Show-clause-left g c w r h out =
-    left_still g.D.Disk.state w c.args.event.now (g.P.Depot.state c.args.depot.now).is_out c.args.self.now c.show.new.self c.show.result out (c.show.ensures.left w h)
-
-pub returns-in-Show-clause-depot : goal.returns-in-Show-clause-depot
-returns-in-Show-clause-depot g c =
-    other_counted c.show.result c.show.ensures.only (g.P.Depot.state c.args.depot.now).faults
-
-pub returns-in-Show-clause-plans : goal.returns-in-Show-clause-plans
-returns-in-Show-clause-plans g c n k =
-    c.show.ensures.plans n k
-
-pub returns-in-Sum-clause-done : goal.returns-in-Sum-clause-done
-returns-in-Sum-clause-done g c w r h out =
-    stepped g.D.Disk.state g.D.Disk.images w c.args.event.now (g.P.Depot.state c.args.depot.now).is_out c.args.self.now c.sum.new.self c.sum.result out
-    (subst (λ (e : Event). is_declaration e ≡ false) (sym c.in-Sum.is) refl)
-    (subst (λ (e : Event). (lucks : Lucks) → is_device_fault w e lucks ≡ is_fault_answer (step w e lucks).answer) (sym c.in-Sum.is) (λ lucks. refl))
-    (subst (λ (e : Event). Comes g.D.Disk.state w (step w e) c.sum.result c.sum.new.self) (sym c.in-Sum.is) (c.sum.ensures.done w h))
-    c.sum.ensures.counted
-    (stay_still g.D.Disk.state g.D.Disk.images w r c.args.event.now c.sum.result c.args.self.now c.sum.new.self g.met.D.Disk.only_now h (any_ok c.sum.result _ c.sum.ensures.store))
-
-pub returns-in-Sum-clause-limit : goal.returns-in-Sum-clause-limit
-returns-in-Sum-clause-limit g c w n r h k =
-    subst (λ (e : Event). IfErr c.sum.result (λ f. (code count : ℕ) → f ≡ LimitPassed code count → (code ≡ 11) × Spends n w e)) (sym c.in-Sum.is) (c.sum.ensures.limit w n h k)
-
-pub returns-in-Sum-clause-left : goal.returns-in-Sum-clause-left
-returns-in-Sum-clause-left g c w r h out =
-    left_still g.D.Disk.state w c.args.event.now (g.P.Depot.state c.args.depot.now).is_out c.args.self.now c.sum.new.self c.sum.result out (c.sum.ensures.left w h)
-
-pub returns-in-Sum-clause-depot : goal.returns-in-Sum-clause-depot
-returns-in-Sum-clause-depot g c =
-    other_counted c.sum.result c.sum.ensures.only (g.P.Depot.state c.args.depot.now).faults
-
-pub returns-in-Sum-clause-plans : goal.returns-in-Sum-clause-plans
-returns-in-Sum-clause-plans g c n k =
-    c.sum.ensures.plans n k
-
-pub returns-in-Sync-clause-done : goal.returns-in-Sync-clause-done
-returns-in-Sync-clause-done g c w r h out =
-    stepped g.D.Disk.state g.D.Disk.images w c.args.event.now (g.P.Depot.state c.args.depot.now).is_out c.args.self.now c.sync.new.self c.sync.result out
-    (subst (λ (e : Event). is_declaration e ≡ false) (sym c.in-Sync.is) refl)
-    (subst (λ (e : Event). (lucks : Lucks) → is_device_fault w e lucks ≡ is_fault_answer (step w e lucks).answer) (sym c.in-Sync.is) (λ lucks. refl))
-    (subst (λ (e : Event). Comes g.D.Disk.state w (step w e) c.sync.result c.sync.new.self) (sym c.in-Sync.is) (c.sync.ensures.done w h))
-    c.sync.ensures.counted
-    (stay_still g.D.Disk.state g.D.Disk.images w r c.args.event.now c.sync.result c.args.self.now c.sync.new.self g.met.D.Disk.only_now h (any_ok c.sync.result _ c.sync.ensures.store))
-
-pub returns-in-Sync-clause-limit : goal.returns-in-Sync-clause-limit
-returns-in-Sync-clause-limit g c w n r h k =
-    subst (λ (e : Event). IfErr c.sync.result (λ f. (code count : ℕ) → f ≡ LimitPassed code count → (code ≡ 11) × Spends n w e)) (sym c.in-Sync.is) (c.sync.ensures.limit w n h k)
-
-pub returns-in-Sync-clause-left : goal.returns-in-Sync-clause-left
-returns-in-Sync-clause-left g c w r h out =
-    left_still g.D.Disk.state w c.args.event.now (g.P.Depot.state c.args.depot.now).is_out c.args.self.now c.sync.new.self c.sync.result out (c.sync.ensures.left w h)
-
-pub returns-in-Sync-clause-depot : goal.returns-in-Sync-clause-depot
-returns-in-Sync-clause-depot g c =
-    other_counted c.sync.result c.sync.ensures.only (g.P.Depot.state c.args.depot.now).faults
-
-pub returns-in-Sync-clause-plans : goal.returns-in-Sync-clause-plans
-returns-in-Sync-clause-plans g c n k =
-    c.sync.ensures.plans n k
-
-pub returns-in-Pull-clause-done : goal.returns-in-Pull-clause-done
-returns-in-Pull-clause-done g c w r h out =
-    stepped g.D.Disk.state g.D.Disk.images w c.args.event.now (g.P.Depot.state c.args.depot.now).is_out c.args.self.now c.pull.new.self c.pull.result out
-    (subst (λ (e : Event). is_declaration e ≡ false) (sym c.in-Pull.is) refl)
-    (subst (λ (e : Event). (lucks : Lucks) → is_device_fault w e lucks ≡ is_fault_answer (step w e lucks).answer) (sym c.in-Pull.is) (λ lucks. refl))
-    (subst (λ (e : Event). Comes g.D.Disk.state w (step w e) c.pull.result c.pull.new.self) (sym c.in-Pull.is) (c.pull.ensures.done w h))
-    c.pull.ensures.counted
-    (stay_still g.D.Disk.state g.D.Disk.images w r c.args.event.now c.pull.result c.args.self.now c.pull.new.self g.met.D.Disk.only_now h (any_ok c.pull.result _ c.pull.ensures.store))
-
-pub returns-in-Pull-clause-limit : goal.returns-in-Pull-clause-limit
-returns-in-Pull-clause-limit g c w n r h k =
-    subst (λ (e : Event). IfErr c.pull.result (λ f. (code count : ℕ) → f ≡ LimitPassed code count → (code ≡ 11) × Spends n w e)) (sym c.in-Pull.is) (c.pull.ensures.limit w n h k)
-
-pub returns-in-Pull-clause-left : goal.returns-in-Pull-clause-left
-returns-in-Pull-clause-left g c w r h out =
-    left_still g.D.Disk.state w c.args.event.now (g.P.Depot.state c.args.depot.now).is_out c.args.self.now c.pull.new.self c.pull.result out (c.pull.ensures.left w h)
-
-pub returns-in-Pull-clause-depot : goal.returns-in-Pull-clause-depot
-returns-in-Pull-clause-depot g c =
-    other_counted c.pull.result c.pull.ensures.only (g.P.Depot.state c.args.depot.now).faults
-
-pub returns-in-Pull-clause-plans : goal.returns-in-Pull-clause-plans
-returns-in-Pull-clause-plans g c n k =
-    c.pull.ensures.plans n k
-
 pub returns-in-Link-clause-done : goal.returns-in-Link-clause-done
 returns-in-Link-clause-done g c w r h out =
     stepped g.D.Disk.state g.D.Disk.images w c.args.event.now (g.P.Depot.state c.args.depot.now).is_out c.args.self.now c.link.new.self c.link.result out
@@ -253,6 +131,31 @@ returns-in-Link-clause-depot g c =
 pub returns-in-Link-clause-plans : goal.returns-in-Link-clause-plans
 returns-in-Link-clause-plans g c n k =
     plans_later g.D.Disk.state n c.link.new.self (c.link.ensures.plans n k)
+
+pub returns-in-Conflicts-clause-done : goal.returns-in-Conflicts-clause-done
+returns-in-Conflicts-clause-done g c w r h out =
+    stepped g.D.Disk.state g.D.Disk.images w c.args.event.now (g.P.Depot.state c.args.depot.now).is_out c.args.self.now c.conflicts.new.self c.conflicts.result out
+    (subst (λ (e : Event). is_declaration e ≡ false) (sym c.in-Conflicts.is) refl)
+    (subst (λ (e : Event). (lucks : Lucks) → is_device_fault w e lucks ≡ is_fault_answer (step w e lucks).answer) (sym c.in-Conflicts.is) (λ lucks. refl))
+    (subst (λ (e : Event). Comes g.D.Disk.state w (step w e) c.conflicts.result c.conflicts.new.self) (sym c.in-Conflicts.is) (c.conflicts.ensures.done w h))
+    c.conflicts.ensures.counted
+    (stay_still g.D.Disk.state g.D.Disk.images w r c.args.event.now c.conflicts.result c.args.self.now c.conflicts.new.self g.met.D.Disk.only_now h (any_ok c.conflicts.result _ c.conflicts.ensures.store))
+
+pub returns-in-Conflicts-clause-limit : goal.returns-in-Conflicts-clause-limit
+returns-in-Conflicts-clause-limit g c w n r h k =
+    subst (λ (e : Event). IfErr c.conflicts.result (λ f. (code count : ℕ) → f ≡ LimitPassed code count → (code ≡ 11) × Spends n w e)) (sym c.in-Conflicts.is) (c.conflicts.ensures.limit w n h k)
+
+pub returns-in-Conflicts-clause-left : goal.returns-in-Conflicts-clause-left
+returns-in-Conflicts-clause-left g c w r h out =
+    left_still g.D.Disk.state w c.args.event.now (g.P.Depot.state c.args.depot.now).is_out c.args.self.now c.conflicts.new.self c.conflicts.result out (c.conflicts.ensures.left w h)
+
+pub returns-in-Conflicts-clause-depot : goal.returns-in-Conflicts-clause-depot
+returns-in-Conflicts-clause-depot g c =
+    other_counted c.conflicts.result c.conflicts.ensures.only (g.P.Depot.state c.args.depot.now).faults
+
+pub returns-in-Conflicts-clause-plans : goal.returns-in-Conflicts-clause-plans
+returns-in-Conflicts-clause-plans g c n k =
+    c.conflicts.ensures.plans n k
 
 pub deliver-requires : goal.deliver-requires
 deliver-requires g c =

@@ -15,11 +15,11 @@ use Rattle.script_text.specs.Verbs.{edit_name, name_of}
 use Rattle.script_text.specs.Names.{Names, has_no_store, columns_of}
 use Rattle.script_text.specs.Places.{◌>>=◌, names_of, new_store_at, new_table_at, new_client_at, tables_at, new_name_at, scheme_at, chunk_at}
 use Rattle.script_text.specs.Reading.{made_store, made_table, made_client, store_in, table_in, client_in, content_in, some_columns_in, write_in, client_row_in, show_in}
-use Rattle.script_text.specs.Reading.{sum_in, client_table_in, sync_in, pull_in}
+use Rattle.script_text.specs.Reading.{sum_in, client_table_in, sync_in, pull_in, begin_cr_in, conflicts_in, end_cr_in, choice_in, resolve_in}
 use Rattle.script_text.specs.Reading.{deliver_in, store_show_in, history_in, chunks_in, node_in, hold_in, free_in, work_in, work_all_in, start_in, crash_in, link_in, change_in, edit_in}
 use Rattle.stab_base.specs.Row.{row_of}
 use Rattle.stab_base.specs.declared.node.Node.{Node}
-use Rattle.script_text.specs.Grammar.{SpelledBy, AreColumns, client_word, table_word, tables_word, node_word, IsClient, IsTable, IsNode, limit_of, verb_for}
+use Rattle.script_text.specs.Grammar.{SpelledBy, AreColumns, scheme_word, client_word, table_word, tables_word, node_word, IsClient, IsTable, IsNode, limit_of, verb_for}
 use Rattle.script_text.proofs.Steps.{ok_err, bind-ok, word_in-ok, end-ok}
 use Rattle.script_text.proofs.Numbers.{number_at-ok, number_to-ok}
 use Rattle.script_text.proofs.Distinct.{new-distinct}
@@ -29,6 +29,7 @@ use Rattle.script_text.proofs.PlaceLemmas.{new_store_at-limit, new_table_at-ok, 
 use Rattle.script_text.proofs.PlaceLemmas.{new_client_at-ok, new_client_at-within, new_client_at-limit, gate_at-ok, new_name_at-ok, scheme_at-ok, chunk_at-ok, row_at-ok}
 use Rattle.script_words.specs.Columns.{column_word}
 use Rattle.script_text.proofs.ContentLemmas.{content-ok}
+use Rattle.script_text.proofs.ChoiceLemmas.{choice-ok}
 use Rattle.script_text.proofs.EditLemmas.{direction_at-ok, change_in-ok}
 use Rattle.script_text.proofs.TableLemmas.{tables_at-ok, tables_at-within, tables_at-limit}
 
@@ -78,13 +79,13 @@ module _ (names : Names) where
       let pk = some_columns-ok 5 k columns hk in
       let count = same_count k columns pk.0 in
       let long : ltb 32 (length k) ≡ ltb 32 (length columns) = ap (ltb 32) count in
-      let words : codes "table" ∷ w ∷ name ∷ c ∷ d ∷ k ≡ codes "table" ∷ table_word n ∷ name ∷ codes "eventual" ∷ decimal chunk ∷ map column_word columns = cc (pa.0, pc.0, pd.0, pk.0) in
+      let words : codes "table" ∷ w ∷ name ∷ c ∷ d ∷ k ≡ codes "table" ∷ table_word n ∷ name ∷ scheme_word scheme ∷ decimal chunk ∷ map column_word columns = cc (pa.0, pc, pd.0, pk.0) in
       table-picked (w ∷ name ∷ c ∷ d ∷ k) (events.Table n (record { name = name; scheme = scheme; chunk = chunk; columns = columns })) (ltb 32 (length columns))
       (λ many. rw (new_table_at-within names w n h, long ∙ many) refl)
       (λ few.
       let within = ltb-false 32 (length columns) few in
       let all : AreColumns columns = record { some = pk.4; few = omega (arith, within); names = pk.1; distinct = new-distinct (names_of columns) pk.2; order = pk.3 } in
-      ((words, pa.1, pc.1, pd.1, all, pb.1, early, store, pa.2, pb.2), rw (new_table_at-within names w n h, long ∙ few) refl))
+      ((words, pa.1, pd.1, all, pb.1, early, store, pa.2, pb.2), rw (new_table_at-within names w n h, long ∙ few) refl))
 
 columns-told : (o : Option ℕ) (name : List ℕ) (scheme : Scheme) (chunk : ℕ) (r : Result (List Column) BadLine) (e : Result Event ℕ)
     → (r >>= λ columns. Ok (made_table o (record { name = name; scheme = scheme; chunk = chunk; columns = columns }))) ≡ Ok e
@@ -168,6 +169,24 @@ module _ (names : Names) (ws : List (List ℕ)) where
         let p = bind-ok (client_table_in names ws) (λ q. Ok (events.Pull q.0 q.1)) e h in
         let q = client_table-ok p.0 p.1 in
         subst (λ (x : Event). SpelledBy names (codes "pull" ∷ ws) x) (event_told p.2) (ap (λ (t : List (List ℕ)). codes "pull" ∷ t) q.0, q.1, q.2)
+
+    pub begin_cr-ok : begin_cr_in names ws ≡ Ok e → SpelledBy names (codes "begin_cr" ∷ ws) e
+    begin_cr-ok h =
+        let p = bind-ok (client_table_in names ws) (λ q. Ok (events.BeginCr q.0 q.1)) e h in
+        let q = client_table-ok p.0 p.1 in
+        subst (λ (x : Event). SpelledBy names (codes "begin_cr" ∷ ws) x) (event_told p.2) (ap (λ (t : List (List ℕ)). codes "begin_cr" ∷ t) q.0, q.1, q.2)
+
+    pub conflicts-ok : conflicts_in names ws ≡ Ok e → SpelledBy names (codes "conflicts" ∷ ws) e
+    conflicts-ok h =
+        let p = bind-ok (client_table_in names ws) (λ q. Ok (events.Conflicts q.0 q.1)) e h in
+        let q = client_table-ok p.0 p.1 in
+        subst (λ (x : Event). SpelledBy names (codes "conflicts" ∷ ws) x) (event_told p.2) (ap (λ (t : List (List ℕ)). codes "conflicts" ∷ t) q.0, q.1, q.2)
+
+    pub end_cr-ok : end_cr_in names ws ≡ Ok e → SpelledBy names (codes "end_cr" ∷ ws) e
+    end_cr-ok h =
+        let p = bind-ok (client_table_in names ws) (λ q. Ok (events.EndCr q.0 q.1)) e h in
+        let q = client_table-ok p.0 p.1 in
+        subst (λ (x : Event). SpelledBy names (codes "end_cr" ∷ ws) x) (event_told p.2) (ap (λ (t : List (List ℕ)). codes "end_cr" ∷ t) q.0, q.1, q.2)
 
     pub deliver-ok : deliver_in ws ≡ Ok e → SpelledBy names (codes "deliver" ∷ ws) e
     unfolding deliver_in
@@ -289,6 +308,22 @@ module _ (names : Names) (ws : List (List ℕ)) where
         let is : ws ≡ client_word a.2 ∷ table_word b.2 ∷ c.0 ∷ c.1 = cc (a.3, b.3, c.3, p.0, q.0) in
         let words : edit_name verb ∷ ws ≡ edit_name (verb_for r.0) ∷ client_word a.2 ∷ table_word b.2 ∷ c.0 ∷ c.1 = cc (is, ap edit_name v.0) in
         subst (λ (x : Event). SpelledBy names (edit_name verb ∷ ws) x) (event_told r.2) (c.0, c.1, words, p.1, q.1, row_at-ok c.0 c.2 c.4, v.1)
+
+    pub resolve-ok : resolve_in names ws ≡ Ok e → SpelledBy names (codes "resolve" ∷ ws) e
+    unfolding resolve_in
+    resolve-ok h =
+        let a = word_in-ok _ _ _ ws e h in
+        let b = word_in-ok _ _ _ a.1 e a.5 in
+        let c = word_in-ok _ _ _ b.1 e b.5 in
+        let d = word_in-ok _ _ _ c.1 e c.5 in
+        let p = client_at-ok names a.0 a.2 a.4 in
+        let q = table_at-ok names b.0 b.2 b.4 in
+        let s = number_at-ok d.0 d.2 d.4 in
+        let r = bind-ok (choice_in d.1) (λ choice. Ok (events.Resolve a.2 b.2 c.2 d.2 choice)) e d.5 in
+        let v = choice-ok d.1 r.0 r.1 in
+        let is : ws ≡ client_word a.2 ∷ table_word b.2 ∷ c.0 ∷ decimal d.2 ∷ d.1 = cc (a.3, b.3, c.3, d.3, p.0, q.0, s.0) in
+        subst (λ (x : Event). SpelledBy names (codes "resolve" ∷ ws) x) (event_told r.2)
+        (c.0, d.1, ap (λ (t : List (List ℕ)). codes "resolve" ∷ t) is, p.1, q.1, row_at-ok c.0 c.2 c.4, s.1, v)
 
     pub chunks-ok : chunks_in names ws ≡ Ok e → SpelledBy names (codes "chunks" ∷ ws) e
     unfolding chunks_in

@@ -1,5 +1,6 @@
 pub mod Each
 pub mod ContentLemmas
+pub mod ChoiceLemmas
 pub mod ColumnLemmas
 pub mod Distinct
 pub mod EditLemmas

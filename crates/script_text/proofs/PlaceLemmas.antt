@@ -1,5 +1,5 @@
 -- What a word is that is right at its place.
-use Rattle.std.proofs.Common.{◌≡◌, ℕ, Bool, true, false, not, ◌||◌, eqb, cond, List, ◌∷◌, codes, Option, Some, None, Result, Ok, Err, refl, sym, ap, ◌∙◌, subst}
+use Rattle.std.proofs.Common.{◌≡◌, ℕ, Bool, true, false, not, eqb, cond, List, ◌∷◌, codes, Option, Some, None, Result, Ok, Err, refl, sym, ap, ◌∙◌, subst}
 use Rattle.std.proofs.Common.{inl, inr, arith, true≢false}
 use Rattle.std.specs.Fmt.{decimal, digits}
 use Rattle.std.specs.Str.{bytes_eq}
@@ -18,7 +18,7 @@ use Rattle.script_words.specs.Words.{is_name}
 use Rattle.script_text.specs.Places.{◌>>=◌, node_at, built, known, limited_at, passed, fresh, opened, opened_at, client_at, store_at}
 use Rattle.script_text.specs.Places.{begins_with, party_at, table_at, store_number, table_number}
 use Rattle.script_text.specs.Places.{client_number, new_store_at, new_table_at, new_client_at, gate_at, new_name_at, scheme_at, chunk_at, row_at, found_row}
-use Rattle.script_text.specs.Grammar.{IsChunk, IsUpTo, client_word, table_word, node_word, IsClient, IsTable, IsNode}
+use Rattle.script_text.specs.Grammar.{IsChunk, IsUpTo, scheme_word, client_word, table_word, node_word, IsClient, IsTable, IsNode}
 use Rattle.script_text.proofs.Steps.{ok_err, bind-ok}
 use Rattle.script_text.proofs.Numbers.{if-ok, unless-ok, some_same, ok_same, none_some, node-some, limited-some}
 
@@ -193,9 +193,13 @@ module _ (names : Names) (word : List ℕ) where
   unfolding opened_at
   opened_at-limit e = above (opened (has_table names)) 84 64 word 4 (opened-none (has_table names)) e
 
-two_errors : {X : Type 0} (b : Bool) (x : X) (c d : Code) → cond b (Err c) (Err d) ≡ Ok x → ⊥
-two_errors true x c d e = ok_err x c (sym e)
-two_errors false x c d e = ok_err x d (sym e)
+-- one of several words, each of which says one thing
+pub one_word : {X : Type 0} (spelling : X → List ℕ) (x y : X) (word : List ℕ) (rest : Result X Code) → (rest ≡ Ok y → word ≡ spelling y)
+    → cond (bytes_eq word (spelling x)) (Ok x) rest ≡ Ok y → word ≡ spelling y
+one_word spelling x y word rest more e = elim (cases_Bool (bytes_eq word (spelling x))) [
+  | inl is ↦ (bytes_eq-Decides word (spelling x)).0 is ∙ ap spelling (ok_same _ _ (rw is at e))
+  | inr other ↦ more (rw other at e)
+]
 
 pub gate_at-ok : (word : List ℕ) (u : Unit {0}) → gate_at word ≡ Ok u → word ≡ codes "-"
 unfolding gate_at
@@ -212,12 +216,13 @@ new_name_at-ok names word name e =
     let same : word ≡ name = ok_same _ _ q.1 in
     (same, subst (λ (w : List ℕ). is_name w ≡ true) same (positive (is_name word) p.0), subst (λ (w : List ℕ). has_name names w ≡ false) same q.0)
 
-pub scheme_at-ok : (word : List ℕ) (scheme : Scheme) → scheme_at word ≡ Ok scheme → (word ≡ codes "eventual") × (scheme ≡ schemes.Eventual)
+pub scheme_at-ok : (word : List ℕ) (scheme : Scheme) → scheme_at word ≡ Ok scheme → word ≡ scheme_word scheme
 unfolding scheme_at
-scheme_at-ok word scheme e = elim (cases_Bool (bytes_eq word (codes "eventual"))) [
-  | inl is ↦ ((bytes_eq-Decides word (codes "eventual")).0 is, sym (ok_same _ _ (rw is at e)))
-  | inr other ↦ absurd (two_errors (bytes_eq word (codes "strong") || bytes_eq word (codes "causal")) scheme Unbuilt NoName (rw other at e))
-]
+scheme_at-ok word scheme e =
+    one_word scheme_word schemes.Strong scheme word _
+    (one_word scheme_word schemes.Causal scheme word _
+    (one_word scheme_word schemes.Eventual scheme word _ (λ none. absurd (ok_err scheme NoName (sym none)))))
+    e
 
 pub text-64 : decimal 64 ≡ codes "64"
 unfolding digits

@@ -10,13 +10,16 @@ use Rattle.script_text.specs.Faults.{bad}
 use Rattle.script_text.specs.Verbs.{verb_of, name_of, is_unbuilt}
 use Rattle.script_text.specs.Names.{Names, has_no_store}
 use Rattle.script_text.specs.Reading.{write_in, show_in, sum_in, sync_in, pull_in, deliver_in, store_show_in, history_in, chunks_in, hold_in, free_in, work_in, work_all_in, crash_in, start_in}
+use Rattle.script_text.specs.Reading.{begin_cr_in, conflicts_in, end_cr_in, resolve_in}
 use Rattle.script_text.specs.Reading.{link_in, edit_in, unlimited, in_time, built_in, with_verb, event_in, found, words_in}
 use Rattle.script_text.specs.Grammar.{SpelledBy, VerbFault, WordsFault, limit_of, WordsLimit}
 use Rattle.script_text.proofs.Steps.{ok_err, bind-ok, bind-err}
 use Rattle.script_text.proofs.Numbers.{some_same, none_some}
 use Rattle.script_text.proofs.VerbWords.{verb-some, verb-none, verb-again}
 use Rattle.script_text.proofs.Goods.{Told, store-ok, table-ok, client-ok, write-ok, show-ok, sum-ok, sync-ok, pull-ok, deliver-ok, store_show-ok, history-ok, chunks-ok}
+use Rattle.script_text.proofs.Goods.{begin_cr-ok, conflicts-ok, end_cr-ok, resolve-ok}
 use Rattle.script_text.proofs.Goods.{link-ok, edit-ok, hold-ok, free-ok, work-ok, work_all-ok, crash-ok, start-ok}
+use Rattle.script_text.proofs.Stops.{begin_cr-err, conflicts-err, end_cr-err, resolve-err, begin_cr-fault, conflicts-fault, end_cr-fault, resolve-fault}
 use Rattle.script_text.proofs.Stops.{store-err, table-err, client-err, write-err, show-err, sum-err, sync-err, pull-err}
 use Rattle.script_text.proofs.Stops.{link-err, edit-err, link-fault, edit-fault, deliver-err, store_show-err, history-err, chunks-err, hold-err, free-err, work-err, work_all-err, crash-err, start-err}
 use Rattle.script_text.proofs.Stops.{store-fault, table-fault, client-fault, chunks-fault, hold-fault, free-fault, work-fault, work_all-fault, crash-fault, start-fault}
@@ -93,6 +96,10 @@ module _ (names : Names) (first : List ℕ) (ws : List (List ℕ)) where
   event-built verbs.Sum told h = plain-built verbs.Sum (sum_in names ws) told refl (sum-ok names ws) h
   event-built verbs.Sync told h = plain-built verbs.Sync (sync_in names ws) told refl (sync-ok names ws) h
   event-built verbs.Pull told h = plain-built verbs.Pull (pull_in names ws) told refl (pull-ok names ws) h
+  event-built verbs.BeginCr told h = plain-built verbs.BeginCr (begin_cr_in names ws) told refl (begin_cr-ok names ws) h
+  event-built verbs.Conflicts told h = plain-built verbs.Conflicts (conflicts_in names ws) told refl (conflicts-ok names ws) h
+  event-built verbs.EndCr told h = plain-built verbs.EndCr (end_cr_in names ws) told refl (end_cr-ok names ws) h
+  event-built verbs.Resolve told h = plain-built verbs.Resolve (resolve_in names ws) told refl (resolve-ok names ws) h
   event-built verbs.Deliver told h = plain-built verbs.Deliver (deliver_in ws) told refl (deliver-ok names ws) h
   event-built verbs.StoreShow told h = plain-built verbs.StoreShow (store_show_in names ws) told refl (store_show-ok names ws) h
   event-built verbs.History told h = plain-built verbs.History (history_in names ws) told refl (history-ok names ws) h
@@ -123,6 +130,10 @@ module _ (names : Names) (first : List ℕ) (ws : List (List ℕ)) where
   fault-built verbs.Sum f h = sum-err names ws f (unlimited-err _ f h)
   fault-built verbs.Sync f h = sync-err names ws f (unlimited-err _ f h)
   fault-built verbs.Pull f h = pull-err names ws f (unlimited-err _ f h)
+  fault-built verbs.BeginCr f h = begin_cr-err names ws f (unlimited-err _ f h)
+  fault-built verbs.Conflicts f h = conflicts-err names ws f (unlimited-err _ f h)
+  fault-built verbs.EndCr f h = end_cr-err names ws f (unlimited-err _ f h)
+  fault-built verbs.Resolve f h = resolve-err names ws f (unlimited-err _ f h)
   fault-built verbs.Deliver f h = deliver-err names ws f (unlimited-err _ f h)
   fault-built verbs.StoreShow f h = store_show-err names ws f (unlimited-err _ f h)
   fault-built verbs.History f h = history-err names ws f (unlimited-err _ f h)
@@ -153,6 +164,10 @@ module _ (names : Names) (first : List ℕ) (ws : List (List ℕ)) where
   built-fault verbs.Sum f h = rw (sum-fault names ws f h) refl
   built-fault verbs.Sync f h = rw (sync-fault names ws f h) refl
   built-fault verbs.Pull f h = rw (pull-fault names ws f h) refl
+  built-fault verbs.BeginCr f h = rw (begin_cr-fault names ws f h) refl
+  built-fault verbs.Conflicts f h = rw (conflicts-fault names ws f h) refl
+  built-fault verbs.EndCr f h = rw (end_cr-fault names ws f h) refl
+  built-fault verbs.Resolve f h = rw (resolve-fault names ws f h) refl
   built-fault verbs.Deliver f h = rw (deliver-fault names ws f h) refl
   built-fault verbs.StoreShow f h = rw (store_show-fault names ws f h) refl
   built-fault verbs.History f h = rw (history-fault names ws f h) refl

@@ -13,13 +13,14 @@ use Rattle.std.proofs.lemmas.Str.Parse.{digit_from_value}
 use Rattle.stab_base.specs.Row.{row_of}
 use Rattle.stab_base.specs.declared.node.Node.{Node}
 use Rattle.stab_base.specs.declared.node.Node.TheVariants as nodes
+use Rattle.row_value.specs.declared.schema.Scheme.{Scheme}
 use Rattle.row_value.specs.declared.schema.Scheme.TheVariants as schemes
 use Rattle.script_text.specs.Names.{Names, has_store, has_table, has_name, has_client}
 use Rattle.script_words.specs.Words.{is_number, is_name}
 use Rattle.script_text.specs.Places.{small, node_at, limited_at, store_number, is_comma, parts_at, opened_at, tables_in, client_at, store_at}
 use Rattle.script_text.specs.Places.{party_at, table_at, new_store_at, new_table_at}
 use Rattle.script_text.specs.Places.{new_client_at, gate_at, tables_at, new_name_at, scheme_at, chunk_at, row_at, found_row}
-use Rattle.script_text.specs.Grammar.{IsChunk, IsUpTo, client_word, table_word, tables_word, node_word, IsClient, IsTable, IsNode}
+use Rattle.script_text.specs.Grammar.{IsChunk, IsUpTo, scheme_word, client_word, table_word, tables_word, node_word, IsClient, IsTable, IsNode}
 use Rattle.script_text.proofs.Numbers.{node-right, limited-right}
 use Rattle.script_text.proofs.Distinct.{NewTo, distinct-new, distinct-words}
 use Rattle.script_text.proofs.PlaceLemmas.{text-64, text-1024, text-65536}
@@ -117,9 +118,11 @@ pub gate_at-right : gate_at (codes "-") ≡ Ok tt
 unfolding gate_at
 gate_at-right = refl
 
-pub scheme_at-right : scheme_at (codes "eventual") ≡ Ok schemes.Eventual
+pub scheme_at-right : (scheme : Scheme) → scheme_at (scheme_word scheme) ≡ Ok scheme
 unfolding scheme_at
-scheme_at-right = refl
+scheme_at-right schemes.Strong = refl
+scheme_at-right schemes.Causal = refl
+scheme_at-right schemes.Eventual = refl
 
 pub chunk_at-right : (n : ℕ) → IsChunk n → chunk_at (decimal n) ≡ Ok n
 unfolding chunk_at

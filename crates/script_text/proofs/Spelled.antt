@@ -2,7 +2,7 @@
 use Rattle.std.proofs.Common.{◌≡◌, ℕ, Bool, false, ltb, List, [], ◌∷◌, map, length, codes, cond, Option, Some, None, Result, Ok, Err, refl, sym, ap, ◌∙◌, arith}
 use Rattle.std.specs.Fmt.{decimal}
 use Rattle.std.proofs.lemmas.Bool.{le-ltb}
-use Rattle.row_value.specs.declared.schema.Scheme.TheVariants as schemes
+use Rattle.conflicts.specs.declared.pair.Choice.{Choice}
 use Rattle.row_edits.specs.declared.change.Edit.{Edit}
 use Rattle.table_model.specs.declared.event.Event.{Event}
 use Rattle.table_model.specs.declared.event.Event.TheVariants as events
@@ -18,6 +18,7 @@ use Rattle.script_text.specs.Names.{Names, has_no_store, columns_of}
 use Rattle.script_text.specs.Places.{names_of}
 use Rattle.script_words.specs.Columns.{column_word}
 use Rattle.script_text.specs.Reading.{store_in, made_table, table_in, client_in, write_in, client_row_in, show_in}
+use Rattle.script_text.specs.Reading.{begin_cr_in, conflicts_in, end_cr_in, resolve_in}
 use Rattle.script_text.specs.Reading.{sum_in, client_table_in, sync_in, pull_in, deliver_in, store_show_in, history_in, chunks_in}
 use Rattle.script_text.specs.Reading.{node_in, hold_in, free_in, work_in, work_all_in, start_in, crash_in, link_in, edit_in}
 use Rattle.script_text.specs.Reading.{unlimited, in_time, built_in, event_in, words_in}
@@ -25,10 +26,12 @@ use Rattle.stab_base.specs.Row.{row_of}
 use Rattle.stab_base.specs.declared.node.Node.{Node}
 use Rattle.script_text.specs.Grammar.{SpelledBy, SpellsStore, SpellsTable, SpellsClient, SpellsWrite, SpellsShow, SpellsSum, SpellsSync}
 use Rattle.script_text.specs.Grammar.{SpellsPull, SpellsDeliver, SpellsStoreShow, SpellsHistory, SpellsChunks, SpellsHold, SpellsFree, SpellsWork, SpellsWorkAll, SpellsStart, SpellsCrash, client_word}
+use Rattle.script_text.specs.Grammar.{scheme_word, SpellsBeginCr, SpellsConflicts, SpellsEndCr, SpellsResolve}
 use Rattle.script_text.specs.Grammar.{table_word, tables_word, node_word, IsClient, IsTable, IsNode, verb_for, SpellsEdited, SpellsLink}
 use Rattle.script_text.proofs.Numbers.{number_at-right, number_to-right}
 use Rattle.script_text.proofs.Distinct.{distinct-new}
 use Rattle.script_text.proofs.Steps.{word_in-right, end_in-right}
+use Rattle.script_text.proofs.ChoiceLemmas.{choice-right}
 use Rattle.script_text.proofs.EditLemmas.{direction_at-right, change_in-right}
 use Rattle.script_text.proofs.ColumnLemmas.{some_columns_in-right}
 use Rattle.script_text.proofs.ContentLemmas.{content-right}
@@ -72,6 +75,34 @@ module _ (names : Names) where
   pull-right ws client table h =
       let read : pull_in names (client_word client ∷ table_word table ∷ []) ≡ Ok (events.Pull client table) = rw (client_table-right client table h.1 h.2) refl in
       rw h.0 (event_in-right names verbs.Pull (client_word client ∷ table_word table ∷ []) (events.Pull client table) (ap unlimited read))
+
+  begin_cr-right : (ws : List (List ℕ)) (client table : ℕ) → SpellsBeginCr names ws client table → words_in names ws ≡ Ok (Ok (Some (events.BeginCr client table)))
+  begin_cr-right ws client table h =
+      let read : begin_cr_in names (client_word client ∷ table_word table ∷ []) ≡ Ok (events.BeginCr client table) = rw (client_table-right client table h.1 h.2) refl in
+      rw h.0 (event_in-right names verbs.BeginCr (client_word client ∷ table_word table ∷ []) (events.BeginCr client table) (ap unlimited read))
+
+  conflicts-right : (ws : List (List ℕ)) (client table : ℕ) → SpellsConflicts names ws client table → words_in names ws ≡ Ok (Ok (Some (events.Conflicts client table)))
+  conflicts-right ws client table h =
+      let read : conflicts_in names (client_word client ∷ table_word table ∷ []) ≡ Ok (events.Conflicts client table) = rw (client_table-right client table h.1 h.2) refl in
+      rw h.0 (event_in-right names verbs.Conflicts (client_word client ∷ table_word table ∷ []) (events.Conflicts client table) (ap unlimited read))
+
+  end_cr-right : (ws : List (List ℕ)) (client table : ℕ) → SpellsEndCr names ws client table → words_in names ws ≡ Ok (Ok (Some (events.EndCr client table)))
+  end_cr-right ws client table h =
+      let read : end_cr_in names (client_word client ∷ table_word table ∷ []) ≡ Ok (events.EndCr client table) = rw (client_table-right client table h.1 h.2) refl in
+      rw h.0 (event_in-right names verbs.EndCr (client_word client ∷ table_word table ∷ []) (events.EndCr client table) (ap unlimited read))
+
+  resolve-right : (ws : List (List ℕ)) (client table : ℕ) (row : List ℕ) (seen : ℕ) (choice : Choice) → SpellsResolve names ws client table row seen choice
+      → words_in names ws ≡ Ok (Ok (Some (events.Resolve client table row seen choice)))
+  unfolding resolve_in
+  resolve-right ws client table row seen choice h =
+      let read : resolve_in names (client_word client ∷ table_word table ∷ h.0 ∷ decimal seen ∷ h.1) ≡ Ok (events.Resolve client table row seen choice) =
+      (word_in-right 1 _ (client_word client) _ _ client (client_at-right names client h.3)
+      ∙ word_in-right 2 _ (table_word table) _ _ table (table_at-right names table h.4)
+      ∙ word_in-right 3 _ h.0 _ _ row (row_at-right h.0 row h.5)
+      ∙ word_in-right 4 _ (decimal seen) _ _ seen (number_at-right seen h.6)
+      ∙ rw (choice-right h.1 choice h.7) refl)
+      in
+      rw h.2 (event_in-right names verbs.Resolve (client_word client ∷ table_word table ∷ h.0 ∷ decimal seen ∷ h.1) (events.Resolve client table row seen choice) (ap unlimited read))
 
   deliver-right : (ws : List (List ℕ)) (packet : ℕ) → SpellsDeliver ws packet → words_in names ws ≡ Ok (Ok (Some (events.Deliver packet)))
   unfolding deliver_in
@@ -215,20 +246,17 @@ module _ (names : Names) where
   table-right : (ws : List (List ℕ)) (table : ℕ) (schema : Schema) → SpellsTable names ws table schema → words_in names ws ≡ Ok (Ok (Some (events.Table table schema)))
   unfolding table_in
   table-right ws table schema h =
-      let few : ltb 32 (length schema.columns) ≡ false = le-ltb _ _ h.4.few in
-      let same : ◌≡◌ {A = Schema} (record { name = schema.name; scheme = schemes.Eventual; chunk = schema.chunk; columns = schema.columns }) schema = rw (← h.2) refl in
-      let made : made_table (Some table) (record { name = schema.name; scheme = schemes.Eventual; chunk = schema.chunk; columns = schema.columns }) ≡ Ok (events.Table table schema) =
-      (rw few (ap (λ (s : Schema). Ok (events.Table table s)) same))
-      in
+      let few : ltb 32 (length schema.columns) ≡ false = le-ltb _ _ h.3.few in
+      let made : made_table (Some table) schema ≡ Ok (events.Table table schema) = rw few refl in
       rw h.0
-      (event_in-right names verbs.Table (table_word table ∷ schema.name ∷ codes "eventual" ∷ decimal schema.chunk ∷ map column_word schema.columns) (events.Table table schema)
-      (stored-right names _ h.7
-      ∙ in_time-right names _ h.6
-      ∙ word_in-right 1 _ (table_word table) _ _ (Some table) (new_table_at-right names table h.1 h.8)
-      ∙ word_in-right 2 _ schema.name _ _ schema.name (new_name_at-right names schema.name h.5 h.9)
-      ∙ word_in-right 3 _ (codes "eventual") _ _ schemes.Eventual scheme_at-right
-      ∙ word_in-right 4 _ (decimal schema.chunk) _ _ schema.chunk (chunk_at-right schema.chunk h.3)
-      ∙ rw (some_columns_in-right 5 schema.columns h.4.some h.4.names (distinct-new (names_of schema.columns) h.4.distinct) h.4.order) (ap Ok made)))
+      (event_in-right names verbs.Table (table_word table ∷ schema.name ∷ scheme_word schema.scheme ∷ decimal schema.chunk ∷ map column_word schema.columns) (events.Table table schema)
+      (stored-right names _ h.6
+      ∙ in_time-right names _ h.5
+      ∙ word_in-right 1 _ (table_word table) _ _ (Some table) (new_table_at-right names table h.1 h.7)
+      ∙ word_in-right 2 _ schema.name _ _ schema.name (new_name_at-right names schema.name h.4 h.8)
+      ∙ word_in-right 3 _ (scheme_word schema.scheme) _ _ schema.scheme (scheme_at-right schema.scheme)
+      ∙ word_in-right 4 _ (decimal schema.chunk) _ _ schema.chunk (chunk_at-right schema.chunk h.2)
+      ∙ rw (some_columns_in-right 5 schema.columns h.3.some h.3.names (distinct-new (names_of schema.columns) h.3.distinct) h.3.order) (ap Ok made)))
 
   pub spelled : (ws : List (List ℕ)) (e : Event) → SpelledBy names ws e → words_in names ws ≡ Ok (Ok (Some e))
   spelled ws (events.Store store) h = store-right ws store h
@@ -241,6 +269,11 @@ module _ (names : Names) where
   spelled ws (events.Sum client table row) h = sum-right ws client table row h
   spelled ws (events.Sync client table) h = sync-right ws client table h
   spelled ws (events.Pull client table) h = pull-right ws client table h
+  spelled ws (events.BeginCr client table) h = begin_cr-right ws client table h
+  spelled ws (events.Conflicts client table) h = conflicts-right ws client table h
+  spelled ws (events.EndCr client table) h = end_cr-right ws client table h
+  spelled ws (events.Resolve client table row seen choice) h = resolve-right ws client table row seen choice h
+  spelled ws (events.ResolveAll client table by) h = absurd h
   spelled ws (events.Deliver packet) h = deliver-right ws packet h
   spelled ws (events.StoreShow table row) h = store_show-right ws table row h
   spelled ws (events.History table) h = history-right ws table h

@@ -81,28 +81,31 @@ module _ {Y : Type 0} (at : ℕ) (y : Y) where
   end-fault [] f h = absurd h
   end-fault (w ∷ ws) f h = cc
 
+-- a word that is judged, and what goes on from it
+
+module _ {X Y : Type 0} (f : BadLine) (at : ℕ) where
+  pub first_fault : (r : Result X Code) (go : X → Result Y BadLine) (P : X → Type 0) → (placed at r >>= go) ≡ Err f → ((x : X) → go x ≡ Err f → P x) → MatchResult r P (λ code. f ≡ bad code at)
+  first_fault (Ok x) go P e more = more x e
+  first_fault (Err code) go P e more = cc
+
+  pub refused_first : (r : Result X Code) (go : X → Result Y BadLine) (P : X → Type 0) → MatchResult r P (λ code. f ≡ bad code at) → ((x : X) → P x → go x ≡ Err f) → (placed at r >>= go) ≡ Err f
+  refused_first (Ok x) go P h more = more x h
+  refused_first (Err code) go P h more = cc
+
 -- words judged one behind the other
 
 module _ {R X : Type 0} (judge : R → List ℕ → Result X Code) (add : R → X → R) (f : BadLine) where
-  first_fault : (at : ℕ) (r : Result X Code) (go : X → Result R BadLine) (P : X → Type 0) → (placed at r >>= go) ≡ Err f → ((x : X) → go x ≡ Err f → P x) → MatchResult r P (λ code. f ≡ bad code at)
-  first_fault at (Ok x) go P e more = more x e
-  first_fault at (Err code) go P e more = cc
-
   pub each-err : (at : ℕ) (row : R) (ws : List (List ℕ)) → each_in judge add at row ws ≡ Err f → EachFault judge add row at ws f
   unfolding each_in
   each-err at row [] e = absurd (ok_err row f e)
   each-err at row (w ∷ ws) e =
-      first_fault at (judge row w) (λ x. each_in judge add (at + 1) (add row x) ws) (λ x. EachFault judge add (add row x) (at + 1) ws f) e (λ x. each-err (at + 1) (add row x) ws)
-
-  refused_first : (at : ℕ) (r : Result X Code) (go : X → Result R BadLine) (P : X → Type 0) → MatchResult r P (λ code. f ≡ bad code at) → ((x : X) → P x → go x ≡ Err f) → (placed at r >>= go) ≡ Err f
-  refused_first at (Ok x) go P h more = more x h
-  refused_first at (Err code) go P h more = cc
+      first_fault f at (judge row w) (λ x. each_in judge add (at + 1) (add row x) ws) (λ x. EachFault judge add (add row x) (at + 1) ws f) e (λ x. each-err (at + 1) (add row x) ws)
 
   pub each-fault : (at : ℕ) (row : R) (ws : List (List ℕ)) → EachFault judge add row at ws f → each_in judge add at row ws ≡ Err f
   unfolding each_in
   each-fault at row [] h = absurd h
   each-fault at row (w ∷ ws) h =
-      refused_first at (judge row w) (λ x. each_in judge add (at + 1) (add row x) ws) (λ x. EachFault judge add (add row x) (at + 1) ws f) h (λ x. each-fault (at + 1) (add row x) ws)
+      refused_first f at (judge row w) (λ x. each_in judge add (at + 1) (add row x) ws) (λ x. EachFault judge add (add row x) (at + 1) ws f) h (λ x. each-fault (at + 1) (add row x) ws)
 
 module _ (f : BadLine) where
   pub some_columns-err : (at : ℕ) (ws : List (List ℕ)) → some_columns_in at ws ≡ Err f → OneOrMore ColumnsFault at ws f

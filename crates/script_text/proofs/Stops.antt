@@ -7,9 +7,11 @@ use Rattle.script_text.specs.declared.verb.Verb.TheVariants as verbs
 use Rattle.script_text.specs.Names.{Names, columns_of}
 use Rattle.script_text.specs.Places.{table_at}
 use Rattle.script_text.specs.Reading.{store_in, table_in, client_in, content_in, some_columns_in, write_in, client_row_in, show_in}
+use Rattle.script_text.specs.Reading.{begin_cr_in, conflicts_in, end_cr_in, choice_in, resolve_in}
 use Rattle.script_text.specs.Reading.{sum_in, client_table_in, sync_in, pull_in, deliver_in, store_show_in, history_in, chunks_in}
 use Rattle.script_text.specs.Reading.{node_in, hold_in, free_in, work_in, work_all_in, start_in, crash_in, link_in, change_in, edit_in}
-use Rattle.script_text.specs.Grammar.{FirstFault, places_of, more_of, change_fault, columns_named}
+use Rattle.script_text.specs.Grammar.{FirstFault, places_of, more_of, change_fault, columns_named, ChoiceFault}
+use Rattle.script_text.proofs.ChoiceLemmas.{choice-err, choice-fault}
 use Rattle.script_text.proofs.EditLemmas.{change_in-err, change_in-fault}
 use Rattle.script_text.proofs.Steps.{bind-err, word_in-err, word_in-fault, end-err, end-fault, content-err, content-fault, some_columns-err, some_columns-fault}
 
@@ -94,6 +96,24 @@ module _ (names : Names) (ws : List (List ℕ)) (f : BadLine) where
 
   pub pull-err : pull_in names ws ≡ Err f → FirstFault 1 (places_of names verbs.Pull) (more_of verbs.Pull (columns_named names ws)) ws f
   pull-err h = client_table-err (bind-err (client_table_in names ws) _ f h)
+
+  pub begin_cr-err : begin_cr_in names ws ≡ Err f → FirstFault 1 (places_of names verbs.BeginCr) (more_of verbs.BeginCr (columns_named names ws)) ws f
+  begin_cr-err h = client_table-err (bind-err (client_table_in names ws) _ f h)
+
+  pub conflicts-err : conflicts_in names ws ≡ Err f → FirstFault 1 (places_of names verbs.Conflicts) (more_of verbs.Conflicts (columns_named names ws)) ws f
+  conflicts-err h = client_table-err (bind-err (client_table_in names ws) _ f h)
+
+  pub end_cr-err : end_cr_in names ws ≡ Err f → FirstFault 1 (places_of names verbs.EndCr) (more_of verbs.EndCr (columns_named names ws)) ws f
+  end_cr-err h = client_table-err (bind-err (client_table_in names ws) _ f h)
+
+  pub resolve-err : resolve_in names ws ≡ Err f → FirstFault 1 (places_of names verbs.Resolve) (more_of verbs.Resolve (columns_named names ws)) ws f
+  unfolding resolve_in
+  resolve-err h =
+      word_in-err _ _ _ (drop 1 (places_of names verbs.Resolve)) ChoiceFault f ws h (λ va a xa ia oa ha.
+      word_in-err _ _ _ (drop 2 (places_of names verbs.Resolve)) ChoiceFault f a ha (λ vb b xb ib ob hb.
+      word_in-err _ _ _ (drop 3 (places_of names verbs.Resolve)) ChoiceFault f b hb (λ vc c xc ic oc hc.
+      word_in-err _ _ _ (drop 4 (places_of names verbs.Resolve)) ChoiceFault f c hc (λ vd d xd id od hd.
+      choice-err f d (bind-err (choice_in d) _ f hd)))))
 
   node-err : node_in names ws ≡ Err f → FirstFault 1 (places_of names verbs.Hold) (more_of verbs.Hold (columns_named names ws)) ws f
   unfolding node_in
@@ -223,6 +243,24 @@ module _ (names : Names) (ws : List (List ℕ)) (f : BadLine) where
 
   pub pull-fault : FirstFault 1 (places_of names verbs.Pull) (more_of verbs.Pull (columns_named names ws)) ws f → pull_in names ws ≡ Err f
   pull-fault h = rw (client_table-fault h) refl
+
+  pub begin_cr-fault : FirstFault 1 (places_of names verbs.BeginCr) (more_of verbs.BeginCr (columns_named names ws)) ws f → begin_cr_in names ws ≡ Err f
+  begin_cr-fault h = rw (client_table-fault h) refl
+
+  pub conflicts-fault : FirstFault 1 (places_of names verbs.Conflicts) (more_of verbs.Conflicts (columns_named names ws)) ws f → conflicts_in names ws ≡ Err f
+  conflicts-fault h = rw (client_table-fault h) refl
+
+  pub end_cr-fault : FirstFault 1 (places_of names verbs.EndCr) (more_of verbs.EndCr (columns_named names ws)) ws f → end_cr_in names ws ≡ Err f
+  end_cr-fault h = rw (client_table-fault h) refl
+
+  pub resolve-fault : FirstFault 1 (places_of names verbs.Resolve) (more_of verbs.Resolve (columns_named names ws)) ws f → resolve_in names ws ≡ Err f
+  unfolding resolve_in
+  resolve-fault h =
+      word_in-fault _ _ _ (drop 1 (places_of names verbs.Resolve)) ChoiceFault f ws h (λ va a xa ia oa ha.
+      word_in-fault _ _ _ (drop 2 (places_of names verbs.Resolve)) ChoiceFault f a ha (λ vb b xb ib ob hb.
+      word_in-fault _ _ _ (drop 3 (places_of names verbs.Resolve)) ChoiceFault f b hb (λ vc c xc ic oc hc.
+      word_in-fault _ _ _ (drop 4 (places_of names verbs.Resolve)) ChoiceFault f c hc (λ vd d xd id od hd.
+      rw (choice-fault f d hd) refl))))
 
   node-fault : FirstFault 1 (places_of names verbs.Hold) (more_of verbs.Hold (columns_named names ws)) ws f → node_in names ws ≡ Err f
   unfolding node_in

@@ -44,6 +44,10 @@ verb-some word verb e =
     (picked verbs.Sum verb word _
     (picked verbs.Sync verb word _
     (picked verbs.Pull verb word _
+    (picked verbs.BeginCr verb word _
+    (picked verbs.Conflicts verb word _
+    (picked verbs.EndCr verb word _
+    (picked verbs.Resolve verb word _
     (picked verbs.Deliver verb word _
     (picked verbs.StoreShow verb word _
     (picked verbs.History verb word _
@@ -54,7 +58,7 @@ verb-some word verb e =
     (picked verbs.WorkAll verb word _
     (picked verbs.Crash verb word _
     (picked verbs.Start verb word _
-    (λ none. absurd cc))))))))))))))))))))))
+    (λ none. absurd cc))))))))))))))))))))))))))
     e
 
 pub verb-none : (word : List ℕ) → verb_of word ≡ None → (verb : Verb) → word ≢ name_of verb
@@ -72,16 +76,20 @@ verb-none word h verb =
     let h9 = skipped verbs.Sum word _ h8.1 in
     let h10 = skipped verbs.Sync word _ h9.1 in
     let h11 = skipped verbs.Pull word _ h10.1 in
-    let h12 = skipped verbs.Deliver word _ h11.1 in
-    let h13 = skipped verbs.StoreShow word _ h12.1 in
-    let h14 = skipped verbs.History word _ h13.1 in
-    let h15 = skipped verbs.Chunks word _ h14.1 in
-    let h16 = skipped verbs.Hold word _ h15.1 in
-    let h17 = skipped verbs.Free word _ h16.1 in
-    let h18 = skipped verbs.Work word _ h17.1 in
-    let h19 = skipped verbs.WorkAll word _ h18.1 in
-    let h20 = skipped verbs.Crash word _ h19.1 in
-    let h21 = skipped verbs.Start word _ h20.1 in
+    let h12 = skipped verbs.BeginCr word _ h11.1 in
+    let h13 = skipped verbs.Conflicts word _ h12.1 in
+    let h14 = skipped verbs.EndCr word _ h13.1 in
+    let h15 = skipped verbs.Resolve word _ h14.1 in
+    let h16 = skipped verbs.Deliver word _ h15.1 in
+    let h17 = skipped verbs.StoreShow word _ h16.1 in
+    let h18 = skipped verbs.History word _ h17.1 in
+    let h19 = skipped verbs.Chunks word _ h18.1 in
+    let h20 = skipped verbs.Hold word _ h19.1 in
+    let h21 = skipped verbs.Free word _ h20.1 in
+    let h22 = skipped verbs.Work word _ h21.1 in
+    let h23 = skipped verbs.WorkAll word _ h22.1 in
+    let h24 = skipped verbs.Crash word _ h23.1 in
+    let h25 = skipped verbs.Start word _ h24.1 in
     elim verb as (λ (v : Verb). word ≢ name_of v) [
       | verbs.Store ↦ h0.0
       | verbs.Table ↦ h1.0
@@ -97,16 +105,20 @@ verb-none word h verb =
       | verbs.Sum ↦ h9.0
       | verbs.Sync ↦ h10.0
       | verbs.Pull ↦ h11.0
-      | verbs.Deliver ↦ h12.0
-      | verbs.StoreShow ↦ h13.0
-      | verbs.History ↦ h14.0
-      | verbs.Chunks ↦ h15.0
-      | verbs.Hold ↦ h16.0
-      | verbs.Free ↦ h17.0
-      | verbs.Work ↦ h18.0
-      | verbs.WorkAll ↦ h19.0
-      | verbs.Crash ↦ h20.0
-      | verbs.Start ↦ h21.0
+      | verbs.BeginCr ↦ h12.0
+      | verbs.Conflicts ↦ h13.0
+      | verbs.EndCr ↦ h14.0
+      | verbs.Resolve ↦ h15.0
+      | verbs.Deliver ↦ h16.0
+      | verbs.StoreShow ↦ h17.0
+      | verbs.History ↦ h18.0
+      | verbs.Chunks ↦ h19.0
+      | verbs.Hold ↦ h20.0
+      | verbs.Free ↦ h21.0
+      | verbs.Work ↦ h22.0
+      | verbs.WorkAll ↦ h23.0
+      | verbs.Crash ↦ h24.0
+      | verbs.Start ↦ h25.0
     ]
 
 pub verb-again : (verb : Verb) → verb_of (name_of verb) ≡ Some verb
@@ -123,6 +135,10 @@ verb-again verbs.Show = refl
 verb-again verbs.Sum = refl
 verb-again verbs.Sync = refl
 verb-again verbs.Pull = refl
+verb-again verbs.BeginCr = refl
+verb-again verbs.Conflicts = refl
+verb-again verbs.EndCr = refl
+verb-again verbs.Resolve = refl
 verb-again verbs.Deliver = refl
 verb-again verbs.StoreShow = refl
 verb-again verbs.History = refl

@@ -1,18 +1,21 @@
 -- The lines of a script: which are passed over, which spell an event, and what is the first word at fault.
 use Rattle.std.specs.Prelude.{◌≡◌, ◌≢◌, ◌⊎◌, ℕ, ◌==◌, ◌+◌, ◌<◌, ◌≤◌, ◌^◌, nat_lt, true, false, List, [], ◌∷◌, ◌++◌}
 use Rattle.std.specs.Prelude.{length, drop, map, codes, Option, Some, None, MatchOption, Result, Ok, Err, MatchResult}
-use Rattle.std.specs.Prelude.{if◌then◌else◌, Bool}
+use Rattle.std.specs.Prelude.{if◌then◌else◌, Bool, MatchBool}
 use Rattle.std.specs.List.{AllByRecursion, IsDistinct, join_with_byte}
 use Rattle.std.specs.Fmt.{decimal}
 use Rattle.std.specs.Str.{IsUtf8, bytes_eq}
 use Rattle.stab_base.specs.Row.{row_of}
 use Rattle.stab_base.specs.declared.node.Node.{Node}
 use Rattle.stab_base.specs.declared.node.Node.TheVariants as nodes
+use Rattle.row_value.specs.declared.schema.Scheme.{Scheme}
 use Rattle.row_value.specs.declared.schema.Scheme.TheVariants as schemes
 use Rattle.row_value.specs.declared.schema.Schema.{Schema}
 use Rattle.row_value.specs.declared.schema.Column.{Column}
 use Rattle.row_value.specs.declared.content.Content.{Content}
 use Rattle.row_value.specs.declared.content.Content.TheVariants.{Gone, Row}
+use Rattle.conflicts.specs.declared.pair.Choice.{Choice}
+use Rattle.conflicts.specs.declared.pair.Choice.TheVariants as choices
 use Rattle.row_edits.specs.declared.change.ColumnValue.{ColumnValue}
 use Rattle.row_edits.specs.declared.change.Edit.{Edit}
 use Rattle.row_edits.specs.declared.change.Edit.TheVariants as edits
@@ -30,6 +33,8 @@ use Rattle.script_words.specs.declared.code.Code.TheVariants.{Unbuilt}
 use Rattle.script_text.specs.declared.fault.BadLine.{BadLine}
 use Rattle.script_text.specs.declared.fault.ScriptFault.{ScriptFault}
 use Rattle.script_text.specs.declared.fault.ScriptFault.TheVariants as faults
+use Rattle.script_text.specs.declared.resolving.Way.{Way}
+use Rattle.script_text.specs.declared.resolving.Way.TheVariants as ways
 use Rattle.script_text.specs.declared.verb.EditVerb.{EditVerb}
 use Rattle.script_text.specs.declared.verb.EditVerb.TheVariants as changes
 use Rattle.script_text.specs.declared.verb.Verb.{Verb}
@@ -41,7 +46,7 @@ use Rattle.script_text.specs.Places.{client_at, table_at, new_store_at, new_tabl
 use Rattle.script_text.specs.Places.{new_name_at, scheme_at, chunk_at, names_of, new_column_at, with_column, row_at}
 use Rattle.script_text.specs.Places.{value_behind, with_value, number_at, party_at, calls_at, passed, or_else}
 use Rattle.script_text.specs.Places.{store_number, table_number, direction_at, column_at, place_at}
-use Rattle.script_text.specs.Places.{next_change, with_change}
+use Rattle.script_text.specs.Places.{next_change, with_change, way_at}
 use Rattle.script_text.specs.Places.{client_number, tables_passed, parts_at}
 pub use Rattle.script_text.specs.Names.{Names, no_names, with_event, has_store, has_table, has_name, has_client}
 pub use Rattle.script_text.specs.Names.{has_no_store, columns_of, column_number}
@@ -88,12 +93,17 @@ pub record AreColumns (columns : List Column) : Type 0 where
   pub distinct : IsDistinct bytes_eq (names_of columns)
   pub order : CellsFirst columns
 
--- `table T NAME eventual CHUNK COLUMN:KIND ..`
+abbrev pub scheme_word : Scheme → List ℕ
+scheme_word schemes.Strong = codes "strong"
+scheme_word schemes.Causal = codes "causal"
+scheme_word schemes.Eventual = codes "eventual"
+
+-- `table T NAME SCHEME CHUNK COLUMN:KIND ..`
 abbrev pub SpellsTable : Names → List (List ℕ) → ℕ → Schema → Type 0
 SpellsTable names words table schema =
-    (words ≡ codes "table" ∷ table_word table ∷ schema.name ∷ codes "eventual" ∷ decimal schema.chunk
+    (words ≡ codes "table" ∷ table_word table ∷ schema.name ∷ scheme_word schema.scheme ∷ decimal schema.chunk
     ∷ map column_word schema.columns)
-    × IsUpTo 64 table × (schema.scheme ≡ schemes.Eventual) × IsChunk schema.chunk
+    × IsUpTo 64 table × IsChunk schema.chunk
     × AreColumns schema.columns × (is_name schema.name ≡ true)
     × IsEarly names × (has_no_store names ≡ false) × (has_table names table ≡ false)
     × (has_name names schema.name ≡ false)
@@ -190,15 +200,50 @@ SpellsShow = SpellsClientRow (codes "show")
 abbrev pub SpellsSum : Names → List (List ℕ) → ℕ → ℕ → List ℕ → Type 0
 SpellsSum = SpellsClientRow (codes "sum")
 
+-- `VERB C T`
+abbrev pub SpellsClientTable : List ℕ → Names → List (List ℕ) → ℕ → ℕ → Type 0
+SpellsClientTable verb names words client table =
+    (words ≡ verb ∷ client_word client ∷ table_word table ∷ []) × IsClient names client × IsTable names table
+
 -- `sync C T`
 abbrev pub SpellsSync : Names → List (List ℕ) → ℕ → ℕ → Type 0
-SpellsSync names words client table =
-    (words ≡ codes "sync" ∷ client_word client ∷ table_word table ∷ []) × IsClient names client × IsTable names table
+SpellsSync = SpellsClientTable (codes "sync")
 
 -- `pull C T`
 abbrev pub SpellsPull : Names → List (List ℕ) → ℕ → ℕ → Type 0
-SpellsPull names words client table =
-    (words ≡ codes "pull" ∷ client_word client ∷ table_word table ∷ []) × IsClient names client × IsTable names table
+SpellsPull = SpellsClientTable (codes "pull")
+
+-- `begin_cr C T`
+abbrev pub SpellsBeginCr : Names → List (List ℕ) → ℕ → ℕ → Type 0
+SpellsBeginCr = SpellsClientTable (codes "begin_cr")
+
+-- `conflicts C T`
+abbrev pub SpellsConflicts : Names → List (List ℕ) → ℕ → ℕ → Type 0
+SpellsConflicts = SpellsClientTable (codes "conflicts")
+
+-- `end_cr C T`
+abbrev pub SpellsEndCr : Names → List (List ℕ) → ℕ → ℕ → Type 0
+SpellsEndCr = SpellsClientTable (codes "end_cr")
+
+-- the values of a row, or `gone`
+abbrev pub SpellsNew : List (List ℕ) → Content → Type 0
+SpellsNew words Gone = words ≡ codes "gone" ∷ []
+SpellsNew words (Row some objects) = SpellsContent words (Row some objects)
+
+-- `mine`, `theirs`, `new VALUE ..`, `new gone`
+abbrev pub SpellsChoice : List (List ℕ) → Choice → Type 0
+SpellsChoice words choices.Mine = words ≡ codes "mine" ∷ []
+SpellsChoice words choices.Theirs = words ≡ codes "theirs" ∷ []
+SpellsChoice words (choices.New content) =
+    (values : List (List ℕ)) × (words ≡ codes "new" ∷ values) × SpellsNew values content
+
+-- `resolve C T ROW SEEN CHOICE`
+abbrev pub SpellsResolve : Names → List (List ℕ) → ℕ → ℕ → List ℕ → ℕ → Choice → Type 0
+SpellsResolve names words client table row seen choice =
+    (place : List ℕ) × (more : List (List ℕ))
+    × (words ≡ codes "resolve" ∷ client_word client ∷ table_word table ∷ place ∷ decimal seen ∷ more)
+    × IsClient names client × IsTable names table × (row_of place ≡ Some row) × (seen < 2 ^ 64)
+    × SpellsChoice more choice
 
 -- `deliver I`
 abbrev pub SpellsDeliver : List (List ℕ) → ℕ → Type 0
@@ -259,6 +304,7 @@ SpellsCrash names words node calls pick =
     (words ≡ codes "crash" ∷ node_word node ∷ decimal calls ∷ decimal pick ∷ []) × IsNode names node
     × (calls ≤ 4) × (pick < 2 ^ 64)
 
+-- no line spells `ResolveAll` yet
 abbrev pub SpelledBy : Names → List (List ℕ) → Event → Type 0
 SpelledBy names words (events.Store store) = SpellsStore names words store
 SpelledBy names words (events.Table table schema) = SpellsTable names words table schema
@@ -270,6 +316,12 @@ SpelledBy names words (events.Show client table row) = SpellsShow names words cl
 SpelledBy names words (events.Sum client table row) = SpellsSum names words client table row
 SpelledBy names words (events.Sync client table) = SpellsSync names words client table
 SpelledBy names words (events.Pull client table) = SpellsPull names words client table
+SpelledBy names words (events.BeginCr client table) = SpellsBeginCr names words client table
+SpelledBy names words (events.Conflicts client table) = SpellsConflicts names words client table
+SpelledBy names words (events.EndCr client table) = SpellsEndCr names words client table
+SpelledBy names words (events.Resolve client table row seen choice) =
+    SpellsResolve names words client table row seen choice
+SpelledBy names words (events.ResolveAll client table by) = ⊥
 SpelledBy names words (events.Deliver packet) = SpellsDeliver words packet
 SpelledBy names words (events.StoreShow table row) = SpellsStoreShow names words table row
 SpelledBy names words (events.History table) = SpellsHistory names words table
@@ -320,6 +372,24 @@ abbrev pub OneOrMore : Rest → Rest
 OneOrMore more at [] fault = fault ≡ bad Missing at
 OneOrMore more at (word ∷ words) fault = more at (word ∷ words) fault
 
+-- the values of a row, one or more, or `gone` alone
+abbrev pub NewFault : Rest
+NewFault at [] fault = fault ≡ bad Missing at
+NewFault at (word ∷ words) fault =
+    MatchBool (bytes_eq word (codes "gone")) (NoMore (at + 1) words fault) (ValuesFault at (word ∷ words) fault)
+
+-- what stands behind the word that says how a conflict is resolved
+abbrev pub WayFault : Way → Rest
+WayFault ways.Mine = NoMore
+WayFault ways.Theirs = NoMore
+WayFault ways.New = NewFault
+
+-- how a conflict is resolved
+abbrev pub ChoiceFault : Rest
+ChoiceFault at [] fault = fault ≡ bad Missing at
+ChoiceFault at (word ∷ words) fault =
+    MatchResult (way_at word) (λ way. WayFault way (at + 1) words fault) (λ code. fault ≡ bad code at)
+
 -- the first fault of words that are to stand at these places, the first of which has this index, and behind them
 abbrev pub FirstFault : ℕ → List (List ℕ → Option Code) → Rest → List (List ℕ) → BadLine → Type 0
 FirstFault at [] more words fault = more at words fault
@@ -357,6 +427,15 @@ places_of names verbs.Sum =
     ∷ (λ word. fault_of (row_at word)) ∷ []
 places_of names verbs.Sync = (λ word. fault_of (client_at names word)) ∷ (λ word. fault_of (table_at names word)) ∷ []
 places_of names verbs.Pull = (λ word. fault_of (client_at names word)) ∷ (λ word. fault_of (table_at names word)) ∷ []
+places_of names verbs.BeginCr =
+    (λ word. fault_of (client_at names word)) ∷ (λ word. fault_of (table_at names word)) ∷ []
+places_of names verbs.Conflicts =
+    (λ word. fault_of (client_at names word)) ∷ (λ word. fault_of (table_at names word)) ∷ []
+places_of names verbs.EndCr =
+    (λ word. fault_of (client_at names word)) ∷ (λ word. fault_of (table_at names word)) ∷ []
+places_of names verbs.Resolve =
+    (λ word. fault_of (client_at names word)) ∷ (λ word. fault_of (table_at names word))
+    ∷ (λ word. fault_of (row_at word)) ∷ (λ word. fault_of (number_at word)) ∷ []
 places_of names verbs.Deliver = (λ word. fault_of (number_at word)) ∷ []
 places_of names verbs.StoreShow = (λ word. fault_of (table_at names word)) ∷ (λ word. fault_of (row_at word)) ∷ []
 places_of names verbs.History = (λ word. fault_of (table_at names word)) ∷ []
@@ -394,6 +473,10 @@ more_of verbs.Show columns = NoMore
 more_of verbs.Sum columns = NoMore
 more_of verbs.Sync columns = NoMore
 more_of verbs.Pull columns = NoMore
+more_of verbs.BeginCr columns = NoMore
+more_of verbs.Conflicts columns = NoMore
+more_of verbs.EndCr columns = NoMore
+more_of verbs.Resolve columns = ChoiceFault
 more_of verbs.Deliver columns = NoMore
 more_of verbs.StoreShow columns = NoMore
 more_of verbs.History columns = NoMore
@@ -418,6 +501,10 @@ verb_fault names verbs.Show = None
 verb_fault names verbs.Sum = None
 verb_fault names verbs.Sync = None
 verb_fault names verbs.Pull = None
+verb_fault names verbs.BeginCr = None
+verb_fault names verbs.Conflicts = None
+verb_fault names verbs.EndCr = None
+verb_fault names verbs.Resolve = None
 verb_fault names verbs.Deliver = None
 verb_fault names verbs.StoreShow = None
 verb_fault names verbs.History = None

@@ -49,6 +49,11 @@ with_event n (events.Show client table row) = record n { started = true }
 with_event n (events.Sum client table row) = record n { started = true }
 with_event n (events.Sync client table) = record n { started = true }
 with_event n (events.Pull client table) = record n { started = true }
+with_event n (events.BeginCr client table) = record n { started = true }
+with_event n (events.Conflicts client table) = record n { started = true }
+with_event n (events.EndCr client table) = record n { started = true }
+with_event n (events.Resolve client table row seen choice) = record n { started = true }
+with_event n (events.ResolveAll client table by) = record n { started = true }
 with_event n (events.Deliver packet) = record n { started = true }
 with_event n (events.StoreShow table row) = record n { started = true }
 with_event n (events.History table) = record n { started = true }

@@ -1,5 +1,5 @@
 -- What a word says at its place in a line, or the code of its fault there.
-use Rattle.std.specs.Prelude.{ℕ, Bool, true, false, ◌==◌, ◌&&◌, ◌||◌, ◌^◌, nat_le, nat_lt}
+use Rattle.std.specs.Prelude.{ℕ, Bool, true, false, ◌==◌, ◌&&◌, ◌^◌, nat_le, nat_lt}
 use Rattle.std.specs.Prelude.{not, map, List, [], ◌∷◌, ◌++◌}
 use Rattle.std.specs.Prelude.{codes, Option, Some, None, Result, Ok, Err, if◌then◌else◌}
 use Rattle.std.specs.List.{slice_split, list_any}
@@ -26,6 +26,8 @@ use Rattle.script_words.specs.declared.values.Value.TheVariants.{OfCell, OfObjec
 use Rattle.script_words.specs.Words.{is_number, is_length, is_name, is_among, sides_of}
 use Rattle.script_words.specs.Columns.{column_of}
 use Rattle.script_words.specs.Values.{value_at}
+use Rattle.script_text.specs.declared.resolving.Way.{Way}
+use Rattle.script_text.specs.declared.resolving.Way.TheVariants as ways
 use Rattle.script_text.specs.Names.{Names, has_store, has_table, has_name, has_client, column_number}
 
 infixl 10 ◌>>=◌
@@ -178,8 +180,9 @@ new_name_at names word = if not (is_name word) then Err NoName else if has_name 
 
 unfoldable pub scheme_at : List ℕ → Result Scheme Code
 scheme_at word =
-    if bytes_eq word (codes "eventual") then Ok schemes.Eventual
-    else if bytes_eq word (codes "strong") || bytes_eq word (codes "causal") then Err Unbuilt
+    if bytes_eq word (codes "strong") then Ok schemes.Strong
+    else if bytes_eq word (codes "causal") then Ok schemes.Causal
+    else if bytes_eq word (codes "eventual") then Ok schemes.Eventual
     else Err NoName
 
 unfoldable pub chunk_at : List ℕ → Result ℕ Code
@@ -252,6 +255,14 @@ number_to most word = number_at word >>= λ number. if nat_le number most then O
 -- how many calls of a disk pass, up to 4
 abbrev pub calls_at : List ℕ → Result ℕ Code
 calls_at word = number_to 4 word
+
+-- how a conflict is resolved
+unfoldable pub way_at : List ℕ → Result Way Code
+way_at word =
+    if bytes_eq word (codes "mine") then Ok ways.Mine
+    else if bytes_eq word (codes "theirs") then Ok ways.Theirs
+    else if bytes_eq word (codes "new") then Ok ways.New
+    else Err NoName
 
 -- ---- edits
 

@@ -1,11 +1,13 @@
 -- Words read from left to right: the event that they spell, or the first word at fault.
-use Rattle.std.specs.Prelude.{◌≡◌, ℕ, ◌+◌, nat_lt, List, [], ◌∷◌, length, Option, Some, None, Result, Ok, Err}
+use Rattle.std.specs.Prelude.{◌≡◌, ℕ, ◌+◌, nat_lt, List, [], ◌∷◌, length, codes, Option, Some, None, Result, Ok, Err}
 use Rattle.std.specs.Prelude.{if◌then◌else◌}
-use Rattle.std.specs.Str.{is_utf8}
+use Rattle.std.specs.Str.{is_utf8, bytes_eq}
 use Rattle.stab_base.specs.declared.node.Node.{Node}
 use Rattle.row_value.specs.declared.schema.Column.{Column}
 use Rattle.row_value.specs.declared.content.Content.{Content}
-use Rattle.row_value.specs.declared.content.Content.TheVariants.{Row}
+use Rattle.row_value.specs.declared.content.Content.TheVariants.{Gone, Row}
+use Rattle.conflicts.specs.declared.pair.Choice.{Choice}
+use Rattle.conflicts.specs.declared.pair.Choice.TheVariants as choices
 use Rattle.row_edits.specs.declared.change.ColumnValue.{ColumnValue}
 use Rattle.row_edits.specs.declared.change.Edit.{Edit}
 use Rattle.row_edits.specs.declared.change.Edit.TheVariants as edits
@@ -18,6 +20,8 @@ use Rattle.script_text.specs.declared.fault.BadLine.{BadLine}
 use Rattle.script_text.specs.declared.fault.ScriptFault.{ScriptFault}
 use Rattle.script_text.specs.declared.fault.ScriptFault.TheVariants as faults
 use Rattle.row_value.specs.declared.schema.Schema.{Schema}
+use Rattle.script_text.specs.declared.resolving.Way.{Way}
+use Rattle.script_text.specs.declared.resolving.Way.TheVariants as ways
 use Rattle.script_text.specs.declared.verb.EditVerb.{EditVerb}
 use Rattle.script_text.specs.declared.verb.EditVerb.TheVariants as changes
 use Rattle.script_text.specs.declared.verb.Verb.{Verb}
@@ -30,7 +34,7 @@ use Rattle.script_words.specs.Words.{texts, words_of, is_comment}
 use Rattle.script_text.specs.Places.{◌>>=◌, client_at, table_at, new_store_at, new_table_at, new_client_at, gate_at}
 use Rattle.script_text.specs.Places.{tables_at, new_name_at, scheme_at, chunk_at, new_column_at, with_column, row_at}
 use Rattle.script_text.specs.Places.{Values, value_behind, with_value, number_at, party_at, calls_at}
-use Rattle.script_text.specs.Places.{direction_at, column_at, place_at, next_change, with_change}
+use Rattle.script_text.specs.Places.{direction_at, column_at, place_at, next_change, with_change, way_at}
 use Rattle.script_words.specs.Values.{bytes_at}
 
 -- the next word and the words behind it
@@ -138,6 +142,15 @@ sync_in names words = client_table_in names words >>= λ p. Ok (events.Sync p.0 
 abbrev pub pull_in : Names → List (List ℕ) → Result Event BadLine
 pull_in names words = client_table_in names words >>= λ p. Ok (events.Pull p.0 p.1)
 
+abbrev pub begin_cr_in : Names → List (List ℕ) → Result Event BadLine
+begin_cr_in names words = client_table_in names words >>= λ p. Ok (events.BeginCr p.0 p.1)
+
+abbrev pub conflicts_in : Names → List (List ℕ) → Result Event BadLine
+conflicts_in names words = client_table_in names words >>= λ p. Ok (events.Conflicts p.0 p.1)
+
+abbrev pub end_cr_in : Names → List (List ℕ) → Result Event BadLine
+end_cr_in names words = client_table_in names words >>= λ p. Ok (events.EndCr p.0 p.1)
+
 unfoldable pub deliver_in : List (List ℕ) → Result Event BadLine
 deliver_in words =
     word_in 1 number_at words (λ packet a.
@@ -224,6 +237,29 @@ edit_in names verb words =
     word_in 3 row_at b (λ row c.
     change_in verb (columns_of names table) c >>= λ edit. Ok (events.Edit client table row edit))))
 
+-- the values of a row, or that it is deleted
+unfoldable pub new_in : List (List ℕ) → Result Content BadLine
+new_in words =
+    next_in 6 words >>= λ a.
+    if bytes_eq a.0 (codes "gone") then (end_in 7 a.1 >>= λ done. Ok Gone) else content_in 6 words
+
+-- the words behind the one that says how a conflict is resolved
+abbrev pub chosen_in : Way → List (List ℕ) → Result Choice BadLine
+chosen_in ways.Mine words = end_in 6 words >>= λ done. Ok choices.Mine
+chosen_in ways.Theirs words = end_in 6 words >>= λ done. Ok choices.Theirs
+chosen_in ways.New words = new_in words >>= λ content. Ok (choices.New content)
+
+unfoldable pub choice_in : List (List ℕ) → Result Choice BadLine
+choice_in words = word_in 5 way_at words chosen_in
+
+unfoldable pub resolve_in : Names → List (List ℕ) → Result Event BadLine
+resolve_in names words =
+    word_in 1 (client_at names) words (λ client a.
+    word_in 2 (table_at names) a (λ table b.
+    word_in 3 row_at b (λ row c.
+    word_in 4 number_at c (λ seen d.
+    choice_in d >>= λ choice. Ok (events.Resolve client table row seen choice)))))
+
 -- a client, a table and a row, and no more
 unfoldable pub client_row_in : Names → List (List ℕ) → Result (ℕ × ℕ × List ℕ) BadLine
 client_row_in names words =
@@ -280,6 +316,10 @@ built_in names verbs.Show words = unlimited (show_in names words)
 built_in names verbs.Sum words = unlimited (sum_in names words)
 built_in names verbs.Sync words = unlimited (sync_in names words)
 built_in names verbs.Pull words = unlimited (pull_in names words)
+built_in names verbs.BeginCr words = unlimited (begin_cr_in names words)
+built_in names verbs.Conflicts words = unlimited (conflicts_in names words)
+built_in names verbs.EndCr words = unlimited (end_cr_in names words)
+built_in names verbs.Resolve words = unlimited (resolve_in names words)
 built_in names verbs.Deliver words = unlimited (deliver_in words)
 built_in names verbs.StoreShow words = unlimited (store_show_in names words)
 built_in names verbs.History words = unlimited (history_in names words)

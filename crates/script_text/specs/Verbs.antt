@@ -25,6 +25,10 @@ name_of verbs.Show = codes "show"
 name_of verbs.Sum = codes "sum"
 name_of verbs.Sync = codes "sync"
 name_of verbs.Pull = codes "pull"
+name_of verbs.BeginCr = codes "begin_cr"
+name_of verbs.Conflicts = codes "conflicts"
+name_of verbs.EndCr = codes "end_cr"
+name_of verbs.Resolve = codes "resolve"
 name_of verbs.Deliver = codes "deliver"
 name_of verbs.StoreShow = codes "sshow"
 name_of verbs.History = codes "history"
@@ -50,6 +54,10 @@ verb_of word =
     else if bytes_eq word (codes "sum") then Some verbs.Sum
     else if bytes_eq word (codes "sync") then Some verbs.Sync
     else if bytes_eq word (codes "pull") then Some verbs.Pull
+    else if bytes_eq word (codes "begin_cr") then Some verbs.BeginCr
+    else if bytes_eq word (codes "conflicts") then Some verbs.Conflicts
+    else if bytes_eq word (codes "end_cr") then Some verbs.EndCr
+    else if bytes_eq word (codes "resolve") then Some verbs.Resolve
     else if bytes_eq word (codes "deliver") then Some verbs.Deliver
     else if bytes_eq word (codes "sshow") then Some verbs.StoreShow
     else if bytes_eq word (codes "history") then Some verbs.History
@@ -74,8 +82,7 @@ is_row_verb word = is_among word (codes "select" ∷ [])
 
 -- lines of conflicts that aren't built
 unfoldable pub is_conflict_verb : List ℕ → Bool
-is_conflict_verb word =
-    is_among word (codes "begin_cr" ∷ codes "conflicts" ∷ codes "end_cr" ∷ codes "resolve" ∷ codes "resolve_all" ∷ [])
+is_conflict_verb word = is_among word (codes "resolve_all" ∷ [])
 
 -- lines of nodes that aren't built
 unfoldable pub is_node_verb : List ℕ → Bool

@@ -170,6 +170,11 @@ impl Declared {
             | Event::Sum { .. }
             | Event::Sync { .. }
             | Event::Pull { .. }
+            | Event::BeginCr { .. }
+            | Event::Conflicts { .. }
+            | Event::EndCr { .. }
+            | Event::Resolve { .. }
+            | Event::ResolveAll { .. }
             | Event::Deliver { .. }
             | Event::StoreShow { .. }
             | Event::History { .. }

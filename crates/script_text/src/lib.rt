@@ -14,6 +14,7 @@ mod next;
 mod nodes;
 mod parse;
 mod places;
+mod resolving;
 mod verb;
 
 pub use declared::Declared;
@@ -22,6 +23,8 @@ pub use laws::{fault_apart, limit_apart, one_event, one_fault, one_limit, passed
 pub use parse::parse_line;
 pub use transcript_text::{ESCAPED, line_text, one_form, one_transcript, stop_apart, stop_text};
 
+#[cfg(test)]
+mod conflict_tests;
 #[cfg(test)]
 mod edit_tests;
 #[cfg(test)]

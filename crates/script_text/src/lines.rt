@@ -3,7 +3,7 @@ ghost use Rattle.script_words.specs.Words.{texts};
 ghost use Rattle.script_text.specs.Places.{tables_at};
 ghost use Rattle.script_text.specs.Reading.{Reads, Makes, Tells, placed, made_table, made_client, store_in, table_in};
 ghost use Rattle.script_text.specs.Reading.{client_in, write_in, client_row_in, show_in, sum_in, client_table_in};
-ghost use Rattle.script_text.specs.Reading.{sync_in, pull_in};
+ghost use Rattle.script_text.specs.Reading.{sync_in, pull_in, begin_cr_in, conflicts_in, end_cr_in};
 ghost use Rattle.script_text.specs.Reading.{deliver_in, store_show_in, history_in, chunks_in, built_in, event_in};
 
 use crate::columns::some_columns;
@@ -19,6 +19,7 @@ use crate::places::{
     chunk_at, client_at, gate_at, new_client_at, new_name_at, new_store_at, new_table_at,
     number_at, row_at, scheme_at, table_at, tables_at,
 };
+use crate::resolving::resolve_line;
 use crate::verb::{Verb, is_unbuilt, verb_of};
 use row_value::{Bytes, RowId, Schema};
 use script_words::{Code, ValueFault};
@@ -49,6 +50,27 @@ fn pull_line(names: &Declared, words: &[&str]) -> Result<Event, BadLine>
 {
     let (client, table) = client_table(names, words)?;
     Ok(Event::Pull { client, table })
+}
+
+fn begin_cr_line(names: &Declared, words: &[&str]) -> Result<Event, BadLine>
+    ensures { result ≡ begin_cr_in names.now (texts words.now) }
+{
+    let (client, table) = client_table(names, words)?;
+    Ok(Event::BeginCr { client, table })
+}
+
+fn conflicts_line(names: &Declared, words: &[&str]) -> Result<Event, BadLine>
+    ensures { result ≡ conflicts_in names.now (texts words.now) }
+{
+    let (client, table) = client_table(names, words)?;
+    Ok(Event::Conflicts { client, table })
+}
+
+fn end_cr_line(names: &Declared, words: &[&str]) -> Result<Event, BadLine>
+    ensures { result ≡ end_cr_in names.now (texts words.now) }
+{
+    let (client, table) = client_table(names, words)?;
+    Ok(Event::EndCr { client, table })
 }
 
 #[tactic(auto, unfolding(crate::specs::Reading::deliver_in, crate::specs::Reading::word_in))]
@@ -251,6 +273,10 @@ fn built_line(
         Verb::Sum => Ok(sum_line(names, words)?),
         Verb::Sync => Ok(sync_line(names, words)?),
         Verb::Pull => Ok(pull_line(names, words)?),
+        Verb::BeginCr => Ok(begin_cr_line(names, words)?),
+        Verb::Conflicts => Ok(conflicts_line(names, words)?),
+        Verb::EndCr => Ok(end_cr_line(names, words)?),
+        Verb::Resolve => resolve_line(alloc, names, words),
         Verb::Deliver => Ok(deliver_line(words)?),
         Verb::StoreShow => Ok(store_show_line(names, words)?),
         Verb::History => Ok(history_line(names, words)?),

@@ -238,8 +238,9 @@ pub(crate) fn scheme_at(word: &str) -> Result<Scheme, Code>
     ensures { result ≡ scheme_at word.now }
 {
     match word {
+        "strong" => Ok(Scheme::Strong),
+        "causal" => Ok(Scheme::Causal),
         "eventual" => Ok(Scheme::Eventual),
-        "strong" | "causal" => Err(Code::Unbuilt),
         _ => Err(Code::NoName),
     }
 }

@@ -133,18 +133,19 @@ fn refusals_at_the_start(rt: HostRuntime) -> Result<(), Fail> {
     check(&rt, rt.alloc(), &names, &AT_THE_START)
 }
 
-const BEHIND_A_STORE: [(&str, u32, usize); 30] = [
+const BEHIND_A_STORE: [(&str, u32, usize); 31] = [
     (STORE, 9, 1),
     ("table T2 notes eventual 64 n:int", 0, 0),
     ("table T64 notes eventual 64 n:int", 0, 0),
     ("table t1 notes eventual 64 n:int", 5, 1),
     ("table T65 Notes eventual 64 n:int", 5, 2),
-    ("table T65 notes strong 64 n:int", 12, 3),
+    ("table T65 notes Strong 64 n:int", 5, 3),
     ("table T65 notes eventual 64 n:int n:int", 9, 6),
     ("table T65 notes eventual 64", 2, 5),
     ("table T1 Notes eventual 64 n:int", 5, 2),
     ("table T1 1 eventual 64 n:int", 5, 2),
-    ("table T1 notes strong 64 n:int", 12, 3),
+    ("table T1 notes strong 64 n:int", 0, 0),
+    ("table T1 notes causal 64 n:int", 0, 0),
     ("table T1 notes weak 64 n:int", 5, 3),
     ("table T1 notes eventual 65 n:int", 4, 4),
     ("table T1 notes eventual 0064 n:int", 4, 4),
@@ -166,7 +167,7 @@ const BEHIND_A_STORE: [(&str, u32, usize); 30] = [
         7,
         7,
     ),
-    ("table T1 notes causal 65536 o:object n:int", 12, 3),
+    ("table T1 notes causal 65536 o:object n:int", 7, 6),
     ("table T1 notes eventual 65536 n:int n:text", 9, 6),
     ("table T1 notes eventual 65536 n:int m", 5, 6),
     ("table T1 notes eventual 65536 n:int m:int n:int", 9, 7),
@@ -293,10 +294,11 @@ fn refusals_behind_all_declarations(rt: HostRuntime) -> Result<(), Fail> {
     check(&rt, rt.alloc(), &names, &BEHIND_DECLARATIONS)
 }
 
-const PASSED: [(&str, u32); 8] = [
+const PASSED: [(&str, u32); 9] = [
     ("store S17", 7),
     ("store S4294967297", 7),
     ("table T65 notes2 eventual 64 n:int", 4),
+    ("table T65 notes2 causal 64 n:int", 4),
     ("client C65 - T1", 5),
     ("client C65 - T65", 5),
     ("client C1 - T65", 4),
@@ -731,6 +733,23 @@ fn lines_say_what_is_done_to_a_node(rt: HostRuntime) -> Result<(), Fail> {
     for (index, line) in lines.iter().enumerate() {
         let event = parse_line(alloc, line.as_bytes(), &names)?.ok_or("passed over")?;
         assert!(rt; is_done_to_a_node(index, &event), "{line}");
+    }
+    Ok(())
+}
+
+#[test]
+fn a_table_has_the_scheme_of_its_line(rt: HostRuntime) -> Result<(), Fail> {
+    let alloc = rt.alloc();
+    let names = behind(alloc, &[STORE])?;
+    for (line, due) in [
+        ("table T1 notes strong 64 n:int", Scheme::Strong),
+        ("table T1 notes causal 64 n:int", Scheme::Causal),
+        ("table T1 notes eventual 64 n:int", Scheme::Eventual),
+    ] {
+        let Some(Event::Table { schema, .. }) = parse_line(alloc, line.as_bytes(), &names)? else {
+            return Err("no table".into());
+        };
+        assert_eq!(rt; schema.scheme, due, "{line}");
     }
     Ok(())
 }

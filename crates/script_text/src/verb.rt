@@ -23,6 +23,10 @@ pub(crate) enum Verb {
     Sum,
     Sync,
     Pull,
+    BeginCr,
+    Conflicts,
+    EndCr,
+    Resolve,
     Deliver,
     StoreShow,
     History,
@@ -52,6 +56,10 @@ pub(crate) fn verb_of(word: &str) -> Option<Verb>
         "sum" => Some(Verb::Sum),
         "sync" => Some(Verb::Sync),
         "pull" => Some(Verb::Pull),
+        "begin_cr" => Some(Verb::BeginCr),
+        "conflicts" => Some(Verb::Conflicts),
+        "end_cr" => Some(Verb::EndCr),
+        "resolve" => Some(Verb::Resolve),
         "deliver" => Some(Verb::Deliver),
         "sshow" => Some(Verb::StoreShow),
         "history" => Some(Verb::History),
@@ -87,10 +95,7 @@ fn is_row_verb(word: &str) -> bool
 fn is_conflict_verb(word: &str) -> bool
     ensures { result ≡ is_conflict_verb word.now }
 {
-    matches!(
-        word,
-        "begin_cr" | "conflicts" | "end_cr" | "resolve" | "resolve_all"
-    )
+    matches!(word, "resolve_all")
 }
 
 #[tactic(auto, unfolding(crate::specs::Verbs::is_node_verb))]

@@ -16,7 +16,7 @@ use Rattle.stab_base.specs.declared.chunk_name.ChunkName.{ChunkName}
 use Rattle.stab_base.specs.declared.step.Step.{Step}
 use Rattle.stab_base.specs.declared.step.Step.TheVariants as steps
 use Rattle.table_model.specs.declared.line.Shown.{Shown}
-use Rattle.table_model.specs.declared.line.Shown.TheVariants.{Clean, Mine}
+use Rattle.table_model.specs.declared.line.Shown.TheVariants.{Clean, Mine, Conflict}
 use Rattle.table_model.specs.declared.line.Refusal.{Refusal}
 use Rattle.table_model.specs.declared.line.Refusal.TheVariants as refusals
 use Rattle.table_model.specs.declared.line.Answer.{Answer}
@@ -39,8 +39,8 @@ use Rattle.transcript_text.proofs.Above.{IsAbove, Avoids, all_append, parted, le
 use Rattle.transcript_text.proofs.Above.{decimal_avoids_a_point, signed_avoids_a_point, has_what_it_avoids}
 use Rattle.transcript_text.proofs.Values.{cell_word, object_word, sum_word, cells_above, sums_above, all_words, sum_same, no_sum, values_same, not_gone}
 use Rattle.transcript_text.proofs.Values.{sum_not_gone, kinds_apart}
-use Rattle.transcript_text.proofs.PartWords.{content_words, node_word, entry_words, cells_led, content_led, node_led, entry_led, content_above, node_above}
-use Rattle.transcript_text.proofs.PartWords.{entry_above, content_same, entry_same, node_same, first_word}
+use Rattle.transcript_text.proofs.PartWords.{content_words, node_word, entry_words, pair_words, cells_led, content_led, node_led, entry_led, pair_led}
+use Rattle.transcript_text.proofs.PartWords.{content_above, node_above, entry_above, pair_above, content_same, entry_same, pair_same, node_same, first_word}
 use Rattle.transcript_text.proofs.FactWords.{client_fact_words, fact_words, fact_led, fact_above, fact_same}
 
 abbrev pub refusal_words : Refusal → List (List ℕ)
@@ -51,7 +51,13 @@ refusal_words (refusals.BadObject column len) = codes "no" ∷ codes "11" ∷ de
 refusal_words (refusals.RowTooLarge len) = codes "no" ∷ codes "12" ∷ decimal len ∷ []
 refusal_words (refusals.Busy with) = codes "no" ∷ codes "17" ∷ decimal with ∷ []
 refusal_words refusals.NoTable = codes "no" ∷ codes "18" ∷ []
+refusal_words refusals.NotInResolution = codes "no" ∷ codes "20" ∷ []
+refusal_words refusals.InResolution = codes "no" ∷ codes "21" ∷ []
+refusal_words refusals.NoConflict = codes "no" ∷ codes "22" ∷ []
+refusal_words (refusals.Moved seen now) = codes "no" ∷ codes "23" ∷ decimal seen ∷ decimal now ∷ []
 refusal_words refusals.Offline = codes "no" ∷ codes "24" ∷ []
+refusal_words (refusals.Outstanding number) = codes "no" ∷ codes "25" ∷ decimal number ∷ []
+refusal_words (refusals.Conflicted version) = codes "no" ∷ codes "26" ∷ decimal version ∷ []
 refusal_words refusals.NoRow = codes "no" ∷ codes "27" ∷ []
 refusal_words (refusals.NoPacket sent) = codes "no" ∷ codes "29" ∷ decimal sent ∷ []
 refusal_words (refusals.Down node) = codes "no" ∷ codes "30" ∷ node_word node ∷ []
@@ -59,6 +65,8 @@ refusal_words (refusals.Down node) = codes "no" ∷ codes "30" ∷ node_word nod
 abbrev pub shown_words : Shown → List (List ℕ)
 shown_words (Clean version content) = codes "ok" ∷ codes "clean" ∷ decimal version ∷ content_words content
 shown_words (Mine number content) = codes "ok" ∷ codes "mine" ∷ decimal number ∷ content_words content
+shown_words (Conflict number version content) =
+    codes "ok" ∷ codes "conflict" ∷ decimal number ∷ decimal version ∷ content_words content
 
 abbrev pub row_sum_words : RowSum → List (List ℕ)
 row_sum_words row = map cell_word row.cells ++ map sum_word row.objects
@@ -66,6 +74,8 @@ row_sum_words row = map cell_word row.cells ++ map sum_word row.objects
 abbrev pub shown_sum_words : ShownSum → List (List ℕ)
 shown_sum_words (sums.Clean version row) = codes "ok" ∷ codes "clean" ∷ decimal version ∷ row_sum_words row
 shown_sum_words (sums.Mine number row) = codes "ok" ∷ codes "mine" ∷ decimal number ∷ row_sum_words row
+shown_sum_words (sums.Conflict number version row) =
+    codes "ok" ∷ codes "conflict" ∷ decimal number ∷ decimal version ∷ row_sum_words row
 
 abbrev pub name_word : ChunkName → List ℕ
 name_word name = decimal name.version ++ (codes "." ++ decimal name.ordinal)
@@ -86,6 +96,7 @@ answer_words (answers.Refused refusal) = refusal_words refusal
 abbrev pub words_of : TextLine → List (List ℕ)
 words_of (lines.Answer answer) = answer_words answer
 words_of (lines.Entry table entry) = codes "entry" ∷ entry_words table entry
+words_of (lines.Pair pair) = pair_words pair
 words_of (lines.Fact fact) = fact_words fact
 
 refusal_led : (refusal : Refusal) → 32 ∷ refusal_text refusal ≡ led 32 (refusal_words refusal)
@@ -96,7 +107,13 @@ refusal_led (refusals.BadObject column len) = simp append-nil
 refusal_led (refusals.RowTooLarge len) = simp append-nil
 refusal_led (refusals.Busy with) = simp append-nil
 refusal_led refusals.NoTable = refl
+refusal_led refusals.NotInResolution = refl
+refusal_led refusals.InResolution = refl
+refusal_led refusals.NoConflict = refl
+refusal_led (refusals.Moved seen now) = simp append-nil
 refusal_led refusals.Offline = refl
+refusal_led (refusals.Outstanding number) = simp append-nil
+refusal_led (refusals.Conflicted version) = simp append-nil
 refusal_led refusals.NoRow = refl
 refusal_led (refusals.NoPacket sent) = simp append-nil
 refusal_led (refusals.Down node) = simp (node_led, append-nil)
@@ -104,6 +121,7 @@ refusal_led (refusals.Down node) = simp (node_led, append-nil)
 shown_led : (shown : Shown) → 32 ∷ shown_text shown ≡ led 32 (shown_words shown)
 shown_led (Clean version content) = rw content_led refl
 shown_led (Mine number content) = rw content_led refl
+shown_led (Conflict number version content) = rw content_led refl
 
 row_sum_led : (row : RowSum) → row_sum_text row ≡ led 32 (row_sum_words row)
 row_sum_led row =
@@ -112,6 +130,7 @@ row_sum_led row =
 shown_sum_led : (sum : ShownSum) → 32 ∷ shown_sum_text sum ≡ led 32 (shown_sum_words sum)
 shown_sum_led (sums.Clean version row) = rw row_sum_led refl
 shown_sum_led (sums.Mine number row) = rw row_sum_led refl
+shown_sum_led (sums.Conflict number version row) = rw row_sum_led refl
 
 names_led : (names : List ChunkName) → 32 ∷ names_text names ≡ led 32 (names_words names)
 names_led names = rw (flat_map-map (λ (word : List ℕ). 32 ∷ word) name_word names) refl
@@ -130,6 +149,7 @@ answer_led (answers.Refused refusal) = refusal_led refusal
 text_led : (line : TextLine) → 32 ∷ text_of line ≡ led 32 (words_of line)
 text_led (lines.Answer answer) = answer_led answer
 text_led (lines.Entry table entry) = rw entry_led refl
+text_led (lines.Pair pair) = pair_led pair
 text_led (lines.Fact fact) = fact_led fact
 
 refusal_above : (refusal : Refusal) → HasRefusalText refusal → AllByRecursion (IsAbove 32) (refusal_words refusal)
@@ -140,7 +160,13 @@ refusal_above (refusals.BadObject column len) h = search (rules, decimal_above)
 refusal_above (refusals.RowTooLarge len) h = search (rules, decimal_above)
 refusal_above (refusals.Busy with) h = search (rules, decimal_above)
 refusal_above refusals.NoTable h = search rules
+refusal_above refusals.NotInResolution h = search rules
+refusal_above refusals.InResolution h = search rules
+refusal_above refusals.NoConflict h = search rules
+refusal_above (refusals.Moved seen now) h = search (rules, decimal_above)
 refusal_above refusals.Offline h = search rules
+refusal_above (refusals.Outstanding number) h = search (rules, decimal_above)
+refusal_above (refusals.Conflicted version) h = search (rules, decimal_above)
 refusal_above refusals.NoRow h = search rules
 refusal_above (refusals.NoPacket sent) h = search (rules, decimal_above)
 refusal_above (refusals.Down node) h = search (rules, node_above)
@@ -148,6 +174,7 @@ refusal_above (refusals.Down node) h = search (rules, node_above)
 shown_above : (shown : Shown) → HasShownText shown → AllByRecursion (IsAbove 32) (shown_words shown)
 shown_above (Clean version content) h = search (rules, decimal_above, content_above)
 shown_above (Mine number content) h = search (rules, decimal_above, content_above)
+shown_above (Conflict number version content) h = search (rules, decimal_above, content_above)
 
 row_sum_above : (row : RowSum) → HasRowSumText row → AllByRecursion (IsAbove 32) (row_sum_words row)
 row_sum_above row h = all_words (IsAbove 32) (map cell_word row.cells) (map sum_word row.objects) (cells_above row.cells h.cells) (sums_above row.objects h.objects)
@@ -155,6 +182,7 @@ row_sum_above row h = all_words (IsAbove 32) (map cell_word row.cells) (map sum_
 shown_sum_above : (sum : ShownSum) → HasShownSumText sum → AllByRecursion (IsAbove 32) (shown_sum_words sum)
 shown_sum_above (sums.Clean version row) h = search (rules, decimal_above, row_sum_above)
 shown_sum_above (sums.Mine number row) h = search (rules, decimal_above, row_sum_above)
+shown_sum_above (sums.Conflict number version row) h = search (rules, decimal_above, row_sum_above)
 
 step_above : (step : Step) → IsAbove 32 (step_word step)
 step_above steps.Idle = search rules
@@ -201,6 +229,7 @@ answer_above (answers.Refused refusal) h = refusal_above refusal h
 words_above : (line : TextLine) → HasText line → AllByRecursion (IsAbove 32) (words_of line)
 words_above (lines.Answer answer) h = answer_above answer h
 words_above (lines.Entry table entry) h = search (rules, entry_above)
+words_above (lines.Pair pair) h = pair_above pair h
 words_above (lines.Fact fact) h = fact_above fact h
 
 abbrev row_made : List Cell → List ObjectSum → RowSum
@@ -227,50 +256,71 @@ abbrev second_word : List (List ℕ) → List ℕ
 second_word [] = []
 second_word (word ∷ words) = first_word words
 
-abbrev is_mine : Shown → Bool
-is_mine (Clean version content) = false
-is_mine (Mine number content) = true
+-- what a row is shown as, and its word
+shown_kind : Shown → ℕ
+shown_kind (Clean version content) = 0
+shown_kind (Mine number content) = 1
+shown_kind (Conflict number version content) = 2
 
-mine_word : (shown : Shown) → bytes_eq (second_word (shown_words shown)) (codes "mine") ≡ is_mine shown
-mine_word (Clean version content) = refl
-mine_word (Mine number content) = refl
+shown_in : List (List ℕ) → ℕ
+shown_in words =
+    cond (bytes_eq (second_word words) (codes "mine")) 1 (cond (bytes_eq (second_word words) (codes "conflict")) 2 0)
+
+shown_read : (shown : Shown) → shown_in (shown_words shown) ≡ shown_kind shown
+unfolding shown_in shown_kind
+shown_read (Clean version content) = refl
+shown_read (Mine number content) = refl
+shown_read (Conflict number version content) = refl
 
 shown_same : (a b : Shown) → HasShownText a → HasShownText b → shown_words a ≡ shown_words b → a ≡ b
+unfolding shown_kind
 shown_same (Clean m a) (Clean n b) p q e = cc (decimal_injective m n p.0 q.0 (cc), content_same a b p.1 q.1 (cc))
 shown_same (Mine m a) (Mine n b) p q e = cc (decimal_injective m n p.0 q.0 (cc), content_same a b p.1 q.1 (cc))
+shown_same (Conflict m v a) (Conflict n w b) p q e =
+    cc (decimal_injective m n p.0 q.0 (cc), decimal_injective v w p.1 q.1 (cc), content_same a b p.2 q.2 (cc))
 shown_same a b p q e =
-    let same : is_mine a ≡ is_mine b = sym (mine_word a) ∙ ap (λ words. bytes_eq (second_word words) (codes "mine")) e ∙ mine_word b in
-    absurd cc
+    let same : shown_kind a ≡ shown_kind b = sym (shown_read a) ∙ ap shown_in e ∙ shown_read b in
+    absurd (omega (arith, same))
 
-abbrev is_mine_sum : ShownSum → Bool
-is_mine_sum (sums.Clean version row) = false
-is_mine_sum (sums.Mine number row) = true
+sum_kind : ShownSum → ℕ
+sum_kind (sums.Clean version row) = 0
+sum_kind (sums.Mine number row) = 1
+sum_kind (sums.Conflict number version row) = 2
 
-mine_sum_word : (sum : ShownSum) → bytes_eq (second_word (shown_sum_words sum)) (codes "mine") ≡ is_mine_sum sum
-mine_sum_word (sums.Clean version row) = refl
-mine_sum_word (sums.Mine number row) = refl
+sum_read : (sum : ShownSum) → shown_in (shown_sum_words sum) ≡ sum_kind sum
+unfolding shown_in sum_kind
+sum_read (sums.Clean version row) = refl
+sum_read (sums.Mine number row) = refl
+sum_read (sums.Conflict number version row) = refl
 
 shown_sum_same : (a b : ShownSum) → HasShownSumText a → HasShownSumText b → shown_sum_words a ≡ shown_sum_words b → a ≡ b
+unfolding sum_kind
 shown_sum_same (sums.Clean m a) (sums.Clean n b) p q e = cc (decimal_injective m n p.0 q.0 (cc), row_sum_same a b p.1 q.1 (cc))
 shown_sum_same (sums.Mine m a) (sums.Mine n b) p q e = cc (decimal_injective m n p.0 q.0 (cc), row_sum_same a b p.1 q.1 (cc))
+shown_sum_same (sums.Conflict m v a) (sums.Conflict n w b) p q e =
+    cc (decimal_injective m n p.0 q.0 (cc), decimal_injective v w p.1 q.1 (cc), row_sum_same a b p.2 q.2 (cc))
 shown_sum_same a b p q e =
-    let same : is_mine_sum a ≡ is_mine_sum b = sym (mine_sum_word a) ∙ ap (λ words. bytes_eq (second_word words) (codes "mine")) e ∙ mine_sum_word b in
-    absurd cc
+    let same : sum_kind a ≡ sum_kind b = sym (sum_read a) ∙ ap shown_in e ∙ sum_read b in
+    absurd (omega (arith, same))
 
 shown_apart : (a : Shown) (b : ShownSum) → HasShownText a → HasShownSumText b → shown_words a ≡ shown_sum_words b → ⊥
+unfolding shown_kind sum_kind
 shown_apart (Clean m a) (sums.Clean n b) p q e = row_apart a b p.1 q.1 (cc)
 shown_apart (Mine m a) (sums.Mine n b) p q e = row_apart a b p.1 q.1 (cc)
+shown_apart (Conflict m v a) (sums.Conflict n w b) p q e = row_apart a b p.2 q.2 (cc)
 shown_apart a b p q e =
-    let same : is_mine a ≡ is_mine_sum b = sym (mine_word a) ∙ ap (λ words. bytes_eq (second_word words) (codes "mine")) e ∙ mine_sum_word b in
-    absurd cc
+    let same : shown_kind a ≡ sum_kind b = sym (shown_read a) ∙ ap shown_in e ∙ sum_read b in
+    omega (arith, same)
 
 number_sum : (n : ℕ) (sum : ShownSum) (rest : List (List ℕ)) → n < 2 ^ 64 → codes "ok" ∷ decimal n ∷ rest ≡ shown_sum_words sum → ⊥
 number_sum n (sums.Clean version row) rest h e = no_letter n 99 (codes "lean") h (cc) (omega arith)
 number_sum n (sums.Mine number row) rest h e = no_letter n 109 (codes "ine") h (cc) (omega arith)
+number_sum n (sums.Conflict number version row) rest h e = no_letter n 99 (codes "onflict") h (cc) (omega arith)
 
 number_shown : (n : ℕ) (shown : Shown) (rest : List (List ℕ)) → n < 2 ^ 64 → codes "ok" ∷ decimal n ∷ rest ≡ shown_words shown → ⊥
 number_shown n (Clean version content) rest h e = no_letter n 99 (codes "lean") h (cc) (omega arith)
 number_shown n (Mine number content) rest h e = no_letter n 109 (codes "ine") h (cc) (omega arith)
+number_shown n (Conflict number version content) rest h e = no_letter n 99 (codes "onflict") h (cc) (omega arith)
 
 some_word : (content : Content) → HasValue content → content_words content ≡ [] → ⊥
 some_word Gone h e = cc
@@ -293,8 +343,10 @@ refused_word answers.Done = refl
 refused_word (answers.Number number) = refl
 refused_word (answers.Shown (Clean version content)) = refl
 refused_word (answers.Shown (Mine number content)) = refl
+refused_word (answers.Shown (Conflict number version content)) = refl
 refused_word (answers.Sums (sums.Clean version row)) = refl
 refused_word (answers.Sums (sums.Mine number row)) = refl
+refused_word (answers.Sums (sums.Conflict number version row)) = refl
 refused_word (answers.Stored version content) = refl
 refused_word (answers.Did step) = refl
 refused_word (answers.Names names) = refl
@@ -306,7 +358,13 @@ refused_word (answers.Refused (refusals.BadCell column)) = refl
 refused_word (answers.Refused (refusals.BadObject column len)) = refl
 refused_word (answers.Refused (refusals.RowTooLarge len)) = refl
 refused_word (answers.Refused refusals.NoTable) = refl
+refused_word (answers.Refused refusals.NotInResolution) = refl
+refused_word (answers.Refused refusals.InResolution) = refl
+refused_word (answers.Refused refusals.NoConflict) = refl
+refused_word (answers.Refused (refusals.Moved seen now)) = refl
 refused_word (answers.Refused refusals.Offline) = refl
+refused_word (answers.Refused (refusals.Outstanding number)) = refl
+refused_word (answers.Refused (refusals.Conflicted version)) = refl
 refused_word (answers.Refused refusals.NoRow) = refl
 refused_word (answers.Refused (refusals.NoPacket sent)) = refl
 
@@ -439,8 +497,10 @@ did_is step answers.Done q e = absurd cc
 did_is step (answers.Number n) q e = absurd (no_number step n q (cc))
 did_is step (answers.Shown (Clean v c)) q e = absurd cc
 did_is step (answers.Shown (Mine v c)) q e = absurd cc
+did_is step (answers.Shown (Conflict n v c)) q e = absurd cc
 did_is step (answers.Sums (sums.Clean v row)) q e = absurd cc
 did_is step (answers.Sums (sums.Mine v row)) q e = absurd cc
+did_is step (answers.Sums (sums.Conflict n v row)) q e = absurd cc
 did_is step (answers.Stored m content) q e = absurd (no_number step m q.0 (cc))
 did_is step (answers.Did other) q e = ap answers.Did (step_same step other (cc))
 did_is step (answers.Names []) q e = absurd q
@@ -479,8 +539,10 @@ answer_same (answers.Number m) (answers.Stored n content) p q e = absurd (some_w
 answer_same (answers.Stored m content) (answers.Number n) p q e = absurd (some_word content p.2 (cc))
 answer_same answers.Done (answers.Shown (Clean v c)) p q e = absurd cc
 answer_same answers.Done (answers.Shown (Mine v c)) p q e = absurd cc
+answer_same answers.Done (answers.Shown (Conflict n v c)) p q e = absurd cc
 answer_same (answers.Shown (Clean v c)) answers.Done p q e = absurd cc
 answer_same (answers.Shown (Mine v c)) answers.Done p q e = absurd cc
+answer_same (answers.Shown (Conflict n v c)) answers.Done p q e = absurd cc
 answer_same (answers.Shown shown) (answers.Sums sum) p q e = absurd (shown_apart shown sum p q e)
 answer_same (answers.Sums sum) (answers.Shown shown) p q e = absurd (shown_apart shown sum q p (sym e))
 answer_same (answers.Number m) (answers.Sums sum) p q e = absurd (number_sum m sum [] p e)
@@ -489,8 +551,10 @@ answer_same (answers.Stored m content) (answers.Sums sum) p q e = absurd (number
 answer_same (answers.Sums sum) (answers.Stored n content) p q e = absurd (number_sum n sum (content_words content) q.0 (sym e))
 answer_same answers.Done (answers.Sums (sums.Clean v row)) p q e = absurd cc
 answer_same answers.Done (answers.Sums (sums.Mine v row)) p q e = absurd cc
+answer_same answers.Done (answers.Sums (sums.Conflict n v row)) p q e = absurd cc
 answer_same (answers.Sums (sums.Clean v row)) answers.Done p q e = absurd cc
 answer_same (answers.Sums (sums.Mine v row)) answers.Done p q e = absurd cc
+answer_same (answers.Sums (sums.Conflict n v row)) answers.Done p q e = absurd cc
 answer_same answers.Done (answers.Number n) p q e = absurd cc
 answer_same (answers.Number n) answers.Done p q e = absurd cc
 answer_same answers.Done (answers.Stored v c) p q e = absurd cc
@@ -503,9 +567,12 @@ kind_of : TextLine → ℕ
 kind_of (lines.Answer answer) = 0
 kind_of (lines.Entry table entry) = 1
 kind_of (lines.Fact fact) = 2
+kind_of (lines.Pair pair) = 3
 
 kind_in : List ℕ → ℕ
-kind_in word = cond (bytes_eq word (codes "ok") || bytes_eq word (codes "no")) 0 (cond (bytes_eq word (codes "entry")) 1 2)
+kind_in word =
+    cond (bytes_eq word (codes "ok") || bytes_eq word (codes "no")) 0
+    (cond (bytes_eq word (codes "entry")) 1 (cond (bytes_eq word (codes "pair")) 3 2))
 
 answer_kind : (answer : Answer) → kind_in (first_word (answer_words answer)) ≡ 0
 unfolding kind_in
@@ -513,8 +580,10 @@ answer_kind answers.Done = refl
 answer_kind (answers.Number number) = refl
 answer_kind (answers.Shown (Clean version content)) = refl
 answer_kind (answers.Shown (Mine number content)) = refl
+answer_kind (answers.Shown (Conflict number version content)) = refl
 answer_kind (answers.Sums (sums.Clean version row)) = refl
 answer_kind (answers.Sums (sums.Mine number row)) = refl
+answer_kind (answers.Sums (sums.Conflict number version row)) = refl
 answer_kind (answers.Stored version content) = refl
 answer_kind (answers.Did step) = refl
 answer_kind (answers.Names names) = refl
@@ -526,7 +595,13 @@ answer_kind (answers.Refused (refusals.BadCell column)) = refl
 answer_kind (answers.Refused (refusals.BadObject column len)) = refl
 answer_kind (answers.Refused (refusals.RowTooLarge len)) = refl
 answer_kind (answers.Refused refusals.NoTable) = refl
+answer_kind (answers.Refused refusals.NotInResolution) = refl
+answer_kind (answers.Refused refusals.InResolution) = refl
+answer_kind (answers.Refused refusals.NoConflict) = refl
+answer_kind (answers.Refused (refusals.Moved seen now)) = refl
 answer_kind (answers.Refused refusals.Offline) = refl
+answer_kind (answers.Refused (refusals.Outstanding number)) = refl
+answer_kind (answers.Refused (refusals.Conflicted version)) = refl
 answer_kind (answers.Refused refusals.NoRow) = refl
 answer_kind (answers.Refused (refusals.NoPacket sent)) = refl
 
@@ -556,12 +631,14 @@ line_kind : (line : TextLine) → kind_in (first_word (words_of line)) ≡ kind_
 unfolding kind_in kind_of
 line_kind (lines.Answer answer) = answer_kind answer
 line_kind (lines.Entry table entry) = refl
+line_kind (lines.Pair pair) = refl
 line_kind (lines.Fact fact) = fact_kind fact
 
 words_same : (a b : TextLine) → HasText a → HasText b → words_of a ≡ words_of b → a ≡ b
 unfolding kind_of
 words_same (lines.Answer a) (lines.Answer b) p q e = ap lines.Answer (answer_same a b p q e)
 words_same (lines.Entry s a) (lines.Entry t b) p q e = let same = entry_same s t a b p q (cc) in cc (same.0, same.1)
+words_same (lines.Pair a) (lines.Pair b) p q e = ap lines.Pair (pair_same a b p q e)
 words_same (lines.Fact a) (lines.Fact b) p q e = ap lines.Fact (fact_same a b p q e)
 words_same a b p q e =
     let same : kind_of a ≡ kind_of b = sym (line_kind a) ∙ ap (λ words. kind_in (first_word words)) e ∙ line_kind b in

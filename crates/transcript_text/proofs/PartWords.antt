@@ -18,10 +18,11 @@ use Rattle.table_model.specs.declared.message_name.MessageName.{MessageName}
 use Rattle.table_model.specs.declared.message_name.MessageName.TheVariants as kinds
 use Rattle.stab_base.specs.declared.node.Node.{Node}
 use Rattle.stab_base.specs.declared.node.Node.TheVariants as nodes
+use Rattle.table_model.specs.declared.line.RowPair.{RowPair}
 use Rattle.table_model.specs.declared.line.Write.{Write}
-use Rattle.transcript_text.specs.Text.{cell_text, content_text, node_text, message_text, entry_text}
+use Rattle.transcript_text.specs.Text.{cell_text, content_text, node_text, message_text, entry_text, pair_text}
 use Rattle.transcript_text.specs.OneForm.{AreBytes, HasContentText}
-use Rattle.transcript_text.specs.OneForm.{HasRowText, HasWriteText, HasEntryText, HasNodeText}
+use Rattle.transcript_text.specs.OneForm.{HasRowText, HasWriteText, HasEntryText, HasPairText, HasNodeText}
 use Rattle.transcript_text.proofs.Above.{IsAbove, led, decimal_above, row_above}
 use Rattle.transcript_text.proofs.Values.{cell_word, object_word, cells_above, objects_above, all_words, object_same, no_object, values_same, not_gone}
 use Rattle.transcript_text.proofs.Values.{object_not_gone}
@@ -74,6 +75,9 @@ entry_words table entry =
     ∷ decimal entry.base
     ∷ []
 
+abbrev pub pair_words : RowPair → List (List ℕ)
+pair_words pair = codes "pair" ∷ hyphenated_text lower pair.row ∷ decimal pair.number ∷ decimal pair.version ∷ []
+
 pub cells_led : (some : List Cell) → flat_map cell_text some ≡ led 32 (map cell_word some)
 cells_led [] = refl
 cells_led (cells.Int n ∷ some) = ap (λ text. cell_text (cells.Int n) ++ text) (cells_led some)
@@ -113,6 +117,9 @@ message_led kinds.TableVersionUpdateNotification = refl
 pub entry_led : (table : ℕ) (entry : Entry) → entry_text table entry ≡ led 32 (entry_words table entry)
 entry_led table entry = simp append-nil
 
+pub pair_led : (pair : RowPair) → 32 ∷ pair_text pair ≡ led 32 (pair_words pair)
+pair_led pair = simp append-nil
+
 pub content_above : (content : Content) → HasContentText content → AllByRecursion (IsAbove 32) (content_words content)
 content_above Gone h = search rules
 content_above (Row some objects) h = all_words (IsAbove 32) (map cell_word some) (map object_word objects) (cells_above some h.0) (objects_above objects h.1)
@@ -144,6 +151,9 @@ message_above kinds.TableVersionUpdateNotification = search rules
 pub entry_above : (table : ℕ) (entry : Entry) → HasEntryText table entry → AllByRecursion (IsAbove 32) (entry_words table entry)
 entry_above table entry h = search (rules, decimal_above, row_above)
 
+pub pair_above : (pair : RowPair) → HasPairText pair → AllByRecursion (IsAbove 32) (pair_words pair)
+pair_above pair h = search (rules, decimal_above, row_above)
+
 pub content_same : (a b : Content) → HasContentText a → HasContentText b → content_words a ≡ content_words b → a ≡ b
 content_same Gone Gone p q e = refl
 content_same Gone (Row some objects) p q e = absurd (not_gone object_word AreBytes object_same no_object object_not_gone some objects q.0 (sym e))
@@ -167,6 +177,11 @@ write_same a b p q e =
 
 pub entry_same : (s t : ℕ) (a b : Entry) → HasEntryText s a → HasEntryText t b → entry_words s a ≡ entry_words t b → (s ≡ t) × (a ≡ b)
 entry_same s t a b p q e =
+    let rows = row_same a.row b.row p.row q.row (cc) in
+    grind (arith, rows, decimal_injective)
+
+pub pair_same : (a b : RowPair) → HasPairText a → HasPairText b → pair_words a ≡ pair_words b → a ≡ b
+pair_same a b p q e =
     let rows = row_same a.row b.row p.row q.row (cc) in
     grind (arith, rows, decimal_injective)
 

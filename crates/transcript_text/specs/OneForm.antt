@@ -10,9 +10,10 @@ use Rattle.table_model.specs.declared.entry.Entry.{Entry}
 use Rattle.stab_base.specs.declared.chunk_name.ChunkName.{ChunkName}
 use Rattle.stab_base.specs.declared.node.Node.{Node}
 use Rattle.stab_base.specs.declared.node.Node.TheVariants as nodes
+use Rattle.table_model.specs.declared.line.RowPair.{RowPair}
 use Rattle.table_model.specs.declared.line.Write.{Write}
 use Rattle.table_model.specs.declared.line.Shown.{Shown}
-use Rattle.table_model.specs.declared.line.Shown.TheVariants.{Clean, Mine}
+use Rattle.table_model.specs.declared.line.Shown.TheVariants.{Clean, Mine, Conflict}
 use Rattle.table_model.specs.declared.line.Refusal.{Refusal}
 use Rattle.table_model.specs.declared.line.Refusal.TheVariants as refusals
 use Rattle.table_model.specs.declared.line.Answer.{Answer}
@@ -54,7 +55,13 @@ HasRefusalText (refusals.BadObject column len) = (column < 2 ^ 64) × (len < 2 ^
 HasRefusalText (refusals.RowTooLarge len) = len < 2 ^ 64
 HasRefusalText (refusals.Busy with) = with < 2 ^ 64
 HasRefusalText refusals.NoTable = Unit {0}
+HasRefusalText refusals.NotInResolution = Unit {0}
+HasRefusalText refusals.InResolution = Unit {0}
+HasRefusalText refusals.NoConflict = Unit {0}
+HasRefusalText (refusals.Moved seen now) = (seen < 2 ^ 64) × (now < 2 ^ 64)
 HasRefusalText refusals.Offline = Unit {0}
+HasRefusalText (refusals.Outstanding number) = number < 2 ^ 64
+HasRefusalText (refusals.Conflicted version) = version < 2 ^ 64
 HasRefusalText refusals.NoRow = Unit {0}
 HasRefusalText (refusals.NoPacket sent) = sent < 2 ^ 64
 HasRefusalText (refusals.Down node) = HasNodeText node
@@ -69,6 +76,7 @@ HasValue (Row (cell ∷ some) objects) = Unit {0}
 abbrev pub HasShownText : Shown → Type 0
 HasShownText (Clean version content) = (version < 2 ^ 64) × HasContentText content
 HasShownText (Mine number content) = (number < 2 ^ 64) × HasContentText content
+HasShownText (Conflict number version content) = (number < 2 ^ 64) × (version < 2 ^ 64) × HasContentText content
 
 pub record HasSumText (object : ObjectSum) : Type 0 where
   pub len : object.len < 2 ^ 64
@@ -87,6 +95,7 @@ pub record HasRowSumText (row : RowSum) : Type 0 where
 abbrev pub HasShownSumText : ShownSum → Type 0
 HasShownSumText (sums.Clean version row) = (version < 2 ^ 64) × HasRowSumText row
 HasShownSumText (sums.Mine number row) = (number < 2 ^ 64) × HasRowSumText row
+HasShownSumText (sums.Conflict number version row) = (number < 2 ^ 64) × (version < 2 ^ 64) × HasRowSumText row
 
 pub record HasNameText (name : ChunkName) : Type 0 where
   pub version : name.version < 2 ^ 64
@@ -128,6 +137,11 @@ pub record HasEntryText (place : ℕ) (entry : Entry) : Type 0 where
   pub number : entry.number < 2 ^ 64
   pub base : entry.base < 2 ^ 64
 
+pub record HasPairText (pair : RowPair) : Type 0 where
+  pub row : HasRowText pair.row
+  pub number : pair.number < 2 ^ 64
+  pub version : pair.version < 2 ^ 64
+
 abbrev pub HasOutcomeText : ℕ → ℕ → ℕ → List ℕ → ℕ → Type 0
 HasOutcomeText client number table row version =
     (client < 2 ^ 32) × (number < 2 ^ 64) × (table < 2 ^ 32) × HasRowText row × (version < 2 ^ 64)
@@ -157,4 +171,5 @@ HasFactText (facts.StoreRecovered store table) = (store < 2 ^ 32) × (table < 2 
 abbrev pub HasText : TextLine → Type 0
 HasText (lines.Answer answer) = HasAnswerText answer
 HasText (lines.Entry table entry) = HasEntryText table entry
+HasText (lines.Pair pair) = HasPairText pair
 HasText (lines.Fact fact) = HasFactText fact

@@ -18,9 +18,10 @@ use Rattle.stab_base.specs.declared.step.Step.{Step}
 use Rattle.stab_base.specs.declared.step.Step.TheVariants as steps
 use Rattle.stab_base.specs.declared.node.Node.{Node}
 use Rattle.stab_base.specs.declared.node.Node.TheVariants as nodes
+use Rattle.table_model.specs.declared.line.RowPair.{RowPair}
 use Rattle.table_model.specs.declared.line.Write.{Write}
 use Rattle.table_model.specs.declared.line.Shown.{Shown}
-use Rattle.table_model.specs.declared.line.Shown.TheVariants.{Clean, Mine}
+use Rattle.table_model.specs.declared.line.Shown.TheVariants.{Clean, Mine, Conflict}
 use Rattle.table_model.specs.declared.line.Refusal.{Refusal}
 use Rattle.table_model.specs.declared.line.Refusal.TheVariants as refusals
 use Rattle.table_model.specs.declared.line.Answer.{Answer}
@@ -71,7 +72,13 @@ refusal_text (refusals.BadObject column len) = codes "no 11 " ++ (decimal column
 refusal_text (refusals.RowTooLarge len) = codes "no 12 " ++ decimal len
 refusal_text (refusals.Busy with) = codes "no 17 " ++ decimal with
 refusal_text refusals.NoTable = codes "no 18"
+refusal_text refusals.NotInResolution = codes "no 20"
+refusal_text refusals.InResolution = codes "no 21"
+refusal_text refusals.NoConflict = codes "no 22"
+refusal_text (refusals.Moved seen now) = codes "no 23 " ++ (decimal seen ++ (codes " " ++ decimal now))
 refusal_text refusals.Offline = codes "no 24"
+refusal_text (refusals.Outstanding number) = codes "no 25 " ++ decimal number
+refusal_text (refusals.Conflicted version) = codes "no 26 " ++ decimal version
 refusal_text refusals.NoRow = codes "no 27"
 refusal_text (refusals.NoPacket sent) = codes "no 29 " ++ decimal sent
 refusal_text (refusals.Down node) = codes "no 30" ++ node_text node
@@ -79,10 +86,14 @@ refusal_text (refusals.Down node) = codes "no 30" ++ node_text node
 abbrev pub shown_text : Shown → List ℕ
 shown_text (Clean version content) = codes "ok clean " ++ (decimal version ++ content_text content)
 shown_text (Mine number content) = codes "ok mine " ++ (decimal number ++ content_text content)
+shown_text (Conflict number version content) =
+    codes "ok conflict " ++ (decimal number ++ (codes " " ++ (decimal version ++ content_text content)))
 
 abbrev pub shown_sum_text : ShownSum → List ℕ
 shown_sum_text (sums.Clean version row) = codes "ok clean " ++ (decimal version ++ row_sum_text row)
 shown_sum_text (sums.Mine number row) = codes "ok mine " ++ (decimal number ++ row_sum_text row)
+shown_sum_text (sums.Conflict number version row) =
+    codes "ok conflict " ++ (decimal number ++ (codes " " ++ (decimal version ++ row_sum_text row)))
 
 abbrev pub step_word : Step → List ℕ
 step_word steps.Idle = codes "idle"
@@ -155,6 +166,12 @@ entry_text table entry =
     ++ (codes " C"
     ++ (decimal entry.client ++ (codes " " ++ (decimal entry.number ++ (codes " " ++ decimal entry.base))))))))))
 
+-- a row in conflict
+abbrev pub pair_text : RowPair → List ℕ
+pair_text pair =
+    codes "pair "
+    ++ (hyphenated_text lower pair.row ++ (codes " " ++ (decimal pair.number ++ (codes " " ++ decimal pair.version))))
+
 -- what became of a write, behind the word that a line begins with
 abbrev pub outcome_text : ℕ → ℕ → ℕ → List ℕ → ℕ → List ℕ
 outcome_text client number table row version =
@@ -196,6 +213,7 @@ fact_text (facts.StoreRecovered store table) =
 abbrev pub text_of : TextLine → List ℕ
 text_of (lines.Answer answer) = answer_text answer
 text_of (lines.Entry table entry) = codes "entry" ++ entry_text table entry
+text_of (lines.Pair pair) = pair_text pair
 text_of (lines.Fact fact) = fact_text fact
 
 -- the text of a line that says why a run stopped: the status that the program ends with, the line of the script, a code

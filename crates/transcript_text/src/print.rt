@@ -1,11 +1,15 @@
-ghost use Rattle.std.specs.Prelude.{◌≡◌, ◌++◌, IfOk, OnOk};
+ghost use Rattle.std.specs.Prelude.{◌≡◌, ◌++◌, codes, IfOk, OnOk};
 ghost use Rattle.std.specs.List.{flat_map};
+ghost use Rattle.std.specs.Fmt.{decimal};
 ghost use Rattle.std.specs.String.{string_bytes};
 ghost use Rattle.hex.specs.Hex.{encode_lower};
 ghost use Rattle.table_model.specs.declared.line.Fact.TheVariants as facts;
+ghost use Rattle.table_model.specs.declared.line.Shown.TheVariants as shown;
+ghost use Rattle.table_model.specs.declared.sum.ShownSum.TheVariants as sums;
 ghost use Rattle.transcript_text.specs.Text.{cell_text, object_text, content_text, refusal_text, shown_text};
 ghost use Rattle.transcript_text.specs.Text.{sum_text, row_sum_text, shown_sum_text};
-ghost use Rattle.transcript_text.specs.Text.{answer_text, write_text, node_text, message_text, entry_text, fact_text};
+ghost use Rattle.transcript_text.specs.Text.{answer_text, write_text, node_text, message_text, entry_text, pair_text};
+ghost use Rattle.transcript_text.specs.Text.{fact_text};
 ghost use Rattle.transcript_text.specs.Text.{outcome_text, client_fact_text};
 ghost use Rattle.transcript_text.specs.Text.{text_of, stop_text, step_word, name_text, names_text};
 
@@ -17,8 +21,8 @@ use row_value::{
 use stab_base::{Names, Step, StoreNo};
 use std::alloc::{AllocError, Global};
 use table_model::{
-    Answer, ClientFact, Entry, Fact, MessageName, Node, ObjectSum, ObjectSums, Refusal, RowSum,
-    Shown, ShownSum, TextLine, Write,
+    Answer, ClientFact, Entry, Fact, MessageName, Node, ObjectSum, ObjectSums, Refusal, RowPair,
+    RowSum, Shown, ShownSum, TextLine, Write,
 };
 
 /// The bytes of a text cell that are written as `%` and two hex digits: all but the unreserved characters of RFC 3986,
@@ -130,7 +134,13 @@ fn put_refusal(out: &mut String, refusal: Refusal) -> Result<(), AllocError>
         Refusal::RowTooLarge { len } => write!(out, "no 12 {len}"),
         Refusal::Busy { with } => write!(out, "no 17 {with}"),
         Refusal::NoTable => out.push_str("no 18"),
+        Refusal::NotInResolution => out.push_str("no 20"),
+        Refusal::InResolution => out.push_str("no 21"),
+        Refusal::NoConflict => out.push_str("no 22"),
+        Refusal::Moved { seen, now } => write!(out, "no 23 {seen} {now}"),
         Refusal::Offline => out.push_str("no 24"),
+        Refusal::Outstanding { number } => write!(out, "no 25 {number}"),
+        Refusal::Conflicted { version } => write!(out, "no 26 {version}"),
         Refusal::NoRow => out.push_str("no 27"),
         Refusal::NoPacket { sent } => write!(out, "no 29 {sent}"),
         Refusal::Down { node } => {
@@ -138,6 +148,28 @@ fn put_refusal(out: &mut String, refusal: Refusal) -> Result<(), AllocError>
             put_node(out, node)
         }
     }
+}
+
+// What a row is shown as whose write of this number is in conflict with the Store's row at this version.
+fn put_conflict(out: &mut String, number: WriteNo, version: Version) -> Result<(), AllocError>
+    ensures { OnOk result (string_bytes out.new ≡ string_bytes out.old
+        ++ (codes "ok conflict " ++ (decimal number ++ (codes " " ++ decimal version)))) }
+{
+    write!(out, "ok conflict {number} {version}")
+}
+
+fn put_contended(
+    alloc: Global,
+    out: &mut String,
+    number: WriteNo,
+    version: Version,
+    content: &Content,
+) -> Result<(), AllocError>
+    ensures { OnOk result (string_bytes out.new ≡ string_bytes out.old
+        ++ shown_text (shown.Conflict number version content.now)) }
+{
+    put_conflict(out, number, version)?;
+    put_content(alloc, out, content)
 }
 
 fn put_shown(alloc: Global, out: &mut String, shown: &Shown) -> Result<(), AllocError>
@@ -152,7 +184,26 @@ fn put_shown(alloc: Global, out: &mut String, shown: &Shown) -> Result<(), Alloc
             write!(out, "ok mine {number}")?;
             put_content(alloc, out, content)
         }
+        Shown::Conflict {
+            number,
+            version,
+            content,
+        } => put_contended(alloc, out, *number, *version, content),
     }
+}
+
+fn put_contended_sum(
+    alloc: Global,
+    out: &mut String,
+    number: WriteNo,
+    version: Version,
+    row: &RowSum,
+) -> Result<(), AllocError>
+    ensures { OnOk result (string_bytes out.new ≡ string_bytes out.old
+        ++ shown_sum_text (sums.Conflict number version row.now)) }
+{
+    put_conflict(out, number, version)?;
+    put_row_sum(alloc, out, row)
 }
 
 fn put_shown_sum(alloc: Global, out: &mut String, sum: &ShownSum) -> Result<(), AllocError>
@@ -167,6 +218,11 @@ fn put_shown_sum(alloc: Global, out: &mut String, sum: &ShownSum) -> Result<(), 
             write!(out, "ok mine {number}")?;
             put_row_sum(alloc, out, row)
         }
+        ShownSum::Conflict {
+            number,
+            version,
+            row,
+        } => put_contended_sum(alloc, out, *number, *version, row),
     }
 }
 
@@ -324,6 +380,17 @@ fn put_entry(out: &mut String, table: TableNo, entry: &Entry) -> Result<(), Allo
     write!(out, " T{table} {version} {row} C{client} {number} {base}")
 }
 
+fn put_pair(out: &mut String, pair: RowPair) -> Result<(), AllocError>
+    ensures { OnOk result (string_bytes out.new ≡ string_bytes out.old ++ pair_text pair) }
+{
+    let RowPair {
+        row,
+        number,
+        version,
+    } = pair;
+    write!(out, "pair {row} {number} {version}")
+}
+
 fn put_outcome(
     out: &mut String,
     client: ClientNo,
@@ -442,6 +509,7 @@ fn put_line(alloc: Global, out: &mut String, line: &TextLine) -> Result<(), Allo
             out.push_str("entry")?;
             put_entry(out, *table, entry)
         }
+        TextLine::Pair(pair) => put_pair(out, *pair),
         TextLine::Fact(fact) => put_fact(alloc, out, fact),
     }
 }

@@ -5,7 +5,7 @@ use std::alloc::Global;
 use std::process::Abort;
 use std::test::Fail;
 use table_model::{
-    Answer, ClientFact, Entry, Fact, MessageName, Node, ObjectSum, Refusal, RowSum, Shown,
+    Answer, ClientFact, Entry, Fact, MessageName, Node, ObjectSum, Refusal, RowPair, RowSum, Shown,
     ShownSum, TextLine, Write,
 };
 
@@ -141,6 +141,21 @@ fn an_entry_has_its_fields_in_order(rt: HostRuntime) -> Result<(), Fail> {
             entry: entry(),
         },
         "entry T2 3 00000000-0000-4000-8000-000000000002 C4 5 6",
+    )
+}
+
+#[test]
+fn a_row_in_conflict_has_its_write_and_its_version(rt: HostRuntime) -> Result<(), Fail> {
+    let pair = RowPair {
+        row: row(171),
+        number: 2,
+        version: 3,
+    };
+    check(
+        &rt,
+        rt.alloc(),
+        &TextLine::Pair(pair),
+        "pair 00000000-0000-4000-8000-0000000000ab 2 3",
     )
 }
 
@@ -341,7 +356,40 @@ fn objects_have_their_digests(rt: HostRuntime) -> Result<(), Fail> {
     Ok(())
 }
 
-const REFUSED: [(Refusal, &str); 13] = [
+fn shown_in_conflict(number: u64, version: u64, content: Content) -> TextLine {
+    TextLine::Answer(Answer::Shown(Shown::Conflict {
+        number,
+        version,
+        content,
+    }))
+}
+
+#[test]
+fn a_row_in_conflict_is_shown_with_its_version(rt: HostRuntime) -> Result<(), Fail> {
+    let alloc = rt.alloc();
+    let row = shown_in_conflict(2, 3, numbers(alloc, &[9])?);
+    check(&rt, alloc, &row, "ok conflict 2 3 9")?;
+    let gone = shown_in_conflict(4, 1, Content::Gone);
+    check(&rt, alloc, &gone, "ok conflict 4 1 gone")
+}
+
+#[test]
+fn objects_in_conflict_have_their_digests(rt: HostRuntime) -> Result<(), Fail> {
+    let alloc = rt.alloc();
+    let sum = ShownSum::Conflict {
+        number: 1,
+        version: 2,
+        row: sums(alloc, 0, 0xc0)?,
+    };
+    check(
+        &rt,
+        alloc,
+        &TextLine::Answer(Answer::Sums(sum)),
+        "ok conflict 1 2 7 o:0:c0c0c0c0c0c0c0c0c0c0c0c0c0c0c0c0c0c0c0c0c0c0c0c0c0c0c0c0c0c0c0c0",
+    )
+}
+
+const REFUSED: [(Refusal, &str); 19] = [
     (Refusal::NoDevice, "no 6"),
     (Refusal::TooManyChunks { count: 32769 }, "no 9 32769"),
     (Refusal::BadCell { column: 1 }, "no 10 1"),
@@ -355,7 +403,13 @@ const REFUSED: [(Refusal, &str); 13] = [
     (Refusal::RowTooLarge { len: 16777217 }, "no 12 16777217"),
     (Refusal::Busy { with: 5 }, "no 17 5"),
     (Refusal::NoTable, "no 18"),
+    (Refusal::NotInResolution, "no 20"),
+    (Refusal::InResolution, "no 21"),
+    (Refusal::NoConflict, "no 22"),
+    (Refusal::Moved { seen: 2, now: 5 }, "no 23 2 5"),
     (Refusal::Offline, "no 24"),
+    (Refusal::Outstanding { number: 7 }, "no 25 7"),
+    (Refusal::Conflicted { version: 4 }, "no 26 4"),
     (Refusal::NoRow, "no 27"),
     (Refusal::NoPacket { sent: 3 }, "no 29 3"),
     (

@@ -20,7 +20,12 @@ def measure(simba, script):
     return taken
 
 
+def outgrows(short, long, most):
+    """Whether ten times the lines took more than so many times the time. Prints how many times it was."""
+    print(f"ten times the lines took {long / short:.1f} times the time")
+    return long > most * short
+
+
 def compare(short, long):
     """Ends the program with 1 where ten times the lines took more than 15 times the time."""
-    print(f"ten times the lines took {long / short:.1f} times the time")
-    sys.exit(long > 15 * short)
+    sys.exit(outgrows(short, long, 15))

@@ -268,55 +268,53 @@ fn a_write_has_its_content(rt: HostRuntime) -> Result<(), Fail> {
     )
 }
 
+fn shown_clean(version: u64, content: Content) -> TextLine {
+    TextLine::Answer(Answer::Shown(Shown::Clean { version, content }))
+}
+
 #[test]
-fn answers_show_rows(rt: HostRuntime) -> Result<(), Fail> {
+fn a_clean_row_is_shown_with_its_version(rt: HostRuntime) -> Result<(), Fail> {
     let alloc = rt.alloc();
-    let cases = [
-        (
-            Answer::Shown(Shown::Clean {
-                version: 1,
-                content: numbers(alloc, &[5, 7])?,
-            }),
-            "ok clean 1 5 7",
-        ),
-        (
-            Answer::Shown(Shown::Clean {
-                version: 2,
-                content: Content::Gone,
-            }),
-            "ok clean 2 gone",
-        ),
-        (
-            Answer::Shown(Shown::Mine {
-                number: 2,
-                content: numbers(alloc, &[9])?,
-            }),
-            "ok mine 2 9",
-        ),
-        (
-            Answer::Stored {
-                version: 1,
-                content: numbers(alloc, &[5, 7])?,
-            },
-            "ok 1 5 7",
-        ),
-        (
-            Answer::Stored {
-                version: 2,
-                content: Content::Gone,
-            },
-            "ok 2 gone",
-        ),
-        (Answer::Done, "ok"),
-        (
-            Answer::Number(18446744073709551615),
-            "ok 18446744073709551615",
-        ),
-    ];
-    for (answer, text) in cases {
-        check(&rt, alloc, &TextLine::Answer(answer), text)?;
-    }
-    Ok(())
+    let row = shown_clean(1, numbers(alloc, &[5, 7])?);
+    check(&rt, alloc, &row, "ok clean 1 5 7")?;
+    let gone = shown_clean(2, Content::Gone);
+    check(&rt, alloc, &gone, "ok clean 2 gone")
+}
+
+#[test]
+fn an_own_write_is_shown_with_its_number(rt: HostRuntime) -> Result<(), Fail> {
+    let alloc = rt.alloc();
+    let shown = Shown::Mine {
+        number: 2,
+        content: numbers(alloc, &[9])?,
+    };
+    check(
+        &rt,
+        alloc,
+        &TextLine::Answer(Answer::Shown(shown)),
+        "ok mine 2 9",
+    )
+}
+
+fn stored(version: u64, content: Content) -> TextLine {
+    TextLine::Answer(Answer::Stored { version, content })
+}
+
+#[test]
+fn the_store_has_a_row_at_its_version(rt: HostRuntime) -> Result<(), Fail> {
+    let alloc = rt.alloc();
+    let row = stored(1, numbers(alloc, &[5, 7])?);
+    check(&rt, alloc, &row, "ok 1 5 7")?;
+    let gone = stored(2, Content::Gone);
+    check(&rt, alloc, &gone, "ok 2 gone")
+}
+
+#[test]
+fn what_is_done_may_have_a_number(rt: HostRuntime) -> Result<(), Fail> {
+    let alloc = rt.alloc();
+    check(&rt, alloc, &TextLine::Answer(Answer::Done), "ok")?;
+    let number = TextLine::Answer(Answer::Number(18446744073709551615));
+    check(&rt, alloc, &number, "ok 18446744073709551615")
 }
 
 /// A row with a number, and an object of this length with this byte in each place of its digest.

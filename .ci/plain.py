@@ -4,8 +4,13 @@ there, without speed. It reads a script on standard input and prints the transcr
 
 It knows the lines of one Store and its wired clients, and lines that are in the grammar: at any other it gives up.
 Its disks never fail but in a crash, and are those in memory: of the four calls of a device write the third lands the
-mark, so that a crash with K of 3 and more finds the write done, with K of 2 where a byte of the mark landed."""
+mark, so that a crash with K of 3 and more finds the write done, with K of 2 where a byte of the mark landed.
+
+Of an object only the chunks that have changed travel, each in a packet of its own. With the one word `--whole` contents
+travel whole: each chunk counts as changed and goes in the packet of its message, and the Store finds what it has
+already."""
 import hashlib
+import itertools
 import sys
 from collections import namedtuple
 
@@ -170,30 +175,45 @@ def content_words(content, object_word=whole_word):
     return ' '.join([cell_word(cell) for cell in content.cells] + [object_word(data) for data in content.objects])
 
 
-# ---- device writes. A task is a device write by its name, with what it writes, what it tells and what it sends; a send
-# is an address and a message; facts are lines already.
+# ---- messages. A header spells a row by the names of its chunks. A fragment is a chunk on its way; its key is the
+# number of the write on the way to the Store, and the version of the row on the way to a client
 
-Task = namedtuple('Task', 'step arg facts sends', defaults=(None, (), ()))
 Request = namedtuple('Request', 'client table row number base content')
 Response = namedtuple('Response', 'client table row number outcome version')
 Pull = namedtuple('Pull', 'client table position')
 Header = namedtuple('Header', 'row version yours_number yours_version content')
 Pulled = namedtuple('Pulled', 'client table origin to latest header')
-NAMES = {Request: 'syncRequest', Response: 'syncResponse', Pull: 'pullRequest', Pulled: 'pullResponse'}
+TornPull = namedtuple('TornPull', 'client table row')
+TornPulled = namedtuple('TornPulled', 'client table row header')
+Fragment = namedtuple('Fragment', 'client table row key column place data')
+NAMES = {Request: 'syncRequest', Response: 'syncResponse', Pull: 'pullRequest', Pulled: 'pullResponse',
+         TornPull: 'tornRowRequest', TornPulled: 'tornRowResponse', Fragment: 'objectFragment'}
+
+
+# ---- device writes. A task is a device write by its name, with what it writes, what it tells and what it sends; a send
+# is an address and a message; facts are lines already.
+
+Task = namedtuple('Task', 'step arg facts sends', defaults=(None, (), ()))
 
 
 class Node:
-    """What a Store's table and a client have in common: an agenda of device writes, None where the node is down; and
-    the world's list of what its moves told and sent."""
+    """What a Store's table and a client have in common: an agenda of device writes, None where the node is down; the
+    world's list of what its moves told and sent; and whether contents travel whole."""
 
-    def __init__(self, name, out):
+    def __init__(self, name, out, is_whole):
         self.name = name
         self.agenda = []
         self.out = out
+        self.is_whole = is_whole
 
     def tell(self, facts, sends):
         """What one move tells and sends."""
         self.out.append((self.name, facts, sends))
+
+    def keeps(self, answer):
+        """Which chunks of an answer with a row are kept: those up to the position that was asked from. An answer to a
+        row that was torn keeps none."""
+        return is_kept_up_to(answer.origin if type(answer) is Pulled and not self.is_whole else 0)
 
     def work(self):
         """Does the next device write, and gives its name."""
@@ -213,30 +233,141 @@ class Node:
 
 # ---- chunks with names: of a version at the Store, of a plan at a client, and an ordinal
 
-def named_over(held, size, content, new):
-    """The named chunks of each object of a content. One that equals the chunk at its place among those held keeps that
-    one's name; the others have new names, by rising ordinal."""
-    ordinal, objects = 0, []
-    for place, data in enumerate(() if content == GONE else content.objects):
-        old = held[place] if place < len(held) else []
-        now = []
-        for at, chunk in enumerate(cut(size, data)):
-            if at < len(old) and old[at][1] == chunk:
-                now.append(old[at])
-            else:
-                now.append(((new, ordinal), chunk))
-                ordinal += 1
-        objects.append(now)
-    return objects
+ChunkName = namedtuple('ChunkName', 'version ordinal')
+LocalName = namedtuple('LocalName', 'plan ordinal')
+Chunk = namedtuple('Chunk', 'name data')
+
+
+def against(before, objects, made):
+    """What is made of each chunk of some objects and the one that stood at its place before, None where none did."""
+    def made_of(chunks, old):
+        return [made(old[place] if place < len(old) else None, chunk) for place, chunk in enumerate(chunks)]
+    return [made_of(chunks, before[number] if number < len(before) else []) for number, chunks in enumerate(objects)]
+
+
+def same_data(old, chunk):
+    return old is not None and old.data == chunk.data
 
 
 def names_in(objects):
-    return [name for chunks in objects for name, chunk in chunks]
+    return [chunk.name for chunks in objects for chunk in chunks]
+
+
+def renamed(before, objects, version):
+    """Where contents travel whole: a chunk that the row has at its place keeps that one's name; the others have new
+    names, by rising ordinal."""
+    ordinals = itertools.count()
+    return against(before, objects, lambda old, chunk: old if same_data(old, chunk) else
+                   Chunk(ChunkName(version, next(ordinals)), chunk.data))
+
+
+def joined(content, objects):
+    """A row with the cells of a content, whose objects have these chunks."""
+    if content == GONE:
+        return GONE
+    return Row(content.cells, tuple(b''.join(chunk.data for chunk in chunks) for chunks in objects))
+
+
+# ---- pieces: how a content travels. In a request a piece names a chunk that the Store has, or numbers a fresh one; in
+# an answer each piece names its chunk, and which ones are fresh is told by their versions. Where a piece stands is told
+# by its column and its place in that object
+
+Keep = namedtuple('Keep', 'name')
+Fresh = namedtuple('Fresh', 'ordinal')
+Spelled = namedtuple('Spelled', 'length pieces')
+
+
+def spelled(content, names):
+    """A content by its pieces: of each of its chunks the name, None where it is fresh; these are numbered by rising
+    object, then place."""
+    if content == GONE:
+        return GONE
+    ordinals = itertools.count()
+    pieces = [[Keep(name) if name else Fresh(next(ordinals)) for name in chunks] for chunks in names]
+    return Row(content.cells, tuple(Spelled(len(data), own) for data, own in zip(content.objects, pieces)))
+
+
+def filled(content, made):
+    """What is made of each piece of a spelled content and its place, object by object."""
+    if content == GONE:
+        return []
+    return [[made((column, place), piece) for place, piece in enumerate(spelling.pieces)]
+            for column, spelling in enumerate(content.objects, len(content.cells))]
+
+
+def pieces_of(content):
+    return filled(content, lambda at, piece: piece)
+
+
+def placed_pieces(content):
+    """The pieces of a spelled content with their places, by rising column, then place."""
+    return [pair for pairs in filled(content, lambda at, piece: (at, piece)) for pair in pairs]
+
+
+def len_at(size, content, at):
+    """How long the chunk at a place of a spelled content is."""
+    column, place = at
+    return min(size, content.objects[column - len(content.cells)].length - place * size)
+
+
+def is_kept(piece):
+    """Whether a piece of a request is kept."""
+    return type(piece) is Keep
+
+
+def is_kept_up_to(position):
+    """Whether a piece of an answer is kept: its chunk is of a version up to a position."""
+    return lambda piece: piece.name.version <= position
+
+
+def fragments_of(client, table, row, key, content, keeps, objects):
+    """The fresh chunks of a spelled content, by rising column, then place."""
+    return [Fragment(client, table, row, key, column, place, objects[column - len(content.cells)][place].data)
+            for (column, place), piece in placed_pieces(content) if not keeps(piece)]
+
+
+# ---- assemblies: a message that waits for fragments, the row and the key that these have, the content that it spells,
+# its fresh chunks by their places with their lengths, and the bytes of those that have come
+
+Assembly = namedtuple('Assembly', 'message row key content fresh came')
+
+
+def assembly_of(size, message, row, key, content, keeps):
+    fresh = {at: len_at(size, content, at) for at, piece in placed_pieces(content) if not keeps(piece)}
+    return Assembly(message, row, key, content, fresh, {})
+
+
+def waits_for(assembly, fragment):
+    """Whether a fragment is of this content, of a chunk of its length that has not come."""
+    at = fragment.column, fragment.place
+    is_of_it = (fragment.row, fragment.key) == (assembly.row, assembly.key)
+    return is_of_it and at not in assembly.came and assembly.fresh.get(at) == len(fragment.data)
+
+
+def add_fragment(assembly, fragment):
+    assembly.came[fragment.column, fragment.place] = fragment.data
+
+
+def is_complete(assembly):
+    return len(assembly.came) == len(assembly.fresh)
+
+
+def has_kept(assembly, kept_at):
+    """Whether each kept chunk is found."""
+    return all(kept_at(at, piece) for at, piece in placed_pieces(assembly.content) if at not in assembly.fresh)
+
+
+def completed(assembly, kept_at, made):
+    """The chunks of a content all of whose fragments have come: a kept one is found by its place and piece, a fresh one
+    is made of its piece and its bytes."""
+    def chunk_at(at, piece):
+        return made(piece, assembly.came[at]) if at in assembly.fresh else kept_at(at, piece)
+    return filled(assembly.content, chunk_at)
 
 
 # ---- the Store, for one table
 
-Item = namedtuple('Item', 'row version client number base content')
+Item = namedtuple('Item', 'row version client number base content objects')
 
 
 def entry_words(table, item):
@@ -244,14 +375,16 @@ def entry_words(table, item):
 
 
 class StoreTable(Node):
-    def __init__(self, table, schema, out):
-        super().__init__('S1', out)
+    def __init__(self, table, schema, out, is_whole):
+        super().__init__('S1', out, is_whole)
         self.table = table
         self.schema = schema
         self.items = []
         self.pending = None
         self.left = []
         self.history = []
+        # what is in memory: of each client its last request that waits for fragments
+        self.assemblies = {}
 
     # ---- items and chunks
 
@@ -265,15 +398,9 @@ class StoreTable(Node):
         item = self.last_of(lambda item: item.client == client and item.row == row)
         return (item.number, item.version) if item else (0, 0)
 
-    def renamed(self, held, item):
-        return named_over(held, self.schema.chunk, item.content, item.version)
-
     def chunks_of(self, row):
-        held = []
-        for item in self.items:
-            if item.row == row:
-                held = self.renamed(held, item)
-        return held
+        current = self.current(row)
+        return current.objects if current else []
 
     def names_on(self):
         rows = {item.row for item in self.items}
@@ -294,6 +421,10 @@ class StoreTable(Node):
             self.left = [name for name in self.left if name != task.arg]
         elif task.step == 'log-close':
             self.pending = None
+
+    def crash(self, is_done):
+        super().crash(is_done)
+        self.assemblies = {}
 
     def tell(self, facts, sends):
         """The history goes on by the entries that are told."""
@@ -323,55 +454,119 @@ class StoreTable(Node):
             raise Refused(17, task.arg.version if task.step == 'log-open' else
                           self.pending.version if self.pending else 0)
         if type(message) is Request:
-            self.decide(sender, message)
+            self.take_request(sender, message)
+        elif type(message) is Fragment:
+            self.take_fragment(sender, message)
         elif type(message) is Pull:
-            self.tell([], [(sender, self.pulled(message))])
+            self.tell([], self.pulled(sender, message))
+        elif type(message) is TornPull:
+            self.tell([], self.torn_pulled(sender, message))
 
-    def decide(self, sender, q):
+    # ---- requests
+
+    def take_request(self, sender, q):
+        """A request takes the place of what its client sent before."""
+        assembly = assembly_of(self.schema.chunk, q, q.row, q.number, q.content, is_kept)
+        self.assemblies[q.client] = assembly
+        self.decide(sender, assembly)
+
+    def take_fragment(self, sender, f):
+        assembly = self.assemblies.get(f.client)
+        if assembly and waits_for(assembly, f):
+            add_fragment(assembly, f)
+            if is_complete(assembly):
+                self.decide(sender, assembly)
+
+    def decide(self, sender, assembly):
+        """When a request comes, and when the last of its fragments has come: it is answered, or goes on to wait, or
+        its update begins."""
+        q = assembly.message
+        refused = self.refused(assembly)
+        if refused or is_complete(assembly):
+            del self.assemblies[q.client]
+        if refused:
+            self.tell([], [(sender, Response(q.client, q.table, q.row, q.number, *refused))])
+        elif is_complete(assembly):
+            item = self.item_for(assembly)
+            self.accept(item, (sender, Response(q.client, q.table, q.row, q.number, 'accepted', item.version)))
+
+    def refused(self, assembly):
+        """The outcome of a request that isn't accepted."""
+        q = assembly.message
         number, version = self.yours(q.client, q.row)
         current = self.current(q.row)
         latest = current.version if current else 0
-
-        def answer(outcome, which):
-            return (sender, Response(q.client, q.table, q.row, q.number, outcome, which))
         if number == q.number:
-            self.tell([], [answer('again', version)])
-        elif q.number < number:
-            self.tell([], [answer('late', number)])
-        elif self.schema.scheme == 'strong' and q.base != latest:
-            self.tell([], [answer('stale', latest)])
-        elif self.schema.scheme == 'causal' and q.base != latest:
-            self.tell([], [answer('conflict', latest)])
-        else:
-            item = Item(q.row, len(self.items) + 1, q.client, q.number, q.base, q.content)
-            self.accept(item, answer('accepted', item.version))
+            return 'again', version
+        if q.number < number:
+            return 'late', number
+        if self.schema.scheme == 'strong' and q.base != latest:
+            return 'stale', latest
+        if self.schema.scheme == 'causal' and q.base != latest:
+            return 'conflict', latest
+        return None if has_kept(assembly, self.kept_in(assembly)) else ('need whole', 0)
+
+    def kept_in(self, assembly):
+        """The row's chunk that a request keeps, None where the row has it no more, or not with the length of its
+        place."""
+        held = {(chunk.name, len(chunk.data)): chunk for chunks in self.chunks_of(assembly.row) for chunk in chunks}
+        return lambda at, piece: held.get((piece.name, len_at(self.schema.chunk, assembly.content, at)))
+
+    def item_for(self, assembly):
+        """The item that a complete request makes: a kept chunk is the row's, a fresh one has the version's name."""
+        q = assembly.message
+        version = len(self.items) + 1
+        objects = completed(assembly, self.kept_in(assembly),
+                            lambda piece, data: Chunk(ChunkName(version, piece.ordinal), data))
+        if self.is_whole:
+            objects = renamed(self.chunks_of(q.row), objects, version)
+        return Item(q.row, version, q.client, q.number, q.base, joined(q.content, objects), objects)
 
     def accept(self, item, answer):
-        before = self.chunks_of(item.row)
-        named = names_in(self.renamed(before, item))
-        old = [name for name in names_in(before) if name not in named]
+        named = names_in(item.objects)
+        old = [name for name in names_in(self.chunks_of(item.row)) if name not in named]
         fact = ('accepted ' + entry_words(self.table, item), item)
         self.agenda = [Task('log-open', item)]
-        self.agenda += [Task('chunk-put', name) for name in named if name[0] == item.version]
+        self.agenda += [Task('chunk-put', name) for name in named if name.version == item.version]
         self.agenda.append(Task('row-put', (item, named, old), [fact]))
         self.agenda += [Task('chunk-drop', name) for name in old]
         self.agenda.append(Task('log-close', sends=[answer]))
 
-    def pulled(self, q):
+    # ---- answers with a row: its header, and the fragments that follow it
+
+    def header_for(self, client, item):
+        names = [[chunk.name for chunk in chunks] for chunks in item.objects]
+        return Header(item.row, item.version, *self.yours(client, item.row), spelled(item.content, names))
+
+    def with_fragments(self, sender, answer, item):
+        fresh = fragments_of(answer.client, answer.table, item.row, item.version, answer.header.content,
+                             self.keeps(answer), item.objects) if item else []
+        return [(sender, message) for message in [answer] + fresh]
+
+    def pulled(self, sender, q):
         """The changed row of least version above a position."""
         for at, item in enumerate(self.items):
             if q.position < item.version and all(later.row != item.row for later in self.items[at + 1:]):
-                header = Header(item.row, item.version, *self.yours(q.client, item.row), item.content)
-                return Pulled(q.client, q.table, q.position, item.version, len(self.items), header)
-        return Pulled(q.client, q.table, q.position, q.position, len(self.items), None)
+                header = self.header_for(q.client, item)
+                answer = Pulled(q.client, q.table, q.position, item.version, len(self.items), header)
+                return self.with_fragments(sender, answer, item)
+        return [(sender, Pulled(q.client, q.table, q.position, q.position, len(self.items), None))]
+
+    def torn_pulled(self, sender, q):
+        """The row as it is now, all of it."""
+        item = self.current(q.row)
+        answer = TornPulled(q.client, q.table, q.row, self.header_for(q.client, item) if item else None)
+        return self.with_fragments(sender, answer, item)
 
 
-# ---- a client. Each content that it keeps is held in chunks with local names
+# ---- a client. Each content that it keeps is held in chunks with local names, and the Store's where it knows them. A
+# write in flight has its content by the pieces that are sent
 
+HeldChunk = namedtuple('HeldChunk', 'name stored data')
 Held = namedtuple('Held', 'content objects')
 Main = namedtuple('Main', 'number read held')
 Shadow = namedtuple('Shadow', 'version held')
-InFlight = namedtuple('InFlight', 'number read base held')
+InFlight = namedtuple('InFlight', 'number read base held content is_whole')
 Slots = namedtuple('Slots', 'main shadow out conflict')
 Plan = namedtuple('Plan', 'number last table row slots position facts drops')
 EMPTY = Slots(None, None, None, None)
@@ -381,8 +576,55 @@ def version_in(shadow):
     return shadow.version if shadow else 0
 
 
+def version_seen(slots):
+    return version_in(slots.conflict or slots.shadow)
+
+
 def local_names(slots):
     return {name for slot in slots if slot for name in names_in(slot.held.objects)}
+
+
+def stored_chunks(slots):
+    """The chunks that slots hold, by the Store's names and their lengths: those of the Store's rows go before those of
+    writes."""
+    held = {}
+    for slot in (slots.shadow, slots.conflict, slots.main, slots.out):
+        for chunk in [chunk for chunks in slot.held.objects for chunk in chunks] if slot else []:
+            held.setdefault((chunk.stored, len(chunk.data)), chunk)
+    return held
+
+
+def held_against(shown, objects, plan):
+    """What holds some chunks. Those without a local name: one that equals the chunk at its place of what is shown has
+    that one's, and the others are brought by a plan, by rising ordinal."""
+    ordinals = itertools.count()
+
+    def held_by(old, chunk):
+        if chunk.name:
+            return chunk
+        if same_data(old, chunk):
+            return chunk._replace(name=old.name, stored=chunk.stored or old.stored)
+        return chunk._replace(name=LocalName(plan, next(ordinals)))
+    return against(shown, objects, held_by)
+
+
+def changed_in(content, shadow, objects):
+    """A content by its pieces: a chunk that equals the one at its place of what was read last is kept."""
+    before = shadow.held.objects if shadow else []
+    return spelled(content, against(before, objects, lambda old, chunk: old.stored if same_data(old, chunk) else None))
+
+
+def all_fresh(content, objects):
+    return spelled(content, [[None for chunk in chunks] for chunks in objects])
+
+
+def accepted_at(version, out):
+    """What holds a write that was accepted: a fresh chunk has the Store's name of the version."""
+    names = [[piece.name if is_kept(piece) else ChunkName(version, piece.ordinal) for piece in pieces]
+             for pieces in pieces_of(out.content)]
+    objects = [[chunk._replace(stored=name) for chunk, name in zip(chunks, named)]
+               for chunks, named in zip(out.held.objects, names)]
+    return Held(out.held.content, objects)
 
 
 class OpenTable:
@@ -393,8 +635,8 @@ class OpenTable:
 
 
 class Client(Node):
-    def __init__(self, number, tables, out):
-        super().__init__('C%d' % number, out)
+    def __init__(self, number, tables, out, is_whole):
+        super().__init__('C%d' % number, out, is_whole)
         self.number = number
         self.last = 0
         self.tables = tables
@@ -402,9 +644,12 @@ class Client(Node):
         # the client's journal: the last plan in it, with how far it went; and the chunks on the device
         self.journal = (0, 'done', None)
         self.chunks = set()
-        # what is in memory: the number of the last plan, and whether a plan is at work
+        # what is in memory: the number of the last plan, and whether a plan is at work; the answers that wait for
+        # fragments, one to the pulls of each table and one of each torn row; and the rows that are torn
         self.plans = 0
         self.at_work = 0
+        self.assemblies = {}
+        self.torn = set()
 
     # ---- the devices as they are read: a plan's change stands from its commit on
 
@@ -472,11 +717,22 @@ class Client(Node):
         self.agenda.append(Task('commit', plan, facts))
         self.agenda += self.put_tasks(plan, list(sends))
 
-    def hold(self, table, row, content):
-        """A new content: a chunk that equals the one at its place of what is shown keeps that one's local name."""
+    def hold(self, table, row, content, objects):
+        """A new content with its chunks, held by the next plan."""
         shown = self.shown(self.slots(table, row))
-        held = shown[1].objects if shown else []
-        return Held(content, named_over(held, self.opened(table).schema.chunk, content, self.plans + 1))
+        return Held(content, held_against(shown[1].objects if shown else [], objects, self.plans + 1))
+
+    def hold_new(self, table, row, content):
+        """A content that is written here."""
+        size = self.opened(table).schema.chunk
+        objects = [] if content == GONE else content.objects
+        return self.hold(table, row, content, [[HeldChunk(None, None, chunk) for chunk in cut(size, data)]
+                                               for data in objects])
+
+    def crash(self, is_done):
+        super().crash(is_done)
+        self.assemblies = {}
+        self.torn = set()
 
     def start(self):
         """Opens the vaults, and ends what is committed; the chunks of a plan without a commit are dropped."""
@@ -489,7 +745,8 @@ class Client(Node):
             facts = ['redone ' + fact for fact in self.plan.facts]
             self.agenda += self.put_tasks(self.plan, [])
         elif state == 'intended':
-            facts = ['torn %s T%d %s' % (self.name, *torn)] if torn else []
+            facts = [self.torn_words(*torn)] if torn else []
+            self.torn = {torn} if torn and not self.is_whole else set()
             self.agenda += [Task('chunk-drop', name) for name in sorted(self.chunks) if name[0] == number]
         self.agenda[-1] = self.agenda[-1]._replace(facts=['recovered ' + self.name])
         self.tell(facts, [])
@@ -521,8 +778,17 @@ class Client(Node):
         return 'wrote %s %d T%d %s %d %s' % (self.name, main.number, table, row, main.read,
                                              content_words(main.held.content))
 
+    def out_of(self, main, base, shadow):
+        """A write that is sent over a base, by its pieces against what was read last."""
+        content, objects = main.held
+        pieces = all_fresh(content, objects) if self.is_whole else changed_in(content, shadow, objects)
+        return InFlight(main.number, main.read, base, main.held, pieces, False)
+
     def request(self, table, row, out):
-        return ('S1', Request(self.number, table, row, out.number, out.base, out.held.content))
+        """A request, and its fragments."""
+        fresh = fragments_of(self.number, table, row, out.number, out.content, is_kept, out.held.objects)
+        request = Request(self.number, table, row, out.number, out.base, out.content)
+        return [('S1', message) for message in [request] + fresh]
 
     def write(self, table, row, content, phase, cut_off):
         schema = self.opened(table).schema
@@ -535,14 +801,14 @@ class Client(Node):
             raise Refused(26, slots.conflict.version)
         if schema.scheme == 'strong' and cut_off:
             raise Refused(24)
-        main = Main(self.last + 1, version_in(slots.shadow), self.hold(table, row, content))
+        main = Main(self.last + 1, version_in(slots.shadow), self.hold_new(table, row, content))
         if schema.scheme == 'strong':
             waiting = next((other.out for _, other in self.rows(table) if other.out), None)
             if waiting:
                 raise Refused(25, waiting.number)
-            out = InFlight(main.number, main.read, main.read, main.held)
+            out = self.out_of(main, main.read, slots.shadow)
             self.begin(table, row, slots._replace(out=out), [self.wrote(table, row, main)],
-                       [self.request(table, row, out)], last=main.number)
+                       self.request(table, row, out), last=main.number)
         else:
             self.begin(table, row, slots._replace(main=main), [self.wrote(table, row, main)], last=main.number)
         return 'ok %d' % main.number
@@ -564,25 +830,40 @@ class Client(Node):
         self.unless_busy()
         if cut_off:
             raise Refused(24)
-        again = [self.request(table, row, slots.out) for row, slots in self.rows(table) if slots.out]
-        count = len(again)
+        waiting = [(row, slots.out) for row, slots in self.rows(table) if slots.out]
+        count = len(waiting)
         for row, slots in self.rows(table):
             if slots.main and not slots.out and not slots.conflict:
-                main = slots.main
-                out = InFlight(main.number, main.read, version_in(slots.shadow), main.held)
-                self.begin(table, row, slots._replace(out=out), [], [self.request(table, row, out)])
+                out = self.out_of(slots.main, version_in(slots.shadow), slots.shadow)
+                self.begin(table, row, slots._replace(out=out), [], self.request(table, row, out))
                 count += 1
                 break
-        self.tell([], again)
+        self.tell([], [send for row, out in waiting for send in self.request(table, row, out)])
         return 'ok %d' % count
 
     def pull(self, table, cut_off):
+        """Asks for the next change; where rows are torn, or wait for fragments, for these."""
         self.opened(table)
         self.unless_busy()
         if cut_off:
             raise Refused(24)
-        self.tell([], [self.pull_from(table, self.position(table))])
+        unfinished = sorted({assembly.row for assembly in self.assemblies.values() if assembly.message.table == table})
+        self.torn |= {(table, row) for row in unfinished}
+        torn = sorted(row for number, row in self.torn if number == table)
+        if torn:
+            self.ask_whole(table, unfinished, torn)
+        else:
+            self.tell([], [self.pull_from(table, self.position(table))])
         return 'ok'
+
+    def torn_words(self, table, row):
+        return 'torn %s T%d %s' % (self.name, table, row)
+
+    def ask_whole(self, table, found, rows):
+        """Tells which rows were found torn, and asks for rows whole; the answer to a pull is waited for no longer."""
+        self.assemblies.pop((table, None), None)
+        self.tell([self.torn_words(table, row) for row in found],
+                  [('S1', TornPull(self.number, table, row)) for row in rows])
 
     # ---- resolving
 
@@ -606,7 +887,7 @@ class Client(Node):
             return 'ok 0'
         if choice != 'mine':
             check_fit(schema, choice)
-        held = slots.main.held if choice == 'mine' else self.hold(table, row, choice)
+        held = slots.main.held if choice == 'mine' else self.hold_new(table, row, choice)
         main = Main(self.last + 1, seen, held)
         self.begin(table, row, slots._replace(main=main, shadow=slots.conflict, conflict=None),
                    [resolved, self.wrote(table, row, main)], last=main.number)
@@ -638,11 +919,17 @@ class Client(Node):
         if cut_off:
             raise Refused(24)
         self.unless_busy()
-        if message.table in self.tables and type(message) is Response:
+        if message.table not in self.tables:
+            return
+        if type(message) is Response:
             self.take_response(message)
-        elif message.table in self.tables and type(message) is Pulled and message.header:
-            if message.origin == self.position(message.table):
-                self.take_row(message, message.header)
+        elif type(message) is Fragment:
+            self.take_fragment(message)
+        elif type(message) is TornPulled or (
+                type(message) is Pulled and message.header and message.origin == self.position(message.table)):
+            self.take_answer(message)
+
+    # ---- the answer to a request
 
     def freed(self, slots, number):
         """What waited is accepted: Main is dropped where it is the write of this number."""
@@ -656,27 +943,93 @@ class Client(Node):
         words = '%s %d T%d %s %d' % (self.name, out.number, r.table, r.row, r.version)
         pull = self.pull_from(r.table, self.position(r.table))
         if r.outcome in ('accepted', 'again'):
-            behind = self.freed(slots, out.number)._replace(shadow=Shadow(r.version, out.held))
+            behind = self.freed(slots, out.number)._replace(shadow=Shadow(r.version, accepted_at(r.version, out)))
             self.begin(r.table, r.row, behind, ['acked ' + words])
         elif r.outcome == 'stale':
             self.begin(r.table, r.row, slots._replace(out=None), ['refused ' + words], [pull])
         elif r.outcome == 'conflict':
             self.tell([], [pull])
+        elif r.outcome == 'need whole' and not out.is_whole:
+            out = out._replace(content=all_fresh(*out.held), is_whole=True)
+            self.begin(r.table, r.row, slots._replace(out=out), [], self.request(r.table, r.row, out))
 
-    def take_row(self, q, header):
-        slots = self.slots(q.table, header.row)
-        more = [self.pull_from(q.table, q.to)] if q.to < q.latest else []
-        if header.version <= version_in(slots.conflict or slots.shadow):
-            self.begin(q.table, None, None, [], more, position=q.to)
+    # ---- an answer with a row. Behind its header come the fragments
+
+    def place_for(self, q):
+        """An answer's place among those that wait: of the pulls of a table there is one, and of each torn row one."""
+        return q.table, None if type(q) is Pulled else q.row
+
+    def is_read(self, q):
+        """Whether an answer has no row that is newer than the one that was seen."""
+        return not q.header or q.header.version <= version_seen(self.slots(q.table, q.header.row))
+
+    def take_answer(self, q):
+        """An answer takes the place of what waited there. Where it keeps a chunk that isn't held, its row is torn."""
+        place = self.place_for(q)
+        self.assemblies.pop(place, None)
+        if self.is_read(q):
+            self.end(q, None)
+            return
+        header, size = q.header, self.opened(q.table).schema.chunk
+        assembly = assembly_of(size, q, header.row, header.version, header.content, self.keeps(q))
+        if not has_kept(assembly, self.kept_in(assembly)):
+            self.torn.add((q.table, header.row))
+            self.ask_whole(q.table, [header.row], [header.row])
+        elif is_complete(assembly):
+            self.end(q, assembly)
         else:
-            behind, facts = self.placed(q.table, slots, header)
-            self.begin(q.table, header.row, behind, facts, more, position=q.to, server=True)
+            self.assemblies[place] = assembly
 
-    def placed(self, table, slots, header):
+    def take_fragment(self, f):
+        """A fragment goes to an answer that waits for it, first to that to a pull."""
+        for place in ((f.table, None), (f.table, f.row)):
+            assembly = self.assemblies.get(place)
+            if assembly and waits_for(assembly, f):
+                add_fragment(assembly, f)
+                if is_complete(assembly):
+                    del self.assemblies[place]
+                    self.end(assembly.message, assembly)
+                return
+
+    def kept_in(self, assembly):
+        """The chunk that an answer keeps, None where it isn't held, or not with the length of its place."""
+        table = assembly.message.table
+        held, size = stored_chunks(self.slots(table, assembly.row)), self.opened(table).schema.chunk
+        return lambda at, piece: held.get((piece.name, len_at(size, assembly.content, at)))
+
+    def end(self, q, assembly):
+        """An answer is complete, or has no newer row: that to a pull moves the position; behind that of a torn row the
+        row is torn no longer, and the next change is asked for."""
+        if type(q) is Pulled:
+            more = [self.pull_from(q.table, q.to)] if q.to < q.latest else []
+            self.apply(q, assembly, more, q.to)
+        else:
+            self.torn.discard((q.table, q.row))
+            self.apply(q, assembly, [self.pull_from(q.table, self.position(q.table))], None)
+
+    def apply(self, q, assembly, more, position):
+        """The plan that an answer needs, of a newer row and of a position that moves; without one, what it would send
+        is sent at once."""
+        if not self.is_read(q):
+            slots, facts = self.placed(assembly)
+            self.begin(q.table, q.header.row, slots, facts, more, position=position, server=True)
+        elif position is not None:
+            self.begin(q.table, None, None, [], more, position=position)
+        else:
+            self.tell([], more)
+
+    def held_row(self, assembly):
+        """What holds the row of a complete answer: a kept chunk is held already."""
+        objects = completed(assembly, self.kept_in(assembly), lambda piece, data: HeldChunk(None, piece.name, data))
+        return self.hold(assembly.message.table, assembly.row, joined(assembly.content, objects), objects)
+
+    def placed(self, assembly):
         """The slots behind a newer row from the Store, and what is told."""
+        table, header = assembly.message.table, assembly.message.header
         scheme = self.opened(table).schema.scheme
+        slots = self.slots(table, header.row)
         words = 'T%d %s' % (table, header.row)
-        read = Shadow(header.version, self.hold(table, header.row, header.content))
+        read = Shadow(header.version, self.held_row(assembly))
         facts = []
         if slots.out and slots.out.number <= header.yours_number:
             facts.append('acked %s %d %s %d' % (self.name, slots.out.number, words, header.yours_version))
@@ -692,10 +1045,13 @@ class Client(Node):
 # ---- the world: all nodes, every packet that was ever sent, holds, links and phases
 
 class World:
-    def __init__(self):
+    def __init__(self, is_whole=False):
+        self.is_whole = is_whole
         self.tables = {}
         self.clients = {}
         self.packets = []
+        # where contents travel whole: the fragments that go in a packet, by its number
+        self.carried = {}
         self.holds = set()
         self.cuts = set()
         self.phases = set()
@@ -760,6 +1116,9 @@ class World:
         for name, facts, sends in self.out:
             lines += facts
             for to, message in sends:
+                if self.is_whole and type(message) is Fragment:
+                    self.carried.setdefault(len(self.packets) - 1, []).append(message)
+                    continue
                 lines.append('sent %d %s %s %s' % (len(self.packets), name, to, NAMES[type(message)]))
                 self.packets.append((name, to, message))
         return lines
@@ -851,15 +1210,24 @@ class World:
         if int(number) >= len(self.packets):
             raise Refused(29, len(self.packets))
         sender, to, message = self.packets[int(number)]
+        messages = [message] + self.carried.get(int(number), [])
         if to[0] == 'C':
-            return self.call(to, lambda c: c.take(message, to in self.cuts)) or 'ok'
+            self.call(to, lambda c: self.taken(c, messages, lambda m: c.take(m, to in self.cuts)))
+            return 'ok'
         self.unless_down(to)
         if message.table in self.tables:
             table = self.tables[message.table]
-            table.take(sender, message)
+            self.taken(table, messages, lambda m: table.take(sender, m))
             if table.agenda:
                 self.follow(to)
         return 'ok'
+
+    def taken(self, node, messages, take):
+        """A node takes what is in a packet, until it has writes to do."""
+        take(messages[0])
+        for message in messages[1:]:
+            if not node.agenda:
+                take(message)
 
     def on_sshow(self, table, row):
         self.unless_down('S1')
@@ -925,21 +1293,21 @@ class World:
         if words[0] == 'table':
             number = int(words[1][1:])
             columns = [Column(*word.split(':')) for word in words[5:]]
-            self.tables[number] = StoreTable(number, Schema(words[3], int(words[4]), columns), self.out)
+            self.tables[number] = StoreTable(number, Schema(words[3], int(words[4]), columns), self.out, self.is_whole)
         elif words[0] == 'client':
             number = int(words[1][1:])
             names = [] if words[3] == '-' else words[3].split(',')
             tables = {int(name[1:]): OpenTable(self.tables[int(name[1:])].schema) for name in names}
             if words[2] != '-':
                 raise ValueError('a client with a gateway')
-            self.clients[number] = Client(number, tables, self.out)
+            self.clients[number] = Client(number, tables, self.out, self.is_whole)
         elif words != ['store', 'S1']:
             raise ValueError('a Store with another number')
 
 
-def transcript(script):
+def transcript(script, is_whole=False):
     """The lines of the transcript of a script."""
-    world = World()
+    world = World(is_whole)
     for line in script.split('\n'):
         words = [word for word in line.split(' ') if word]
         if not words or line[0] == '#':
@@ -951,5 +1319,7 @@ def transcript(script):
 
 
 if __name__ == '__main__':
-    for text in transcript(sys.stdin.read()):
+    if sys.argv[1:] not in ([], ['--whole']):
+        sys.exit('usage: plain.py [--whole] < SCRIPT')
+    for text in transcript(sys.stdin.read(), sys.argv[1:] == ['--whole']):
         print(text)

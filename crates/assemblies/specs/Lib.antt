@@ -1,0 +1,4 @@
+pub mod Travel
+pub mod Places
+pub mod Gathering
+pub mod Parts

@@ -7,6 +7,7 @@ use Rattle.row_value.specs.declared.content.Content.{Content}
 use Rattle.held_value.specs.declared.local_name.LocalName.{LocalName}
 use Rattle.held_value.specs.declared.content.HeldContent.{HeldContent}
 use Rattle.held_value.specs.declared.slots.Main.{Main}
+use Rattle.held_value.specs.declared.slots.Shadow.{Shadow}
 use Rattle.held_value.specs.declared.slots.Out.{Out}
 use Rattle.held_value.specs.declared.slots.Slots.{Slots as HeldSlots}
 use Rattle.held_value.specs.declared.tell.Tell.{Tell}
@@ -80,6 +81,11 @@ module _ (meaning : LocalName → List ℕ) (d : ClientDevs) (slots : HeldSlots)
       pick (Some out) is = λ name has.
           there name (has_second (names_of_main slots.main) behind_main name (has_second (names_of_shadow slots.shadow) (names_of_out slots.out ++ names_of_shadow slots.conflict) name
           (has_first (names_of_out slots.out) (names_of_shadow slots.conflict) name (subst (λ (o : Option Out). Has (names_of_out o) name) (sym is) has))))
+
+  pub conflict_there : (x : Shadow) → slots.conflict ≡ Some x → AreThere meaning d x.content
+  conflict_there x is name has =
+      there name (has_second (names_of_main slots.main) behind_main name (has_second (names_of_shadow slots.shadow) (names_of_out slots.out ++ names_of_shadow slots.conflict) name
+      (has_second (names_of_out slots.out) (names_of_shadow slots.conflict) name (subst (λ (o : Option Shadow). Has (names_of_shadow o) name) (sym is) has))))
 
 -- ---- the content that is read for a write
 

@@ -45,6 +45,7 @@ pub mod Edits
 pub mod TakenOn
 pub mod RowReady
 pub mod TakenPlans
+pub mod Passed
 pub mod Forgotten
 pub mod Delivered
 pub mod Ignored
@@ -62,7 +63,9 @@ pub mod AskedAgain
 pub mod CarriedOut
 pub mod TakenOff
 pub mod MoreKeys
-pub mod NotedTwice
+pub mod NotedAtStart
 pub mod Resolves
 pub mod ResolvePlans
 pub mod PreparedResolves
+pub mod AllListed
+pub mod MadeChoices

@@ -143,27 +143,6 @@ module _ (table next : ℕ) (next_is : next ≡ table + 1) (first : List ℕ) (z
   rows_rising [] all sorted = tt
   rows_rising (k ∷ ks) all sorted = (below_all k ks all.0 all.1 sorted.0, rows_rising ks all.1 sorted.1)
 
-  -- among all the keys
-  pub all_among : (row : List ℕ) (ks : List RowKey) → list_any (is_at (key_cmp (key_at table row))) ks ≡ true → list_any (is_at (id_cmp row)) (rows_among table ks) ≡ true
-  all_among row [] any = absurd cc
-  all_among row (k ∷ ks) any = pick (either_is (is_at (key_cmp (key_at table row)) k) (list_any (is_at (key_cmp (key_at table row))) ks) any) (all_among row ks)
-    where
-      same_row : is_at (id_cmp row) row ≡ true
-      same_row = (eq_by_cmp_equiv id_cmp_total).refl row
-
-      pick : (is_at (key_cmp (key_at table row)) k ≡ true) ⊎ (list_any (is_at (key_cmp (key_at table row))) ks ≡ true) → (list_any (is_at (key_cmp (key_at table row))) ks ≡ true → list_any (is_at (id_cmp row)) (rows_among table ks) ≡ true)
-          → list_any (is_at (id_cmp row)) (rows_among table (k ∷ ks)) ≡ true
-      pick (inl at) more =
-          let same : key_at table row ≡ k = one_key (key_at table row) k (equal_is (key_cmp (key_at table row) k) at) in
-          let in_table : of_table k ≡ true = subst (λ (x : RowKey). of_table x ≡ true) same its_table in
-          let at_row : is_at (id_cmp row) k.row ≡ true = subst (λ (x : RowKey). is_at (id_cmp row) x.row ≡ true) same same_row in
-          ap (λ (b : Bool). list_any (is_at (id_cmp row)) (map (λ (key : RowKey). key.row) (cond b (k ∷ filter of_table ks) (filter of_table ks)))) in_table
-          ∙ ap (λ (b : Bool). b || list_any (is_at (id_cmp row)) (map (λ (key : RowKey). key.row) (filter of_table ks))) at_row
-      pick (inr later) more = kept_later row (of_table k) k (filter of_table ks) (more later)
-
-  pub among_rising : (ks : List RowKey) → IsStrictlySortedBy key_cmp ks → IsStrictlySortedBy id_cmp (rows_among table ks)
-  among_rising ks sorted = rows_rising (filter of_table ks) (all_of_table ks) (IsStrictlySortedBy-filter key_cmp of_table ks sorted)
-
   pub are_noted : (set : BTreeSet RowKey) (rows : List (List ℕ)) → rows ≡ rows_of (keys set) → IsStrictlySortedBy key_cmp (keys set) → AreNotedRows set table rows
   are_noted set rows is sorted = record {
     rising = subst (IsStrictlySortedBy id_cmp) (sym is)

@@ -43,6 +43,15 @@ numbered_alike number slots = alike slots.main slots.out slots.conflict
     alike (Some m) (Some x) None = refl
     alike (Some m) (Some x) (Some y) = refl
 
+-- a row that is noted by its slots is noted by them whole
+pub noted_whole : (w : Waiting) (means : LocalName → List ℕ) (table : ℕ) (row : List ℕ) (held : HeldSlots) → IsNotedRow w table (record { row = row; slots = held }) → IsNoted w table row (whole_slots means held)
+noted_whole w means table row held noted = record {
+  sent = λ some. noted.out (some_mapped held.out _ some);
+  ready = λ some. noted.ready (sends_whole means held ∙ some_is _ some);
+  conflict = λ some. noted.conflict (some_mapped held.conflict _ some);
+  sized = λ some. noted.sized (some_mapped held.conflict _ some);
+}
+
 module _ (w : Waiting) (means : LocalName → List ℕ) (number table : ℕ) where
   noted_put : (change : RowChange) (put : RowPut) → IsPutOf means (numbered_row number change) put → IsNotedRow w table change → IsNoted w table put.row put.slots
   noted_put change put is noted =
@@ -52,6 +61,7 @@ module _ (w : Waiting) (means : LocalName → List ℕ) (number table : ℕ) whe
         sent = λ some. noted.out (some_mapped change.slots.out _ (some_mapped _ _ some));
         ready = λ some. noted.ready (sym (numbered_alike number change.slots) ∙ (sends_whole means behind ∙ some_is _ some));
         conflict = λ some. noted.conflict (some_mapped change.slots.conflict _ (some_mapped _ _ some));
+        sized = λ some. noted.sized (some_mapped change.slots.conflict _ (some_mapped _ _ some));
       }))
 
   pub noted_plan : (o : Option RowChange) (p : Option RowPut) → StandsPut means (option_map (numbered_row number) o) p → IfSome o (IsNotedRow w table) → IfSome p (λ put. IsNoted w table put.row put.slots)

@@ -15,6 +15,7 @@ use Rattle.slot_store.specs.declared.held.RowSlots.{RowSlots}
 use Rattle.slot_store.specs.declared.held.TableRecord.{TableRecord}
 use Rattle.slot_store.specs.Data.{SlotData, slots_of, record_of}
 use Rattle.plan_log.specs.Journal.{AtWork, Idle, Intended, Committed}
+use Rattle.plan_log.specs.Spelling.{IsTable}
 use Rattle.client_tables.specs.Shown.{shown_content, content_by}
 use Rattle.client_journal.specs.Devs.{ClientDevs}
 use Rattle.client_journal.specs.Names.{Has, names_of, names_in, names_of_shadow, names_of_out}
@@ -67,6 +68,14 @@ record_spelled c d disk st w h table = pick (record_at d table) refl
     pick (Some found) is =
         let at = opened_is c d disk st table found is in
         subst HasSchemaSpelling (sym at.2.schema) (table_steady w disk h table at.0 at.1).spelled
+
+-- and the table has a number
+pub record_numbered : (c : ℕ) (d : ClientDevs) (disk : ClientDisk) → StandsFor c d disk → (w : Waiting) → IsSteady w disk → (table : ℕ) → IfSome (record_at d table) (λ opened. IsTable table)
+record_numbered c d disk st w h table = pick (record_at d table) refl
+  where
+    pick : (o : Option TableRecord) → record_at d table ≡ o → IfSome o (λ opened. IsTable table)
+    pick None is = tt
+    pick (Some found) is = let at = opened_is c d disk st table found is in (table_steady w disk h table at.0 at.1).numbered
 
 -- ---- a row's slots
 

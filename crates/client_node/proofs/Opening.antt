@@ -23,7 +23,7 @@ module _ (w : Waiting) where
     numbered = o.numbered;
     spelled = o.spelled;
     rising = tt;
-    noted = λ row. record { sent = λ some. absurd cc; ready = λ some. absurd cc; conflict = λ some. absurd cc };
+    noted = λ row. record { sent = λ some. absurd cc; ready = λ some. absurd cc; conflict = λ some. absurd cc; sized = λ some. absurd cc };
   }
 
   record AreSteadyTables (some : List (ℕ × TableDisk)) : Type 0 where

@@ -1,5 +1,5 @@
 -- The first row of a table whose write waits for its answer, among those that are noted.
-use Rattle.std.proofs.Common.{◌≡◌, ◌⊎◌, inl, inr, ⊎_elim, ℕ, ◌+◌, ◌<◌, ◌≤◌, true, List, [], ◌∷◌, length, drop, get_or, Option, Some, None, Ok, refl, sym, ◌∙◌, ap, subst}
+use Rattle.std.proofs.Common.{◌≡◌, ◌⊎◌, inl, inr, ⊎_elim, ℕ, ◌+◌, ◌<◌, ◌≤◌, ◌++◌, true, List, [], ◌∷◌, length, drop, get_or, Option, Some, None, Ok, refl, sym, ◌∙◌, ap, subst}
 use Rattle.std.proofs.lemmas.List.{drop_more, drop_all}
 use Rattle.std.specs.Prelude.{option_map, IsSome}
 use Rattle.std.specs.List.{list_any}
@@ -23,9 +23,9 @@ use Rattle.client_node.specs.declared.waiting.Waiting.{Waiting}
 use Rattle.client_node.specs.Answers.{held_at}
 use Rattle.client_node.specs.Looks.{Looks}
 use Rattle.client_node.specs.NotedRows.{AreNotedRows}
-use Rattle.client_node.specs.Requesting.{or_out, first_out}
+use Rattle.client_node.specs.Requesting.{or_out, first_out, NoneWaits}
 use Rattle.client_node.specs.Steady.{IsSteadyTable}
-use Rattle.client_node.proofs.AskedAgain.{ok_not}
+use Rattle.client_node.proofs.AskedAgain.{ok_not, waits_none}
 use Rattle.client_node.proofs.Serving.{looks_none, looks_then, looks_other}
 use Rattle.client_node.proofs.Synced.{sixteen}
 use Rattle.client_node.proofs.Walks.{Rows, slots_in_rows, over_rows, over_keys, IsQuiet, AreNeeded, walk}
@@ -94,17 +94,18 @@ no_out None other = refl
 no_out (Some out) other = absurd (other out refl)
 
 module _ {D : Type 0} (state : D → DiskState) (images : D → ℕ → List ℕ → Type 0) (first : Journal D) where
-  -- the devices were only read, and none of the rows before these has a write that waits
-  pub record NoneBefore (table : ℕ) (rows : List (List ℕ)) (now : Journal D) (done : ℕ) : Type 0 where
+  -- the devices were only read, and none of the rows before these has a write that waits: they are added to the stale ones
+  pub record NoneBefore (table : ℕ) (rows : List (List ℕ)) (now : Journal D) (done : ℕ) (before stale : List (List ℕ)) : Type 0 where
     pub looks : Looks {T = Unit {0}} state images first now (Ok tt)
+    pub none : NoneWaits (devs state first) table before → NoneWaits (devs state first) table stale
     pub left : numbered (first_out (devs state first) table (drop done rows)) ≡ numbered (first_out (devs state first) table rows)
 
 module _ {D : Type 0} (state : D → DiskState) (images : D → ℕ → List ℕ → Type 0) (only_now : (disk : D) (image : List ℕ) → images disk (state disk).moment image → IsImage (state disk).pending image) (first : Journal D) (up : AreUp first) (ready : IsReady state first (writes_of first))
-    (table : ℕ) (rows : List (List ℕ)) where
-  pub none_before : NoneBefore state images first table rows first 0
-  none_before = record { looks = looks_none state images only_now first up ready (Ok tt) (ok_not tt); left = refl }
+    (table : ℕ) (rows before : List (List ℕ)) where
+  pub none_before : NoneBefore state images first table rows first 0 before before
+  none_before = record { looks = looks_none state images only_now first up ready (Ok tt) (ok_not tt); none = λ b. b; left = refl }
 
-  module _ (now : Journal D) (done : ℕ) (h : NoneBefore state images first table rows now done) where
+  module _ (now : Journal D) (done : ℕ) (stale : List (List ℕ)) (h : NoneBefore state images first table rows now done before stale) where
     pub none_waits : length rows ≤ done → None ≡ numbered (first_out (devs state first) table rows)
     none_waits all = sym (ap (λ (l : List (List ℕ)). numbered (first_out (devs state first) table l)) (drop_all done rows all)) ∙ h.left
 
@@ -115,9 +116,10 @@ module _ {D : Type 0} (state : D → DiskState) (images : D → ℕ → List ℕ
           ∙ (ap (λ (r : List ℕ). numbered (first_out (devs state first) table (r ∷ drop (done + 1) rows))) (sym is)
           ∙ ap (λ (x : HeldSlots). numbered (or_out x.out (first_out (devs state first) table (drop (done + 1) rows)))) (sym (here ∙ ap (λ (d : ClientDevs). held_at d table row) (h.looks.serves.same (λ no. cc)))))
 
-      pub one_more : slots.out ≡ None → NoneBefore state images first table rows new (done + 1)
-      one_more none = record {
+      pub one_more : slots.out ≡ None → (found : List (List ℕ)) → found ≡ stale ++ row ∷ [] → NoneBefore state images first table rows new (done + 1) before found
+      one_more none found pushed = record {
         looks = looks_other state images first new up ready slots (Ok tt) (looks_then state images first new up ready now tt (Ok slots) h.looks k) (ok_not tt);
+        none = λ b. waits_none (devs state first) table row slots (here ∙ ap (λ (d : ClientDevs). held_at d table row) (h.looks.serves.same (λ no. cc))) none stale found pushed (h.none b);
         left = sym (next ∙ ap (λ (o : Option HeldOut). numbered (or_out o (first_out (devs state first) table (drop (done + 1) rows)))) none) ∙ h.left;
       }
 

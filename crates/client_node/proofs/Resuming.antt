@@ -34,7 +34,7 @@ use Rattle.gathering.specs.declared.gathered.Gathered.{Gathered}
 use Rattle.gathering.specs.Room.{HasRoom}
 use Rattle.client_node.specs.Due.{told_at, left_at, sent_at}
 use Rattle.client_node.specs.Steady.{IsSteadyPlan, IsSteady, AreSteady}
-use Rattle.client_node.specs.Waiting.{AreAllNoted}
+use Rattle.client_node.specs.Noting.{AreAllNoted}
 use Rattle.client_node.specs.declared.waiting.Waiting.{Waiting}
 use Rattle.client_node.specs.declared.fault.CallFault.{CallFault}
 use Rattle.client_node.specs.declared.fault.CallFault.TheVariants as call

@@ -72,7 +72,7 @@ module _ (w : Waiting) where
   -- more rows are noted
   module _ (more : Waiting) (m : IsMore w more) where
     noted_more : (table : ℕ) (row : List ℕ) (slots : Slots) → IsNoted w table row slots → IsNoted more table row slots
-    noted_more table row slots h = record { sent = λ some. m.outs (key_at table row) (h.sent some); ready = λ some. m.ready (key_at table row) (h.ready some); conflict = λ some. m.conflicts (key_at table row) (h.conflict some) }
+    noted_more table row slots h = record { sent = λ some. m.outs (key_at table row) (h.sent some); ready = λ some. m.ready (key_at table row) (h.ready some); conflict = λ some. m.conflicts (key_at table row) (h.conflict some); sized = h.sized }
 
     table_more : (number : ℕ) (o : Option TableDisk) → IfSome o (IsSteadyTable w number) → IfSome o (IsSteadyTable more number)
     table_more number None h = tt

@@ -23,7 +23,7 @@ use Rattle.client_node.specs.Node.{IsClient}
 use Rattle.client_node.specs.Syncing.{again_of, AreStale, SendsAgain}
 use Rattle.client_node.specs.Waiting.{TakesOff}
 use Rattle.client_node.proofs.Asked.{IsMid}
-use Rattle.client_node.proofs.Forgotten.{less_more, sends_less, client_less, does_less}
+use Rattle.client_node.proofs.Forgotten.{IsLess, stale_less, less_more, sends_less, client_less, does_less}
 use Rattle.client_node.proofs.Sent.{HasSent}
 use Rattle.client_node.proofs.SyncDone.{by_short, by_alone, by_carried}
 
@@ -60,14 +60,17 @@ module _ {D : Type 0} (state : D → DiskState) (images : D → ℕ → List ℕ
     conflicts_kept : less.conflicts ≡ old.waiting.conflicts
     conflicts_kept = q ∙ ap (λ (n : ClientNode D). n.waiting.conflicts) is
 
+    fewer : IsLess (devs st old.devs) table old.waiting less
+    fewer = stale_less (devs st old.devs) table old.waiting less x.stale stale outs_off ready_off conflicts_kept
+
     kept_client : (disk : ClientDisk) (agenda : Option (List ClientTask)) → IsClient state old (at disk agenda) → IsClient state kept (at disk agenda)
-    kept_client = client_less state images only_now old is_up idle less table x.stale stale outs_off ready_off conflicts_kept
+    kept_client disk agenda = client_less state images only_now old is_up less idle table fewer (at disk agenda)
 
     kept_sends : SendsAgain st old.devs old.is_linked old.number table less found
-    kept_sends = sends_less st old.devs old.is_linked old.number table old.waiting less (less_more old.waiting less table x.stale outs_off ready_off conflicts_kept) found a
+    kept_sends = sends_less st old.devs old.is_linked old.number table old.waiting less (less_more (devs st old.devs) table old.waiting less fewer) found a
 
     kept_does : (disk : ClientDisk) (agenda : Option (List ClientTask)) (new : ClientNode D) (q : Result ℕ CallFault) → Does {T = ℕ} state images (at disk agenda) (Sync table) said kept new q → Does {T = ℕ} state images (at disk agenda) (Sync table) said old new q
-    kept_does disk agenda new q = does_less state images only_now old is_up idle less table x.stale stale outs_off ready_off conflicts_kept (at disk agenda) (Sync table) said new q
+    kept_does disk agenda new q = does_less state images old less (at disk agenda) (Sync table) said new q
 
     pub short_kept : (disk : ClientDisk) (agenda : Option (List ClientTask)) → IsClient state old (at disk agenda) → (new : ClientNode D) → new.devs ≡ client → IsMid kept new → Does {T = ℕ} state images (at disk agenda) (Sync table) said old new (Err call.Memory)
     short_kept disk agenda t new d m =

@@ -8,6 +8,14 @@ use Rattle.slot_store.specs.declared.held.RowKey.{RowKey}
 use Rattle.slot_store.specs.Data.{key_cmp, key_at}
 use Rattle.client_node.specs.Waiting.{is_key_of, TakesOff}
 
+and_all : (b : Bool) → b ≡ (b && true)
+and_all true = refl
+and_all false = refl
+
+-- no row is
+pub none_off : (table : ℕ) (old new : BTreeSet RowKey) → new ≡ old → TakesOff table [] old new
+none_off table old new same key = ap (λ (s : BTreeSet RowKey). contains key_cmp s key) same ∙ and_all (contains key_cmp old key)
+
 module _ (table : ℕ) (rows : List (List ℕ)) (first : BTreeSet RowKey) where
   -- without the rows that are left it is the first set without all of them
   abbrev pub LeavesRest : ℕ → BTreeSet RowKey → Type 0
@@ -26,10 +34,6 @@ module _ (table : ℕ) (rows : List (List ℕ)) (first : BTreeSet RowKey) where
       ∙ (one_without (is_at (key_cmp (key_at table row)) key) known rest
       ∙ (ap (λ (r : List ℕ). known && not (is_at (key_cmp (key_at table r)) key || rest)) is
       ∙ (ap (λ (l : List (List ℕ)). known && not (is_key_of table l key)) (sym (drop_more rows done e lt)) ∙ h key)))
-
-  and_all : (b : Bool) → b ≡ (b && true)
-  and_all true = refl
-  and_all false = refl
 
   pub all_off : (now : BTreeSet RowKey) (done : ℕ) → LeavesRest done now → length rows ≤ done → TakesOff table rows first now
   all_off now done h all key =

@@ -1,6 +1,6 @@
 -- What a call promises that takes a prepared write on.
 use Rattle.std.proofs.Common.{◌≡◌, ◌⊎◌, inl, ℕ, ◌≤◌, true, List, [], ◌∷◌, Option, Some, None, Result, Ok, Err, refl, sym, ◌∙◌, ap, subst, arith}
-use Rattle.std.specs.Prelude.{IfOk, IsErrOf}
+use Rattle.std.specs.Prelude.{IfOk, IfErr, IsErrOf}
 use Rattle.disk_trait.specs.Image.{IsImage}
 use Rattle.disk_trait.specs.Calls.{DiskState}
 use Rattle.disk_trait.specs.Fuse.{behind, inner_of}
@@ -32,6 +32,13 @@ use Rattle.client_node.proofs.Planned.{at_rest}
 use Rattle.client_node.proofs.Sent.{tasks_of_writes}
 use Rattle.client_node.proofs.Steadies.{steady_seen}
 use Rattle.client_node.proofs.TakenPlans.{idle_at, shape_of, does_carried, does_uncarried, client_up, client_ready, client_idle, client_rests}
+
+-- a refusal that is handed on, and a call that had none
+pub handed_on : {T : Type 0} (S : Type 0) (r : Result T CallFault) (e : CallFault) → Err e ≡ r → IfErr r (λ f. IsErrOf {T = S} (Err e) f)
+handed_on {T} S r e is = subst (λ (q : Result T CallFault). IfErr q (λ f. IsErrOf {T = S} (Err e) f)) is (as_err {T = S} e e refl)
+
+pub none_handed_on : {T S : Type 0} (r : Result T CallFault) (x : T) (q : Result S CallFault) → Ok x ≡ r → IfErr r (λ f. IsErrOf q f)
+none_handed_on {T} r x q is = subst (λ (p : Result T CallFault). IfErr p (λ f. IsErrOf q f)) is tt
 
 module _ {D : Type 0} (state : D → DiskState) (images : D → ℕ → List ℕ → Type 0)
     (only_now : (disk : FuseDisk D) (image : List ℕ) → images (inner_of disk) (behind state disk).moment image → IsImage (behind state disk).pending image) where

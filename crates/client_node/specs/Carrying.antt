@@ -29,12 +29,14 @@ use Rattle.client_node.specs.Looks.{Serves}
 use Rattle.client_node.specs.Node.{told_by, sent_by, facts_owed, sends_owed}
 use Rattle.client_node.specs.Waiting.{IsMore}
 
--- a row is noted where its slots have a write that waits for its answer, or one to send, and where it is in conflict
+-- a row is noted where its slots have a write that waits for its answer, or one to send, and where it is in conflict;
+-- there its id has sixteen bytes
 pub record IsNotedRow (waiting : Waiting) (table : ℕ) (change : RowChange) : Type 0 where
   pub out : IsSome change.slots.out → contains key_cmp waiting.outs (key_at table change.row) ≡ true
   pub ready : can_send change.slots ≡ true → contains key_cmp waiting.ready (key_at table change.row) ≡ true
   pub conflict : IsSome change.slots.conflict
       → contains key_cmp waiting.conflicts (key_at table change.row) ≡ true
+  pub sized : IsSome change.slots.conflict → length change.row ≡ 16
 
 -- each row that was noted still is, and the plan's
 pub record NotesPlan {E : Type 0} (old new : Waiting) (plan : Plan) (result : Result (Unit {0}) E) : Type 0 where

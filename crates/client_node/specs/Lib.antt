@@ -26,4 +26,5 @@ pub mod Resolving
 pub mod Listing
 pub mod Editing
 pub mod Carrying
+pub mod Noting
 pub mod Syncing

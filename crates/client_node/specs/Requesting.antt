@@ -11,7 +11,7 @@ use Rattle.held_value.specs.declared.slots.Slots.{Slots as HeldSlots}
 use Rattle.slot_store.specs.declared.held.RowKey.{RowKey}
 use Rattle.slot_store.specs.Data.{id_cmp, key_cmp, key_at}
 use Rattle.client_tables.specs.Transitions.{can_send}
-use Rattle.client_journal.specs.Devs.{ClientDevs}
+use Rattle.client_journal.specs.Devs.{ClientDevs, Write}
 use Rattle.step_tables.specs.Messages.{Send}
 use Rattle.step_tables.specs.ClientMoves.{request_for}
 use Rattle.journal_laws.specs.Whole.{whole_out}
@@ -58,6 +58,10 @@ pub record IsFirstOut (d : ClientDevs) (table : ℕ) (set : BTreeSet RowKey) (fo
 -- none of these rows has a write that waits for its answer
 abbrev pub NoneWaits : ClientDevs → ℕ → List (List ℕ) → Type 0
 NoneWaits d table rows = AllByRecursion (λ row. (held_at d table row).out ≡ None) rows
+
+-- each of these rows has no write that waits for its answer, while no write of the devices is to be done
+abbrev pub ArePassed : ClientDevs → List Write → ℕ → List (List ℕ) → Type 0
+ArePassed d ws table rows = AllByRecursion (λ row. (ws ≡ []) × ((held_at d table row).out ≡ None)) rows
 
 -- none of these rows has something to send
 abbrev pub NoneSends : ClientDevs → ℕ → List (List ℕ) → Type 0

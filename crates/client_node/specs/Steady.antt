@@ -1,6 +1,6 @@
 -- What a client's disk keeps, whatever is done to it: its tables and their rows stand in rising order, and each row that
 -- waits is noted.
-use Rattle.std.specs.Prelude.{◌≡◌, ℕ, ◌≤◌, true, List, [], ◌∷◌, Option, Some, None, IsSome, IfSome}
+use Rattle.std.specs.Prelude.{◌≡◌, ℕ, ◌≤◌, true, List, [], ◌∷◌, length, Option, Some, None, IsSome, IfSome}
 use Rattle.std.specs.Ordering.{nat_cmp}
 use Rattle.std.specs.Map.{keys_of}
 use Rattle.std.specs.BTreeSet.{contains}
@@ -14,12 +14,14 @@ use Rattle.step_tables.specs.ClientMoves.{Slots, TableDisk, RowPut, Plan, Client
 use Rattle.step_tables.specs.ClientMoves.{Commit, PutRow, PutTable, Finish, Keep, slots_at, table_at, to_send}
 use Rattle.client_node.specs.declared.waiting.Waiting.{Waiting}
 
--- A row that is noted where its write waits for an answer, where it has one to send, and where it is in conflict.
+-- A row that is noted where its write waits for an answer, where it has one to send, and where it is in conflict; there
+-- its id has sixteen bytes.
 pub record IsNoted (waiting : Waiting) (table : ℕ) (row : List ℕ) (slots : Slots) : Type 0 where
   pub sent : IsSome slots.out → contains key_cmp waiting.outs (key_at table row) ≡ true
   pub ready : IsSome (to_send slots slots.out slots.main slots.conflict)
       → contains key_cmp waiting.ready (key_at table row) ≡ true
   pub conflict : IsSome slots.conflict → contains key_cmp waiting.conflicts (key_at table row) ≡ true
+  pub sized : IsSome slots.conflict → length row ≡ 16
 
 pub record IsSteadyTable (waiting : Waiting) (number : ℕ) (table : TableDisk) : Type 0 where
   pub numbered : IsTable number

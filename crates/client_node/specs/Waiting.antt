@@ -1,13 +1,10 @@
 -- How the rows that wait are noted, and taken off again.
-use Rattle.std.specs.Prelude.{◌≡◌, ℕ, ◌&&◌, Bool, not, true, List, [], IsSome}
-use Rattle.std.specs.List.{Contains, list_any}
+use Rattle.std.specs.Prelude.{◌≡◌, ℕ, ◌&&◌, Bool, not, true, List, []}
+use Rattle.std.specs.List.{list_any}
 use Rattle.std.specs.BTreeMap.{is_at}
 use Rattle.std.specs.BTreeSet.{BTreeSet, contains, keys}
-use Rattle.plan_log.specs.Spelling.{IsTable}
 use Rattle.slot_store.specs.declared.held.RowKey.{RowKey}
-use Rattle.slot_store.specs.Data.{key_cmp, key_at, slots_of}
-use Rattle.client_journal.specs.Devs.{ClientDevs}
-use Rattle.client_journal.specs.Redone.{redone}
+use Rattle.slot_store.specs.Data.{key_cmp, key_at}
 use Rattle.client_node.specs.declared.waiting.Waiting.{Waiting}
 
 -- each row that was noted still is
@@ -37,11 +34,3 @@ pub record IsNotedTwice (w : Waiting) (table : ℕ) (row : List ℕ) : Type 0 wh
   pub out : contains key_cmp w.outs (key_at table row) ≡ true
   pub ready : contains key_cmp w.ready (key_at table row) ≡ true
   pub conflict : contains key_cmp w.conflicts (key_at table row) ≡ true
-
--- each row of a table that has slots is
-abbrev pub AreNotedOf : ClientDevs → Waiting → ℕ → Type 0
-AreNotedOf d w table = (row : List ℕ) → IsSome (slots_of (redone d) table row) → IsNotedTwice w table row
-
--- and of each table
-abbrev pub AreAllNoted : ClientDevs → Waiting → Type 0
-AreAllNoted d w = (table : ℕ) → IsTable table → AreNotedOf d w table

@@ -1,4 +1,5 @@
 //! The calls of a client.
+mod choosing;
 mod editing;
 mod listing;
 pub(crate) mod phases;

@@ -1,5 +1,5 @@
 //! How a node takes a prepared plan on.
-ghost use Rattle.std.specs.Prelude.{◌≡◌, [], true, map, OnOk, IsSome};
+ghost use Rattle.std.specs.Prelude.{◌≡◌, [], true, length, map, OnOk, IsSome};
 ghost use Rattle.std.specs.BTreeSet.{contains};
 ghost use Rattle.disk_trait.specs.Fuse.{behind};
 ghost use Rattle.slot_store.specs.Data.{key_cmp, key_at};
@@ -59,6 +59,7 @@ fn note_conflict(
     ensures more { IsMore waiting.old waiting.new }
     ensures noted { OnOk result (IsSome change.now.slots.conflict
         → contains key_cmp waiting.new.conflicts (key_at table change.now.row) ≡ true) }
+    ensures sized { IsSome change.now.slots.conflict → length change.now.row ≡ 16 }
 {
     if change.slots.conflict.is_some() {
         waiting.note_conflict(table, change.row)
@@ -67,8 +68,12 @@ fn note_conflict(
     }
 }
 
-// Notes a row where its slots have a write that waits for an answer, or one to send, and where it is in conflict.
-fn note_row(waiting: &mut Waiting, table: TableNo, change: &RowChange) -> Result<(), AllocError>
+/// Notes a row where its slots have a write that waits for an answer, or one to send, and where it is in conflict.
+pub(crate) fn note_row(
+    waiting: &mut Waiting,
+    table: TableNo,
+    change: &RowChange,
+) -> Result<(), AllocError>
     ensures more { IsMore waiting.old waiting.new }
     ensures noted { OnOk result (IsNotedRow waiting.new table change.now) }
 {

@@ -1,5 +1,5 @@
 //! The rows of a table that are noted.
-ghost use Rattle.std.specs.Prelude.{◌≡◌, ◌+◌, ◌<◌, ◌^◌, ◌==◌, filter, map, IfOk};
+ghost use Rattle.std.specs.Prelude.{◌≡◌, ◌+◌, ◌<◌, ◌^◌, ◌==◌, length, filter, map, IfOk};
 ghost use Rattle.std.specs.declared.cmp.Ordering.TheVariants.{Less};
 ghost use Rattle.std.specs.declared.ops.Bound.TheVariants.{Included, Excluded};
 ghost use Rattle.std.specs.BTreeSet.{keys, keys_between};
@@ -11,6 +11,14 @@ use slot_store::RowKey;
 use stab_base::{RowId, TableNo};
 use std::alloc::{AllocError, Global};
 use std::collections::BTreeSet;
+
+/// An id that is known to have sixteen bytes.
+pub(crate) fn of_16_bytes(row: RowId) -> RowId
+    ensures same { result ≡ row }
+    ensures size { length row ≡ 16 }
+{
+    RowId::from_bytes(row.to_bytes())
+}
 
 /// The key before those of a table's rows.
 pub(crate) fn first_key(table: TableNo) -> RowKey

@@ -1,6 +1,6 @@
 //! How a write of a row is prepared: its content is held by chunks, and its plan is made.
 ghost use Rattle.std.specs.Prelude.{◌≡◌, ◌⊎◌, ◌+◌, ◌<◌, ◌≤◌, ℕ, Bool, List, [], ◌∷◌, None, Some, Ok as Made};
-ghost use Rattle.std.specs.Prelude.{option_map, length, IfOk, IfErr, OnOk};
+ghost use Rattle.std.specs.Prelude.{option_map, IfOk, IfErr, OnOk};
 ghost use Rattle.std.specs.List.{AllByRecursion};
 ghost use Rattle.stab_base.specs.declared.limits.TheConstants.{NUMBER_MAX};
 ghost use Rattle.row_value.specs.Fit.{fit_of};
@@ -20,10 +20,12 @@ ghost use Rattle.client_node.specs.Looks.{Looks};
 ghost use Rattle.client_node.specs.Preparing.{AreKnownBehind, IsOpenedRow, HoldsNew, plan_for, change_for, wrote, write_of};
 ghost use Rattle.client_node.specs.Preparing.{MakesChange, IsFreeWrite, IsSpent, IsWriteBy, IsUnwritten, Prepares};
 ghost use Rattle.client_node.specs.Readied.{IsIdle};
+ghost use Rattle.client_node.specs.Requesting.{NoneWaits, ArePassed};
 
 use crate::calls::phases::check_closed;
 use crate::fault::CallFault;
 use crate::looking::{check_idle, open_table, row_slots};
+use crate::noted::of_16_bytes;
 use crate::planning::Planned;
 use crate::strong::prepare_strong;
 use crate::waiting::Waiting;
@@ -61,14 +63,6 @@ pub(crate) struct Gate {
 pub(crate) struct Prepared {
     pub(crate) number: WriteNo,
     pub(crate) planned: Planned,
-}
-
-// An id that is known to have sixteen bytes.
-fn of_16_bytes(row: RowId) -> RowId
-    ensures same { result ≡ row }
-    ensures size { length row ≡ 16 }
-{
-    RowId::from_bytes(row.to_bytes())
 }
 
 /// A row of an opened table.
@@ -286,7 +280,7 @@ fn check_calm(slots: &Slots) -> Result<(), CallFault>
     }
 }
 
-// Prepares a write by the scheme of its table.
+// Prepares a write by the scheme of its table. The rows that a strong write passes over are added to the stale ones.
 fn prepare_by<D: Disk + Drop>(
     alloc: Global,
     client: ClientNo,
@@ -295,6 +289,7 @@ fn prepare_by<D: Disk + Drop>(
     waiting: &Waiting,
     at: &OpenedRow,
     content: Content,
+    stale: &mut Vec<RowId>,
 ) -> Result<Prepared, CallFault>
     requires up { AreUp devs.old }
     requires ready { IsReady D.state devs.old (writes_of devs.old) }
@@ -306,6 +301,8 @@ fn prepare_by<D: Disk + Drop>(
     ensures write { IfOk result (IsWriteBy (held_by D.state devs.old) is_linked waiting.now.outs client at.now
         content) }
     ensures refused { IfErr result (IsUnwritten (held_by D.state devs.old) is_linked waiting.now.outs at.now) }
+    ensures stale { NoneWaits (held_by D.state devs.old) at.now.table stale.old.items
+        → NoneWaits (held_by D.state devs.old) at.now.table stale.new.items }
 {
     match at.opened.schema.scheme {
         Scheme::Strong => prepare_strong(
@@ -316,12 +313,14 @@ fn prepare_by<D: Disk + Drop>(
             &waiting.outs,
             at,
             content,
+            stale,
         ),
         Scheme::Causal | Scheme::Eventual => prepare_free(alloc, client, devs, at, content),
     }
 }
 
-/// Prepares the write of a content, which moves into what is told.
+/// Prepares the write of a content, which moves into what is told. The rows that a strong write passes over, since they
+/// wait for no answer, are added to the stale ones.
 ///
 /// What doesn't fit, then `Busy`, then `InResolution` where a phase of the table is open, then `Conflicted`, in a
 /// strong table `Offline` and `Outstanding`, then `Spent`.
@@ -333,6 +332,7 @@ pub(crate) fn prepare<D: Disk + Drop>(
     waiting: &Waiting,
     at: &OpenedRow,
     content: Content,
+    stale: &mut Vec<RowId>,
 ) -> Result<Prepared, CallFault>
     requires up { AreUp devs.old }
     requires ready { IsReady D.state devs.old (writes_of devs.old) }
@@ -343,10 +343,21 @@ pub(crate) fn prepare<D: Disk + Drop>(
     ensures prepares { (phase : ℕ → Bool) → phase at.now.table ≡ gate.is_open
         → Prepares D.state devs.old waiting.now phase gate.is_linked client
         (moves.Write at.now.table at.now.row content) result }
+    ensures stale { ArePassed (held_by D.state devs.old) (writes_of devs.old) at.now.table stale.old.items
+        → ArePassed (held_by D.state devs.old) (writes_of devs.old) at.now.table stale.new.items }
 {
     fits(&at.opened.schema, &content)?;
     check_idle(devs)?;
     check_closed(gate.is_open)?;
     check_calm(&at.slots)?;
-    prepare_by(alloc, client, gate.is_linked, devs, waiting, at, content)
+    prepare_by(
+        alloc,
+        client,
+        gate.is_linked,
+        devs,
+        waiting,
+        at,
+        content,
+        stale,
+    )
 }

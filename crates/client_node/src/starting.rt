@@ -1,6 +1,8 @@
 //! How a start is taken on.
 ghost use Rattle.std.specs.Prelude.{◌≡◌, ◌∷◌, ℕ, List, [], map, IfOk, IfErr, OnOk, OnErr};
+ghost use Rattle.std.specs.List.{Contains};
 ghost use Rattle.held_value.specs.declared.local_name.LocalName.{LocalName};
+ghost use Rattle.plan_log.specs.Spelling.{IsTable};
 ghost use Rattle.client_journal.specs.Recover.{rolled_of};
 ghost use Rattle.client_journal.specs.Standing.{devs as held_by, writes_of, AreUp, IsReady, AreSynced, AreSound};
 ghost use Rattle.step_tables.specs.ClientMoves.{ClientDisk, told_at_start};
@@ -11,18 +13,22 @@ ghost use Rattle.table_model.specs.declared.line.Fact.TheVariants.{ClientRecover
 ghost use Rattle.client_node.specs.Answers.{IsFault};
 ghost use Rattle.client_node.specs.Devices.{BeginsStart, OwesEnd};
 ghost use Rattle.client_node.specs.Looks.{Looks};
-ghost use Rattle.client_node.specs.Waiting.{IsMore, AreNotedOf, AreAllNoted};
+ghost use Rattle.client_node.specs.Noting.{IsNotedAt, AreNotedOf, IsRedoneNoted, AreAllNoted};
+ghost use Rattle.client_node.specs.Waiting.{IsMore};
 
+use crate::carrying::note_row;
 use crate::devices::begin_start;
 use crate::fault::CallFault;
+use crate::looking::row_slots;
 use crate::owed::{Owed, When};
 use crate::telling::tell_found;
 use crate::waiting::Waiting;
-use client_journal::Journal;
+use client_journal::{Journal, Rolled};
 use disk_trait::Disk;
 use gathering::Gathered;
+use plan_log::RowChange;
 use slot_store::TABLE_MAX;
-use stab_base::{ClientNo, TableNo};
+use stab_base::{ClientNo, RowId, TableNo};
 use std::alloc::{AllocError, Global};
 use table_model::Fact;
 
@@ -57,7 +63,63 @@ fn gather(alloc: Global, mut told: Vec<Fact>) -> Result<Gathered<Fact>, AllocErr
     Ok(made)
 }
 
-// Notes each row of a table.
+// ---- the rows that wait
+
+// Notes the row of a plan that is redone. Its slots are still to be put.
+fn note_redone(waiting: &mut Waiting, rolled: &Rolled) -> Result<(), AllocError>
+    ensures { OnOk result (IsRedoneNoted waiting.new rolled.now) }
+{
+    let Some(redone) = &rolled.redone else {
+        return Ok(());
+    };
+    match redone.row {
+        Some(row) => waiting.note(redone.table, row),
+        None => Ok(()),
+    }
+}
+
+// Notes a row where its slots wait.
+fn note_held<D: Disk + Drop>(
+    devs: &mut Journal<D>,
+    table: TableNo,
+    row: &RowId,
+    waiting: &mut Waiting,
+) -> Result<(), CallFault>
+    requires up { AreUp devs.old }
+    requires ready { IsReady D.state devs.old (writes_of devs.old) }
+    ensures looks { Looks D.state D.images devs.old devs.new result }
+    ensures more { IsMore waiting.old waiting.new }
+    ensures noted { OnOk result (IsNotedAt (held_by D.state devs.old) waiting.new table row.now) }
+    ensures refused { IfErr result IsFault }
+{
+    let slots = row_slots(devs, table, row)?;
+    let held = RowChange { row: *row, slots };
+    note_row(waiting, table, &held)?;
+    Ok(())
+}
+
+// Notes those of these rows of a table that wait.
+fn note_rows<D: Disk + Drop>(
+    devs: &mut Journal<D>,
+    table: TableNo,
+    rows: &[RowId],
+    waiting: &mut Waiting,
+) -> Result<(), CallFault>
+    requires up { AreUp devs.old }
+    requires ready { IsReady D.state devs.old (writes_of devs.old) }
+    ensures looks { Looks D.state D.images devs.old devs.new result }
+    ensures more { IsMore waiting.old waiting.new }
+    ensures noted { OnOk result ((row : List ℕ) → Contains rows.now row
+        → IsNotedAt (held_by D.state devs.old) waiting.new table row) }
+    ensures refused { IfErr result IsFault }
+{
+    for row in rows {
+        note_held(devs, table, row, waiting)?;
+    }
+    Ok(())
+}
+
+// Notes the rows of a table that wait.
 fn note_table<D: Disk + Drop>(
     devs: &mut Journal<D>,
     table: TableNo,
@@ -71,26 +133,34 @@ fn note_table<D: Disk + Drop>(
     ensures refused { IfErr result IsFault }
 {
     let rows = devs.rows_of(table)?;
-    waiting.note_all(table, rows.as_slice())?;
-    Ok(())
+    note_rows(devs, table, rows.as_slice(), waiting)
 }
 
-// Each row of the devices, noted. The first synchronization of a table finds out which of its rows wait.
-fn note_held<D: Disk + Drop>(alloc: Global, devs: &mut Journal<D>) -> Result<Waiting, CallFault>
+// The rows of the devices that wait, noted, with that of a plan that is redone.
+fn note_tables<D: Disk + Drop>(
+    alloc: Global,
+    devs: &mut Journal<D>,
+    rolled: &Rolled,
+) -> Result<Waiting, CallFault>
     requires up { AreUp devs.old }
     requires ready { IsReady D.state devs.old (writes_of devs.old) }
     ensures looks { Looks D.state D.images devs.old devs.new result }
-    ensures noted { IfOk result (AreAllNoted (held_by D.state devs.old)) }
+    ensures each { IfOk result (λ waiting. (table : ℕ) → IsTable table
+        → AreNotedOf (held_by D.state devs.old) waiting table) }
+    ensures redone { IfOk result (λ waiting. IsRedoneNoted waiting rolled.now) }
     ensures refused { IfErr result IsFault }
 {
     let mut waiting = Waiting::new(alloc);
+    note_redone(&mut waiting, rolled)?;
     for table in 1..=TABLE_MAX {
         note_table(devs, table, &mut waiting)?;
     }
     Ok(waiting)
 }
 
-/// Takes on the writes of a start, notes the rows of the devices, and gathers what the start tells at once, where nothing
+// ---- a start
+
+/// Takes on the writes of a start, notes the rows of the devices that wait, and gathers what the start tells at once, where nothing
 /// is gathered. What the writes tell is for the caller to owe.
 pub(crate) fn resume<D: Disk + Drop>(
     alloc: Global,
@@ -115,7 +185,7 @@ pub(crate) fn resume<D: Disk + Drop>(
 {
     let rolled = begin_start(devs)?;
     let told = tell_found(alloc, devs, client, &rolled)?;
-    let held = note_held(alloc, devs)?;
+    let held = note_tables(alloc, devs, &rolled)?;
     let owed = owed_by_start(alloc, client)?;
     let made = gather(alloc, told)?;
     *waiting = held;

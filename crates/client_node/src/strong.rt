@@ -11,7 +11,7 @@ ghost use Rattle.client_node.specs.Answers.{IsFault};
 ghost use Rattle.client_node.specs.Looks.{Looks};
 ghost use Rattle.client_node.specs.Preparing.{IsOpenedRow, MakesChange, wrote, IsStrongWrite, IsSpent, IsUnsent};
 ghost use Rattle.client_node.specs.Readied.{IsIdle};
-ghost use Rattle.client_node.specs.Requesting.{request_with, first_out, IsFirstOut};
+ghost use Rattle.client_node.specs.Requesting.{request_with, first_out, IsFirstOut, NoneWaits};
 
 use crate::calls::pulling::check_link;
 use crate::fault::CallFault;
@@ -36,17 +36,21 @@ use table_model::Write;
 
 // ---- the write that waits for its answer
 
-// The number of the write of the first of these rows whose write waits for its answer.
+// The number of the write of the first of these rows whose write waits for its answer. The rows before it are added to
+// those that wait for none.
 fn first_of<D: Disk + Drop>(
     devs: &mut Journal<D>,
     table: TableNo,
     rows: &[RowId],
+    stale: &mut Vec<RowId>,
 ) -> Result<Option<WriteNo>, CallFault>
     requires up { AreUp devs.old }
     requires ready { IsReady D.state devs.old (writes_of devs.old) }
     ensures looks { Looks D.state D.images devs.old devs.new result }
     ensures found { IfOk result (λ found. found
         ≡ option_map (λ out. out.number) (first_out (held_by D.state devs.old) table rows.now)) }
+    ensures stale { NoneWaits (held_by D.state devs.old) table stale.old.items
+        → NoneWaits (held_by D.state devs.old) table stale.new.items }
     ensures refused { IfErr result IsFault }
 {
     for row in rows {
@@ -54,34 +58,40 @@ fn first_of<D: Disk + Drop>(
         if let Some(out) = &slots.out {
             return Ok(Some(out.number));
         }
+        stale.push(*row)?;
     }
     Ok(None)
 }
 
-// The number of the write of the first of a table's rows in a set whose write waits for its answer.
+// The number of the write of the first of a table's rows in a set whose write waits for its answer. The rows before it
+// are added to those that wait for none.
 fn first_out<D: Disk + Drop>(
     alloc: Global,
     devs: &mut Journal<D>,
     outs: &BTreeSet<RowKey>,
     table: TableNo,
+    stale: &mut Vec<RowId>,
 ) -> Result<Option<WriteNo>, CallFault>
     requires up { AreUp devs.old }
     requires ready { IsReady D.state devs.old (writes_of devs.old) }
     requires small { table + 1 < 2 ^ 32 }
     ensures looks { Looks D.state D.images devs.old devs.new result }
     ensures first { IfOk result (IsFirstOut (held_by D.state devs.old) table outs.now) }
+    ensures stale { NoneWaits (held_by D.state devs.old) table stale.old.items
+        → NoneWaits (held_by D.state devs.old) table stale.new.items }
     ensures refused { IfErr result IsFault }
 {
     let rows = rows_in(alloc, outs, table)?;
-    first_of(devs, table, rows.as_slice())
+    first_of(devs, table, rows.as_slice(), stale)
 }
 
-// Whether no write of a table waits for its answer.
+// Whether no write of a table waits for its answer. The rows that are passed over are added to those that wait for none.
 fn check_none_waits<D: Disk + Drop>(
     alloc: Global,
     devs: &mut Journal<D>,
     outs: &BTreeSet<RowKey>,
     table: TableNo,
+    stale: &mut Vec<RowId>,
 ) -> Result<(), CallFault>
     requires up { AreUp devs.old }
     requires ready { IsReady D.state devs.old (writes_of devs.old) }
@@ -90,8 +100,10 @@ fn check_none_waits<D: Disk + Drop>(
     ensures none { OnOk result (IsFirstOut (held_by D.state devs.old) table outs.now None) }
     ensures refused { IfErr result (λ e. ((number : ℕ) × (e ≡ CallFault.Outstanding number)
         × IsFirstOut (held_by D.state devs.old) table outs.now (Some number)) ⊎ IsFault e) }
+    ensures stale { NoneWaits (held_by D.state devs.old) table stale.old.items
+        → NoneWaits (held_by D.state devs.old) table stale.new.items }
 {
-    match first_out(alloc, devs, outs, table)? {
+    match first_out(alloc, devs, outs, table, stale)? {
         None => Ok(()),
         Some(number) => Err(CallFault::Outstanding { number }),
     }
@@ -187,7 +199,8 @@ fn prepare_sent<D: Disk + Drop>(
     Ok(Prepared { number, planned })
 }
 
-/// Prepares the write of a content in a strong table.
+/// Prepares the write of a content in a strong table. The table's rows that are noted as waiting for an answer and wait
+/// for none are added to the stale ones.
 ///
 /// `Offline`, then `Outstanding`, then `Spent`.
 pub(crate) fn prepare_strong<D: Disk + Drop>(
@@ -198,6 +211,7 @@ pub(crate) fn prepare_strong<D: Disk + Drop>(
     outs: &BTreeSet<RowKey>,
     at: &OpenedRow,
     content: Content,
+    stale: &mut Vec<RowId>,
 ) -> Result<Prepared, CallFault>
     requires up { AreUp devs.old }
     requires ready { IsReady D.state devs.old (writes_of devs.old) }
@@ -210,8 +224,10 @@ pub(crate) fn prepare_strong<D: Disk + Drop>(
     ensures none { OnOk result (IsFirstOut (held_by D.state devs.old) at.now.table outs.now None) }
     ensures write { IfOk result (IsStrongWrite (held_by D.state devs.old) client at.now content) }
     ensures refused { IfErr result (IsUnsent (held_by D.state devs.old) outs.now is_linked at.now.table) }
+    ensures stale { NoneWaits (held_by D.state devs.old) at.now.table stale.old.items
+        → NoneWaits (held_by D.state devs.old) at.now.table stale.new.items }
 {
     check_link(is_linked)?;
-    check_none_waits(alloc, devs, outs, at.table)?;
+    check_none_waits(alloc, devs, outs, at.table, stale)?;
     prepare_sent(alloc, client, devs, at, content)
 }

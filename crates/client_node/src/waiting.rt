@@ -1,10 +1,10 @@
 //! The rows that wait.
-ghost use Rattle.std.specs.Prelude.{◌≡◌, [], ℕ, List, true, OnOk};
+ghost use Rattle.std.specs.Prelude.{◌≡◌, [], length, true, OnOk};
 ghost use Rattle.std.specs.BTreeSet.{contains, keys};
-ghost use Rattle.std.specs.List.{Contains};
 ghost use Rattle.slot_store.specs.Data.{key_cmp, key_at};
 ghost use Rattle.client_node.specs.Waiting.{IsMore, IsNotedTwice, NoneNoted, TakesOff};
 
+use crate::noted::of_16_bytes;
 use slot_store::RowKey;
 use stab_base::{RowId, TableNo};
 use std::alloc::{AllocError, Global};
@@ -69,13 +69,15 @@ impl Waiting {
     pub(crate) fn note_conflict(&mut self, table: TableNo, row: RowId) -> Result<(), AllocError>
         ensures more { IsMore self.old self.new }
         ensures noted { OnOk result (contains key_cmp self.new.conflicts (key_at table row) ≡ true) }
+        ensures sized { length row ≡ 16 }
     {
+        let row = of_16_bytes(row);
         self.conflicts.insert(RowKey { table, row })?;
         Ok(())
     }
 
     /// Notes a row of a table as one that may wait for an answer, may have a write to send, and may be in conflict.
-    fn note(&mut self, table: TableNo, row: RowId) -> Result<(), AllocError>
+    pub(crate) fn note(&mut self, table: TableNo, row: RowId) -> Result<(), AllocError>
         ensures more { IsMore self.old self.new }
         ensures noted { OnOk result (IsNotedTwice self.new table row) }
     {
@@ -85,15 +87,13 @@ impl Waiting {
         Ok(())
     }
 
-    /// Notes these rows of a table as ones that may wait for an answer, may have a write to send, and may be in conflict.
-    pub(crate) fn note_all(&mut self, table: TableNo, rows: &[RowId]) -> Result<(), AllocError>
-        ensures more { IsMore self.old self.new }
-        ensures noted { OnOk result ((row : List ℕ) → Contains rows.now row → IsNotedTwice self.new table row) }
+    /// Takes rows of a table that wait for no answer off.
+    pub(crate) fn forget_outs(&mut self, table: TableNo, rows: &[RowId])
+        ensures outs { TakesOff table rows.now self.old.outs self.new.outs }
+        ensures ready { self.new.ready ≡ self.old.ready }
+        ensures conflicts { self.new.conflicts ≡ self.old.conflicts }
     {
-        for row in rows {
-            self.note(table, *row)?;
-        }
-        Ok(())
+        take_off(&mut self.outs, table, rows);
     }
 
     /// Takes stale rows of a table off.
@@ -104,5 +104,14 @@ impl Waiting {
     {
         take_off(&mut self.outs, table, stale.outs.as_slice());
         take_off(&mut self.ready, table, stale.ready.as_slice());
+    }
+
+    /// Takes rows of a table that are in no conflict off.
+    pub(crate) fn forget_conflicts(&mut self, table: TableNo, rows: &[RowId])
+        ensures outs { self.new.outs ≡ self.old.outs }
+        ensures ready { self.new.ready ≡ self.old.ready }
+        ensures conflicts { TakesOff table rows.now self.old.conflicts self.new.conflicts }
+    {
+        take_off(&mut self.conflicts, table, rows);
     }
 }

@@ -15,6 +15,7 @@ ghost use Rattle.client_node.specs.Looks.{Looks};
 ghost use Rattle.client_node.specs.Node.{IsClient, IsNode};
 ghost use Rattle.client_node.specs.Preparing.{Prepares};
 ghost use Rattle.client_node.specs.Readied.{IsIdle};
+ghost use Rattle.client_node.specs.Requesting.{ArePassed};
 ghost use Rattle.client_node.specs.Phases.{KeepsPhases};
 
 use crate::fault::CallFault;
@@ -94,7 +95,8 @@ fn edited_content<D: Disk + Drop>(
     Ok(content)
 }
 
-// Prepares the write of what an edit makes of a row.
+// Prepares the write of what an edit makes of a row. The rows that a strong write passes over are added to the stale
+// ones.
 fn prepare_edit<D: Disk + Drop>(
     alloc: Global,
     client: ClientNo,
@@ -104,6 +106,7 @@ fn prepare_edit<D: Disk + Drop>(
     table: TableNo,
     row: RowId,
     edit: &Edit,
+    stale: &mut Vec<RowId>,
 ) -> Result<Prepared, CallFault>
     requires up { AreUp devs.old }
     requires ready { IsReady D.state devs.old (writes_of devs.old) }
@@ -112,10 +115,12 @@ fn prepare_edit<D: Disk + Drop>(
     ensures looks { Looks D.state D.images devs.old devs.new result }
     ensures prepares { (phase : ℕ → Bool) → phase table ≡ gate.is_open
         → Prepares D.state devs.old waiting.now phase gate.is_linked client (Change table row edit.now) result }
+    ensures stale { ArePassed (held_by D.state devs.old) (writes_of devs.old) table stale.old.items
+        → ArePassed (held_by D.state devs.old) (writes_of devs.old) table stale.new.items }
 {
     let at = open_row(devs, table, row)?;
     let content = edited_content(alloc, devs, &at, edit)?;
-    prepare(alloc, client, gate, devs, waiting, &at, content)
+    prepare(alloc, client, gate, devs, waiting, &at, content, stale)
 }
 
 impl<D: Disk + Drop> ClientNode<D> {
@@ -137,6 +142,7 @@ impl<D: Disk + Drop> ClientNode<D> {
         ensures phases { KeepsPhases self.old self.new }
     {
         let gate = self.gate_of(table);
+        let mut stale = Vec::new(self.alloc);
         let found = prepare_edit(
             self.alloc,
             self.number,
@@ -146,7 +152,9 @@ impl<D: Disk + Drop> ClientNode<D> {
             table,
             row,
             edit,
+            &mut stale,
         );
+        self.waiting.forget_outs(table, stale.as_slice());
         self.take_on(found)
     }
 }

@@ -1,21 +1,23 @@
 //! How a client resolves the conflict of a row.
-ghost use Rattle.std.specs.Prelude.{◌≡◌, ◌∷◌, ◌==◌, ℕ, Bool, [], true, false, IfSome, IfOk, IfErr, OnOk};
+ghost use Rattle.std.specs.Prelude.{◌≡◌, ◌∷◌, ℕ, Bool, [], true, IfSome, IfOk, IfErr, OnOk};
 ghost use Rattle.value_codec.specs.SchemaSpelling.{HasSchemaSpelling};
 ghost use Rattle.conflicts.specs.declared.pair.Choice.TheVariants as chosen;
 ghost use Rattle.client_tables.specs.Transitions.{resolved};
 ghost use Rattle.client_journal.specs.Standing.{devs as held_by, writes_of, AreUp, IsReady};
-ghost use Rattle.step_tables.specs.ClientMoves.{Client, Resolve};
+ghost use Rattle.step_tables.specs.ClientMoves.{Client, ClientDisk, Resolve, slots_of, seen as seen_disk};
 ghost use Rattle.step_tables.specs.Facts.{Number};
 ghost use Rattle.client_node.specs.Answers.{record_at};
 ghost use Rattle.client_node.specs.Does.{Does};
 ghost use Rattle.client_node.specs.Looks.{Looks};
-ghost use Rattle.client_node.specs.Node.{IsClient, IsNode};
+ghost use Rattle.client_node.specs.Node.{StandsFor, IsClient, IsNode};
 ghost use Rattle.client_node.specs.Phases.{KeepsPhases};
 ghost use Rattle.client_node.specs.declared.waiting.Waiting.{Waiting};
-ghost use Rattle.client_node.specs.Preparing.{MakesChange, IsSpent, wrote, Prepares};
+ghost use Rattle.client_node.specs.Preparing.{IsOpenedRow, MakesChange, IsSpent, wrote, Prepares};
 ghost use Rattle.client_node.specs.Resolving.{IsUnchosen, IsChosen, IsMineAgain, IsTheirsRead, IsNewOver, IsResolved};
-ghost use Rattle.client_node.specs.Resolving.{IsUnresolved, resolved_fact, write_over};
+ghost use Rattle.client_node.specs.Resolving.{IsUnresolved, IsNoneResolved, resolved_fact, write_over};
+ghost use Rattle.client_node.specs.Resolving.{IsChosenBy, ArePairOf, IsByAnswer};
 
+use crate::calls::choosing::{check_seen, choose_by, choose_with};
 use crate::calls::phases::check_open;
 use crate::fault::CallFault;
 use crate::looking::check_idle;
@@ -28,7 +30,7 @@ use crate::row_plan::last_write;
 use crate::telling::read_content;
 use client_journal::Journal;
 use client_tables::{BroughtChunks, HeldChoice, plan_resolve};
-use conflicts::Choice;
+use conflicts::{Choice, Resolver, Stored};
 use disk_trait::Disk;
 use held_contents::HeldNew;
 use held_value::{Main, Shadow};
@@ -214,21 +216,6 @@ fn choose<D: Disk + Drop>(
     }
 }
 
-// Whether the version that was seen is the one that a row is in conflict with.
-fn check_seen(row: &Shadow, seen: Version) -> Result<(), CallFault>
-    ensures same { OnOk result (row.now.version ≡ seen) }
-    ensures moved { IfErr result (λ e. ((row.now.version == seen) ≡ false) × (e ≡ CallFault.Moved seen row.now.version)) }
-{
-    if row.version == seen {
-        Ok(())
-    } else {
-        Err(CallFault::Moved {
-            seen,
-            now: row.version,
-        })
-    }
-}
-
 // Resolves the conflict of a row with the version that was seen.
 fn resolve_row<D: Disk + Drop>(
     alloc: Global,
@@ -255,6 +242,27 @@ fn resolve_row<D: Disk + Drop>(
     choose(alloc, client, devs, at, main, row, choice)
 }
 
+// A row of an opened table whose conflict may be resolved now.
+fn open_contended<D: Disk + Drop>(
+    devs: &mut Journal<D>,
+    table: TableNo,
+    row: RowId,
+    is_open: bool,
+) -> Result<OpenedRow, CallFault>
+    requires up { AreUp devs.old }
+    requires ready { IsReady D.state devs.old (writes_of devs.old) }
+    ensures looks { Looks D.state D.images devs.old devs.new result }
+    ensures opened { IfOk result (IsOpenedRow (held_by D.state devs.old) table row) }
+    ensures idle { OnOk result (writes_of devs.old ≡ []) }
+    ensures open { OnOk result (is_open ≡ true) }
+    ensures refused { IfErr result (IsNoneResolved D.state devs.old table row is_open) }
+{
+    let at = open_row(devs, table, row)?;
+    check_idle(devs)?;
+    check_open(is_open)?;
+    Ok(at)
+}
+
 // Prepares the resolution of a row's conflict.
 fn prepare_resolve<D: Disk + Drop>(
     alloc: Global,
@@ -273,9 +281,59 @@ fn prepare_resolve<D: Disk + Drop>(
     ensures prepares { (waiting : Waiting) (phase : ℕ → Bool) → phase table ≡ gate.is_open
         → Prepares D.state devs.old waiting phase gate.is_linked client (Resolve table row seen choice) result }
 {
-    let at = open_row(devs, table, row)?;
-    check_idle(devs)?;
-    check_open(gate.is_open)?;
+    let at = open_contended(devs, table, row, gate.is_open)?;
+    resolve_row(alloc, client, devs, &at, seen, choice)
+}
+
+// Prepares it as a stored way chooses.
+fn prepare_by<D: Disk + Drop>(
+    alloc: Global,
+    client: ClientNo,
+    gate: Gate,
+    devs: &mut Journal<D>,
+    table: TableNo,
+    row: RowId,
+    seen: Version,
+    by: Stored,
+) -> Result<Prepared, CallFault>
+    requires up { AreUp devs.old }
+    requires ready { IsReady D.state devs.old (writes_of devs.old) }
+    requires spelled { IfSome (record_at (held_by D.state devs.old) table) (λ opened. HasSchemaSpelling opened.schema) }
+    ensures looks { Looks D.state D.images devs.old devs.new result }
+    ensures prepares { (disk : ClientDisk) → StandsFor client (held_by D.state devs.old) disk
+        → (choice : Choice) → IsChosenBy by row (slots_of (seen_disk disk) table row) choice
+        → (waiting : Waiting) (phase : ℕ → Bool) → phase table ≡ gate.is_open
+        → Prepares D.state devs.old waiting phase gate.is_linked client (Resolve table row seen choice) result }
+{
+    let at = open_contended(devs, table, row, gate.is_open)?;
+    let choice = choose_by(alloc, devs, &at, seen, by)?;
+    resolve_row(alloc, client, devs, &at, seen, choice)
+}
+
+// Prepares it as a resolver that was handed in answers.
+fn prepare_with<D: Disk + Drop, R: Resolver>(
+    alloc: Global,
+    client: ClientNo,
+    gate: Gate,
+    devs: &mut Journal<D>,
+    table: TableNo,
+    row: RowId,
+    seen: Version,
+    by: &R,
+) -> Result<Prepared, CallFault>
+    requires up { AreUp devs.old }
+    requires ready { IsReady D.state devs.old (writes_of devs.old) }
+    requires spelled { IfSome (record_at (held_by D.state devs.old) table) (λ opened. HasSchemaSpelling opened.schema) }
+    requires fits { (disk : ClientDisk) × StandsFor client (held_by D.state devs.old) disk
+        × ArePairOf (R.schema_of by.now) row (slots_of (seen_disk disk) table row) }
+    ensures looks { Looks D.state D.images devs.old devs.new result }
+    ensures prepares { (disk : ClientDisk) → StandsFor client (held_by D.state devs.old) disk
+        → (waiting : Waiting) (phase : ℕ → Bool) → phase table ≡ gate.is_open
+        → IsByAnswer (R.answers by.now) row (slots_of (seen_disk disk) table row) result (λ choice.
+        Prepares D.state devs.old waiting phase gate.is_linked client (Resolve table row seen choice) result) }
+{
+    let at = open_contended(devs, table, row, gate.is_open)?;
+    let choice = choose_with(alloc, devs, &at, seen, by)?;
     resolve_row(alloc, client, devs, &at, seen, choice)
 }
 
@@ -314,6 +372,83 @@ impl<D: Disk + Drop> ClientNode<D> {
             row,
             seen,
             choice,
+        );
+        self.take_on(found)
+    }
+
+    /// Resolves the conflict of a row with the version that was seen, as this way chooses of the client's write and the
+    /// Store's row, in a phase of its table. The answer is that of `resolve`.
+    ///
+    /// # Errors
+    ///
+    /// Those of `resolve`.
+    pub fn resolve_by(
+        &mut self,
+        table: TableNo,
+        row: RowId,
+        seen: Version,
+        by: Stored,
+    ) -> Result<WriteNo, CallFault>
+        requires node { IsNode D.state self.old }
+        requires up { self.old.is_up ≡ true }
+        ensures does { (s : Client) (choice : Choice) → IsClient D.state self.old s
+            → IsChosenBy by row (slots_of (seen_disk s.disk) table row) choice
+            → Does D.state D.images s (Resolve table row seen choice) (λ number. Number number)
+            self.old self.new result }
+        ensures node { IsNode D.state self.new }
+        ensures declared { self.new.is_declared ≡ self.old.is_declared }
+        ensures phases { KeepsPhases self.old self.new }
+    {
+        let gate = self.gate_of(table);
+        let found = prepare_by(
+            self.alloc,
+            self.number,
+            gate,
+            &mut self.devs,
+            table,
+            row,
+            seen,
+            by,
+        );
+        self.take_on(found)
+    }
+
+    /// Resolves the conflict of a row with the version that was seen, as this resolver answers, in a phase of its table.
+    /// It is asked about the client's write and the Store's row, both whole, where they are in conflict with this
+    /// version. The answer is that of `resolve`.
+    ///
+    /// # Errors
+    ///
+    /// Those of `resolve`. `Memory` also where the resolver is refused memory.
+    pub fn resolve_with<R: Resolver>(
+        &mut self,
+        table: TableNo,
+        row: RowId,
+        seen: Version,
+        by: &R,
+    ) -> Result<WriteNo, CallFault>
+        requires node { IsNode D.state self.old }
+        requires up { self.old.is_up ≡ true }
+        requires fits { (s : Client) → IsClient D.state self.old s
+            → ArePairOf (R.schema_of by.now) row (slots_of (seen_disk s.disk) table row) }
+        ensures does { (s : Client) → IsClient D.state self.old s
+            → IsByAnswer (R.answers by.now) row (slots_of (seen_disk s.disk) table row) result (λ choice.
+            Does D.state D.images s (Resolve table row seen choice) (λ number. Number number)
+            self.old self.new result) }
+        ensures node { IsNode D.state self.new }
+        ensures declared { self.new.is_declared ≡ self.old.is_declared }
+        ensures phases { KeepsPhases self.old self.new }
+    {
+        let gate = self.gate_of(table);
+        let found = prepare_with(
+            self.alloc,
+            self.number,
+            gate,
+            &mut self.devs,
+            table,
+            row,
+            seen,
+            by,
         );
         self.take_on(found)
     }

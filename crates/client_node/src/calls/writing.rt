@@ -1,5 +1,5 @@
 //! How a client writes a row.
-ghost use Rattle.std.specs.Prelude.{◌≡◌, ℕ, Bool, [], true, IfSome, IfOk};
+ghost use Rattle.std.specs.Prelude.{◌≡◌, ℕ, Bool, [], true, IfSome, IfOk, IfErr, IsErrOf};
 ghost use Rattle.disk_trait.specs.Fuse.{behind, inner_of};
 ghost use Rattle.value_codec.specs.SchemaSpelling.{HasSchemaSpelling};
 ghost use Rattle.client_journal.specs.Standing.{devs as held_by, writes_of, AreUp, IsReady};
@@ -13,6 +13,7 @@ ghost use Rattle.client_node.specs.Node.{IsClient, IsNode};
 ghost use Rattle.client_node.specs.Phases.{is_open, KeepsPhases};
 ghost use Rattle.client_node.specs.Preparing.{Prepares, MayBegin};
 ghost use Rattle.client_node.specs.Readied.{IsIdle};
+ghost use Rattle.client_node.specs.Requesting.{ArePassed};
 
 use crate::fault::CallFault;
 use crate::node::ClientNode;
@@ -24,7 +25,7 @@ use row_value::Content;
 use stab_base::{ClientNo, RowId, TableNo, WriteNo};
 use std::alloc::Global;
 
-// Prepares the write of a row.
+// Prepares the write of a row. The rows that a strong write passes over are added to the stale ones.
 fn prepare_write<D: Disk + Drop>(
     alloc: Global,
     client: ClientNo,
@@ -34,6 +35,7 @@ fn prepare_write<D: Disk + Drop>(
     table: TableNo,
     row: RowId,
     content: Content,
+    stale: &mut Vec<RowId>,
 ) -> Result<Prepared, CallFault>
     requires up { AreUp devs.old }
     requires ready { IsReady D.state devs.old (writes_of devs.old) }
@@ -42,9 +44,11 @@ fn prepare_write<D: Disk + Drop>(
     ensures looks { Looks D.state D.images devs.old devs.new result }
     ensures prepares { (phase : ℕ → Bool) → phase table ≡ gate.is_open
         → Prepares D.state devs.old waiting.now phase gate.is_linked client (Write table row content) result }
+    ensures stale { ArePassed (held_by D.state devs.old) (writes_of devs.old) table stale.old.items
+        → ArePassed (held_by D.state devs.old) (writes_of devs.old) table stale.new.items }
 {
     let at = open_row(devs, table, row)?;
-    prepare(alloc, client, gate, devs, waiting, &at, content)
+    prepare(alloc, client, gate, devs, waiting, &at, content, stale)
 }
 
 impl<D: Disk + Drop> ClientNode<D> {
@@ -70,6 +74,7 @@ impl<D: Disk + Drop> ClientNode<D> {
             → Looks (behind D.state) (λ f. D.images (inner_of f)) old.devs self.old.devs found
             → Prepares (behind D.state) old.devs old.waiting (is_open old) old.is_linked old.number move found
             → Does D.state D.images s move (λ number. Number number) old self.new result }
+        ensures refused { IfErr found (λ e. IsErrOf result e) }
         ensures declared { self.new.is_declared ≡ self.old.is_declared }
         ensures phases { KeepsPhases self.old self.new }
     {
@@ -81,7 +86,8 @@ impl<D: Disk + Drop> ClientNode<D> {
 
     /// Writes a row: its next content is this one, under the client's next number, which is the answer. The writes that
     /// this takes are then to be done; what was written is told of from their commit on, and shown, in a strong table
-    /// once it is accepted. There the last of them sends its request.
+    /// once it is accepted. There the last of them sends its request, and rows that the call passes over, since they wait
+    /// for no answer any longer, are taken off those that are noted: each is passed over once.
     ///
     /// # Errors
     ///
@@ -102,6 +108,7 @@ impl<D: Disk + Drop> ClientNode<D> {
         ensures phases { KeepsPhases self.old self.new }
     {
         let gate = self.gate_of(table);
+        let mut stale = Vec::new(self.alloc);
         let found = prepare_write(
             self.alloc,
             self.number,
@@ -111,7 +118,9 @@ impl<D: Disk + Drop> ClientNode<D> {
             table,
             row,
             content,
+            &mut stale,
         );
+        self.waiting.forget_outs(table, stale.as_slice());
         self.take_on(found)
     }
 }

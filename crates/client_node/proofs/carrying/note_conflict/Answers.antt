@@ -11,3 +11,9 @@ returns-else-is_some-clause-more c = more_none c.args.waiting.now
 
 pub returns-else-is_some-clause-noted : goal.returns-else-is_some-clause-noted
 returns-else-is_some-clause-noted c some = absurd (some_or_not c.args.change.now.slots.conflict (sym c.is_some.ensures ∙ c.if-is_some.false) some)
+
+pub returns-then-is_some-clause-sized : goal.returns-then-is_some-clause-sized
+returns-then-is_some-clause-sized c some = c.note_conflict.ensures.sized
+
+pub returns-else-is_some-clause-sized : goal.returns-else-is_some-clause-sized
+returns-else-is_some-clause-sized c some = absurd (some_or_not c.args.change.now.slots.conflict (sym c.is_some.ensures ∙ c.if-is_some.false) some)

@@ -1,6 +1,6 @@
 use Rattle.std.proofs.lemmas.Result.{err_from_is_err_and}
 use Rattle.slot_store.specs.Data.{key_at}
-use Rattle.client_node.proofs.NotedTwice.{more_then}
+use Rattle.client_node.proofs.NotedAtStart.{more_then}
 use Rattle.client_node.proofs.carrying.note_row.Goals as goal
 
 pub returns-in_err-note_ready-clause-more : goal.returns-in_err-note_ready-clause-more
@@ -24,4 +24,5 @@ returns-clause-noted c =
       out = λ some. m.outs key (c.in_ok-note_ready.ensures.more.outs key (c.in_ok-note_out.ensures.noted some));
       ready = λ can. m.ready key (c.in_ok-note_ready.ensures.noted can);
       conflict = c.in_ok-note_conflict.ensures.noted;
+      sized = c.in_ok-note_conflict.ensures.sized;
     }

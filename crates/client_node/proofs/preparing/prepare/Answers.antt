@@ -1,7 +1,9 @@
 use Rattle.std.proofs.Common.{Err, refl, sym, ◌∙◌}
 use Rattle.std.proofs.lemmas.Result.{err_from_is_err_and}
+use Rattle.client_journal.specs.Standing.{devs, writes_of}
 use Rattle.client_node.specs.declared.fault.CallFault.TheVariants as call
 use Rattle.client_node.proofs.Answering.{of_err}
+use Rattle.client_node.proofs.Passed.{all_passed, passed_wait}
 use Rattle.client_node.proofs.PreparedWrites.{write_prepares}
 use Rattle.client_node.proofs.Serving.{looks_none}
 use Rattle.client_node.proofs.WriteRefusals.{fit_not_disk, write_misfits, write_waits, write_in_phase, write_in_conflict}
@@ -71,3 +73,8 @@ returns-clause-prepares g c phase is_open =
     write_prepares g.D.Disk.state c.args.devs.now c.args.waiting.now phase c.args.gate.is_linked c.args.client c.args.at.now c.requires.opened c.requires.spelled c.args.content
     (sym c.fits.ensures ∙ c.in_ok-fits.was) c.in_ok-check_idle.ensures.idle (is_open ∙ c.in_ok-check_closed.ensures.closed) c.in_ok-check_calm.ensures.calm c.prepare_by.result c.prepare_by.ensures.write
     c.prepare_by.ensures.refused
+
+pub returns-clause-stale : goal.returns-clause-stale
+returns-clause-stale g c passed =
+    all_passed (devs g.D.Disk.state c.args.devs.now) (writes_of c.args.devs.now) c.args.at.now.table c.prepare_by.new.stale.items c.in_ok-check_idle.ensures.idle
+    (c.prepare_by.ensures.stale (passed_wait (devs g.D.Disk.state c.args.devs.now) (writes_of c.args.devs.now) c.args.at.now.table c.args.stale.now.items passed))

@@ -69,3 +69,9 @@ pub returns-clause-refused : goal.returns-clause-refused
 returns-clause-refused g c =
     let same = c.in_ok-check_none_waits.ensures.looks.serves.same (λ is. cc) in
     spent_unsent _ _ same c.args.outs.now c.args.is_linked c.args.at.now.table c.prepare_sent.result c.prepare_sent.ensures.refused
+
+pub returns-in_err-check_none_waits-clause-stale : goal.returns-in_err-check_none_waits-clause-stale
+returns-in_err-check_none_waits-clause-stale g c = c.in_err-check_none_waits.ensures.stale
+
+pub returns-clause-stale : goal.returns-clause-stale
+returns-clause-stale g c = c.in_ok-check_none_waits.ensures.stale

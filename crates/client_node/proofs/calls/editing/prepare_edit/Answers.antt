@@ -2,7 +2,7 @@ use Rattle.std.proofs.Common.{⊎_elim, ℕ, List, Err, sym, ◌∙◌, ap, subs
 use Rattle.std.proofs.lemmas.Result.{err_from_is_err_and}
 use Rattle.client_tables.specs.Shown.{shown_content}
 use Rattle.client_journal.specs.Devs.{ClientDevs}
-use Rattle.client_journal.specs.Standing.{devs}
+use Rattle.client_journal.specs.Standing.{devs, writes_of}
 use Rattle.held_contents.specs.Reading.{AreThereIf}
 use Rattle.step_tables.specs.ClientMoves.{Write}
 use Rattle.client_node.specs.declared.fault.CallFault.TheVariants as call
@@ -10,6 +10,7 @@ use Rattle.client_node.specs.Preparing.{Prepares}
 use Rattle.client_node.specs.Readied.{IsIdle}
 use Rattle.client_node.proofs.Answering.{as_err}
 use Rattle.client_node.proofs.Looked.{still_opened, opened_spelled, prepares_looked}
+use Rattle.client_node.proofs.Passed.{passed_looked}
 use Rattle.client_node.proofs.Serving.{looks_then, looks_err}
 use Rattle.client_node.proofs.WriteRefusals.{by_fault, edit_unopened, edit_unmade, edit_as_write}
 use Rattle.client_node.proofs.calls.editing.prepare_edit.Goals as goal
@@ -105,3 +106,10 @@ prepare-requires-clause-idle g c none =
     let a = c.in_ok-at.ensures.looks in
     let b = c.in_ok-content.ensures.looks in
     subst (λ (d : ClientDevs). IsIdle d c.args.client) (sym (b.serves.same (λ no. cc) ∙ a.serves.same (λ no. cc))) (c.requires.idle (sym (b.agenda ∙ a.agenda) ∙ none))
+
+pub returns-clause-stale : goal.returns-clause-stale
+returns-clause-stale g c =
+    let a = c.in_ok-at.ensures.looks in
+    let b = c.in_ok-content.ensures.looks in
+    passed_looked (devs g.D.Disk.state c.args.devs.now) (devs g.D.Disk.state c.edited_content.new.devs) (writes_of c.args.devs.now) (writes_of c.edited_content.new.devs) (b.serves.same (λ no. cc) ∙ a.serves.same (λ no. cc)) (b.agenda ∙ a.agenda)
+    c.args.table c.in_ok-at.at.table c.in_ok-at.ensures.opened.table_is c.args.stale.now.items c.prepare.new.stale.items c.prepare.ensures.stale

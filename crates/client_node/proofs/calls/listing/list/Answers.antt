@@ -3,8 +3,9 @@ use Rattle.std.proofs.lemmas.Result.{err_from_is_err_and}
 use Rattle.client_journal.specs.Devs.{ClientDevs}
 use Rattle.client_journal.specs.Standing.{devs}
 use Rattle.client_node.specs.declared.fault.CallFault.TheVariants as call
-use Rattle.client_node.specs.Listing.{pairs_held}
-use Rattle.client_node.proofs.Contended.{list_fault, list_closed, list_unphased, list_done}
+use Rattle.client_node.specs.Answers.{record_at}
+use Rattle.client_node.specs.Listing.{pairs_held, AreCalm}
+use Rattle.client_node.proofs.Contended.{numbered_small, list_fault, list_closed, list_unphased, list_done}
 use Rattle.client_node.proofs.Serving.{looks_err, looks_other, looks_then}
 use Rattle.client_node.proofs.calls.listing.list.Goals as goal
 
@@ -49,6 +50,9 @@ returns-in_err-rows-clause-answered g c n disk st steady =
     let p = err_from_is_err_and c.from_residual-in_err-rows.result c.from_residual-in_err-rows.ensures.1 in
     rw (p.1, p.2) (λ refusal is. absurd cc)
 
+pub rows_in-requires : goal.rows_in-requires
+rows_in-requires g c = numbered_small (record_at (devs g.D.Disk.state c.args.devs.now) c.args.table) c.args.table c.in_ok-_opened._opened c.in_ok-_opened.ensures.opened c.requires.numbered
+
 pub pairs_of-requires-clause-up : goal.pairs_of-requires-clause-up
 pairs_of-requires-clause-up g c = c.in_ok-_opened.ensures.looks.serves.up (λ is. cc)
 
@@ -86,6 +90,11 @@ pub returns-clause-answered : goal.returns-clause-answered
 returns-clause-answered g c n disk st steady =
     let d = devs g.D.Disk.state c.args.devs.now in
     let same = c.in_ok-_opened.ensures.looks.serves.same (λ is. cc) in
-    list_done n d disk st c.args.table c.args.is_open c.in_ok-_opened._opened c.in_ok-_opened.ensures.opened c.in_ok-check_open.ensures.open c.args.waiting.now steady c.rows_of.ensures.rising
-    c.in_ok-rows.rows.items c.in_ok-rows.ensures.rows _
+    list_done n d disk st c.args.table c.args.is_open c.in_ok-_opened._opened c.in_ok-_opened.ensures.opened c.in_ok-check_open.ensures.open c.args.waiting.now steady c.in_ok-rows.rows.items c.in_ok-rows.ensures _
     (c.from_vec.ensures ∙ (c.in_ok-pairs.ensures.pairs ∙ (ap (pairs_held (devs g.D.Disk.state c.open_table.new.devs) c.args.table) c.as_slice.ensures.value ∙ ap (λ (x : ClientDevs). pairs_held x c.args.table c.in_ok-rows.rows.items) same)))
+
+pub returns-clause-calm : goal.returns-clause-calm
+returns-clause-calm g c before =
+    let same = c.in_ok-_opened.ensures.looks.serves.same (λ is. cc) in
+    subst (λ (x : ClientDevs). AreCalm x c.args.table c.pairs_of.new.calm.items) same
+    (c.in_ok-pairs.ensures.calm (subst (λ (x : ClientDevs). AreCalm x c.args.table c.args.calm.now.items) (sym same) before))

@@ -1,11 +1,12 @@
 use Rattle.std.proofs.Common.{⊎_elim, ℕ, List, sym, ◌∙◌, ap, subst}
 use Rattle.std.proofs.lemmas.Result.{err_from_is_err_and}
 use Rattle.client_journal.specs.Devs.{ClientDevs}
-use Rattle.client_journal.specs.Standing.{devs}
+use Rattle.client_journal.specs.Standing.{devs, writes_of}
 use Rattle.step_tables.specs.ClientMoves.{Write}
 use Rattle.client_node.specs.Preparing.{Prepares}
 use Rattle.client_node.specs.Readied.{IsIdle}
 use Rattle.client_node.proofs.Looked.{still_opened, opened_spelled, prepares_looked}
+use Rattle.client_node.proofs.Passed.{passed_looked}
 use Rattle.client_node.proofs.Serving.{looks_then, looks_err}
 use Rattle.client_node.proofs.WriteRefusals.{by_fault, write_unopened}
 use Rattle.client_node.proofs.calls.writing.prepare_write.Goals as goal
@@ -56,3 +57,9 @@ pub prepare-requires-clause-idle : goal.prepare-requires-clause-idle
 prepare-requires-clause-idle g c none =
     let l = c.in_ok-at.ensures.looks in
     subst (λ (d : ClientDevs). IsIdle d c.args.client) (sym (l.serves.same (λ is. cc))) (c.requires.idle (sym l.agenda ∙ none))
+
+pub returns-clause-stale : goal.returns-clause-stale
+returns-clause-stale g c =
+    let l = c.in_ok-at.ensures.looks in
+    passed_looked (devs g.D.Disk.state c.args.devs.now) (devs g.D.Disk.state c.open_row.new.devs) (writes_of c.args.devs.now) (writes_of c.open_row.new.devs) (l.serves.same (λ is. cc)) l.agenda c.args.table c.in_ok-at.at.table
+    c.in_ok-at.ensures.opened.table_is c.args.stale.now.items c.prepare.new.stale.items c.prepare.ensures.stale

@@ -1,12 +1,15 @@
-use Rattle.std.proofs.Common.{ℕ, Bool, refl, sym, subst}
+use Rattle.std.proofs.Common.{ℕ, Bool, List, refl, sym, subst}
 use Rattle.disk_trait.specs.Fuse.{behind, inner_of}
-use Rattle.client_journal.specs.Standing.{devs}
+use Rattle.client_journal.specs.Standing.{devs, writes_of}
 use Rattle.step_tables.specs.ClientMoves.{Change}
 use Rattle.step_tables.specs.Facts as facts
 use Rattle.client_node.specs.Phases.{is_open}
 use Rattle.client_node.specs.Preparing.{Prepares}
+use Rattle.client_node.specs.Requesting.{ArePassed}
+use Rattle.client_node.specs.Waiting.{TakesOff}
 use Rattle.client_node.proofs.Answering.{does_node}
 use Rattle.client_node.proofs.Asked.{stands_now, steady_now}
+use Rattle.client_node.proofs.Forgotten.{does_less, passed_over, prepares_less}
 use Rattle.client_node.proofs.Opened.{record_spelled}
 use Rattle.client_node.proofs.Rooms.{devices_up, node_ready}
 use Rattle.client_node.proofs.SyncDone.{node_idle}
@@ -43,11 +46,20 @@ take_on-requires g c =
 
 pub returns-clause-does : goal.returns-clause-does
 returns-clause-does g c s t =
+    let st = g.D.Disk.state in
+    let im = g.D.Disk.images in
     let old = c.args.self.now in
     let call = c.prepare_edit-found in
+    let less = c.forget_outs.new.self in
     let gate = c.gate_of-gate.ensures in
-    let prepares = subst (λ (b : Bool). Prepares (λ f. behind g.D.Disk.state f) old.devs old.waiting (is_open old) b old.number (Change c.args.table c.args.row c.args.edit.now) call.result) gate.linked (call.ensures.prepares (is_open old) (sym gate.open)) in
-    c.take_on.ensures.does old s (Change c.args.table c.args.row c.args.edit.now) refl t c.requires.up call.ensures.looks prepares
+    let move = Change c.args.table c.args.row c.args.edit.now in
+    let prepares = subst (λ (b : Bool). Prepares (λ f. behind st f) old.devs old.waiting (is_open old) b old.number move call.result) gate.linked (call.ensures.prepares (is_open old) (sym gate.open)) in
+    let passed = call.ensures.stale (subst (ArePassed (devs (λ f. behind st f) old.devs) (writes_of old.devs) c.args.table) (sym c.new-stale.ensures.items) tt) in
+    let off = subst (λ (rows : List (List ℕ)). TakesOff c.args.table rows old.waiting.outs less.outs) c.as_slice.ensures.value c.forget_outs.ensures.outs in
+    let here = passed_over st im (λ f image left. g.met.D.Disk.only_now (inner_of f) image left) old c.requires.up less c.args.table call.new.stale.items passed off c.forget_outs.ensures.ready c.forget_outs.ensures.conflicts in
+    does_less st im old less s move (λ number. facts.Number number) c.take_on.new.self c.take_on.result
+    (c.take_on.ensures.does (record old { waiting = less }) s move refl (here.client s t) c.requires.up call.ensures.looks
+    (prepares_less (λ f. behind st f) old.devs old.waiting less here.more (is_open old) old.is_linked old.number move call.result prepares))
 
 pub returns-clause-node : goal.returns-clause-node
 returns-clause-node g c =

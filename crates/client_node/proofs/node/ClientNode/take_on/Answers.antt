@@ -13,7 +13,7 @@ use Rattle.client_node.specs.declared.preparing.Prepared.{Prepared}
 use Rattle.client_node.specs.Calls.{Fell}
 use Rattle.client_node.specs.Carrying.{Carries}
 use Rattle.client_node.specs.Preparing.{MayBegin}
-use Rattle.client_node.proofs.TakenOn.{is_unprepared, is_carried}
+use Rattle.client_node.proofs.TakenOn.{handed_on, none_handed_on, is_unprepared, is_carried}
 use Rattle.client_node.proofs.SyncDone.{as_count}
 use Rattle.client_node.proofs.node.ClientNode.take_on.Goals as goal
 
@@ -77,3 +77,14 @@ returns-clause-does g c old s move is up_client up l a =
     let carries = subst (λ (l : List Send). Carries st im c.settle.new.self c.carry_out.new.self x.planned l (Ok tt)) (ap (map send_of) c.new-none.ensures.items) c.in_ok-carry_out.ensures.carries in
     is_carried st im (λ f image left. g.met.D.Disk.only_now (inner_of f) image left) old s.disk move c.args.found c.args.self.now.devs l a s.agenda up_client up x k.same
     c.settle.new.self c.carry_out.new.self (k.other (λ no. cc) ∙ is) (Ok tt) carries (Ok x.number) (λ f same. absurd cc) (λ same. refl)
+
+pub returns-in_err-number-clause-refused : goal.returns-in_err-number-clause-refused
+returns-in_err-number-clause-refused g c =
+    let p = err_from_is_err_and c.from_residual.result c.from_residual.ensures.1 in
+    rw (p.1, p.2) (handed_on ℕ c.args.found c.in_err-number.field-0.0 c.in_err-number.ensures.same)
+
+pub returns-in_err-carry_out-clause-refused : goal.returns-in_err-carry_out-clause-refused
+returns-in_err-carry_out-clause-refused g c = none_handed_on {S = ℕ} c.args.found c.in_ok-number.field-0 _ c.in_ok-number.ensures.same
+
+pub returns-clause-refused : goal.returns-clause-refused
+returns-clause-refused g c = none_handed_on {S = ℕ} c.args.found c.in_ok-number.field-0 _ c.in_ok-number.ensures.same

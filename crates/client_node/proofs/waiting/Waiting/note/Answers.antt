@@ -1,6 +1,6 @@
 use Rattle.std.proofs.lemmas.Result.{err_from_is_err_and}
 use Rattle.slot_store.specs.Data.{key_at}
-use Rattle.client_node.proofs.NotedTwice.{more_then}
+use Rattle.client_node.proofs.NotedAtStart.{more_then}
 use Rattle.client_node.proofs.waiting.Waiting.note.Goals as goal
 
 pub returns-in_err-note_ready-clause-more : goal.returns-in_err-note_ready-clause-more

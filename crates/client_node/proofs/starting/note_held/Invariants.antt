@@ -1,5 +1,0 @@
-use Rattle.client_node.proofs.NotedTwice.{HaveHeld}
-use Rattle.client_node.proofs.starting.note_held.Given as goal
-
-abbrev pub invariant-loop-table : goal.invariant-loop-table
-invariant-loop-table g l = HaveHeld g.D.Disk.state g.D.Disk.images l.fn.devs l.table l.devs l.waiting

@@ -55,13 +55,13 @@ found-ok : (o : Option ℕ) (n : ℕ) → found_column o ≡ Ok n → o ≡ Some
 found-ok None n e = absurd (ok_err n NotDeclared (sym e))
 found-ok (Some m) n e = ap Some (ok_same _ _ e)
 
-column_at-ok : (columns : List Column) (word : List ℕ) (n : ℕ) → column_at columns word ≡ Ok n → IsColumn columns word n
+pub column_at-ok : (columns : List Column) (word : List ℕ) (n : ℕ) → column_at columns word ≡ Ok n → IsColumn columns word n
 unfolding column_at
 column_at-ok columns word n e =
     let p = unless-ok (not (is_name word)) (found_column (column_number columns word)) NoName n e in
     (positive (is_name word) p.0, found-ok (column_number columns word) n p.1)
 
-column_at-right : (columns : List Column) (word : List ℕ) (n : ℕ) → IsColumn columns word n → column_at columns word ≡ Ok n
+pub column_at-right : (columns : List Column) (word : List ℕ) (n : ℕ) → IsColumn columns word n → column_at columns word ≡ Ok n
 unfolding column_at
 column_at-right columns word n h = rw (h.0, h.1) refl
 

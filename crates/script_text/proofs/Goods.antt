@@ -15,7 +15,7 @@ use Rattle.script_text.specs.Verbs.{edit_name, name_of}
 use Rattle.script_text.specs.Names.{Names, has_no_store, columns_of}
 use Rattle.script_text.specs.Places.{◌>>=◌, names_of, new_store_at, new_table_at, new_client_at, tables_at, new_name_at, scheme_at, chunk_at}
 use Rattle.script_text.specs.Reading.{made_store, made_table, made_client, store_in, table_in, client_in, content_in, some_columns_in, write_in, client_row_in, show_in}
-use Rattle.script_text.specs.Reading.{sum_in, client_table_in, sync_in, pull_in, begin_cr_in, conflicts_in, end_cr_in, choice_in, resolve_in}
+use Rattle.script_text.specs.Reading.{sum_in, client_table_in, sync_in, pull_in, begin_cr_in, conflicts_in, end_cr_in, choice_in, resolve_in, rule_in, resolve_all_in}
 use Rattle.script_text.specs.Reading.{deliver_in, store_show_in, history_in, chunks_in, node_in, hold_in, free_in, work_in, work_all_in, start_in, crash_in, link_in, change_in, edit_in}
 use Rattle.stab_base.specs.Row.{row_of}
 use Rattle.stab_base.specs.declared.node.Node.{Node}
@@ -30,6 +30,7 @@ use Rattle.script_text.proofs.PlaceLemmas.{new_client_at-ok, new_client_at-withi
 use Rattle.script_words.specs.Columns.{column_word}
 use Rattle.script_text.proofs.ContentLemmas.{content-ok}
 use Rattle.script_text.proofs.ChoiceLemmas.{choice-ok}
+use Rattle.script_text.proofs.RuleLemmas.{rule-ok}
 use Rattle.script_text.proofs.EditLemmas.{direction_at-ok, change_in-ok}
 use Rattle.script_text.proofs.TableLemmas.{tables_at-ok, tables_at-within, tables_at-limit}
 
@@ -324,6 +325,19 @@ module _ (names : Names) (ws : List (List ℕ)) where
         let is : ws ≡ client_word a.2 ∷ table_word b.2 ∷ c.0 ∷ decimal d.2 ∷ d.1 = cc (a.3, b.3, c.3, d.3, p.0, q.0, s.0) in
         subst (λ (x : Event). SpelledBy names (codes "resolve" ∷ ws) x) (event_told r.2)
         (c.0, d.1, ap (λ (t : List (List ℕ)). codes "resolve" ∷ t) is, p.1, q.1, row_at-ok c.0 c.2 c.4, s.1, v)
+
+    pub resolve_all-ok : resolve_all_in names ws ≡ Ok e → SpelledBy names (codes "resolve_all" ∷ ws) e
+    unfolding resolve_all_in
+    resolve_all-ok h =
+        let a = word_in-ok _ _ _ ws e h in
+        let b = word_in-ok _ _ _ a.1 e a.5 in
+        let p = client_at-ok names a.0 a.2 a.4 in
+        let q = table_at-ok names b.0 b.2 b.4 in
+        let r = bind-ok (rule_in (columns_of names b.2) b.1) (λ by. Ok (events.ResolveAll a.2 b.2 by)) e b.5 in
+        let v = rule-ok (columns_of names b.2) b.1 r.0 r.1 in
+        let is : ws ≡ client_word a.2 ∷ table_word b.2 ∷ b.1 = cc (a.3, b.3, p.0, q.0) in
+        subst (λ (x : Event). SpelledBy names (codes "resolve_all" ∷ ws) x) (event_told r.2)
+        (b.1, ap (λ (t : List (List ℕ)). codes "resolve_all" ∷ t) is, p.1, q.1, v)
 
     pub chunks-ok : chunks_in names ws ≡ Ok e → SpelledBy names (codes "chunks" ∷ ws) e
     unfolding chunks_in

@@ -12,6 +12,7 @@ pub mod Numbers
 pub mod PlaceLemmas
 pub mod Readings
 pub mod Rights
+pub mod RuleLemmas
 pub mod Sets
 pub mod Spelled
 pub mod Steps

@@ -10,16 +10,17 @@ use Rattle.script_text.specs.Faults.{bad}
 use Rattle.script_text.specs.Verbs.{verb_of, name_of, is_unbuilt}
 use Rattle.script_text.specs.Names.{Names, has_no_store}
 use Rattle.script_text.specs.Reading.{write_in, show_in, sum_in, sync_in, pull_in, deliver_in, store_show_in, history_in, chunks_in, hold_in, free_in, work_in, work_all_in, crash_in, start_in}
-use Rattle.script_text.specs.Reading.{begin_cr_in, conflicts_in, end_cr_in, resolve_in}
+use Rattle.script_text.specs.Reading.{begin_cr_in, conflicts_in, end_cr_in, resolve_in, resolve_all_in}
 use Rattle.script_text.specs.Reading.{link_in, edit_in, unlimited, in_time, built_in, with_verb, event_in, found, words_in}
 use Rattle.script_text.specs.Grammar.{SpelledBy, VerbFault, WordsFault, limit_of, WordsLimit}
 use Rattle.script_text.proofs.Steps.{ok_err, bind-ok, bind-err}
 use Rattle.script_text.proofs.Numbers.{some_same, none_some}
 use Rattle.script_text.proofs.VerbWords.{verb-some, verb-none, verb-again}
 use Rattle.script_text.proofs.Goods.{Told, store-ok, table-ok, client-ok, write-ok, show-ok, sum-ok, sync-ok, pull-ok, deliver-ok, store_show-ok, history-ok, chunks-ok}
-use Rattle.script_text.proofs.Goods.{begin_cr-ok, conflicts-ok, end_cr-ok, resolve-ok}
+use Rattle.script_text.proofs.Goods.{begin_cr-ok, conflicts-ok, end_cr-ok, resolve-ok, resolve_all-ok}
 use Rattle.script_text.proofs.Goods.{link-ok, edit-ok, hold-ok, free-ok, work-ok, work_all-ok, crash-ok, start-ok}
-use Rattle.script_text.proofs.Stops.{begin_cr-err, conflicts-err, end_cr-err, resolve-err, begin_cr-fault, conflicts-fault, end_cr-fault, resolve-fault}
+use Rattle.script_text.proofs.Stops.{begin_cr-err, conflicts-err, end_cr-err, resolve-err, resolve_all-err}
+use Rattle.script_text.proofs.Stops.{begin_cr-fault, conflicts-fault, end_cr-fault, resolve-fault, resolve_all-fault}
 use Rattle.script_text.proofs.Stops.{store-err, table-err, client-err, write-err, show-err, sum-err, sync-err, pull-err}
 use Rattle.script_text.proofs.Stops.{link-err, edit-err, link-fault, edit-fault, deliver-err, store_show-err, history-err, chunks-err, hold-err, free-err, work-err, work_all-err, crash-err, start-err}
 use Rattle.script_text.proofs.Stops.{store-fault, table-fault, client-fault, chunks-fault, hold-fault, free-fault, work-fault, work_all-fault, crash-fault, start-fault}
@@ -100,6 +101,7 @@ module _ (names : Names) (first : List ℕ) (ws : List (List ℕ)) where
   event-built verbs.Conflicts told h = plain-built verbs.Conflicts (conflicts_in names ws) told refl (conflicts-ok names ws) h
   event-built verbs.EndCr told h = plain-built verbs.EndCr (end_cr_in names ws) told refl (end_cr-ok names ws) h
   event-built verbs.Resolve told h = plain-built verbs.Resolve (resolve_in names ws) told refl (resolve-ok names ws) h
+  event-built verbs.ResolveAll told h = plain-built verbs.ResolveAll (resolve_all_in names ws) told refl (resolve_all-ok names ws) h
   event-built verbs.Deliver told h = plain-built verbs.Deliver (deliver_in ws) told refl (deliver-ok names ws) h
   event-built verbs.StoreShow told h = plain-built verbs.StoreShow (store_show_in names ws) told refl (store_show-ok names ws) h
   event-built verbs.History told h = plain-built verbs.History (history_in names ws) told refl (history-ok names ws) h
@@ -134,6 +136,7 @@ module _ (names : Names) (first : List ℕ) (ws : List (List ℕ)) where
   fault-built verbs.Conflicts f h = conflicts-err names ws f (unlimited-err _ f h)
   fault-built verbs.EndCr f h = end_cr-err names ws f (unlimited-err _ f h)
   fault-built verbs.Resolve f h = resolve-err names ws f (unlimited-err _ f h)
+  fault-built verbs.ResolveAll f h = resolve_all-err names ws f (unlimited-err _ f h)
   fault-built verbs.Deliver f h = deliver-err names ws f (unlimited-err _ f h)
   fault-built verbs.StoreShow f h = store_show-err names ws f (unlimited-err _ f h)
   fault-built verbs.History f h = history-err names ws f (unlimited-err _ f h)
@@ -168,6 +171,7 @@ module _ (names : Names) (first : List ℕ) (ws : List (List ℕ)) where
   built-fault verbs.Conflicts f h = rw (conflicts-fault names ws f h) refl
   built-fault verbs.EndCr f h = rw (end_cr-fault names ws f h) refl
   built-fault verbs.Resolve f h = rw (resolve-fault names ws f h) refl
+  built-fault verbs.ResolveAll f h = rw (resolve_all-fault names ws f h) refl
   built-fault verbs.Deliver f h = rw (deliver-fault names ws f h) refl
   built-fault verbs.StoreShow f h = rw (store_show-fault names ws f h) refl
   built-fault verbs.History f h = rw (history-fault names ws f h) refl

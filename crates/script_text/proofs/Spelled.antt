@@ -3,6 +3,7 @@ use Rattle.std.proofs.Common.{◌≡◌, ℕ, Bool, false, ltb, List, [], ◌∷
 use Rattle.std.specs.Fmt.{decimal}
 use Rattle.std.proofs.lemmas.Bool.{le-ltb}
 use Rattle.conflicts.specs.declared.pair.Choice.{Choice}
+use Rattle.conflicts.specs.declared.stored.Stored.{Stored}
 use Rattle.row_edits.specs.declared.change.Edit.{Edit}
 use Rattle.table_model.specs.declared.event.Event.{Event}
 use Rattle.table_model.specs.declared.event.Event.TheVariants as events
@@ -18,7 +19,7 @@ use Rattle.script_text.specs.Names.{Names, has_no_store, columns_of}
 use Rattle.script_text.specs.Places.{names_of}
 use Rattle.script_words.specs.Columns.{column_word}
 use Rattle.script_text.specs.Reading.{store_in, made_table, table_in, client_in, write_in, client_row_in, show_in}
-use Rattle.script_text.specs.Reading.{begin_cr_in, conflicts_in, end_cr_in, resolve_in}
+use Rattle.script_text.specs.Reading.{begin_cr_in, conflicts_in, end_cr_in, resolve_in, resolve_all_in}
 use Rattle.script_text.specs.Reading.{sum_in, client_table_in, sync_in, pull_in, deliver_in, store_show_in, history_in, chunks_in}
 use Rattle.script_text.specs.Reading.{node_in, hold_in, free_in, work_in, work_all_in, start_in, crash_in, link_in, edit_in}
 use Rattle.script_text.specs.Reading.{unlimited, in_time, built_in, event_in, words_in}
@@ -26,12 +27,13 @@ use Rattle.stab_base.specs.Row.{row_of}
 use Rattle.stab_base.specs.declared.node.Node.{Node}
 use Rattle.script_text.specs.Grammar.{SpelledBy, SpellsStore, SpellsTable, SpellsClient, SpellsWrite, SpellsShow, SpellsSum, SpellsSync}
 use Rattle.script_text.specs.Grammar.{SpellsPull, SpellsDeliver, SpellsStoreShow, SpellsHistory, SpellsChunks, SpellsHold, SpellsFree, SpellsWork, SpellsWorkAll, SpellsStart, SpellsCrash, client_word}
-use Rattle.script_text.specs.Grammar.{scheme_word, SpellsBeginCr, SpellsConflicts, SpellsEndCr, SpellsResolve}
+use Rattle.script_text.specs.Grammar.{scheme_word, SpellsBeginCr, SpellsConflicts, SpellsEndCr, SpellsResolve, SpellsResolveAll}
 use Rattle.script_text.specs.Grammar.{table_word, tables_word, node_word, IsClient, IsTable, IsNode, verb_for, SpellsEdited, SpellsLink}
 use Rattle.script_text.proofs.Numbers.{number_at-right, number_to-right}
 use Rattle.script_text.proofs.Distinct.{distinct-new}
 use Rattle.script_text.proofs.Steps.{word_in-right, end_in-right}
 use Rattle.script_text.proofs.ChoiceLemmas.{choice-right}
+use Rattle.script_text.proofs.RuleLemmas.{rule-right}
 use Rattle.script_text.proofs.EditLemmas.{direction_at-right, change_in-right}
 use Rattle.script_text.proofs.ColumnLemmas.{some_columns_in-right}
 use Rattle.script_text.proofs.ContentLemmas.{content-right}
@@ -103,6 +105,16 @@ module _ (names : Names) where
       ∙ rw (choice-right h.1 choice h.7) refl)
       in
       rw h.2 (event_in-right names verbs.Resolve (client_word client ∷ table_word table ∷ h.0 ∷ decimal seen ∷ h.1) (events.Resolve client table row seen choice) (ap unlimited read))
+
+  resolve_all-right : (ws : List (List ℕ)) (client table : ℕ) (by : Stored) → SpellsResolveAll names ws client table by → words_in names ws ≡ Ok (Ok (Some (events.ResolveAll client table by)))
+  unfolding resolve_all_in
+  resolve_all-right ws client table by h =
+      let read : resolve_all_in names (client_word client ∷ table_word table ∷ h.0) ≡ Ok (events.ResolveAll client table by) =
+      (word_in-right 1 _ (client_word client) _ _ client (client_at-right names client h.2)
+      ∙ word_in-right 2 _ (table_word table) _ _ table (table_at-right names table h.3)
+      ∙ rw (rule-right (columns_of names table) h.0 by h.4) refl)
+      in
+      rw h.1 (event_in-right names verbs.ResolveAll (client_word client ∷ table_word table ∷ h.0) (events.ResolveAll client table by) (ap unlimited read))
 
   deliver-right : (ws : List (List ℕ)) (packet : ℕ) → SpellsDeliver ws packet → words_in names ws ≡ Ok (Ok (Some (events.Deliver packet)))
   unfolding deliver_in
@@ -273,7 +285,7 @@ module _ (names : Names) where
   spelled ws (events.Conflicts client table) h = conflicts-right ws client table h
   spelled ws (events.EndCr client table) h = end_cr-right ws client table h
   spelled ws (events.Resolve client table row seen choice) h = resolve-right ws client table row seen choice h
-  spelled ws (events.ResolveAll client table by) h = absurd h
+  spelled ws (events.ResolveAll client table by) h = resolve_all-right ws client table by h
   spelled ws (events.Deliver packet) h = deliver-right ws packet h
   spelled ws (events.StoreShow table row) h = store_show-right ws table row h
   spelled ws (events.History table) h = history-right ws table h

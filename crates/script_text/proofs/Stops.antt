@@ -7,11 +7,12 @@ use Rattle.script_text.specs.declared.verb.Verb.TheVariants as verbs
 use Rattle.script_text.specs.Names.{Names, columns_of}
 use Rattle.script_text.specs.Places.{table_at}
 use Rattle.script_text.specs.Reading.{store_in, table_in, client_in, content_in, some_columns_in, write_in, client_row_in, show_in}
-use Rattle.script_text.specs.Reading.{begin_cr_in, conflicts_in, end_cr_in, choice_in, resolve_in}
+use Rattle.script_text.specs.Reading.{begin_cr_in, conflicts_in, end_cr_in, choice_in, resolve_in, rule_in, resolve_all_in}
 use Rattle.script_text.specs.Reading.{sum_in, client_table_in, sync_in, pull_in, deliver_in, store_show_in, history_in, chunks_in}
 use Rattle.script_text.specs.Reading.{node_in, hold_in, free_in, work_in, work_all_in, start_in, crash_in, link_in, change_in, edit_in}
-use Rattle.script_text.specs.Grammar.{FirstFault, places_of, more_of, change_fault, columns_named, ChoiceFault}
+use Rattle.script_text.specs.Grammar.{FirstFault, places_of, more_of, change_fault, columns_named, ChoiceFault, AllFault}
 use Rattle.script_text.proofs.ChoiceLemmas.{choice-err, choice-fault}
+use Rattle.script_text.proofs.RuleLemmas.{rule-err, rule-fault}
 use Rattle.script_text.proofs.EditLemmas.{change_in-err, change_in-fault}
 use Rattle.script_text.proofs.Steps.{bind-err, word_in-err, word_in-fault, end-err, end-fault, content-err, content-fault, some_columns-err, some_columns-fault}
 
@@ -114,6 +115,14 @@ module _ (names : Names) (ws : List (List ℕ)) (f : BadLine) where
       word_in-err _ _ _ (drop 3 (places_of names verbs.Resolve)) ChoiceFault f b hb (λ vc c xc ic oc hc.
       word_in-err _ _ _ (drop 4 (places_of names verbs.Resolve)) ChoiceFault f c hc (λ vd d xd id od hd.
       choice-err f d (bind-err (choice_in d) _ f hd)))))
+
+  pub resolve_all-err : resolve_all_in names ws ≡ Err f → FirstFault 1 (places_of names verbs.ResolveAll) (AllFault (columns_named names ws)) ws f
+  unfolding resolve_all_in
+  resolve_all-err h =
+      word_in-err _ _ _ (drop 1 (places_of names verbs.ResolveAll)) (AllFault (columns_named names ws)) f ws h (λ va a xa ia oa ha.
+      word_in-err _ _ _ (drop 2 (places_of names verbs.ResolveAll)) (AllFault (columns_named names ws)) f a ha (λ vb b xb ib ob hb.
+      subst (λ (columns : List Column). AllFault columns 3 b f) (columns_behind names ws va a vb b xb ia ib ob)
+      (rule-err (columns_of names xb) f b (bind-err (rule_in (columns_of names xb) b) _ f hb))))
 
   node-err : node_in names ws ≡ Err f → FirstFault 1 (places_of names verbs.Hold) (more_of verbs.Hold (columns_named names ws)) ws f
   unfolding node_in
@@ -261,6 +270,14 @@ module _ (names : Names) (ws : List (List ℕ)) (f : BadLine) where
       word_in-fault _ _ _ (drop 3 (places_of names verbs.Resolve)) ChoiceFault f b hb (λ vc c xc ic oc hc.
       word_in-fault _ _ _ (drop 4 (places_of names verbs.Resolve)) ChoiceFault f c hc (λ vd d xd id od hd.
       rw (choice-fault f d hd) refl))))
+
+  pub resolve_all-fault : FirstFault 1 (places_of names verbs.ResolveAll) (AllFault (columns_named names ws)) ws f → resolve_all_in names ws ≡ Err f
+  unfolding resolve_all_in
+  resolve_all-fault h =
+      word_in-fault _ _ _ (drop 1 (places_of names verbs.ResolveAll)) (AllFault (columns_named names ws)) f ws h (λ va a xa ia oa ha.
+      word_in-fault _ _ _ (drop 2 (places_of names verbs.ResolveAll)) (AllFault (columns_named names ws)) f a ha (λ vb b xb ib ob hb.
+      let there : AllFault (columns_of names xb) 3 b f = subst (λ (columns : List Column). AllFault columns 3 b f) (sym (columns_behind names ws va a vb b xb ia ib ob)) hb in
+      rw (rule-fault (columns_of names xb) f b there) refl))
 
   node-fault : FirstFault 1 (places_of names verbs.Hold) (more_of verbs.Hold (columns_named names ws)) ws f → node_in names ws ≡ Err f
   unfolding node_in

@@ -48,6 +48,7 @@ verb-some word verb e =
     (picked verbs.Conflicts verb word _
     (picked verbs.EndCr verb word _
     (picked verbs.Resolve verb word _
+    (picked verbs.ResolveAll verb word _
     (picked verbs.Deliver verb word _
     (picked verbs.StoreShow verb word _
     (picked verbs.History verb word _
@@ -58,7 +59,7 @@ verb-some word verb e =
     (picked verbs.WorkAll verb word _
     (picked verbs.Crash verb word _
     (picked verbs.Start verb word _
-    (λ none. absurd cc))))))))))))))))))))))))))
+    (λ none. absurd cc)))))))))))))))))))))))))))
     e
 
 pub verb-none : (word : List ℕ) → verb_of word ≡ None → (verb : Verb) → word ≢ name_of verb
@@ -80,16 +81,17 @@ verb-none word h verb =
     let h13 = skipped verbs.Conflicts word _ h12.1 in
     let h14 = skipped verbs.EndCr word _ h13.1 in
     let h15 = skipped verbs.Resolve word _ h14.1 in
-    let h16 = skipped verbs.Deliver word _ h15.1 in
-    let h17 = skipped verbs.StoreShow word _ h16.1 in
-    let h18 = skipped verbs.History word _ h17.1 in
-    let h19 = skipped verbs.Chunks word _ h18.1 in
-    let h20 = skipped verbs.Hold word _ h19.1 in
-    let h21 = skipped verbs.Free word _ h20.1 in
-    let h22 = skipped verbs.Work word _ h21.1 in
-    let h23 = skipped verbs.WorkAll word _ h22.1 in
-    let h24 = skipped verbs.Crash word _ h23.1 in
-    let h25 = skipped verbs.Start word _ h24.1 in
+    let h16 = skipped verbs.ResolveAll word _ h15.1 in
+    let h17 = skipped verbs.Deliver word _ h16.1 in
+    let h18 = skipped verbs.StoreShow word _ h17.1 in
+    let h19 = skipped verbs.History word _ h18.1 in
+    let h20 = skipped verbs.Chunks word _ h19.1 in
+    let h21 = skipped verbs.Hold word _ h20.1 in
+    let h22 = skipped verbs.Free word _ h21.1 in
+    let h23 = skipped verbs.Work word _ h22.1 in
+    let h24 = skipped verbs.WorkAll word _ h23.1 in
+    let h25 = skipped verbs.Crash word _ h24.1 in
+    let h26 = skipped verbs.Start word _ h25.1 in
     elim verb as (λ (v : Verb). word ≢ name_of v) [
       | verbs.Store ↦ h0.0
       | verbs.Table ↦ h1.0
@@ -109,16 +111,17 @@ verb-none word h verb =
       | verbs.Conflicts ↦ h13.0
       | verbs.EndCr ↦ h14.0
       | verbs.Resolve ↦ h15.0
-      | verbs.Deliver ↦ h16.0
-      | verbs.StoreShow ↦ h17.0
-      | verbs.History ↦ h18.0
-      | verbs.Chunks ↦ h19.0
-      | verbs.Hold ↦ h20.0
-      | verbs.Free ↦ h21.0
-      | verbs.Work ↦ h22.0
-      | verbs.WorkAll ↦ h23.0
-      | verbs.Crash ↦ h24.0
-      | verbs.Start ↦ h25.0
+      | verbs.ResolveAll ↦ h16.0
+      | verbs.Deliver ↦ h17.0
+      | verbs.StoreShow ↦ h18.0
+      | verbs.History ↦ h19.0
+      | verbs.Chunks ↦ h20.0
+      | verbs.Hold ↦ h21.0
+      | verbs.Free ↦ h22.0
+      | verbs.Work ↦ h23.0
+      | verbs.WorkAll ↦ h24.0
+      | verbs.Crash ↦ h25.0
+      | verbs.Start ↦ h26.0
     ]
 
 pub verb-again : (verb : Verb) → verb_of (name_of verb) ≡ Some verb
@@ -139,6 +142,7 @@ verb-again verbs.BeginCr = refl
 verb-again verbs.Conflicts = refl
 verb-again verbs.EndCr = refl
 verb-again verbs.Resolve = refl
+verb-again verbs.ResolveAll = refl
 verb-again verbs.Deliver = refl
 verb-again verbs.StoreShow = refl
 verb-again verbs.History = refl

@@ -16,6 +16,8 @@ use Rattle.row_value.specs.declared.content.Content.{Content}
 use Rattle.row_value.specs.declared.content.Content.TheVariants.{Gone, Row}
 use Rattle.conflicts.specs.declared.pair.Choice.{Choice}
 use Rattle.conflicts.specs.declared.pair.Choice.TheVariants as choices
+use Rattle.conflicts.specs.declared.stored.Stored.{Stored}
+use Rattle.conflicts.specs.declared.stored.Stored.TheVariants as resolvers
 use Rattle.row_edits.specs.declared.change.ColumnValue.{ColumnValue}
 use Rattle.row_edits.specs.declared.change.Edit.{Edit}
 use Rattle.row_edits.specs.declared.change.Edit.TheVariants as edits
@@ -33,6 +35,8 @@ use Rattle.script_words.specs.declared.code.Code.TheVariants.{Unbuilt}
 use Rattle.script_text.specs.declared.fault.BadLine.{BadLine}
 use Rattle.script_text.specs.declared.fault.ScriptFault.{ScriptFault}
 use Rattle.script_text.specs.declared.fault.ScriptFault.TheVariants as faults
+use Rattle.script_text.specs.declared.resolving.Rule.{Rule}
+use Rattle.script_text.specs.declared.resolving.Rule.TheVariants as rules
 use Rattle.script_text.specs.declared.resolving.Way.{Way}
 use Rattle.script_text.specs.declared.resolving.Way.TheVariants as ways
 use Rattle.script_text.specs.declared.verb.EditVerb.{EditVerb}
@@ -46,7 +50,7 @@ use Rattle.script_text.specs.Places.{client_at, table_at, new_store_at, new_tabl
 use Rattle.script_text.specs.Places.{new_name_at, scheme_at, chunk_at, names_of, new_column_at, with_column, row_at}
 use Rattle.script_text.specs.Places.{value_behind, with_value, number_at, party_at, calls_at, passed, or_else}
 use Rattle.script_text.specs.Places.{store_number, table_number, direction_at, column_at, place_at}
-use Rattle.script_text.specs.Places.{next_change, with_change, way_at}
+use Rattle.script_text.specs.Places.{next_change, with_change, way_at, rule_at}
 use Rattle.script_text.specs.Places.{client_number, tables_passed, parts_at}
 pub use Rattle.script_text.specs.Names.{Names, no_names, with_event, has_store, has_table, has_name, has_client}
 pub use Rattle.script_text.specs.Names.{has_no_store, columns_of, column_number}
@@ -245,6 +249,20 @@ SpellsResolve names words client table row seen choice =
     × IsClient names client × IsTable names table × (row_of place ≡ Some row) × (seen < 2 ^ 64)
     × SpellsChoice more choice
 
+-- `mine`, `theirs`, `larger COL`
+abbrev pub SpellsRule : List Column → List (List ℕ) → Stored → Type 0
+SpellsRule columns words resolvers.Mine = words ≡ codes "mine" ∷ []
+SpellsRule columns words resolvers.Theirs = words ≡ codes "theirs" ∷ []
+SpellsRule columns words (resolvers.Larger column) =
+    (name : List ℕ) × (words ≡ codes "larger" ∷ name ∷ []) × IsColumn columns name column
+
+-- `resolve_all C T RULE`
+abbrev pub SpellsResolveAll : Names → List (List ℕ) → ℕ → ℕ → Stored → Type 0
+SpellsResolveAll names words client table by =
+    (more : List (List ℕ))
+    × (words ≡ codes "resolve_all" ∷ client_word client ∷ table_word table ∷ more)
+    × IsClient names client × IsTable names table × SpellsRule (columns_of names table) more by
+
 -- `deliver I`
 abbrev pub SpellsDeliver : List (List ℕ) → ℕ → Type 0
 SpellsDeliver words packet = (words ≡ codes "deliver" ∷ decimal packet ∷ []) × (packet < 2 ^ 64)
@@ -304,7 +322,6 @@ SpellsCrash names words node calls pick =
     (words ≡ codes "crash" ∷ node_word node ∷ decimal calls ∷ decimal pick ∷ []) × IsNode names node
     × (calls ≤ 4) × (pick < 2 ^ 64)
 
--- no line spells `ResolveAll` yet
 abbrev pub SpelledBy : Names → List (List ℕ) → Event → Type 0
 SpelledBy names words (events.Store store) = SpellsStore names words store
 SpelledBy names words (events.Table table schema) = SpellsTable names words table schema
@@ -321,7 +338,7 @@ SpelledBy names words (events.Conflicts client table) = SpellsConflicts names wo
 SpelledBy names words (events.EndCr client table) = SpellsEndCr names words client table
 SpelledBy names words (events.Resolve client table row seen choice) =
     SpellsResolve names words client table row seen choice
-SpelledBy names words (events.ResolveAll client table by) = ⊥
+SpelledBy names words (events.ResolveAll client table by) = SpellsResolveAll names words client table by
 SpelledBy names words (events.Deliver packet) = SpellsDeliver words packet
 SpelledBy names words (events.StoreShow table row) = SpellsStoreShow names words table row
 SpelledBy names words (events.History table) = SpellsHistory names words table
@@ -436,6 +453,8 @@ places_of names verbs.EndCr =
 places_of names verbs.Resolve =
     (λ word. fault_of (client_at names word)) ∷ (λ word. fault_of (table_at names word))
     ∷ (λ word. fault_of (row_at word)) ∷ (λ word. fault_of (number_at word)) ∷ []
+places_of names verbs.ResolveAll =
+    (λ word. fault_of (client_at names word)) ∷ (λ word. fault_of (table_at names word)) ∷ []
 places_of names verbs.Deliver = (λ word. fault_of (number_at word)) ∷ []
 places_of names verbs.StoreShow = (λ word. fault_of (table_at names word)) ∷ (λ word. fault_of (row_at word)) ∷ []
 places_of names verbs.History = (λ word. fault_of (table_at names word)) ∷ []
@@ -461,6 +480,18 @@ change_fault changes.Update columns = OneOrMore (ChangesFault columns)
 change_fault changes.Patch columns = FirstFaultOf (patch_places columns)
 change_fault changes.Delete columns = NoMore
 
+-- what stands behind the word that says how all conflicts of a table are resolved
+abbrev pub RuleFault : List Column → Rule → Rest
+RuleFault columns rules.Mine = NoMore
+RuleFault columns rules.Theirs = NoMore
+RuleFault columns rules.Larger = FirstFaultOf ((λ word. fault_of (column_at columns word)) ∷ [])
+
+-- how all conflicts of a table are resolved
+abbrev pub AllFault : List Column → Rest
+AllFault columns at [] fault = fault ≡ bad Missing at
+AllFault columns at (word ∷ words) fault =
+    MatchResult (rule_at word) (λ rule. RuleFault columns rule (at + 1) words fault) (λ code. fault ≡ bad code at)
+
 -- what stands behind them, where these are the columns of the table that the line names
 abbrev pub more_of : Verb → List Column → Rest
 more_of verbs.Store columns = NoMore
@@ -477,6 +508,7 @@ more_of verbs.BeginCr columns = NoMore
 more_of verbs.Conflicts columns = NoMore
 more_of verbs.EndCr columns = NoMore
 more_of verbs.Resolve columns = ChoiceFault
+more_of verbs.ResolveAll columns = AllFault columns
 more_of verbs.Deliver columns = NoMore
 more_of verbs.StoreShow columns = NoMore
 more_of verbs.History columns = NoMore
@@ -505,6 +537,7 @@ verb_fault names verbs.BeginCr = None
 verb_fault names verbs.Conflicts = None
 verb_fault names verbs.EndCr = None
 verb_fault names verbs.Resolve = None
+verb_fault names verbs.ResolveAll = None
 verb_fault names verbs.Deliver = None
 verb_fault names verbs.StoreShow = None
 verb_fault names verbs.History = None

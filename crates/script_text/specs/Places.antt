@@ -26,6 +26,8 @@ use Rattle.script_words.specs.declared.values.Value.TheVariants.{OfCell, OfObjec
 use Rattle.script_words.specs.Words.{is_number, is_length, is_name, is_among, sides_of}
 use Rattle.script_words.specs.Columns.{column_of}
 use Rattle.script_words.specs.Values.{value_at}
+use Rattle.script_text.specs.declared.resolving.Rule.{Rule}
+use Rattle.script_text.specs.declared.resolving.Rule.TheVariants as rules
 use Rattle.script_text.specs.declared.resolving.Way.{Way}
 use Rattle.script_text.specs.declared.resolving.Way.TheVariants as ways
 use Rattle.script_text.specs.Names.{Names, has_store, has_table, has_name, has_client, column_number}
@@ -262,6 +264,14 @@ way_at word =
     if bytes_eq word (codes "mine") then Ok ways.Mine
     else if bytes_eq word (codes "theirs") then Ok ways.Theirs
     else if bytes_eq word (codes "new") then Ok ways.New
+    else Err NoName
+
+-- how all conflicts of a table are resolved
+unfoldable pub rule_at : List ℕ → Result Rule Code
+rule_at word =
+    if bytes_eq word (codes "mine") then Ok rules.Mine
+    else if bytes_eq word (codes "theirs") then Ok rules.Theirs
+    else if bytes_eq word (codes "larger") then Ok rules.Larger
     else Err NoName
 
 -- ---- edits

@@ -8,6 +8,8 @@ use Rattle.row_value.specs.declared.content.Content.{Content}
 use Rattle.row_value.specs.declared.content.Content.TheVariants.{Gone, Row}
 use Rattle.conflicts.specs.declared.pair.Choice.{Choice}
 use Rattle.conflicts.specs.declared.pair.Choice.TheVariants as choices
+use Rattle.conflicts.specs.declared.stored.Stored.{Stored}
+use Rattle.conflicts.specs.declared.stored.Stored.TheVariants as resolvers
 use Rattle.row_edits.specs.declared.change.ColumnValue.{ColumnValue}
 use Rattle.row_edits.specs.declared.change.Edit.{Edit}
 use Rattle.row_edits.specs.declared.change.Edit.TheVariants as edits
@@ -20,6 +22,8 @@ use Rattle.script_text.specs.declared.fault.BadLine.{BadLine}
 use Rattle.script_text.specs.declared.fault.ScriptFault.{ScriptFault}
 use Rattle.script_text.specs.declared.fault.ScriptFault.TheVariants as faults
 use Rattle.row_value.specs.declared.schema.Schema.{Schema}
+use Rattle.script_text.specs.declared.resolving.Rule.{Rule}
+use Rattle.script_text.specs.declared.resolving.Rule.TheVariants as rules
 use Rattle.script_text.specs.declared.resolving.Way.{Way}
 use Rattle.script_text.specs.declared.resolving.Way.TheVariants as ways
 use Rattle.script_text.specs.declared.verb.EditVerb.{EditVerb}
@@ -34,7 +38,7 @@ use Rattle.script_words.specs.Words.{texts, words_of, is_comment}
 use Rattle.script_text.specs.Places.{◌>>=◌, client_at, table_at, new_store_at, new_table_at, new_client_at, gate_at}
 use Rattle.script_text.specs.Places.{tables_at, new_name_at, scheme_at, chunk_at, new_column_at, with_column, row_at}
 use Rattle.script_text.specs.Places.{Values, value_behind, with_value, number_at, party_at, calls_at}
-use Rattle.script_text.specs.Places.{direction_at, column_at, place_at, next_change, with_change, way_at}
+use Rattle.script_text.specs.Places.{direction_at, column_at, place_at, next_change, with_change, way_at, rule_at}
 use Rattle.script_words.specs.Values.{bytes_at}
 
 -- the next word and the words behind it
@@ -260,6 +264,27 @@ resolve_in names words =
     word_in 4 number_at c (λ seen d.
     choice_in d >>= λ choice. Ok (events.Resolve client table row seen choice)))))
 
+-- the side whose number in a column is greater
+unfoldable pub larger_in : List Column → List (List ℕ) → Result Stored BadLine
+larger_in columns words =
+    word_in 4 (column_at columns) words (λ column a.
+    end_in 5 a >>= λ done. Ok (resolvers.Larger column))
+
+-- the words behind the one that says how all conflicts are resolved
+abbrev pub ruled_in : List Column → Rule → List (List ℕ) → Result Stored BadLine
+ruled_in columns rules.Mine words = end_in 4 words >>= λ done. Ok resolvers.Mine
+ruled_in columns rules.Theirs words = end_in 4 words >>= λ done. Ok resolvers.Theirs
+ruled_in columns rules.Larger words = larger_in columns words
+
+unfoldable pub rule_in : List Column → List (List ℕ) → Result Stored BadLine
+rule_in columns words = word_in 3 rule_at words (ruled_in columns)
+
+unfoldable pub resolve_all_in : Names → List (List ℕ) → Result Event BadLine
+resolve_all_in names words =
+    word_in 1 (client_at names) words (λ client a.
+    word_in 2 (table_at names) a (λ table b.
+    rule_in (columns_of names table) b >>= λ by. Ok (events.ResolveAll client table by)))
+
 -- a client, a table and a row, and no more
 unfoldable pub client_row_in : Names → List (List ℕ) → Result (ℕ × ℕ × List ℕ) BadLine
 client_row_in names words =
@@ -320,6 +345,7 @@ built_in names verbs.BeginCr words = unlimited (begin_cr_in names words)
 built_in names verbs.Conflicts words = unlimited (conflicts_in names words)
 built_in names verbs.EndCr words = unlimited (end_cr_in names words)
 built_in names verbs.Resolve words = unlimited (resolve_in names words)
+built_in names verbs.ResolveAll words = unlimited (resolve_all_in names words)
 built_in names verbs.Deliver words = unlimited (deliver_in words)
 built_in names verbs.StoreShow words = unlimited (store_show_in names words)
 built_in names verbs.History words = unlimited (history_in names words)

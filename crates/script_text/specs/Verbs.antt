@@ -29,6 +29,7 @@ name_of verbs.BeginCr = codes "begin_cr"
 name_of verbs.Conflicts = codes "conflicts"
 name_of verbs.EndCr = codes "end_cr"
 name_of verbs.Resolve = codes "resolve"
+name_of verbs.ResolveAll = codes "resolve_all"
 name_of verbs.Deliver = codes "deliver"
 name_of verbs.StoreShow = codes "sshow"
 name_of verbs.History = codes "history"
@@ -58,6 +59,7 @@ verb_of word =
     else if bytes_eq word (codes "conflicts") then Some verbs.Conflicts
     else if bytes_eq word (codes "end_cr") then Some verbs.EndCr
     else if bytes_eq word (codes "resolve") then Some verbs.Resolve
+    else if bytes_eq word (codes "resolve_all") then Some verbs.ResolveAll
     else if bytes_eq word (codes "deliver") then Some verbs.Deliver
     else if bytes_eq word (codes "sshow") then Some verbs.StoreShow
     else if bytes_eq word (codes "history") then Some verbs.History
@@ -80,14 +82,10 @@ is_setting_verb word =
 unfoldable pub is_row_verb : List ℕ → Bool
 is_row_verb word = is_among word (codes "select" ∷ [])
 
--- lines of conflicts that aren't built
-unfoldable pub is_conflict_verb : List ℕ → Bool
-is_conflict_verb word = is_among word (codes "resolve_all" ∷ [])
-
 -- lines of nodes that aren't built
 unfoldable pub is_node_verb : List ℕ → Bool
 is_node_verb word =
     is_among word (codes "tick" ∷ codes "settle" ∷ [])
 
 unfoldable pub is_unbuilt : List ℕ → Bool
-is_unbuilt word = is_setting_verb word || is_row_verb word || is_conflict_verb word || is_node_verb word
+is_unbuilt word = is_setting_verb word || is_row_verb word || is_node_verb word

@@ -1,6 +1,6 @@
 use crate::parse_line;
 use crate::tests::{CLIENT, ROW, SECOND, STORE, behind, check, judged};
-use conflicts::Choice;
+use conflicts::{Choice, Stored};
 use row_value::{Cell, Content};
 use std::test::Fail;
 use table_model::Event;
@@ -87,7 +87,56 @@ fn refusals_of_choices(rt: HostRuntime) -> Result<(), Fail> {
     Ok(())
 }
 
-const LINES: [&str; 7] = [
+// What stands behind the client, the code of its fault and its place.
+const OF_RULES: [(&str, u32, usize); 24] = [
+    ("", 2, 2),
+    (" T3 x", 8, 2),
+    (" C1 mine", 5, 2),
+    (" T1", 2, 3),
+    (" T1 ours", 5, 3),
+    (" T1 Mine", 5, 3),
+    (" T1 new 5", 5, 3),
+    (" T1 largest n", 5, 3),
+    (" T1 mine", 0, 0),
+    (" T1 mine mine", 3, 4),
+    (" T1 theirs", 0, 0),
+    (" T1 theirs n", 3, 4),
+    (" T1 larger", 2, 4),
+    (" T1 larger n", 0, 0),
+    (" T1 larger o", 0, 0),
+    (" T1 larger n n", 3, 5),
+    (" T1 larger x", 8, 4),
+    (" T1 larger x x", 8, 4),
+    (" T1 larger 0", 5, 4),
+    (" T1 larger N", 5, 4),
+    (" T1 larger n=1", 5, 4),
+    (" T2 larger n", 0, 0),
+    (" T2 larger o", 8, 4),
+    (" T2 00000000-0000-4000-8000-00000000000a mine", 5, 3),
+];
+
+#[test]
+fn refusals_of_rules(rt: HostRuntime) -> Result<(), Fail> {
+    let alloc = rt.alloc();
+    let names = behind(alloc, &[STORE, TABLE, SECOND, CLIENT])?;
+    check(
+        &rt,
+        alloc,
+        &names,
+        &[("resolve_all", 2, 1), ("resolve_all C2 T1 mine", 8, 1)],
+    )?;
+    for (rule, code, word) in OF_RULES {
+        let line = format!(in alloc; "resolve_all C1{rule}")?;
+        assert_eq!(rt;
+            judged(alloc, line.as_bytes(), &names)?,
+            (code, word),
+            "{rule}"
+        );
+    }
+    Ok(())
+}
+
+const LINES: [&str; 11] = [
     "begin_cr C1 T2",
     "conflicts C1 T2",
     "end_cr C1 T2",
@@ -95,6 +144,10 @@ const LINES: [&str; 7] = [
     "resolve C1 T1 00000000-0000-4000-8000-00000000000A 1 theirs",
     "resolve C1 T1 00000000-0000-4000-8000-00000000000A 2 new -7 h:aB",
     "resolve C1 T1 00000000-0000-4000-8000-00000000000A 18446744073709551615 new gone",
+    "resolve_all C1 T1 mine",
+    "resolve_all C1 T2 theirs",
+    "resolve_all C1 T1 larger n",
+    "resolve_all C1 T1 larger o",
 ];
 
 // Whether this is the content of the sixth line.
@@ -115,6 +168,17 @@ fn is_choice(index: usize, seen: u64, choice: &Choice) -> bool {
         (4, 1, Choice::Theirs) => true,
         (5, 2, Choice::New(content)) => is_new(content),
         (6, 18446744073709551615, Choice::New(Content::Gone)) => true,
+        _ => false,
+    }
+}
+
+// Whether the rule is the one that the line spells, of the table that it names.
+fn is_rule(index: usize, table: u32, by: Stored) -> bool {
+    match (index, table, by) {
+        (7, 1, Stored::Mine) => true,
+        (8, 2, Stored::Theirs) => true,
+        (9, 1, Stored::Larger { column: 0 }) => true,
+        (10, 1, Stored::Larger { column: 1 }) => true,
         _ => false,
     }
 }
@@ -141,6 +205,11 @@ fn is_due(index: usize, event: &Event) -> bool {
             seen,
             choice,
         } => row.to_bytes() == ROW && is_choice(index, *seen, choice),
+        Event::ResolveAll {
+            client: 1,
+            table,
+            by,
+        } => is_rule(index, *table, *by),
         _ => false,
     }
 }
@@ -159,7 +228,7 @@ fn lines_say_how_conflicts_are_resolved(rt: HostRuntime) -> Result<(), Fail> {
 #[test]
 fn conflicts_end_the_declarations(rt: HostRuntime) -> Result<(), Fail> {
     let alloc = rt.alloc();
-    for event in [LINES[0], LINES[1], LINES[2], LINES[3]] {
+    for event in [LINES[0], LINES[1], LINES[2], LINES[3], LINES[7]] {
         let names = behind(alloc, &[STORE, TABLE, SECOND, CLIENT, event])?;
         assert_eq!(rt;
             judged(alloc, b"client C2 - -", &names)?,

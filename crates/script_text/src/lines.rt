@@ -19,7 +19,7 @@ use crate::places::{
     chunk_at, client_at, gate_at, new_client_at, new_name_at, new_store_at, new_table_at,
     number_at, row_at, scheme_at, table_at, tables_at,
 };
-use crate::resolving::resolve_line;
+use crate::resolving::{resolve_all_line, resolve_line};
 use crate::verb::{Verb, is_unbuilt, verb_of};
 use row_value::{Bytes, RowId, Schema};
 use script_words::{Code, ValueFault};
@@ -277,6 +277,7 @@ fn built_line(
         Verb::Conflicts => Ok(conflicts_line(names, words)?),
         Verb::EndCr => Ok(end_cr_line(names, words)?),
         Verb::Resolve => resolve_line(alloc, names, words),
+        Verb::ResolveAll => Ok(resolve_all_line(names, words)?),
         Verb::Deliver => Ok(deliver_line(words)?),
         Verb::StoreShow => Ok(store_show_line(names, words)?),
         Verb::History => Ok(history_line(names, words)?),

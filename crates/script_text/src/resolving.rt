@@ -1,15 +1,17 @@
 //! The lines that resolve conflicts.
 ghost use Rattle.std.specs.Prelude.{◌≡◌};
 ghost use Rattle.script_words.specs.Words.{texts};
-ghost use Rattle.script_text.specs.Places.{way_at};
+ghost use Rattle.script_text.specs.Names.{columns_of};
+ghost use Rattle.script_text.specs.Places.{way_at, rule_at};
 ghost use Rattle.script_text.specs.Reading.{Reads, new_in, chosen_in, choice_in, resolve_in};
+ghost use Rattle.script_text.specs.Reading.{larger_in, ruled_in, rule_in, resolve_all_in};
 
 use crate::contents::some_content;
 use crate::declared::Declared;
-use crate::fault::ScriptFault;
+use crate::fault::{BadLine, ScriptFault};
 use crate::next::{end, next_word, placed};
-use crate::places::{client_at, number_at, row_at, table_at};
-use conflicts::Choice;
+use crate::places::{client_at, column_at, number_at, row_at, table_at};
+use conflicts::{Choice, Stored};
 use row_value::Content;
 use script_words::Code;
 use std::alloc::Global;
@@ -99,4 +101,73 @@ pub(crate) fn resolve_line(
         seen,
         choice,
     })
+}
+
+/// The word that says how all conflicts of a table are resolved.
+#[derive(Debug, Clone, Copy, PartialEq, Eq)]
+pub(crate) enum Rule {
+    Mine,
+    Theirs,
+    Larger,
+}
+
+#[tactic(auto, unfolding(crate::specs::Places::rule_at))]
+fn rule_at(word: &str) -> Result<Rule, Code>
+    ensures { result ≡ rule_at word.now }
+{
+    match word {
+        "mine" => Ok(Rule::Mine),
+        "theirs" => Ok(Rule::Theirs),
+        "larger" => Ok(Rule::Larger),
+        _ => Err(Code::NoName),
+    }
+}
+
+#[tactic(auto, unfolding(crate::specs::Reading::larger_in, crate::specs::Reading::word_in))]
+fn larger(names: &Declared, table: u32, words: &[&str]) -> Result<Stored, BadLine>
+    ensures { result ≡ larger_in (columns_of names.now table) (texts words.now) }
+{
+    let (word, rest) = next_word(words, 4)?;
+    let column = placed(4, column_at(names, table, word))?;
+    end(rest, 5)?;
+    Ok(Stored::Larger { column })
+}
+
+// What the words behind the one that says how all conflicts are resolved make of it.
+fn ruled(names: &Declared, table: u32, rule: Rule, words: &[&str]) -> Result<Stored, BadLine>
+    ensures { result ≡ ruled_in (columns_of names.now table) rule (texts words.now) }
+{
+    match rule {
+        Rule::Mine => {
+            end(words, 4)?;
+            Ok(Stored::Mine)
+        }
+        Rule::Theirs => {
+            end(words, 4)?;
+            Ok(Stored::Theirs)
+        }
+        Rule::Larger => larger(names, table, words),
+    }
+}
+
+#[tactic(auto, unfolding(crate::specs::Reading::rule_in, crate::specs::Reading::word_in))]
+fn rule_of(names: &Declared, table: u32, words: &[&str]) -> Result<Stored, BadLine>
+    ensures { result ≡ rule_in (columns_of names.now table) (texts words.now) }
+{
+    let (word, rest) = next_word(words, 3)?;
+    let rule = placed(3, rule_at(word))?;
+    ruled(names, table, rule, rest)
+}
+
+/// The event of a line that resolves all conflicts of a table.
+#[tactic(auto, unfolding(crate::specs::Reading::resolve_all_in, crate::specs::Reading::word_in))]
+pub(crate) fn resolve_all_line(names: &Declared, words: &[&str]) -> Result<Event, BadLine>
+    ensures { result ≡ resolve_all_in names.now (texts words.now) }
+{
+    let (word, rest) = next_word(words, 1)?;
+    let client = placed(1, client_at(names, word))?;
+    let (word, rest) = next_word(rest, 2)?;
+    let table = placed(2, table_at(names, word))?;
+    let by = rule_of(names, table, rest)?;
+    Ok(Event::ResolveAll { client, table, by })
 }

@@ -75,7 +75,7 @@ const AT_THE_START: [(&str, u32, usize); 60] = [
     ("break C1 T1 0 0", 1, 0),
     ("syncs C1 T1", 1, 0),
     ("gate G1", 12, 0),
-    ("resolve_all C1 T1 mine", 12, 0),
+    ("resolve_all C1 T1 mine", 8, 1),
     ("settle", 12, 0),
     ("  store   S1  ", 0, 0),
     ("store", 2, 1),

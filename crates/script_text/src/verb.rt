@@ -1,6 +1,5 @@
 ghost use Rattle.std.specs.Prelude.{◌≡◌};
-ghost use Rattle.script_text.specs.Verbs.{verb_of, is_setting_verb, is_row_verb, is_conflict_verb, is_node_verb};
-ghost use Rattle.script_text.specs.Verbs.{is_unbuilt};
+ghost use Rattle.script_text.specs.Verbs.{verb_of, is_setting_verb, is_row_verb, is_node_verb, is_unbuilt};
 
 /// The first word of a line that changes a row that is shown.
 #[derive(Debug, Clone, Copy, PartialEq, Eq)]
@@ -27,6 +26,7 @@ pub(crate) enum Verb {
     Conflicts,
     EndCr,
     Resolve,
+    ResolveAll,
     Deliver,
     StoreShow,
     History,
@@ -60,6 +60,7 @@ pub(crate) fn verb_of(word: &str) -> Option<Verb>
         "conflicts" => Some(Verb::Conflicts),
         "end_cr" => Some(Verb::EndCr),
         "resolve" => Some(Verb::Resolve),
+        "resolve_all" => Some(Verb::ResolveAll),
         "deliver" => Some(Verb::Deliver),
         "sshow" => Some(Verb::StoreShow),
         "history" => Some(Verb::History),
@@ -91,13 +92,6 @@ fn is_row_verb(word: &str) -> bool
     matches!(word, "select")
 }
 
-#[tactic(auto, unfolding(crate::specs::Verbs::is_conflict_verb))]
-fn is_conflict_verb(word: &str) -> bool
-    ensures { result ≡ is_conflict_verb word.now }
-{
-    matches!(word, "resolve_all")
-}
-
 #[tactic(auto, unfolding(crate::specs::Verbs::is_node_verb))]
 fn is_node_verb(word: &str) -> bool
     ensures { result ≡ is_node_verb word.now }
@@ -110,5 +104,5 @@ fn is_node_verb(word: &str) -> bool
 pub(crate) fn is_unbuilt(word: &str) -> bool
     ensures { result ≡ is_unbuilt word.now }
 {
-    is_setting_verb(word) || is_row_verb(word) || is_conflict_verb(word) || is_node_verb(word)
+    is_setting_verb(word) || is_row_verb(word) || is_node_verb(word)
 }

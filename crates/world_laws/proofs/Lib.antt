@@ -15,8 +15,10 @@ pub mod Listings
 pub mod Forms
 pub mod Runs
 pub mod Fresh
+pub mod Behind
 pub mod Whole
 pub mod Counts
+pub mod PairCounts
 pub mod Working
 pub mod Resolving
 pub mod Resolutions

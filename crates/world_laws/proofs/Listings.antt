@@ -39,7 +39,7 @@ above_pairs row (e ∷ rows) above = by_slots (above_pairs row rows (λ other a.
     by_slots rest (Some m) None = rest
     by_slots rest (Some m) (Some x) = (above e (among_here e rows), rest)
 
-pairs_rise : (rows : List (List ℕ × Slots)) → Rising rows → IsStrictlySortedBy row_cmp (map (λ (pair : RowPair). pair.row) (pairs_of rows))
+pub pairs_rise : (rows : List (List ℕ × Slots)) → Rising rows → IsStrictlySortedBy row_cmp (map (λ (pair : RowPair). pair.row) (pairs_of rows))
 unfolding Rising IsStrictlySortedBy
 pairs_rise [] rising = tt
 pairs_rise (e ∷ rows) rising = by_slots (pairs_rise rows rising.1) e.1.main e.1.conflict

@@ -1,7 +1,7 @@
 //! What every run of the world keeps, whatever is delivered, lost or repeated, and wherever device writes fail.
 #![tactic(auto)]
 
-ghost use Rattle.std.specs.Prelude.{◌≡◌, ◌≤◌, ◌<◌, ℕ, List, [], ◌∷◌, length, Some};
+ghost use Rattle.std.specs.Prelude.{◌≡◌, ◌*◌, ◌≤◌, ◌<◌, ℕ, List, [], ◌∷◌, length, Some};
 ghost use Rattle.stab_base.specs.declared.limits.TheConstants.{NUMBER_MAX};
 ghost use Rattle.row_value.specs.declared.content.Content.TheVariants.{Gone};
 ghost use Rattle.row_value.specs.declared.schema.Scheme.TheVariants.{Strong, Causal, Eventual};
@@ -119,6 +119,15 @@ pub fn versions_and_numbers_are_few()
     ensures single { (run : List Happening) → AreSingle run → begun_in run ≡ length run }
     ensures single_number { (run : List Happening) (c : ℕ) (node : Client) → AreSingle run → length run < NUMBER_MAX
         → client_at (world_from start run) c ≡ Some node → node.disk.last < NUMBER_MAX }
+{}
+
+/// A client has no more rows in conflict in a table than the run has events: each was read at an entry of its own row.
+/// So an event behind some others may begin one write more than these are, at most, and all events of a run together no
+/// more writes than their number times itself.
+pub fn conflicts_are_few()
+    ensures pairs { (run : List Happening) (c table : ℕ)
+        → length (client_pairs (client_at (world_from start run) c) table) ≤ length run }
+    ensures begun { (run : List Happening) → begun_in run ≤ length run * length run }
 {}
 
 /// The tables, computed: an eventual table, whose first request comes again behind a later write.

@@ -326,45 +326,48 @@ start_event w c = record {
   fallen = λ shape lucks idle is. start_fallen w c shape lucks idle is;
 }
 
--- ---- no work follows a list of the rows in conflict
+-- ---- no work follows a move that leaves its client
 
-conflicts_still : (c : ℕ) (shape : Shape) (d : ClientDisk) (agenda : Option (List ClientTask)) (table : ℕ)
+module _ (w : World) (c : ℕ) (move : ClientMove) (shape : Shape) (lucks : List Luck)
+    (still : (d : ClientDisk) (agenda : Option (List ClientTask)) → (client_step c shape (record { disk = d; agenda = agenda }) move).client ≡ record { disk = d; agenda = agenda }) where
+  abbrev looking : WorldStep
+  looking = call_alone w c move shape lucks
+
+  looks_idle : has_work (client_tasks (client_at w c)) ≡ false → has_work (client_tasks (client_at looking.world c)) ≡ false
+  looks_idle idle = alone_cases w c move shape lucks (λ s. has_work (client_tasks (client_at s.world c)) ≡ false) (λ r. idle) (falls_idle w c idle) moves (client_at w c) refl
+    where
+      moves : (node : Client) → client_at w c ≡ Some node → has_work (client_tasks (client_at (move_alone w c move shape node).world c)) ≡ false
+      moves node at =
+          ap (λ (o : Option Client). has_work (client_tasks (client_at (move_there w c move shape o).world c))) at
+          ∙ (ap (λ (o : Option Client). has_work (client_tasks o)) (put_here w c (client_step c shape node move).client)
+          ∙ (ap (λ (s : Client). has_work (client_tasks (Some s))) (still node.disk node.agenda)
+          ∙ (ap (λ (o : Option Client). has_work (client_tasks o)) (sym at) ∙ idle)))
+
+  pub looks_alone : call w c move shape lucks ≡ looking
+  looks_alone = by_work (has_work (client_tasks (client_at w c))) refl
+    where
+      by_hold : has_work (client_tasks (client_at w c)) ≡ false → (b : Bool) → has_node w.holds (nodes.Client c) ≡ b → call w c move shape lucks ≡ looking
+      by_hold idle true is = call_held w c move shape lucks is
+      by_hold idle false is = call_idle w c move shape lucks idle is
+          ∙ then_none looking (client_until_idle c (other_lucks lucks)) (idle_works looking.world c (other_lucks lucks) (looks_idle idle))
+
+      by_work : (b : Bool) → has_work (client_tasks (client_at w c)) ≡ b → call w c move shape lucks ≡ looking
+      by_work true is = call_busy w c move shape lucks is
+      by_work false is = by_hold is (has_node w.holds (nodes.Client c)) refl
+
+-- a list of the rows in conflict is one
+
+conflicts_still : (c : ℕ) (shape : Shape) (table : ℕ) (d : ClientDisk) (agenda : Option (List ClientTask))
     → (client_step c shape (record { disk = d; agenda = agenda }) (Conflicts table)).client ≡ record { disk = d; agenda = agenda }
-conflicts_still c shape d None table = refl
-conflicts_still c shape d (Some tasks) table = go (table_at (seen d) table)
+conflicts_still c shape table d None = refl
+conflicts_still c shape table d (Some tasks) = go (table_at (seen d) table)
   where
     go : (o : Option TableDisk) → (conflicts_in d tasks o).client ≡ record { disk = d; agenda = Some tasks }
     go None = refl
     go (Some opened) = refl
 
-module _ (w : World) (c table : ℕ) (shape : Shape) (lucks : List Luck) where
-  abbrev listing : WorldStep
-  listing = call_alone w c (Conflicts table) shape lucks
-
-  conflicts_idle : has_work (client_tasks (client_at w c)) ≡ false → has_work (client_tasks (client_at listing.world c)) ≡ false
-  conflicts_idle idle = alone_cases w c (Conflicts table) shape lucks (λ s. has_work (client_tasks (client_at s.world c)) ≡ false) (λ r. idle) (falls_idle w c idle) moves (client_at w c) refl
-    where
-      moves : (node : Client) → client_at w c ≡ Some node → has_work (client_tasks (client_at (move_alone w c (Conflicts table) shape node).world c)) ≡ false
-      moves node at =
-          ap (λ (o : Option Client). has_work (client_tasks (client_at (move_there w c (Conflicts table) shape o).world c))) at
-          ∙ (ap (λ (o : Option Client). has_work (client_tasks o)) (put_here w c (client_step c shape node (Conflicts table)).client)
-          ∙ (ap (λ (s : Client). has_work (client_tasks (Some s))) (conflicts_still c shape node.disk node.agenda table)
-          ∙ (ap (λ (o : Option Client). has_work (client_tasks o)) (sym at) ∙ idle)))
-
-  pub conflicts_alone : call w c (Conflicts table) shape lucks ≡ listing
-  conflicts_alone = by_work (has_work (client_tasks (client_at w c))) refl
-    where
-      by_hold : has_work (client_tasks (client_at w c)) ≡ false → (b : Bool) → has_node w.holds (nodes.Client c) ≡ b → call w c (Conflicts table) shape lucks ≡ listing
-      by_hold idle true is = call_held w c (Conflicts table) shape lucks is
-      by_hold idle false is = call_idle w c (Conflicts table) shape lucks idle is
-          ∙ then_none listing (client_until_idle c (other_lucks lucks)) (idle_works listing.world c (other_lucks lucks) (conflicts_idle idle))
-
-      by_work : (b : Bool) → has_work (client_tasks (client_at w c)) ≡ b → call w c (Conflicts table) shape lucks ≡ listing
-      by_work true is = call_busy w c (Conflicts table) shape lucks is
-      by_work false is = by_hold is (has_node w.holds (nodes.Client c)) refl
-
 pub lists_whole : {D : Type 0} (state : D → DiskState) (old new : ClientHost D) (w : World) (c table : ℕ) (pairs : List RowPair) (result : Result Answer ClientFault)
     → Lists state old new (call_alone w c (Conflicts table)) pairs result → Lists state old new (call w c (Conflicts table)) pairs result
 lists_whole state old new w c table pairs (Ok answer) k =
-    (k.0, k.1, subst (λ (s : WorldStep). IsListed state old new s pairs answer) (sym (conflicts_alone w c table k.0 k.1)) k.2)
+    (k.0, k.1, subst (λ (s : WorldStep). IsListed state old new s pairs answer) (sym (looks_alone w c (Conflicts table) k.0 k.1 (conflicts_still c k.0 table))) k.2)
 lists_whole state old new w c table pairs (Err fault) k = tt

@@ -1,3 +1,6 @@
 pub mod Working
 pub mod Wholes
 pub mod CallEvents
+pub mod Rows
+pub mod Asked
+pub mod Each

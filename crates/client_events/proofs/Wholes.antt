@@ -32,7 +32,7 @@ pub record IsEvent (w : World) (c : ℕ) (event alone : Shape → List Luck → 
   pub fallen : (shape : Shape) (lucks : List Luck) → has_work (client_tasks (client_at w c)) ≡ false → (alone shape lucks).answer ≡ Some (facts.Refuses facts.NoDevice)
       → has_work (client_tasks (client_at (alone shape lucks).world c)) ≡ false
 
-fault_is : (answer : Answer) → IsDeviceFault (Ok answer) → answer ≡ answers.Refused refusals.NoDevice
+pub fault_is : (answer : Answer) → IsDeviceFault (Ok answer) → answer ≡ answers.Refused refusals.NoDevice
 fault_is answer is = cc
 
 -- a device fault is answered, or not
@@ -69,7 +69,7 @@ ends_so : (failed : Bool) (o : Option facts.Answer) (a g : facts.Answer) → o �
 ends_so true o a g is end = ap (λ (x : facts.Answer). Some x) (sym end)
 ends_so false o a g is end = is ∙ ap (λ (x : facts.Answer). Some x) (sym end)
 
-said_both : (a b : List Outbox) → said (a ++ b) ≡ said a ++ said b
+pub said_both : (a b : List Outbox) → said (a ++ b) ≡ said a ++ said b
 said_both a b = filter-append says_something a b
 
 module _ {D : Type 0} (state : D → DiskState) (old mid new : ClientHost D) where

@@ -21,8 +21,8 @@ fn behind(answer: Answer, done: Answer) -> Answer
     }
 }
 
-// Does all writes of a client whose move gave this answer.
-fn work<D: Disk + Drop>(
+/// Does all writes of a client whose move gave this answer.
+pub(crate) fn work<D: Disk + Drop>(
     clients: &mut ClientHost<D>,
     client: ClientNo,
     answer: Answer,

@@ -3,5 +3,7 @@
 
 mod events;
 mod follow;
+mod resolving;
 
 pub use events::{call, conflicts, deliver, start};
+pub use resolving::resolve_all;

@@ -19,11 +19,9 @@ pub record IsMade (table : ℕ) (schema : Schema) : Type 0 where
   pub spelled : HasSchemaSpelling schema
   pub short : length (schema_spelling schema) + 14 ≤ payload_most
 
--- not all conflicts of a table are resolved at once yet
 abbrev pub IsBuilt : Event → Type 0
 IsBuilt (events.Table table schema) = IsMade table schema
 IsBuilt (events.Client client gate tables) = IsClient client
-IsBuilt (events.ResolveAll client table by) = ⊥
 IsBuilt other = Unit {0}
 
 -- such events lead to this world, with some lucks

@@ -30,7 +30,8 @@ use Rattle.journal_host.specs.declared.asking.Request.{Request}
 use Rattle.journal_host.specs.declared.asking.Request.TheVariants as requests
 use Rattle.journal_host.specs.declared.fault.ClientFault.{ClientFault}
 use Rattle.journal_host.specs.declared.host.ClientHost.{ClientHost}
-use Rattle.journal_host.specs.Asks.{asked_by, FitsDisk, FitsAt, FitsIn}
+use Rattle.journal_host.specs.Asks.{asked_by, AreAsked, FitsDisk, FitsAt, FitsIn}
+use Rattle.table_model.specs.declared.line.RowPair.{RowPair}
 use Rattle.journal_host.specs.Holds.{IsHosted, ClientThere, HasClients, HasPhases, HavePhases, HoldsClients, KeepsClients, AreClients, outs_in, node_faults, faults_in, faults_at, SameFaults, RisenFaults, HavePlansBelow}
 use Rattle.journal_host.specs.Phases.{SamePhases, MovesPhases, answer_in}
 use Rattle.journal_host.specs.Steps.{HasTold, IsMade, IsFallen, IsDropped, HasNodeCause, HasAnswerCause}
@@ -267,9 +268,9 @@ down_is state node d None t down = refl
 down_is state node d (Some tasks) t down = let up = t.at.0 in absurd cc
 
 -- a dropped message leaves the phases
-dropped_leaves : (d : ClientDisk) (request : Request) → (FitsDisk d request → ⊥) → (a : facts.Answer) → LeavesPhases (asked_by request) a
-dropped_leaves d (requests.Ask ask) unfit a = absurd (unfit tt)
-dropped_leaves d (requests.Deliver message) unfit a = λ phase table. refl
+dropped_leaves : (d : ClientDisk) (request : Request) → (FitsDisk d request → ⊥) → (s : Option Client) (a : facts.Answer) → LeavesPhases (asked_by s request) a
+dropped_leaves d (requests.Deliver message) unfit s a = λ phase table. refl
+dropped_leaves d other unfit s a = absurd (unfit tt)
 
 module _ {D : Type 0} (state : D → DiskState) (w : World) (old new : ClientHost D) (c : ℕ) (node after : ClientNode D) (h : HoldsClients state w old)
     (is : Some node ≡ tree.get nat_cmp old.clients c)
@@ -277,17 +278,20 @@ module _ {D : Type 0} (state : D → DiskState) (w : World) (old new : ClientHos
   there : (s : Client) × (client_at w c ≡ Some s) × IsHosted state (is_cut w c) c s node
   there = found state w old.clients c h.there node is
 
-  abbrev Calls : Answer → Type 0
-  Calls answer = (shape : Shape) × (lucks : List Luck) × IsCalled state old new (call_alone w c (asked_by request) shape lucks) answer
+  abbrev move : ClientMove
+  move = asked_by (Some there.0) request
 
-  at_client : (answer : Answer) → ((shape : Shape) × (lucks : List Luck) × IsCalled state old new (alone_there w c (asked_by request) shape lucks (Some there.0)) answer) → Calls answer
-  at_client answer k = subst (λ (o : Option Client). (shape : Shape) × (lucks : List Luck) × IsCalled state old new (alone_there w c (asked_by request) shape lucks o) answer) (sym there.1) k
+  abbrev Calls : Answer → Type 0
+  Calls answer = (shape : Shape) × (lucks : List Luck) × IsCalled state old new (call_alone w c (asked_by (client_at w c) request) shape lucks) answer
+
+  at_client : (answer : Answer) → ((shape : Shape) × (lucks : List Luck) × IsCalled state old new (alone_there w c move shape lucks (Some there.0)) answer) → Calls answer
+  at_client answer k = subst (λ (o : Option Client). (shape : Shape) × (lucks : List Luck) × IsCalled state old new (alone_there w c (asked_by o request) shape lucks o) answer) (sym there.1) k
 
   module _ (down : node.is_up ≡ false → (after ≡ node) × (new.outs.items ≡ old.outs.items)) where
     when_down : (answer : Answer) → node.is_up ≡ false → answer ≡ answers.Refused (refusals.Down (nodes.Client c)) → Calls answer
     when_down answer is_down says =
         let d = down is_down in
-        at_client answer (is_down_called state w old new c node after h is u there.0 there.1 (asked_by request) there.2 answer
+        at_client answer (is_down_called state w old new c node after h is u there.0 there.1 move there.2 answer
         (ap is_client_down there.1 ∙ down_is state node there.0.disk there.0.agenda there.2.client is_down) says
         (record { behind = subst (λ (n : ClientNode D). IsHosted state (is_cut w c) c there.0 n) (sym d.0) there.2; outs = ap outs_in d.1 ∙ sym (append-nil (outs_in old.outs.items)) })
         (λ table. ap (λ (n : ClientNode D). is_open n table) d.0))
@@ -295,12 +299,12 @@ module _ {D : Type 0} (state : D → DiskState) (w : World) (old new : ClientHos
   up_there : node.is_up ≡ true → is_client_down (client_at w c) ≡ false
   up_there up = ap is_client_down there.1 ∙ up_is state node there.0.disk there.0.agenda there.2.client up
 
-  when_up : (answer : Answer) → node.is_up ≡ true → MovesPhases (asked_by request) (answer_of answer) node after → IsMade state (is_open node) (is_cut w c) c there.0 (asked_by request) after old.outs.items new.outs.items answer
+  when_up : (answer : Answer) → node.is_up ≡ true → MovesPhases move (answer_of answer) node after → IsMade state (is_open node) (is_cut w c) c there.0 move after old.outs.items new.outs.items answer
       ⊎ IsFallen state (is_cut w c) c there.0 after old.outs.items new.outs.items answer
       → Calls answer
-  when_up answer up p k = at_client answer (⊎_elim (λ m. is_made state w old new c node after h is u there.0 there.1 (asked_by request) there.2 answer (up_there up) m p)
-      (λ m. is_fallen state w old new c node after h is u there.0 there.1 (asked_by request) there.2 answer (up_there up) m
-      (subst (λ (a : Answer). MovesPhases (asked_by request) (answer_of a) node after) m.answer_is p)) k)
+  when_up answer up p k = at_client answer (⊎_elim (λ m. is_made state w old new c node after h is u there.0 there.1 move there.2 answer (up_there up) m p)
+      (λ m. is_fallen state w old new c node after h is u there.0 there.1 move there.2 answer (up_there up) m
+      (subst (λ (a : Answer). MovesPhases move (answer_of a) node after) m.answer_is p)) k)
 
   fits_there : FitsIn w c request → FitsDisk there.0.disk request
   fits_there fits = subst (λ (o : Option Client). FitsAt o request) there.1 fits
@@ -308,15 +312,20 @@ module _ {D : Type 0} (state : D → DiskState) (w : World) (old new : ClientHos
   fits_back : FitsDisk there.0.disk request → FitsIn w c request
   fits_back fits = subst (λ (o : Option Client). FitsAt o request) (sym there.1) fits
 
-  module _ (r : Result Answer ClientFault) (moves : MovesPhases (asked_by request) (answer_in r) node after)
+  pub client_pairs_asked : (pairs : List RowPair) (r : Result Answer ClientFault)
+      → ((cut : Bool) (s : Client) (count : ℕ) → IsHosted state cut c s node → r ≡ Ok (answers.Number count) → AreAsked (Some s) request pairs)
+      → (count : ℕ) → r ≡ Ok (answers.Number count) → AreAsked (client_at w c) request pairs
+  client_pairs_asked pairs r asked count is = subst (λ (o : Option Client). AreAsked o request pairs) (sym there.1) (asked (is_cut w c) there.0 count there.2 is)
+
+  module _ (r : Result Answer ClientFault) (moves : (s : Option Client) → MovesPhases (asked_by s request) (answer_in r) node after)
       (down : node.is_up ≡ false → (after ≡ node) × (new.outs.items ≡ old.outs.items) × IfOk r (λ answer. answer ≡ answers.Refused (refusals.Down (nodes.Client c)))) where
     pub client_called : ((cut : Bool) (s : Client) → IsHosted state cut c s node → FitsDisk s.disk request → node.is_up ≡ true
-        → IfOk r (λ answer. IsMade state (is_open node) cut c s (asked_by request) after old.outs.items new.outs.items answer ⊎ IsFallen state cut c s after old.outs.items new.outs.items answer))
+        → IfOk r (λ answer. IsMade state (is_open node) cut c s (asked_by (Some s) request) after old.outs.items new.outs.items answer ⊎ IsFallen state cut c s after old.outs.items new.outs.items answer))
         → FitsIn w c request → IfOk r Calls
-    client_called made fits = by node.is_up refl r moves (λ up. made (is_cut w c) there.0 there.2 (fits_there fits) up) (λ d. (down d).2)
+    client_called made fits = by node.is_up refl r (moves (Some there.0)) (λ up. made (is_cut w c) there.0 there.2 (fits_there fits) up) (λ d. (down d).2)
       where
-        by : (b : Bool) → node.is_up ≡ b → (r : Result Answer ClientFault) → MovesPhases (asked_by request) (answer_in r) node after
-            → (node.is_up ≡ true → IfOk r (λ answer. IsMade state (is_open node) (is_cut w c) c there.0 (asked_by request) after old.outs.items new.outs.items answer
+        by : (b : Bool) → node.is_up ≡ b → (r : Result Answer ClientFault) → MovesPhases move (answer_in r) node after
+            → (node.is_up ≡ true → IfOk r (λ answer. IsMade state (is_open node) (is_cut w c) c there.0 move after old.outs.items new.outs.items answer
             ⊎ IsFallen state (is_cut w c) c there.0 after old.outs.items new.outs.items answer))
             → (node.is_up ≡ false → IfOk r (λ answer. answer ≡ answers.Refused (refusals.Down (nodes.Client c)))) → IfOk r Calls
         by b is (Err e) p made says = tt
@@ -325,13 +334,13 @@ module _ {D : Type 0} (state : D → DiskState) (w : World) (old new : ClientHos
 
     pub client_dropped : ((cut : Bool) (s : Client) → IsHosted state cut c s node → (FitsDisk s.disk request → ⊥) → node.is_up ≡ true
         → IfOk r (λ answer. IsDropped state cut c s after old.outs.items new.outs.items answer
-        ⊎ (IsMade state (is_open node) cut c s (asked_by request) after old.outs.items new.outs.items answer ⊎ IsFallen state cut c s after old.outs.items new.outs.items answer)))
+        ⊎ (IsMade state (is_open node) cut c s (asked_by (Some s) request) after old.outs.items new.outs.items answer ⊎ IsFallen state cut c s after old.outs.items new.outs.items answer)))
         → (FitsIn w c request → ⊥) → IfOk r (λ answer. ((answer ≡ answers.Done) × Stays state w old new) ⊎ Calls answer)
-    client_dropped made unfit = by node.is_up refl r moves (λ up. made (is_cut w c) there.0 there.2 (λ fits. unfit (fits_back fits)) up) (λ d. (down d).2)
+    client_dropped made unfit = by node.is_up refl r (moves (Some there.0)) (λ up. made (is_cut w c) there.0 there.2 (λ fits. unfit (fits_back fits)) up) (λ d. (down d).2)
       where
-        by : (b : Bool) → node.is_up ≡ b → (r : Result Answer ClientFault) → MovesPhases (asked_by request) (answer_in r) node after
+        by : (b : Bool) → node.is_up ≡ b → (r : Result Answer ClientFault) → MovesPhases move (answer_in r) node after
             → (node.is_up ≡ true → IfOk r (λ answer. IsDropped state (is_cut w c) c there.0 after old.outs.items new.outs.items answer
-            ⊎ (IsMade state (is_open node) (is_cut w c) c there.0 (asked_by request) after old.outs.items new.outs.items answer
+            ⊎ (IsMade state (is_open node) (is_cut w c) c there.0 move after old.outs.items new.outs.items answer
             ⊎ IsFallen state (is_cut w c) c there.0 after old.outs.items new.outs.items answer)))
             → (node.is_up ≡ false → IfOk r (λ answer. answer ≡ answers.Refused (refusals.Down (nodes.Client c))))
             → IfOk r (λ answer. ((answer ≡ answers.Done) × Stays state w old new) ⊎ Calls answer)
@@ -341,8 +350,8 @@ module _ {D : Type 0} (state : D → DiskState) (w : World) (old new : ClientHos
               x.answer_is,
               record {
                 held = held_still state w old new c node after h is u there.0 there.1 x.told.behind
-                    (open_stays state node after there.0.disk there.0.agenda (asked_by request) (answer_of answer) there.2.client x.told.behind.client
-                    (dropped_leaves there.0.disk request (λ fits. unfit (fits_back fits)) (answer_of answer)) p);
+                    (open_stays state node after there.0.disk there.0.agenda move (answer_of answer) there.2.client x.told.behind.client
+                    (dropped_leaves there.0.disk request (λ fits. unfit (fits_back fits)) (Some there.0) (answer_of answer)) p);
                 outs = x.told.outs
                     ∙ append-nil (outs_in old.outs.items);
               },
@@ -352,13 +361,13 @@ module _ {D : Type 0} (state : D → DiskState) (w : World) (old new : ClientHos
 
     pub client_kept : ((cut : Bool) (s : Client) → IsHosted state cut c s node → OnErr r (IsHosted state cut c s after × (outs_in new.outs.items ≡ outs_in old.outs.items)))
         → OnErr r (Stays state w old new)
-    client_kept kept = by r moves (kept (is_cut w c) there.0 there.2)
+    client_kept kept = by r (moves (Some there.0)) (kept (is_cut w c) there.0 there.2)
       where
-        by : (r : Result Answer ClientFault) → MovesPhases (asked_by request) (answer_in r) node after → OnErr r (IsHosted state (is_cut w c) c there.0 after × (outs_in new.outs.items ≡ outs_in old.outs.items)) → OnErr r (Stays state w old new)
+        by : (r : Result Answer ClientFault) → MovesPhases move (answer_in r) node after → OnErr r (IsHosted state (is_cut w c) c there.0 after × (outs_in new.outs.items ≡ outs_in old.outs.items)) → OnErr r (Stays state w old new)
         by (Ok answer) p k = tt
         by (Err e) p k = record {
           held = held_still state w old new c node after h is u there.0 there.1 k.0
-              (open_stays state node after there.0.disk there.0.agenda (asked_by request) (facts.Refuses facts.NoDevice) there.2.client k.0.client (refusal_leaves (asked_by request) facts.NoDevice) p);
+              (open_stays state node after there.0.disk there.0.agenda move (facts.Refuses facts.NoDevice) there.2.client k.0.client (refusal_leaves move facts.NoDevice) p);
           outs = k.1;
         }
 

@@ -24,7 +24,7 @@ use Rattle.client_node.specs.Does.{Does, IsOfNode, refusal_in, step_with}
 use Rattle.client_node.specs.Linked.{linked_step, phased_step, unless_kept}
 use Rattle.client_node.specs.Phases.{is_open}
 use Rattle.client_node.specs.Starts.{Starts}
-use Rattle.world_tables.specs.World.{next_write, tasks_in, packets_from}
+use Rattle.world_tables.specs.World.{next_write, tasks_in, packets_from, chosen_of}
 use Rattle.stab_base.specs.declared.node.Node.TheVariants as nodes
 use Rattle.journal_host.specs.declared.asking.Ask.{Ask}
 use Rattle.journal_host.specs.declared.asking.Ask.TheVariants as asks
@@ -38,7 +38,7 @@ use Rattle.journal_host.specs.Calls.{IsNumberCause}
 use Rattle.journal_host.specs.Holds.{IsHosted, outs_in, said, node_faults}
 use Rattle.journal_host.specs.Steps.{HasMade, HasDropped, Replies, IsTelling, HasTold, IsMade, IsListing, IsFallen, IsDropped, IsStarted, IsNotStarted, IsDeviceFault, HasNodeCause, HasAnswerCause, outbox_at}
 use Rattle.journal_host.proofs.Replying.{same_err, replies_any}
-use Rattle.journal_host.proofs.Refusals.{RefusesOnly, kept_only, write_only, edit_only, show_only, sum_only, sync_only, next_only, phase_only, conflicts_only, resolve_only, take_only}
+use Rattle.journal_host.proofs.Refusals.{RefusesOnly, kept_only, write_only, edit_only, show_only, sum_only, sync_only, next_only, phase_only, conflicts_only, resolve_only, all_only, take_only}
 
 -- ---- what it is asked for, it refuses and does nothing else
 
@@ -54,9 +54,12 @@ move_only c shape d tasks (asks.EndCr table) = phase_only d tasks (table_at (see
 move_only c shape d tasks (asks.Resolve table row version choice) = resolve_only c shape d tasks table row version choice (table_at (seen d) table)
 
 pub asked_only : (c : ℕ) (shape : Shape) (d : ClientDisk) (tasks : List ClientTask) (request : Request)
-    → RefusesOnly d tasks (client_step c shape (record { disk = d; agenda = Some tasks }) (asked_by request))
+    → RefusesOnly d tasks (client_step c shape (record { disk = d; agenda = Some tasks }) (asked_by (Some (record { disk = d; agenda = Some tasks })) request))
 asked_only c shape d tasks (requests.Ask ask) = move_only c shape d tasks ask
 asked_only c shape d tasks (requests.Deliver message) = take_only c shape d tasks _
+asked_only c shape d tasks (requests.Resolvable table by) = all_only shape d tasks by (table_at (seen d) table)
+asked_only c shape d tasks (requests.ResolveBy table row version by) =
+    resolve_only c shape d tasks table row version (chosen_of by row (Some (record { disk = d; agenda = Some tasks })) table) (table_at (seen d) table)
 
 -- the same of one whose link may be down
 linked_only : (up : Bool) (c : ℕ) (shape : Shape) (d : ClientDisk) (tasks : List ClientTask) (move : ClientMove)
@@ -302,22 +305,22 @@ module _ {D : Type 0} (state : D → DiskState) (old mid new : ClientNode D) (de
 -- what was made or dropped isn't answered by a device fault
 module _ {D : Type 0} (state : D → DiskState) (images : D → ℕ → List ℕ → Type 0) (d : ClientDisk) (request : Request) (old mid new : ClientNode D) (devs : new.devs ≡ mid.devs) where
   other_made : (agenda : Option (List ClientTask)) (tasks : List ClientTask) → agenda ≡ Some tasks → (r : Result Answer CallFault)
-      → Replies state images (record { disk = d; agenda = agenda }) (asked_by request) old mid (HasMade state (record { disk = d; agenda = agenda }) (asked_by request) old mid) r
+      → Replies state images (record { disk = d; agenda = agenda }) (asked_by (Some (record { disk = d; agenda = agenda })) request) old mid (HasMade state (record { disk = d; agenda = agenda }) (asked_by (Some (record { disk = d; agenda = agenda })) request) old mid) r
       → IfOk r (λ answer. answer ≢ answers.Refused refusals.NoDevice)
   other_made agenda tasks is (Err e) k = tt
   other_made agenda tasks is (Ok answer) k = λ bad.
       let x = k.done in
-      let same = ap (λ (o : Option (List ClientTask)). (step_with old x.0 (record { disk = d; agenda = o }) (asked_by request)).answer) (sym is) ∙ (x.3 ∙ ap answer_of bad) in
-      (phased_only (is_open old) old.is_linked old.number x.0 d tasks (asked_by request) (asked_only old.number x.0 d tasks request) facts.NoDevice same).1 refl
+      let same = ap (λ (o : Option (List ClientTask)). (step_with old x.0 (record { disk = d; agenda = o }) (asked_by (Some (record { disk = d; agenda = o })) request)).answer) (sym is) ∙ (x.3 ∙ ap answer_of bad) in
+      (phased_only (is_open old) old.is_linked old.number x.0 d tasks (asked_by (Some (record { disk = d; agenda = Some tasks })) request) (asked_only old.number x.0 d tasks request) facts.NoDevice same).1 refl
 
-  other_dropped : (s : Client) (r : Result Answer CallFault) → Replies state images s (asked_by request) old mid (HasDropped state s old mid) r
+  other_dropped : (s : Client) (r : Result Answer CallFault) → Replies state images s (asked_by (Some s) request) old mid (HasDropped state s old mid) r
       → IfOk r (λ answer. answer ≢ answers.Refused refusals.NoDevice)
   other_dropped it (Err e) k = tt
   other_dropped it (Ok answer) k = λ bad. let was = k.done.0 in absurd cc
 
   pub called_cause : (agenda : Option (List ClientTask)) (tasks : List ClientTask) → agenda ≡ Some tasks → (r : Result Answer CallFault)
-      → Replies state images (record { disk = d; agenda = agenda }) (asked_by request) old mid (HasMade state (record { disk = d; agenda = agenda }) (asked_by request) old mid) r
-      ⊎ Replies state images (record { disk = d; agenda = agenda }) (asked_by request) old mid (HasDropped state (record { disk = d; agenda = agenda }) old mid) r
+      → Replies state images (record { disk = d; agenda = agenda }) (asked_by (Some (record { disk = d; agenda = agenda })) request) old mid (HasMade state (record { disk = d; agenda = agenda }) (asked_by (Some (record { disk = d; agenda = agenda })) request) old mid) r
+      ⊎ Replies state images (record { disk = d; agenda = agenda }) (asked_by (Some (record { disk = d; agenda = agenda })) request) old mid (HasDropped state (record { disk = d; agenda = agenda }) old mid) r
       → HasAnswerCause state old new (answered_as r)
   called_cause agenda tasks is r (inl k) = answer_cause state old mid new devs r (other_made agenda tasks is r k) k.counted k.cause
   called_cause agenda tasks is r (inr k) = answer_cause state old mid new devs r (other_dropped (record { disk = d; agenda = agenda }) r k) k.counted k.cause
@@ -327,46 +330,46 @@ module _ {D : Type 0} (state : D → DiskState) (images : D → ℕ → List ℕ
 module _ {D : Type 0} (state : D → DiskState) (images : D → ℕ → List ℕ → Type 0) (cut : Bool) (c : ℕ) (request : Request) (old mid new : ClientNode D) (before after : List ClientOut)
     (tells : (step : ClientStep) → IsTelling state cut c step mid → HasTold state cut c step new before after) (r : Result Answer CallFault) where
   pub call_made : (d : ClientDisk) (agenda : Option (List ClientTask)) → IsHosted state cut c (record { disk = d; agenda = agenda }) old → old.is_up ≡ true
-      → Replies state images (record { disk = d; agenda = agenda }) (asked_by request) old mid (HasMade state (record { disk = d; agenda = agenda }) (asked_by request) old mid) r
-      → IfOk (answered_as r) (λ answer. IsMade state (is_open old) cut c (record { disk = d; agenda = agenda }) (asked_by request) new before after answer
+      → Replies state images (record { disk = d; agenda = agenda }) (asked_by (Some (record { disk = d; agenda = agenda })) request) old mid (HasMade state (record { disk = d; agenda = agenda }) (asked_by (Some (record { disk = d; agenda = agenda })) request) old mid) r
+      → IfOk (answered_as r) (λ answer. IsMade state (is_open old) cut c (record { disk = d; agenda = agenda }) (asked_by (Some (record { disk = d; agenda = agenda })) request) new before after answer
       ⊎ IsFallen state cut c (record { disk = d; agenda = agenda }) new before after answer)
   call_made d None h up k = let down = h.client.at.0 in absurd cc
-  call_made d (Some tasks) h up k = called state images cut c d tasks (asked_by request) (λ shape. asked_only c shape d tasks request) old mid new before after h tells r k
+  call_made d (Some tasks) h up k = called state images cut c d tasks (asked_by (Some (record { disk = d; agenda = Some tasks })) request) (λ shape. asked_only c shape d tasks request) old mid new before after h tells r k
 
   pub call_dropped : (d : ClientDisk) (agenda : Option (List ClientTask)) → IsHosted state cut c (record { disk = d; agenda = agenda }) old → old.is_up ≡ true
-      → Replies state images (record { disk = d; agenda = agenda }) (asked_by request) old mid (HasDropped state (record { disk = d; agenda = agenda }) old mid) r
+      → Replies state images (record { disk = d; agenda = agenda }) (asked_by (Some (record { disk = d; agenda = agenda })) request) old mid (HasDropped state (record { disk = d; agenda = agenda }) old mid) r
       → IfOk (answered_as r) (λ answer. IsDropped state cut c (record { disk = d; agenda = agenda }) new before after answer
-      ⊎ (IsMade state (is_open old) cut c (record { disk = d; agenda = agenda }) (asked_by request) new before after answer ⊎ IsFallen state cut c (record { disk = d; agenda = agenda }) new before after answer))
+      ⊎ (IsMade state (is_open old) cut c (record { disk = d; agenda = agenda }) (asked_by (Some (record { disk = d; agenda = agenda })) request) new before after answer ⊎ IsFallen state cut c (record { disk = d; agenda = agenda }) new before after answer))
   call_dropped d None h up k = let down = h.client.at.0 in absurd cc
-  call_dropped d (Some tasks) h up k = dropped state images cut c d tasks (asked_by request) (λ shape. asked_only c shape d tasks request) old mid new before after h tells r k
+  call_dropped d (Some tasks) h up k = dropped state images cut c d tasks (asked_by (Some (record { disk = d; agenda = Some tasks })) request) (λ shape. asked_only c shape d tasks request) old mid new before after h tells r k
 
   pub call_kept : (d : ClientDisk) (agenda : Option (List ClientTask)) → IsHosted state cut c (record { disk = d; agenda = agenda }) old → old.is_up ≡ true
-      → Replies state images (record { disk = d; agenda = agenda }) (asked_by request) old mid (HasMade state (record { disk = d; agenda = agenda }) (asked_by request) old mid) r
-      ⊎ Replies state images (record { disk = d; agenda = agenda }) (asked_by request) old mid (HasDropped state (record { disk = d; agenda = agenda }) old mid) r
+      → Replies state images (record { disk = d; agenda = agenda }) (asked_by (Some (record { disk = d; agenda = agenda })) request) old mid (HasMade state (record { disk = d; agenda = agenda }) (asked_by (Some (record { disk = d; agenda = agenda })) request) old mid) r
+      ⊎ Replies state images (record { disk = d; agenda = agenda }) (asked_by (Some (record { disk = d; agenda = agenda })) request) old mid (HasDropped state (record { disk = d; agenda = agenda }) old mid) r
       → OnErr (answered_as r) (IsHosted state cut c (record { disk = d; agenda = agenda }) new × (outs_in after ≡ outs_in before))
   call_kept d None h up k = let down = h.client.at.0 in absurd cc
-  call_kept d (Some tasks) h up (inl k) = kept state images cut c d tasks (asked_by request) (λ shape. asked_only c shape d tasks request) old mid new before after h tells (HasMade state (record { disk = d; agenda = Some tasks }) (asked_by request) old mid) r k
-  call_kept d (Some tasks) h up (inr k) = kept state images cut c d tasks (asked_by request) (λ shape. asked_only c shape d tasks request) old mid new before after h tells (HasDropped state (record { disk = d; agenda = Some tasks }) old mid) r k
+  call_kept d (Some tasks) h up (inl k) = kept state images cut c d tasks (asked_by (Some (record { disk = d; agenda = Some tasks })) request) (λ shape. asked_only c shape d tasks request) old mid new before after h tells (HasMade state (record { disk = d; agenda = Some tasks }) (asked_by (Some (record { disk = d; agenda = Some tasks })) request) old mid) r k
+  call_kept d (Some tasks) h up (inr k) = kept state images cut c d tasks (asked_by (Some (record { disk = d; agenda = Some tasks })) request) (λ shape. asked_only c shape d tasks request) old mid new before after h tells (HasDropped state (record { disk = d; agenda = Some tasks }) old mid) r k
 
 pub call_cause : {D : Type 0} (state : D → DiskState) (images : D → ℕ → List ℕ → Type 0) (request : Request) (old mid new : ClientNode D) → new.devs ≡ mid.devs
     → (d : ClientDisk) (agenda : Option (List ClientTask))
     → IsClient state old (record { disk = d; agenda = agenda }) → old.is_up ≡ true → (r : Result Answer CallFault)
-    → Replies state images (record { disk = d; agenda = agenda }) (asked_by request) old mid (HasMade state (record { disk = d; agenda = agenda }) (asked_by request) old mid) r
-    ⊎ Replies state images (record { disk = d; agenda = agenda }) (asked_by request) old mid (HasDropped state (record { disk = d; agenda = agenda }) old mid) r
+    → Replies state images (record { disk = d; agenda = agenda }) (asked_by (Some (record { disk = d; agenda = agenda })) request) old mid (HasMade state (record { disk = d; agenda = agenda }) (asked_by (Some (record { disk = d; agenda = agenda })) request) old mid) r
+    ⊎ Replies state images (record { disk = d; agenda = agenda }) (asked_by (Some (record { disk = d; agenda = agenda })) request) old mid (HasDropped state (record { disk = d; agenda = agenda }) old mid) r
     → HasAnswerCause state old new (answered_as r)
 call_cause state images request old mid new devs d agenda t up r k = let some = up_tasks state old d agenda t up in called_cause state images d request old mid new devs agenda some.0 some.1 r k
 
 -- in one of the two ways
 pub either_way : {D : Type 0} (state : D → DiskState) (images : D → ℕ → List ℕ → Type 0) (request : Request) (s : Client) (old mid : ClientNode D) (r : Result Answer CallFault)
-    → FitsDisk s.disk request ⊎ (FitsDisk s.disk request → ⊥) → (FitsDisk s.disk request → Replies state images s (asked_by request) old mid (HasMade state s (asked_by request) old mid) r)
-    → ((FitsDisk s.disk request → ⊥) → Replies state images s (asked_by request) old mid (HasDropped state s old mid) r)
-    → Replies state images s (asked_by request) old mid (HasMade state s (asked_by request) old mid) r ⊎ Replies state images s (asked_by request) old mid (HasDropped state s old mid) r
+    → FitsDisk s.disk request ⊎ (FitsDisk s.disk request → ⊥) → (FitsDisk s.disk request → Replies state images s (asked_by (Some s) request) old mid (HasMade state s (asked_by (Some s) request) old mid) r)
+    → ((FitsDisk s.disk request → ⊥) → Replies state images s (asked_by (Some s) request) old mid (HasDropped state s old mid) r)
+    → Replies state images s (asked_by (Some s) request) old mid (HasMade state s (asked_by (Some s) request) old mid) r ⊎ Replies state images s (asked_by (Some s) request) old mid (HasDropped state s old mid) r
 either_way state images request s old mid r (inl fits) made dropped = inl (made fits)
 either_way state images request s old mid r (inr unfit) made dropped = inr (dropped unfit)
 
 -- one plan more at most
 pub either_plans : {D : Type 0} (state : D → DiskState) (images : D → ℕ → List ℕ → Type 0) (request : Request) (s : Client) (old mid : ClientNode D) (r : Result Answer CallFault)
-    → Replies state images s (asked_by request) old mid (HasMade state s (asked_by request) old mid) r ⊎ Replies state images s (asked_by request) old mid (HasDropped state s old mid) r
+    → Replies state images s (asked_by (Some s) request) old mid (HasMade state s (asked_by (Some s) request) old mid) r ⊎ Replies state images s (asked_by (Some s) request) old mid (HasDropped state s old mid) r
     → (n : ℕ) → HasPlansBelow state n old → HasPlansBelow state (suc n) mid
 either_plans state images request s old mid r (inl k) = k.plans
 either_plans state images request s old mid r (inr k) = k.plans

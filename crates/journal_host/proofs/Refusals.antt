@@ -11,6 +11,7 @@ use Rattle.row_edits.specs.declared.change.Edit.{Edit}
 use Rattle.row_edits.specs.Edit.{edited_to}
 use Rattle.conflicts.specs.declared.pair.Choice.{Choice}
 use Rattle.conflicts.specs.declared.pair.Choice.TheVariants.{Mine, Theirs, New}
+use Rattle.conflicts.specs.declared.stored.Stored.{Stored}
 use Rattle.row_value.specs.declared.schema.Schema.{Schema}
 use Rattle.step_tables.specs.declared.slots.InFlight.{InFlight}
 use Rattle.step_tables.specs.declared.slots.Main.{Main}
@@ -21,7 +22,7 @@ use Rattle.step_tables.specs.Messages.{Header, Message, Outcome, Pulled, Respons
 use Rattle.step_tables.specs.Messages as messages
 use Rattle.step_tables.specs.Sums.{by_digests, or_whole, sum_of}
 use Rattle.step_tables.specs.ClientMoves.{Slots, TableDisk, ClientDisk, ClientTask, ClientStep, Shape, RowOut, quiet, table_at, seen, slots_at, shown_in, show_answer, show_in, content_of, first_out, first_to_send, resent, top}
-use Rattle.step_tables.specs.ClientMoves.{ClientMove, is_before_write, is_before_phase, kept_out, phase_in, conflicts_in, choose, over_fitting, resolve_over, resolve_in}
+use Rattle.step_tables.specs.ClientMoves.{ClientMove, is_before_write, is_before_phase, kept_out, phase_in, conflicts_in, choose, over_fitting, resolve_over, resolve_in, all_in, all_fitting, all_idle, can_resolve}
 use Rattle.step_tables.specs.ClientMoves.{write_strong, write_by, write_free, write_idle, write_fitting, write_to, edit_made, edit_over, edit_in, sync_first, sync_in, next_in, outcome_taken, response_taken, response_in, row_taken, pulled_taken, pulled_in, take_step}
 use Rattle.step_tables.specs.ClientMoves as moves
 
@@ -140,6 +141,18 @@ phase_only d tasks (Some opened) = λ r is. absurd cc
 pub conflicts_only : (d : ClientDisk) (tasks : List ClientTask) (o : Option TableDisk) → RefusesOnly d tasks (conflicts_in d tasks o)
 conflicts_only d tasks None = only_answers d tasks (facts.Refuses facts.NoTable) (λ bad. absurd cc)
 conflicts_only d tasks (Some opened) = λ r is. absurd cc
+
+pub all_only : (shape : Shape) (d : ClientDisk) (tasks : List ClientTask) (by : Stored) (o : Option TableDisk) → RefusesOnly d tasks (all_in shape d tasks by o)
+all_only shape d tasks by None = only_answers d tasks (facts.Refuses facts.NoTable) (λ bad. absurd cc)
+all_only shape d tasks by (Some opened) = fitting (can_resolve opened.schema by)
+  where
+    fitting : (fit : Result (Unit {0}) FitFault) → RefusesOnly d tasks (all_fitting shape d tasks opened fit)
+    fitting (Ok fits) = idle tasks
+      where
+        idle : (ts : List ClientTask) → RefusesOnly d ts (all_idle shape d ts opened)
+        idle [] = λ r is. absurd cc
+        idle (task ∷ more) = only_answers d (task ∷ more) (facts.Refuses (facts.Busy shape.plan)) (λ bad. absurd cc)
+    fitting (Err fault) = only_answers d tasks (facts.Refuses (facts.Unfit fault)) (λ bad. absurd cc)
 
 choose_only : (c : ℕ) (shape : Shape) (d : ClientDisk) (table : ℕ) (row : List ℕ) (schema : Schema) (slots : Slots) (main : Main) (x : Shadow) (choice : Choice)
     → RefusesOnly d [] (choose c shape d table row schema slots main x choice)

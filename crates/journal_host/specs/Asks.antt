@@ -1,15 +1,16 @@
 -- What a client is asked for, as the moves of its step table.
-use Rattle.std.specs.Prelude.{ℕ, Option, Some, None, Result, Ok, Err}
+use Rattle.std.specs.Prelude.{◌≡◌, ℕ, List, Option, Some, None, Result, Ok, Err}
 use Rattle.table_model.specs.declared.line.Answer.{Answer}
 use Rattle.table_model.specs.declared.line.Answer.TheVariants as answers
 use Rattle.table_model.specs.declared.line.Refusal.TheVariants as refusals
+use Rattle.table_model.specs.declared.line.RowPair.{RowPair}
 use Rattle.step_tables.specs.ClientMoves.{Client, ClientDisk, ClientMove, Write, Change, Show, Sum, Sync, Next, Take}
-use Rattle.step_tables.specs.ClientMoves.{BeginCr, EndCr, Resolve}
+use Rattle.step_tables.specs.ClientMoves.{BeginCr, EndCr, Resolve, ResolveAll}
 use Rattle.step_tables.specs.Travels.{message_of}
 use Rattle.client_node.specs.declared.fault.CallFault.{CallFault}
 use Rattle.client_node.specs.declared.fault.CallFault.TheVariants as call
 use Rattle.client_node.specs.Taking.{FitsClient}
-use Rattle.world_tables.specs.World.{World, client_at}
+use Rattle.world_tables.specs.World.{World, client_at, client_pairs, chosen_of}
 use Rattle.journal_host.specs.declared.asking.Ask.{Ask}
 use Rattle.journal_host.specs.declared.asking.Ask.TheVariants as asks
 use Rattle.journal_host.specs.declared.asking.Request.{Request}
@@ -28,14 +29,17 @@ move_of (asks.BeginCr table) = BeginCr table
 move_of (asks.EndCr table) = EndCr table
 move_of (asks.Resolve table row seen choice) = Resolve table row seen choice
 
-abbrev pub asked_by : Request → ClientMove
-asked_by (requests.Ask ask) = move_of ask
-asked_by (requests.Deliver message) = Take (message_of message)
+-- where the client is there, what it chooses goes by what it keeps of the row
+abbrev pub asked_by : Option Client → Request → ClientMove
+asked_by s (requests.Ask ask) = move_of ask
+asked_by s (requests.Deliver message) = Take (message_of message)
+asked_by s (requests.Resolvable table by) = ResolveAll table by
+asked_by s (requests.ResolveBy table row seen by) = Resolve table row seen (chosen_of by row s table)
 
 -- the row that a message brings fits its table; all else is fit
 abbrev pub FitsDisk : ClientDisk → Request → Type 0
-FitsDisk disk (requests.Ask ask) = Unit {0}
 FitsDisk disk (requests.Deliver message) = FitsClient disk (message_of message)
+FitsDisk disk other = Unit {0}
 
 abbrev pub FitsAt : Option Client → Request → Type 0
 FitsAt None request = Unit {0}
@@ -44,6 +48,11 @@ FitsAt (Some s) request = FitsDisk s.disk request
 -- where the client is there
 abbrev pub FitsIn : World → ℕ → Request → Type 0
 FitsIn w c request = FitsAt (client_at w c) request
+
+-- the rows that it asks for, where it asks for any
+abbrev pub AreAsked : Option Client → Request → List RowPair → Type 0
+AreAsked s (requests.Resolvable table by) pairs = pairs ≡ client_pairs s table
+AreAsked s other pairs = Unit {0}
 
 -- ---- answers
 

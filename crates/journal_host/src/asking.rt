@@ -1,16 +1,16 @@
 //! What a client is asked for, and what its node makes of it.
-ghost use Rattle.std.specs.Prelude.{◌≡◌, ℕ, true, length, IfOk, IfErr, IsErrOf};
+ghost use Rattle.std.specs.Prelude.{◌≡◌, ℕ, true, length, Option, Some, Ok, IfOk, IfErr, IsErrOf};
 ghost use Rattle.table_model.specs.declared.line.Answer.TheVariants as answers;
 ghost use Rattle.step_tables.specs.ClientMoves.{Client};
 ghost use Rattle.client_node.specs.declared.fault.CallFault.TheVariants.{Spent};
 ghost use Rattle.client_node.specs.Does.{HasNoNumber};
 ghost use Rattle.client_node.specs.Node.{IsClient, IsNode};
-ghost use Rattle.journal_host.specs.Asks.{move_of, asked_by, FitsDisk, as_answer};
+ghost use Rattle.journal_host.specs.Asks.{move_of, asked_by, FitsDisk, AreAsked, as_answer};
 ghost use Rattle.journal_host.specs.Phases.{MovesPhases, answer_in};
 ghost use Rattle.journal_host.specs.Steps.{HasMade, HasDropped, Replies};
 
 use client_node::{CallFault, ClientNode};
-use conflicts::Choice;
+use conflicts::{Choice, Stored};
 use disk_trait::Disk;
 use row_edits::Edit;
 use row_value::Content;
@@ -74,6 +74,18 @@ pub enum Ask {
 pub(crate) enum Request {
     Ask(Ask),
     Deliver(Message),
+    /// The rows in conflict of a table, where they can all be resolved in this way now.
+    Resolvable {
+        table: TableNo,
+        by: Stored,
+    },
+    /// To resolve the conflict of a row with the version that was seen, as this way chooses.
+    ResolveBy {
+        table: TableNo,
+        row: RowId,
+        seen: Version,
+        by: Stored,
+    },
 }
 
 /// What was begun or done has this number.
@@ -167,26 +179,37 @@ fn answer<D: Disk + Drop>(node: &mut ClientNode<D>, ask: Ask) -> Result<Answer, 
     }
 }
 
-/// What a node that is up answers.
+/// What a node that is up answers. The rows that can all be resolved are handed over.
 pub(crate) fn reply<D: Disk + Drop>(
     node: &mut ClientNode<D>,
     request: Request,
+    pairs: &mut RowPairs,
 ) -> Result<Answer, CallFault>
     requires node { IsNode D.state node.old }
     requires up { node.old.is_up ≡ true }
     ensures made { (s : Client) → IsClient D.state node.old s → FitsDisk s.disk request
-        → Replies D.state D.images s (asked_by request) node.old node.new
-        (HasMade D.state s (asked_by request) node.old node.new) result }
+        → Replies D.state D.images s (asked_by (Some s) request) node.old node.new
+        (HasMade D.state s (asked_by (Some s) request) node.old node.new) result }
     ensures dropped { (s : Client) → IsClient D.state node.old s → (FitsDisk s.disk request → ⊥)
-        → Replies D.state D.images s (asked_by request) node.old node.new (HasDropped D.state s node.old node.new)
-        result }
+        → Replies D.state D.images s (asked_by (Some s) request) node.old node.new
+        (HasDropped D.state s node.old node.new) result }
     ensures spent { (s : Client) → IsClient D.state node.old s → FitsDisk s.disk request → (last : ℕ)
         → IsErrOf result (Spent last) → HasNoNumber D.state node.old s.disk }
-    ensures phases { MovesPhases (asked_by request) (answer_in result) node.old node.new }
+    ensures pairs { (s : Client) (count : ℕ) → IsClient D.state node.old s → result ≡ Ok (answers.Number count)
+        → AreAsked (Some s) request pairs.new }
+    ensures phases { (s : Option Client)
+        → MovesPhases (asked_by s request) (answer_in result) node.old node.new }
     ensures declared { node.new.is_declared ≡ node.old.is_declared }
 {
     match request {
         Request::Ask(ask) => answer(node, ask),
         Request::Deliver(message) => done(node.deliver(message)),
+        Request::Resolvable { table, by } => counted(node.resolvable(table, by), pairs),
+        Request::ResolveBy {
+            table,
+            row,
+            seen,
+            by,
+        } => numbered(node.resolve_by(table, row, seen, by)),
     }
 }

@@ -4,17 +4,17 @@ ghost use Rattle.std.specs.Prelude.{IfOk, IfErr, OnOk, OnErr, IfSome, IsErrOf, o
 ghost use Rattle.std.specs.Ordering.{nat_cmp};
 ghost use Rattle.std.specs.BTreeMap as tree;
 ghost use Rattle.stab_base.specs.declared.node.Node.TheVariants as nodes;
-ghost use Rattle.step_tables.specs.ClientMoves.{Conflicts};
+ghost use Rattle.step_tables.specs.ClientMoves.{Conflicts, Resolve, ResolveAll};
 ghost use Rattle.step_tables.specs.Messages.{Luck};
 ghost use Rattle.step_tables.specs.Messages as lucks;
 ghost use Rattle.step_tables.specs.Travels.{message_of};
 ghost use Rattle.client_node.specs.declared.fault.CallFault.TheVariants.{Disk as DiskFailed};
 ghost use Rattle.world_tables.specs.World.{World as AWorld, client_at, client_tasks, is_down, joined, linked};
 ghost use Rattle.world_tables.specs.World.{worked, all_worked, client_crashes, client_writes, client_until_idle};
-ghost use Rattle.world_tables.specs.World.{next_write};
+ghost use Rattle.world_tables.specs.World.{next_write, client_pairs, chosen_of};
 ghost use Rattle.journal_host.specs.declared.asking.Request.TheVariants as requests;
 ghost use Rattle.journal_host.specs.declared.fault.ClientFault.TheVariants.{Memory};
-ghost use Rattle.journal_host.specs.Asks.{move_of, asked_by, FitsIn};
+ghost use Rattle.journal_host.specs.Asks.{move_of, asked_by, FitsIn, AreAsked};
 ghost use Rattle.journal_host.specs.Calls.{IsMoved, IsCalled, Comes, Lists, Stays, HasCause, HasMoveCause};
 ghost use Rattle.journal_host.specs.Calls.{HasLuck, IsNumberCause};
 ghost use Rattle.journal_host.specs.Holds.{HoldsClients, AreClients, HasSchemas, AreToOpen, SameFaults, disks_at};
@@ -28,9 +28,10 @@ use crate::hosted::{answered, call, crash, link, list, start, work};
 use crate::opening::joining;
 use crate::out::ClientOut;
 use client_node::{CallFault, ClientNode};
+use conflicts::Stored;
 use disk_trait::Disk;
 use row_value::Schema;
-use stab_base::{ClientNo, Sequence, Step, TableNo};
+use stab_base::{ClientNo, RowId, Sequence, Step, TableNo, Version};
 use std::alloc::Global;
 use std::collections::BTreeMap;
 use step_tables::Message;
@@ -149,14 +150,23 @@ impl<D: Disk + Drop> ClientHost<D> {
         }
     }
 
-    // Hands a client what is for it. One that hasn't joined refuses, as one that hasn't opened the table does.
-    fn call(&mut self, client: ClientNo, request: Request) -> Result<Answer, ClientFault>
+    // Hands a client what is for it. One that hasn't joined refuses, as one that hasn't opened the table does. The rows
+    // that can all be resolved are handed over.
+    fn call(
+        &mut self,
+        client: ClientNo,
+        request: Request,
+        pairs: &mut RowPairs,
+    ) -> Result<Answer, ClientFault>
         requires { AreClients D.state self.old }
         ensures called { (w : AWorld) → HoldsClients D.state w self.old → FitsIn w client request
-            → Comes D.state self.old self.new (call_alone w client (asked_by request)) result }
+            → Comes D.state self.old self.new (call_alone w client (asked_by (client_at w client) request)) result }
         ensures dropped { (w : AWorld) → HoldsClients D.state w self.old → (FitsIn w client request → ⊥)
             → IfOk result (λ answer. ((answer ≡ Answer.Done) × Stays D.state w self.old self.new)
-            ⊎ Comes D.state self.old self.new (call_alone w client (asked_by request)) (Ok answer)) }
+            ⊎ Comes D.state self.old self.new (call_alone w client (asked_by (client_at w client) request))
+            (Ok answer)) }
+        ensures pairs { (w : AWorld) (count : ℕ) → HoldsClients D.state w self.old
+            → result ≡ Ok (Answer.Number count) → AreAsked (client_at w client) request pairs.new }
         ensures spent { (w : AWorld) (n : ℕ) → HoldsClients D.state w self.old
             → HavePlansBelow D.state n self.old.clients → FitsIn w client request
             → IfErr result (IsNumberCause n (client_at w client)) }
@@ -167,7 +177,7 @@ impl<D: Disk + Drop> ClientHost<D> {
             → HavePlansBelow D.state (suc n) self.new.clients }
     {
         match self.clients.get_mut(&client) {
-            Some(node) => call(node, &mut self.outs, client, request),
+            Some(node) => call(node, &mut self.outs, client, request, pairs),
             None => Ok(Answer::Refused(Refusal::NoTable)),
         }
     }
@@ -190,7 +200,8 @@ impl<D: Disk + Drop> ClientHost<D> {
         ensures plans { (n : ℕ) → HavePlansBelow D.state n self.old.clients
             → HavePlansBelow D.state (suc n) self.new.clients }
     {
-        self.call(client, Request::Ask(ask))
+        let mut none = Sequence::new(self.alloc);
+        self.call(client, Request::Ask(ask), &mut none)
     }
 
     /// Lists the rows in conflict of a table whose conflicts the client resolves: how many there are. They are handed
@@ -223,6 +234,70 @@ impl<D: Disk + Drop> ClientHost<D> {
         }
     }
 
+    /// Looks whether a client may resolve all conflicts of a table in this way now: how many there are. The rows are
+    /// handed over by rising id.
+    ///
+    /// # Errors
+    ///
+    /// Those of `ask`.
+    pub fn resolvable(
+        &mut self,
+        client: ClientNo,
+        table: TableNo,
+        by: Stored,
+        pairs: &mut RowPairs,
+    ) -> Result<Answer, ClientFault>
+        requires { AreClients D.state self.old }
+        ensures called { (w : AWorld) → HoldsClients D.state w self.old
+            → Comes D.state self.old self.new (call_alone w client (ResolveAll table by)) result }
+        ensures pairs { (w : AWorld) (count : ℕ) → HoldsClients D.state w self.old
+            → result ≡ Ok (Answer.Number count) → pairs.new ≡ client_pairs (client_at w client) table }
+        ensures spent { (w : AWorld) (n : ℕ) → HoldsClients D.state w self.old
+            → HavePlansBelow D.state n self.old.clients → IfErr result (IsNumberCause n (client_at w client)) }
+        ensures kept { (w : AWorld) → HoldsClients D.state w self.old
+            → OnErr result (Stays D.state w self.old self.new) }
+        ensures cause { HasCause D.state client self.old.clients self.new.clients result }
+        ensures plans { (n : ℕ) → HavePlansBelow D.state n self.old.clients
+            → HavePlansBelow D.state (suc n) self.new.clients }
+    {
+        self.call(client, Request::Resolvable { table, by }, pairs)
+    }
+
+    /// Resolves the conflict of a row with the version that was seen, as this way chooses of the client's write and the
+    /// Store's row. It is answered as `Ask::Resolve` is.
+    ///
+    /// # Errors
+    ///
+    /// Those of `ask`.
+    pub fn resolve_by(
+        &mut self,
+        client: ClientNo,
+        table: TableNo,
+        row: RowId,
+        seen: Version,
+        by: Stored,
+    ) -> Result<Answer, ClientFault>
+        requires { AreClients D.state self.old }
+        ensures called { (w : AWorld) → HoldsClients D.state w self.old → Comes D.state self.old self.new
+            (call_alone w client (Resolve table row seen (chosen_of by row (client_at w client) table))) result }
+        ensures spent { (w : AWorld) (n : ℕ) → HoldsClients D.state w self.old
+            → HavePlansBelow D.state n self.old.clients → IfErr result (IsNumberCause n (client_at w client)) }
+        ensures kept { (w : AWorld) → HoldsClients D.state w self.old
+            → OnErr result (Stays D.state w self.old self.new) }
+        ensures cause { HasCause D.state client self.old.clients self.new.clients result }
+        ensures plans { (n : ℕ) → HavePlansBelow D.state n self.old.clients
+            → HavePlansBelow D.state (suc n) self.new.clients }
+    {
+        let mut none = Sequence::new(self.alloc);
+        let request = Request::ResolveBy {
+            table,
+            row,
+            seen,
+            by,
+        };
+        self.call(client, request, &mut none)
+    }
+
     /// Takes a message; one for a client that hasn't joined is lost, and so is a row that doesn't fit its table.
     ///
     /// # Errors
@@ -246,7 +321,8 @@ impl<D: Disk + Drop> ClientHost<D> {
             → HavePlansBelow D.state (suc n) self.new.clients }
     {
         if self.clients.contains_key(&client) {
-            return self.call(client, Request::Deliver(message));
+            let mut none = Sequence::new(self.alloc);
+            return self.call(client, Request::Deliver(message), &mut none);
         }
         Ok(Answer::Done)
     }

@@ -1,6 +1,6 @@
 //! Calls of one client's node, what it tells put behind what was told.
-ghost use Rattle.std.specs.Prelude.{◌≡◌, ◌⊎◌, ◌∷◌, ◌<◌, ◌++◌, ℕ, suc, Bool, [], Some, true, false, not};
-ghost use Rattle.std.specs.Prelude.{IfOk, IfErr, OnErr, IsErrOf};
+ghost use Rattle.std.specs.Prelude.{◌≡◌, ◌⊎◌, ◌∷◌, ◌<◌, ◌++◌, ℕ, suc, Bool, [], Option, Some, true, false, not};
+ghost use Rattle.std.specs.Prelude.{Ok, IfOk, IfErr, OnErr, IsErrOf};
 ghost use Rattle.std.specs.Vec.{vec_capacity, vec_len};
 ghost use Rattle.stab_base.specs.declared.node.Node.TheVariants as nodes;
 ghost use Rattle.table_model.specs.declared.line.Answer.TheVariants as answers;
@@ -12,7 +12,7 @@ ghost use Rattle.client_node.specs.Node.{IsClient, IsNode, told_by, has_task, Ha
 ghost use Rattle.client_node.specs.Phases.{is_open, KeepsPhases};
 ghost use Rattle.world_tables.specs.World.{next_write, tasks_in};
 ghost use Rattle.journal_host.specs.declared.fault.ClientFault.TheVariants as faults;
-ghost use Rattle.journal_host.specs.Asks.{asked_by, FitsDisk, answered_as};
+ghost use Rattle.journal_host.specs.Asks.{asked_by, FitsDisk, AreAsked, answered_as};
 ghost use Rattle.journal_host.specs.Calls.{IsNumberCause};
 ghost use Rattle.journal_host.specs.Holds.{IsHosted, outs_in, outbox_of, says_something, said, node_faults};
 ghost use Rattle.journal_host.specs.Phases.{SamePhases, MovesPhases, answer_in};
@@ -97,49 +97,54 @@ fn call_up<D: Disk + Drop>(
     outs: &mut Vec<ClientOut>,
     client: ClientNo,
     request: Request,
+    pairs: &mut RowPairs,
 ) -> Result<Answer, ClientFault>
     requires node { IsNode D.state node.old }
     requires up { node.old.is_up ≡ true }
     ensures made { (cut : Bool) (s : Client) → IsHosted D.state cut client s node.old → FitsDisk s.disk request
-        → IfOk result (λ answer. IsMade D.state (is_open node.old) cut client s (asked_by request) node.new
+        → IfOk result (λ answer. IsMade D.state (is_open node.old) cut client s (asked_by (Some s) request) node.new
         outs.old.items outs.new.items answer
         ⊎ IsFallen D.state cut client s node.new outs.old.items outs.new.items answer) }
     ensures dropped { (cut : Bool) (s : Client) → IsHosted D.state cut client s node.old → (FitsDisk s.disk request → ⊥)
         → IfOk result (λ answer. IsDropped D.state cut client s node.new outs.old.items outs.new.items answer
-        ⊎ (IsMade D.state (is_open node.old) cut client s (asked_by request) node.new outs.old.items outs.new.items
+        ⊎ (IsMade D.state (is_open node.old) cut client s (asked_by (Some s) request) node.new outs.old.items outs.new.items
         answer
         ⊎ IsFallen D.state cut client s node.new outs.old.items outs.new.items answer)) }
     ensures spent { (cut : Bool) (s : Client) (n : ℕ) → IsHosted D.state cut client s node.old
         → HasPlansBelow D.state n node.old → FitsDisk s.disk request → IfErr result (IsNumberCause n (Some s)) }
     ensures kept { (cut : Bool) (s : Client) → IsHosted D.state cut client s node.old
         → OnErr result (IsHosted D.state cut client s node.new × (outs_in outs.new.items ≡ outs_in outs.old.items)) }
-    ensures phases { MovesPhases (asked_by request) (answer_in result) node.old node.new }
+    ensures pairs { (cut : Bool) (s : Client) (count : ℕ) → IsHosted D.state cut client s node.old
+        → result ≡ Ok (answers.Number count) → AreAsked (Some s) request pairs.new }
+    ensures phases { (s : Option Client)
+        → MovesPhases (asked_by s request) (answer_in result) node.old node.new }
     ensures cause { HasAnswerCause D.state node.old node.new result }
     ensures plans { (n : ℕ) → HasPlansBelow D.state n node.old → HasPlansBelow D.state (suc n) node.new }
 {
     outs.reserve(1)?;
-    let found = reply(node, request);
+    let found = reply(node, request, pairs);
     tell(node, outs, client);
     answered(found)
 }
 
-/// Asks a node. One that is down refuses.
+/// Asks a node. One that is down refuses. The rows that can all be resolved are handed over.
 pub(crate) fn call<D: Disk + Drop>(
     node: &mut ClientNode<D>,
     outs: &mut Vec<ClientOut>,
     client: ClientNo,
     request: Request,
+    pairs: &mut RowPairs,
 ) -> Result<Answer, ClientFault>
     requires { IsNode D.state node.old }
     ensures made { (cut : Bool) (s : Client) → IsHosted D.state cut client s node.old → FitsDisk s.disk request
         → node.old.is_up ≡ true
-        → IfOk result (λ answer. IsMade D.state (is_open node.old) cut client s (asked_by request) node.new
+        → IfOk result (λ answer. IsMade D.state (is_open node.old) cut client s (asked_by (Some s) request) node.new
         outs.old.items outs.new.items answer
         ⊎ IsFallen D.state cut client s node.new outs.old.items outs.new.items answer) }
     ensures dropped { (cut : Bool) (s : Client) → IsHosted D.state cut client s node.old → (FitsDisk s.disk request → ⊥)
         → node.old.is_up ≡ true
         → IfOk result (λ answer. IsDropped D.state cut client s node.new outs.old.items outs.new.items answer
-        ⊎ (IsMade D.state (is_open node.old) cut client s (asked_by request) node.new outs.old.items outs.new.items
+        ⊎ (IsMade D.state (is_open node.old) cut client s (asked_by (Some s) request) node.new outs.old.items outs.new.items
         answer
         ⊎ IsFallen D.state cut client s node.new outs.old.items outs.new.items answer)) }
     ensures down { node.old.is_up ≡ false → (node.new ≡ node.old) × (outs.new.items ≡ outs.old.items)
@@ -148,12 +153,15 @@ pub(crate) fn call<D: Disk + Drop>(
         → HasPlansBelow D.state n node.old → FitsDisk s.disk request → IfErr result (IsNumberCause n (Some s)) }
     ensures kept { (cut : Bool) (s : Client) → IsHosted D.state cut client s node.old
         → OnErr result (IsHosted D.state cut client s node.new × (outs_in outs.new.items ≡ outs_in outs.old.items)) }
-    ensures phases { MovesPhases (asked_by request) (answer_in result) node.old node.new }
+    ensures pairs { (cut : Bool) (s : Client) (count : ℕ) → IsHosted D.state cut client s node.old
+        → result ≡ Ok (answers.Number count) → AreAsked (Some s) request pairs.new }
+    ensures phases { (s : Option Client)
+        → MovesPhases (asked_by s request) (answer_in result) node.old node.new }
     ensures cause { HasAnswerCause D.state node.old node.new result }
     ensures plans { (n : ℕ) → HasPlansBelow D.state n node.old → HasPlansBelow D.state (suc n) node.new }
 {
     if node.is_up() {
-        return call_up(node, outs, client, request);
+        return call_up(node, outs, client, request, pairs);
     }
     Ok(Answer::Refused(Refusal::Down {
         node: Node::Client(client),

@@ -15,7 +15,7 @@ use Rattle.world_steps.specs.declared.fault.WorldFault.{WorldFault}
 use Rattle.world_steps.specs.declared.fault.WorldFault.TheVariants.{Limit}
 use Rattle.world_steps.specs.Asked.{ask_of}
 use Rattle.world_steps.specs.Calls.{by_lucks}
-use Rattle.world_steps.specs.Steps.{Spends, SpendsNumber}
+use Rattle.world_steps.specs.Steps.{Spends, SpendsNumber, may_begin}
 
 -- the event is this call of this client
 pub record IsCallOf (event : Event) (c : ℕ) (ask : Ask) : Type 0 where
@@ -23,6 +23,7 @@ pub record IsCallOf (event : Event) (c : ℕ) (ask : Ask) : Type 0 where
   pub fails : (w : moves.World) (lucks : Lucks) → is_device_fault w event lucks ≡ is_fault_answer (step w event lucks).answer
   pub steps : (w : moves.World) (lucks : Lucks) → step w event lucks ≡ by_lucks (call w c (move_of ask)) lucks
   pub spends : (n : ℕ) (w : moves.World) → SpendsNumber n w c → Spends n w event
+  pub begins : (w : moves.World) → may_begin w event ≡ 1
 
 some_same : (p q : ℕ × Ask) → Some p ≡ Some q → p ≡ q
 some_same p q e = cc
@@ -32,23 +33,23 @@ asked_as event p at q is k = let same : Some p ≡ Some q = cc in subst (λ (x :
 
 call_of : (event : Event) (p : ℕ × Ask) → ask_of event ≡ Some p → IsCallOf event p.0 p.1
 call_of (events.Write c table row content) p is = asked_as (events.Write c table row content) (c, asks.Write table row content) refl p is
-    (record { told = refl; fails = λ w lucks. refl; steps = λ w lucks. refl; spends = λ n w k. k })
+    (record { told = refl; fails = λ w lucks. refl; steps = λ w lucks. refl; spends = λ n w k. k; begins = λ w. refl })
 call_of (events.Edit c table row edit) p is = asked_as (events.Edit c table row edit) (c, asks.Edit table row edit) refl p is
-    (record { told = refl; fails = λ w lucks. refl; steps = λ w lucks. refl; spends = λ n w k. k })
+    (record { told = refl; fails = λ w lucks. refl; steps = λ w lucks. refl; spends = λ n w k. k; begins = λ w. refl })
 call_of (events.Show c table row) p is = asked_as (events.Show c table row) (c, asks.Show table row) refl p is
-    (record { told = refl; fails = λ w lucks. refl; steps = λ w lucks. refl; spends = λ n w k. k })
+    (record { told = refl; fails = λ w lucks. refl; steps = λ w lucks. refl; spends = λ n w k. k; begins = λ w. refl })
 call_of (events.Sum c table row) p is = asked_as (events.Sum c table row) (c, asks.Sum table row) refl p is
-    (record { told = refl; fails = λ w lucks. refl; steps = λ w lucks. refl; spends = λ n w k. k })
+    (record { told = refl; fails = λ w lucks. refl; steps = λ w lucks. refl; spends = λ n w k. k; begins = λ w. refl })
 call_of (events.Sync c table) p is = asked_as (events.Sync c table) (c, asks.Sync table) refl p is
-    (record { told = refl; fails = λ w lucks. refl; steps = λ w lucks. refl; spends = λ n w k. k })
+    (record { told = refl; fails = λ w lucks. refl; steps = λ w lucks. refl; spends = λ n w k. k; begins = λ w. refl })
 call_of (events.Pull c table) p is = asked_as (events.Pull c table) (c, asks.Pull table) refl p is
-    (record { told = refl; fails = λ w lucks. refl; steps = λ w lucks. refl; spends = λ n w k. k })
+    (record { told = refl; fails = λ w lucks. refl; steps = λ w lucks. refl; spends = λ n w k. k; begins = λ w. refl })
 call_of (events.BeginCr c table) p is = asked_as (events.BeginCr c table) (c, asks.BeginCr table) refl p is
-    (record { told = refl; fails = λ w lucks. refl; steps = λ w lucks. refl; spends = λ n w k. k })
+    (record { told = refl; fails = λ w lucks. refl; steps = λ w lucks. refl; spends = λ n w k. k; begins = λ w. refl })
 call_of (events.EndCr c table) p is = asked_as (events.EndCr c table) (c, asks.EndCr table) refl p is
-    (record { told = refl; fails = λ w lucks. refl; steps = λ w lucks. refl; spends = λ n w k. k })
+    (record { told = refl; fails = λ w lucks. refl; steps = λ w lucks. refl; spends = λ n w k. k; begins = λ w. refl })
 call_of (events.Resolve c table row seen choice) p is = asked_as (events.Resolve c table row seen choice) (c, asks.Resolve table row seen choice) refl p is
-    (record { told = refl; fails = λ w lucks. refl; steps = λ w lucks. refl; spends = λ n w k. k })
+    (record { told = refl; fails = λ w lucks. refl; steps = λ w lucks. refl; spends = λ n w k. k; begins = λ w. refl })
 call_of other p is = absurd cc
 
 pub as_call : (event : Event) (c : ℕ) (ask : Ask) → ask_of event ≡ Some (c, ask) → IsCallOf event c ask

@@ -38,6 +38,7 @@ use Rattle.journal_host.specs.Calls.{IsMoved, IsCalled, HasCause, HasLuck, IsNum
 use Rattle.journal_host.specs.Calls as events
 use Rattle.journal_host.specs.Moves.{has_work}
 use Rattle.client_events.specs.Fits.{FitsThere, FitsMessage}
+use Rattle.client_events.specs.Resolves.{ComesSo, IsNumberCauseWithin}
 use Rattle.world_steps.specs.declared.fault.WorldFault.{WorldFault}
 use Rattle.world_steps.specs.declared.fault.WorldFault.TheVariants as fault
 use Rattle.world_steps.specs.declared.world.World.{World}
@@ -45,7 +46,7 @@ use Rattle.world_steps.specs.Holds.{Holds}
 use Rattle.world_steps.specs.Outs.{packets_of}
 use Rattle.world_steps.specs.Calls.{IsDone, Comes, HasToldPairs, HasToldClients, by_lucks}
 use Rattle.world_steps.specs.Faults.{AreCounted}
-use Rattle.world_steps.specs.Steps.{HavePlansBelow, IsStill, SpendsNumber}
+use Rattle.world_steps.specs.Steps.{HavePlansBelow, IsStill, SpendsNumber, SpendsWithin}
 use Rattle.world_steps.proofs.Counted.{sent_counted, clients_same, clients_still, tables_same, tables_still, all_same}
 use Rattle.world_steps.proofs.Keeping.{KeepsBeside, Keeps, changed, listed_keeps, crash_quiet}
 use Rattle.world_steps.proofs.Said.{client_lines, client_packets}
@@ -148,6 +149,15 @@ module _ {D : Type 0} (state : D → DiskState) (w : moves.World) (old : World D
         record { calls = x.1; shape = x.0; shapes = [] },
         told_one state w old h (listed (f x.0 x.1)) pairs (listed_keeps w (f x.0 x.1) pairs (keeps x.0 x.1) x.2.counted) mid t.0 x.2.called new lines t.2,
       )
+
+-- the same of one of many plans
+pub client_comes_so : {D : Type 0} (state : D → DiskState) (w : moves.World) (old : World D) → Holds state w old → (mid : ClientHost D) (f : Lucks → WorldStep) → ((lucks : Lucks) → Keeps w (f lucks))
+    → (new : World D) (found : Result Answer ClientFault) (result : Result (List TextLine) WorldFault) → ComesSo state old.clients mid f found → HasFound state old mid new found result
+    → Comes state w f result new
+client_comes_so state w old h mid f keeps new found (Err e) k t = tt
+client_comes_so state w old h mid f keeps new found (Ok lines) k t =
+    let x : ComesSo state old.clients mid f (Ok t.0) = subst (λ (r : Result Answer ClientFault). ComesSo state old.clients mid f r) t.1 k in
+    (x.0, told_one state w old h (f x.0) [] (keeps x.0) mid t.0 x.1 new lines t.2)
 
 -- ---- which disks failed
 
@@ -263,6 +273,17 @@ module _ {D : Type 0} (state : D → DiskState) (old : World D) (mid : ClientHos
           → IfErr r (λ e. (code count : ℕ) → e ≡ fault.Limit code count → (code ≡ 11) × SpendsNumber n w c)
       go (Ok lines) s = tt
       go (Err e) s = λ code count is. let x = s code count is in (x.0, subst (λ (r : Result Answer ClientFault). IfErr r (IsNumberCause n (client_at w c))) x.1 cause)
+
+  -- the same of one of many plans
+  pub limit_within : (w : moves.World) (n rows : ℕ) → IfErr found (IsNumberCauseWithin n rows (client_at w c))
+      → IfErr result (λ e. (code count : ℕ) → e ≡ fault.Limit code count → (code ≡ 11) × SpendsWithin n rows w c)
+  limit_within w n rows cause = go result spent
+    where
+      go : (r : Result (List TextLine) WorldFault)
+          → IfErr r (λ e. (code count : ℕ) → e ≡ fault.Limit code count → (code ≡ 11) × (found ≡ Err client.Spent) × (new ≡ record old { clients = mid }))
+          → IfErr r (λ e. (code count : ℕ) → e ≡ fault.Limit code count → (code ≡ 11) × SpendsWithin n rows w c)
+      go (Ok lines) s = tt
+      go (Err e) s = λ code count is. let x = s code count is in (x.0, subst (λ (r : Result Answer ClientFault). IfErr r (IsNumberCauseWithin n rows (client_at w c))) x.1 cause)
 
   module _ (w : moves.World) (h : Holds state w old) (kept : IfErr found (λ e. e ≡ client.Spent → events.Stays state w old.clients mid))
       (cause : HasCause state c old.clients.clients mid.clients found) where

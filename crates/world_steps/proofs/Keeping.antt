@@ -1,13 +1,15 @@
 -- What a client's event keeps of a world: all but the clients, what was sent, which links are down, and which phases are
 -- open.
-use Rattle.std.proofs.Common.{◌≡◌, ℕ, Bool, true, false, List, [], ◌∷◌, ◌++◌, Option, Some, None, refl, sym, ◌∙◌, ap, append-nil, append_assoc, arith}
+use Rattle.std.proofs.Common.{◌≡◌, ℕ, ◌+◌, Bool, true, false, List, [], ◌∷◌, ◌++◌, drop, Option, Some, None, refl, sym, ◌∙◌, ap, append-nil, append_assoc, arith}
 use Rattle.std.specs.Prelude.{if◌then◌else◌, is_some, ◌&&◌, map}
 use Rattle.std.specs.Ordering.{nat_cmp}
 use Rattle.std.specs.Map.{lookup}
 use Rattle.std.specs.BTreeMap.{is_at, insert_entry}
 use Rattle.std.proofs.lemmas.Bool.Decides.{nat_tests}
 use Rattle.stab_base.specs.declared.node.Node.TheVariants as nodes
-use Rattle.step_tables.specs.ClientMoves.{Client, ClientDisk, ClientTask, ClientMove, ClientStep, Shape, Work, Start, Crash, Take, no_shape, client_step, is_cut_off, kept_out}
+use Rattle.step_tables.specs.ClientMoves.{Client, ClientDisk, ClientTask, ClientMove, ClientStep, Shape, Resolve, ResolveAll, Work, Start, Crash, Take, no_shape, client_step, is_cut_off, kept_out}
+use Rattle.conflicts.specs.declared.stored.Stored.{Stored}
+use Rattle.table_model.specs.declared.event.Event.TheVariants as events
 use Rattle.table_model.specs.declared.line.RowPair.{RowPair}
 use Rattle.step_tables.specs.Facts.{PairLine}
 use Rattle.step_tables.specs.Facts as facts
@@ -17,6 +19,7 @@ use Rattle.step_tables.proofs.Lists.{lookup-insert_nat}
 use Rattle.world_tables.specs.World.{World, WorldStep, Packet, Outbox, Moved, client_at, is_down, is_cut, has_node, still, and_then, failing, packets_from, answering, answered, refused, unless_down, reads, unless_kept, unless_cut, is_resolving}
 use Rattle.world_tables.specs.World.{move_client, move_there, client_works, client_tasks, client_until_idle, client_follows, client_follows_from, gets_tasks, client_writes, client_falls, client_crashes, client_starts}
 use Rattle.world_tables.specs.World.{starts_by, listed, first_luck, other_lucks, crash_luck, next_write, calls, call, call_there, to_there, worked, all_worked, crashed, started, linked, with_link}
+use Rattle.world_tables.specs.World.{Lucks, and_unless, chosen_of, client_pairs, first_shape, other_shapes, plan_size, resolve_all, resolve_by, resolve_each, step}
 use Rattle.world_steps.specs.Outs.{packets_of}
 use Rattle.world_steps.proofs.Going.{packets_join}
 
@@ -216,6 +219,56 @@ listed_keeps w s pairs k counted = let same = listed_as s s.answer refl in recor
   clients = λ q. ap (λ (x : World). is_some (client_at x q)) same.0 ∙ k.clients q;
   counted = counted;
 }
+
+-- ---- all conflicts of a table
+
+unless_then_keeps : (w : World) (m : Moved) (f : World → Moved) → KeepsMoved w m → KeepsMoved m.world (f m.world) → KeepsMoved w (and_unless m f)
+unless_then_keeps w m f a b = go m.failed
+  where
+    go : (failed : Bool) → KeepsMoved w (if failed then m else and_then m f)
+    go true = a
+    go false = then_keeps w m f a b
+
+resolve_by_keeps : (c table : ℕ) (way : Stored) (shape : Shape) (pair : RowPair) (luck : Luck) (w : World) → KeepsMoved w (resolve_by c table way shape pair luck w)
+resolve_by_keeps c table way shape pair messages.Done w = move_keeps w c (Resolve table pair.row pair.version (chosen_of way pair.row (client_at w c) table)) shape
+resolve_by_keeps c table way shape pair messages.FailedBefore w = failing_keeps w (client_falls c w) (move_keeps w c (Crash messages.FailedBefore) no_shape)
+resolve_by_keeps c table way shape pair messages.FailedAfter w = failing_keeps w (client_falls c w) (move_keeps w c (Crash messages.FailedBefore) no_shape)
+
+resolve_each_keeps : (c table : ℕ) (way : Stored) (shapes : List Shape) (lucks : List Luck) (pairs : List RowPair) (w : World) → KeepsMoved w (resolve_each c table way shapes lucks pairs w)
+resolve_each_keeps c table way shapes lucks [] w = still_keeps w
+resolve_each_keeps c table way shapes lucks (pair ∷ pairs) w =
+    let first : Moved = resolve_by c table way (first_shape shapes) pair (first_luck lucks) w in
+    let all : Moved = and_unless first (client_until_idle c (other_lucks lucks)) in
+    let more : List Luck = drop (1 + plan_size c first.world) lucks in
+    unless_then_keeps w all (resolve_each c table way (other_shapes shapes) more pairs)
+    (unless_then_keeps w first (client_until_idle c (other_lucks lucks)) (resolve_by_keeps c table way (first_shape shapes) pair (first_luck lucks) w) (until_idle_keeps c (other_lucks lucks) first.world))
+    (resolve_each_keeps c table way (other_shapes shapes) more pairs all.world)
+
+pub resolve_all_keeps : (w : World) (c table : ℕ) (way : Stored) (lucks : Lucks) → Keeps w (step w (events.ResolveAll c table way) lucks)
+resolve_all_keeps w c table way lucks = go s.answer refl
+  where
+    s : WorldStep
+    s = call w c (ResolveAll table way) lucks.shape lucks.calls
+
+    more : List Luck
+    more = other_lucks lucks.calls
+
+    k : Keeps w s
+    k = call_keeps w c (ResolveAll table way) lucks.shape lucks.calls
+
+    go : (o : Option facts.Answer) → s.answer ≡ o → Keeps w (resolve_all w c table way lucks.shapes more s)
+    go None is = rw is k
+    go (Some facts.Done) is = rw is k
+    go (Some (facts.Number number)) is = rw is
+        (answering_keeps w (facts.Number number) (resolve_each c table way lucks.shapes more (client_pairs (client_at w c) table) w)
+        (resolve_each_keeps c table way lucks.shapes more (client_pairs (client_at w c) table) w))
+    go (Some (facts.Shows what)) is = rw is k
+    go (Some (facts.Sums sum)) is = rw is k
+    go (Some (facts.Stores version content)) is = rw is k
+    go (Some (facts.Did step)) is = rw is k
+    go (Some (facts.Names names)) is = rw is k
+    go (Some (facts.Pairs pairs)) is = rw is k
+    go (Some (facts.Refuses refusal)) is = rw is k
 
 -- ---- a crash is answered as done
 

@@ -1,9 +1,10 @@
 -- A call of the world as a step, and the faults that come of it.
-use Rattle.std.proofs.Common.{◌≡◌, ◌≢◌, ◌⊎◌, ⊎_elim, ℕ, suc, List, [], ◌∷◌, Option, Result, Ok, Err, refl, sym, ◌∙◌, ap, subst, arith, Bool}
+use Rattle.std.proofs.Common.{◌≡◌, ◌≢◌, ◌⊎◌, ⊎_elim, ℕ, suc, ◌+◌, ◌≤◌, List, [], ◌∷◌, Option, Result, Ok, Err, refl, sym, ◌∙◌, ap, subst, arith, Bool}
 use Rattle.std.specs.Prelude.{IfOk, IfErr}
 use Rattle.disk_trait.specs.Calls.{DiskState, IsCounted}
 use Rattle.stab_base.specs.declared.node.Node.{Node}
 use Rattle.stab_base.specs.declared.node.Node.TheVariants as nodes
+use Rattle.table_model.specs.declared.event.Event.{Event}
 use Rattle.table_model.specs.declared.event.Event.TheVariants as events
 use Rattle.table_model.specs.declared.line.TextLine.{TextLine}
 use Rattle.step_tables.specs.Members.{Among}
@@ -18,9 +19,10 @@ use Rattle.world_steps.specs.declared.fault.WorldFault.TheVariants.{Memory, Limi
 use Rattle.world_steps.specs.declared.world.World.{World}
 use Rattle.world_steps.specs.Places.{IsPlace, ArePlaces}
 use Rattle.world_steps.specs.Holds.{Holds, IsWorld, AreOut}
-use Rattle.world_steps.specs.Steps.{HavePlansBelow, IsStep}
+use Rattle.world_steps.specs.Steps.{HavePlansBelow, IsStep, may_begin}
 use Rattle.world_steps.proofs.Rows.{over_first, stay_over}
 use Rattle.fair_laws.specs.Reached.{IsReached}
+use Rattle.world_laws.specs.Begun.{IsSingle}
 use Rattle.fair_laws.specs.Worlds.{IsFair}
 use Rattle.fair_laws.proofs.Worlds.{reached_fair}
 use Rattle.journal_host.specs.declared.host.ClientHost.{ClientHost}
@@ -81,6 +83,19 @@ pub plans_kept : {D : Type 0} (state : D → DiskState) (n : ℕ) (old new : Wor
 plans_kept {D} state n old new same k =
     subst (λ (host : ClientHost D). hosts.HavePlansBelow state (suc n) host.clients) (sym same) (plans_later state n old k)
 
+-- one at most, and one at least
+pub one_begun : {D : Type 0} (state : D → DiskState) (w : moves.World) (event : Event) (n : ℕ) (world : World D) → may_begin w event ≡ 1 → HavePlansBelow state (suc n) world
+    → HavePlansBelow state (may_begin w event + n) world
+one_begun state w event n world is k = λ c node at. let few = k c node at in λ declared. let most = few declared in omega (arith, most, is)
+
+may_begin_one : (w : moves.World) (event : Event) → 1 ≤ may_begin w event
+may_begin_one w (events.ResolveAll c table by) = omega arith
+may_begin_one w other = omega arith
+
+pub least_begun : {D : Type 0} (state : D → DiskState) (w : moves.World) (event : Event) (n : ℕ) (world : World D) → HavePlansBelow state n world
+    → HavePlansBelow state (may_begin w event + n) world
+least_begun state w event n world k = λ c node at. let few = k c node at in λ declared. let most = few declared in let one = may_begin_one w event in omega (arith, most, one)
+
 -- ---- worlds
 
 pub fair_there : {D : Type 0} (state : D → DiskState) (is_out : ℕ → Bool) (world : World D) → IsWorld state is_out world → (w : moves.World) × Holds state w world × IsFair w
@@ -117,3 +132,18 @@ module _ (result : Result (List TextLine) WorldFault) where
       go : (r : Result (List TextLine) WorldFault) → IfErr r (λ e. e ≡ Memory) → IfErr r (λ e. e ≢ Depot)
       go (Ok lines) k = tt
       go (Err e) k = λ is. let both : Memory ≡ Depot = sym k ∙ is in absurd cc
+
+  -- a world is left as it was behind any other event than one of many plans, and where a disk can't be had
+  pub left_if : (B : Type 0) (event : Event) → IfErr result (λ e. e ≢ Memory → B) → IfErr result (λ e. e ≢ Memory → IsSingle event ⊎ (e ≡ Depot) → B)
+  left_if B event k = go result k
+    where
+      go : (r : Result (List TextLine) WorldFault) → IfErr r (λ e. e ≢ Memory → B) → IfErr r (λ e. e ≢ Memory → IsSingle event ⊎ (e ≡ Depot) → B)
+      go (Ok lines) k = tt
+      go (Err e) k = λ no either. k no
+
+  pub never_single : (B : Type 0) (event : Event) → (IsSingle event → ⊥) → IfErr result (λ e. e ≢ Depot) → IfErr result (λ e. e ≢ Memory → IsSingle event ⊎ (e ≡ Depot) → B)
+  never_single B event many k = go result k
+    where
+      go : (r : Result (List TextLine) WorldFault) → IfErr r (λ e. e ≢ Depot) → IfErr r (λ e. e ≢ Memory → IsSingle event ⊎ (e ≡ Depot) → B)
+      go (Ok lines) k = tt
+      go (Err e) k = λ no either. absurd (⊎_elim many k either)

@@ -1,16 +1,17 @@
 -- What a step of the world promises.
-use Rattle.std.specs.Prelude.{◌≡◌, ◌⊎◌, ℕ, ◌<◌, ◌≤◌, Bool, true, false, List, map, length, Some}
+use Rattle.std.specs.Prelude.{◌≡◌, ◌⊎◌, ℕ, suc, ◌+◌, ◌<◌, ◌≤◌, Bool, true, false, List, map, length, Some}
 use Rattle.disk_trait.specs.Calls.{DiskState}
 use Rattle.stab_base.specs.declared.limits.TheConstants.{NUMBER_MAX}
 use Rattle.table_model.specs.declared.event.Event.{Event}
 use Rattle.table_model.specs.declared.event.Event.TheVariants as events
 use Rattle.table_model.specs.declared.line.TextLine.{TextLine}
 use Rattle.step_tables.specs.Lines.{line_of}
-use Rattle.world_tables.specs.World.{Lucks, step, lines_of, hosted_at, client_at}
+use Rattle.world_tables.specs.World.{Lucks, step, lines_of, hosted_at, client_at, client_pairs}
 use Rattle.world_tables.specs.World as moves
 use Rattle.world_tables.specs.Faults.{is_device_fault}
 use Rattle.journal_host.specs.Calls.{IsLast}
 use Rattle.journal_host.specs.Holds as clients
+use Rattle.client_events.specs.Resolves.{IsLastWithin}
 use Rattle.world_steps.specs.declared.world.World.{World}
 use Rattle.world_steps.specs.Holds.{Holds, AreOut}
 use Rattle.world_steps.specs.Faults.{all_faults}
@@ -49,6 +50,15 @@ pub record IsFull (w : moves.World) : Type 0 where
 abbrev pub SpendsNumber : ℕ → moves.World → ℕ → Type 0
 SpendsNumber n w c = IsLast (client_at w c) ⊎ (NUMBER_MAX ≤ n)
 
+-- with so many writes more a client has made its last one, or with so many plans more so many were begun
+abbrev pub SpendsWithin : ℕ → ℕ → moves.World → ℕ → Type 0
+SpendsWithin n count w c = IsLastWithin count (client_at w c) ⊎ (NUMBER_MAX ≤ n + count)
+
+-- how many plans an event may begin: where all conflicts of a table are resolved, one for each of them and one more
+abbrev pub may_begin : moves.World → Event → ℕ
+may_begin w (events.ResolveAll client table by) = suc (length (client_pairs (client_at w client) table))
+may_begin w other = 1
+
 -- A number of a write or of a plan, or a version, above the last would be needed, where so many plans were begun.
 abbrev pub Spends : ℕ → moves.World → Event → Type 0
 Spends n w (events.Write client table row content) = SpendsNumber n w client
@@ -61,5 +71,7 @@ Spends n w (events.BeginCr client table) = SpendsNumber n w client
 Spends n w (events.Conflicts client table) = SpendsNumber n w client
 Spends n w (events.EndCr client table) = SpendsNumber n w client
 Spends n w (events.Resolve client table row seen choice) = SpendsNumber n w client
+Spends n w (events.ResolveAll client table by) =
+    SpendsWithin n (length (client_pairs (client_at w client) table)) w client
 Spends n w (events.Deliver packet) = IsFull w ⊎ ((c : ℕ) × SpendsNumber n w c)
 Spends n w other = ⊥

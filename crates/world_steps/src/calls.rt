@@ -1,5 +1,5 @@
 //! The calls of clients.
-ghost use Rattle.std.specs.Prelude.{◌≡◌, ◌≢◌, ◌⊎◌, ℕ, suc, Ok, Err, IfOk, IfErr};
+ghost use Rattle.std.specs.Prelude.{◌≡◌, ◌≢◌, ◌⊎◌, ℕ, ◌+◌, suc, Ok, Err, IfOk, IfErr};
 ghost use Rattle.step_tables.specs.Lines.{answer_of};
 ghost use Rattle.table_model.specs.declared.line.Answer.{Answer as AnAnswer};
 ghost use Rattle.table_model.specs.declared.event.Event.TheVariants as events;
@@ -12,11 +12,12 @@ ghost use Rattle.world_steps.specs.declared.fault.WorldFault.TheVariants.{Depot 
 ghost use Rattle.world_steps.specs.Calls.{Comes, HasToldPairs, HasToldClients, by_lucks};
 ghost use Rattle.world_steps.specs.Faults.{AreCounted};
 ghost use Rattle.world_steps.specs.Holds.{Holds};
-ghost use Rattle.world_steps.specs.Steps.{HavePlansBelow, IsStill, SpendsNumber};
+ghost use Rattle.world_steps.specs.Steps.{HavePlansBelow, IsStill, Spends, SpendsNumber, may_begin};
 
 use crate::fault::WorldFault;
 use crate::world::{Lines, World};
-use client_events::{call, conflicts};
+use client_events::{call, conflicts, resolve_all};
+use conflicts::Stored;
 use disk_trait::Disk;
 use journal_host::{Ask, ClientFault};
 use row_value::{ClientNo, Sequence, TableNo};
@@ -90,6 +91,29 @@ impl<D: Disk + Drop> World<D> {
         let mut pairs = Sequence::new(self.alloc);
         let found = conflicts(&mut self.clients, client, table, &mut pairs);
         self.end_pairs(found, pairs)
+    }
+
+    /// A client resolves all conflicts of a table in one way.
+    pub(crate) fn resolve_all(
+        &mut self,
+        client: ClientNo,
+        table: TableNo,
+        by: Stored,
+    ) -> Result<Lines, WorldFault>
+        requires held { (w : AWorld) × Holds D.state w self.old }
+        ensures done { (w : AWorld) → Holds D.state w self.old
+            → Comes D.state w (step w (events.ResolveAll client table by)) result self.new }
+        ensures counted { AreCounted D.state result self.old self.new }
+        ensures store { self.new.store ≡ self.old.store }
+        ensures limit { (w : AWorld) (n : ℕ) → Holds D.state w self.old → HavePlansBelow D.state n self.old
+            → IfErr result (λ e. (code count : ℕ) → e ≡ LimitPassed code count
+            → (code ≡ 11) × Spends n w (events.ResolveAll client table by)) }
+        ensures plans { (w : AWorld) (n : ℕ) → Holds D.state w self.old → HavePlansBelow D.state n self.old
+            → HavePlansBelow D.state (may_begin w (events.ResolveAll client table by) + n) self.new }
+        ensures only { IfErr result (λ e. e ≢ DepotFailed) }
+    {
+        let found = resolve_all(self.alloc, &mut self.clients, client, table, by);
+        self.end(found)
     }
 
     /// A client is asked, and does the work that follows.

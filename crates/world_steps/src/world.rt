@@ -1,12 +1,13 @@
-ghost use Rattle.std.specs.Prelude.{◌≡◌, ◌≢◌, ℕ, suc, IfOk, IfErr};
+ghost use Rattle.std.specs.Prelude.{◌≡◌, ◌≢◌, ◌⊎◌, ℕ, ◌+◌, IfOk, IfErr};
 ghost use Rattle.world_tables.specs.World.{World as AWorld, start};
 ghost use Rattle.world_steps.specs.declared.fault.WorldFault.TheVariants.{Depot as DepotFailed, Memory};
 ghost use Rattle.world_steps.specs.declared.fault.WorldFault.TheVariants.{Limit as LimitPassed};
 ghost use Rattle.disk_trait.specs.Calls.{IsCounted};
 ghost use Rattle.fair_laws.specs.Reached.{IsReached, IsBuilt};
+ghost use Rattle.world_laws.specs.Begun.{IsSingle};
 ghost use Rattle.world_steps.specs.Holds.{Holds, IsWorld, AreOut};
 ghost use Rattle.world_steps.specs.Faults.{IsUndone};
-ghost use Rattle.world_steps.specs.Steps.{HavePlansBelow, IsStep, Spends};
+ghost use Rattle.world_steps.specs.Steps.{HavePlansBelow, IsStep, Spends, may_begin};
 
 use crate::asking::asked;
 use crate::fault::WorldFault;
@@ -57,8 +58,9 @@ impl<D: Disk + Drop> World<D> {
     /// 192+3(C-1), 192+3(C-1)+1 and 192+3(C-1)+2, for its journal, its slots and its chunks.
     ///
     /// `Limit` where a client has made its last write or has begun its last plan, or a table has given its last
-    /// version; `Depot` where the depot handed out no disk: either leaves the world as it was. What want of memory
-    /// leaves of it isn't said. Each ends the run.
+    /// version; `Depot` where the depot handed out no disk: either leaves the world as it was, but where all conflicts
+    /// of a table are resolved a limit leaves the rows before resolved. What want of memory leaves of it isn't said.
+    /// Each ends the run.
     pub fn step<P: Depot<Disk = D>>(
         &mut self,
         depot: &mut P,
@@ -72,9 +74,11 @@ impl<D: Disk + Drop> World<D> {
         ensures limit { (w : AWorld) (n : ℕ) → IsReached w → Holds D.state w self.old
             → HavePlansBelow D.state n self.old → IfErr result (λ e. (code count : ℕ) → e ≡ LimitPassed code count
             → (code ≡ 11) × Spends n w event.now) }
-        ensures plans { (n : ℕ) → HavePlansBelow D.state n self.old → HavePlansBelow D.state (suc n) self.new }
+        ensures plans { (w : AWorld) (n : ℕ) → IsReached w → Holds D.state w self.old
+            → HavePlansBelow D.state n self.old → HavePlansBelow D.state (may_begin w event.now + n) self.new }
         ensures left { (w : AWorld) → IsReached w → Holds D.state w self.old → AreOut (P.state depot.old).is_out w
-            → IfErr result (λ e. e ≢ Memory → IsUndone D.state w (P.state depot.new).is_out self.old self.new) }
+            → IfErr result (λ e. e ≢ Memory → IsSingle event.now ⊎ (e ≡ DepotFailed)
+            → IsUndone D.state w (P.state depot.new).is_out self.old self.new) }
         ensures depot { IsCounted DepotFailed (P.state depot.old).faults (P.state depot.new).faults result }
     {
         if let Some((client, ask)) = asked(event)? {
@@ -86,6 +90,7 @@ impl<D: Disk + Drop> World<D> {
             Event::Client { client, tables, .. } => self.join(depot, *client, tables.as_slice()),
             Event::Link { client, up } => self.link(*client, *up),
             Event::Conflicts { client, table } => self.conflicts(*client, *table),
+            Event::ResolveAll { client, table, by } => self.resolve_all(*client, *table, *by),
             Event::Deliver { packet } => self.deliver(*packet),
             Event::StoreShow { table, row } => self.store_show(*table, row),
             Event::History { table } => self.history(*table),
@@ -96,7 +101,7 @@ impl<D: Disk + Drop> World<D> {
             Event::WorkAll { node } => self.work_all(*node),
             Event::Crash { node, calls, pick } => self.crash(*node, *calls, *pick),
             Event::Start { node } => self.start(*node),
-            // Calls are made above, and no conflicts are resolved all at once.
+            // Calls are made above.
             _ => unreachable!(),
         }
     }

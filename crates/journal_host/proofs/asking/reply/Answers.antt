@@ -1,9 +1,11 @@
-use Rattle.std.proofs.Common.{refl}
+use Rattle.std.proofs.Common.{List, length, Some, refl}
 use Rattle.table_model.specs.declared.line.Answer.TheVariants as answers
+use Rattle.table_model.specs.declared.line.RowPair.{RowPair}
 use Rattle.step_tables.specs.ClientMoves as moves
 use Rattle.step_tables.specs.Facts as facts
 use Rattle.step_tables.specs.Travels.{message_of}
-use Rattle.journal_host.proofs.Replying.{replies, spent, drops}
+use Rattle.world_tables.specs.World.{chosen_of}
+use Rattle.journal_host.proofs.Replying.{replies, spent, drops, hands_over, is_chosen}
 use Rattle.journal_host.specs.Phases.{answer_in}
 use Rattle.journal_host.proofs.Phased.{keeps_moves}
 use Rattle.journal_host.proofs.asking.reply.Goals as goal
@@ -38,8 +40,60 @@ returns-in-Deliver-clause-spent g c s t fits last is =
     ((c.deliver.ensures.takes s t).taken fit) last is
 
 pub returns-in-Ask-clause-phases : goal.returns-in-Ask-clause-phases
-returns-in-Ask-clause-phases g c = rw c.in-Ask.is c.answer.ensures.phases
+returns-in-Ask-clause-phases g c s = rw c.in-Ask.is c.answer.ensures.phases
 
 pub returns-in-Deliver-clause-phases : goal.returns-in-Deliver-clause-phases
-returns-in-Deliver-clause-phases g c = rw c.in-Deliver.is
+returns-in-Deliver-clause-phases g c s = rw c.in-Deliver.is
     (keeps_moves c.args.node.now c.deliver.new.self (moves.Take (message_of c.in-Deliver.message)) (answer_in c.done.result) (λ phase table. refl) c.deliver.ensures.phases)
+
+pub returns-in-Resolvable-clause-made : goal.returns-in-Resolvable-clause-made
+returns-in-Resolvable-clause-made g c s t fits = rw c.in-Resolvable.is
+    (replies g.D.Disk.state g.D.Disk.images s c.args.node.now c.resolvable.new.self (moves.ResolveAll c.in-Resolvable.table c.in-Resolvable.by) (λ (pairs : List RowPair). facts.Number (length pairs))
+    (λ (pairs : List RowPair). answers.Number (length pairs)) (λ x. refl) c.resolvable.result c.counted.result c.counted.ensures.answer (c.resolvable.ensures.does s t))
+
+pub returns-in-Resolvable-clause-dropped : goal.returns-in-Resolvable-clause-dropped
+returns-in-Resolvable-clause-dropped g c s t unfit = let bad = rw c.in-Resolvable.is at unfit in absurd (bad tt)
+
+pub returns-in-Resolvable-clause-spent : goal.returns-in-Resolvable-clause-spent
+returns-in-Resolvable-clause-spent g c s t fits last is =
+    spent g.D.Disk.state g.D.Disk.images s c.args.node.now c.resolvable.new.self (moves.ResolveAll c.in-Resolvable.table c.in-Resolvable.by) (λ (pairs : List RowPair). facts.Number (length pairs))
+    (λ (pairs : List RowPair). answers.Number (length pairs)) (λ x. refl) c.resolvable.result c.counted.result c.counted.ensures.answer (c.resolvable.ensures.does s t) last is
+
+pub returns-in-Resolvable-clause-pairs : goal.returns-in-Resolvable-clause-pairs
+returns-in-Resolvable-clause-pairs g c s count t is = rw c.in-Resolvable.is
+    (hands_over g.D.Disk.state g.D.Disk.images s c.in-Resolvable.table c.in-Resolvable.by c.args.node.now c.resolvable.new.self c.resolvable.result c.counted.result c.counted.ensures.answer
+    (c.resolvable.ensures.does s t) (c.resolvable.ensures.pairs s t) c.counted.new.pairs c.counted.ensures.listed count is)
+
+pub returns-in-Resolvable-clause-phases : goal.returns-in-Resolvable-clause-phases
+returns-in-Resolvable-clause-phases g c s = rw c.in-Resolvable.is
+    (keeps_moves c.args.node.now c.resolvable.new.self (moves.ResolveAll c.in-Resolvable.table c.in-Resolvable.by) (answer_in c.counted.result) (λ phase table. refl) c.resolvable.ensures.phases)
+
+pub returns-in-ResolveBy-clause-made : goal.returns-in-ResolveBy-clause-made
+returns-in-ResolveBy-clause-made g c s t fits = rw c.in-ResolveBy.is
+    (replies g.D.Disk.state g.D.Disk.images s c.args.node.now c.resolve_by.new.self
+    (moves.Resolve c.in-ResolveBy.table c.in-ResolveBy.row c.in-ResolveBy.seen (chosen_of c.in-ResolveBy.by c.in-ResolveBy.row (Some s) c.in-ResolveBy.table)) facts.Number answers.Number (λ x. refl)
+    c.resolve_by.result c.numbered.result c.numbered.ensures (c.resolve_by.ensures.does s _ t (is_chosen c.in-ResolveBy.by c.in-ResolveBy.row s c.in-ResolveBy.table)))
+
+pub returns-in-ResolveBy-clause-dropped : goal.returns-in-ResolveBy-clause-dropped
+returns-in-ResolveBy-clause-dropped g c s t unfit = let bad = rw c.in-ResolveBy.is at unfit in absurd (bad tt)
+
+pub returns-in-ResolveBy-clause-spent : goal.returns-in-ResolveBy-clause-spent
+returns-in-ResolveBy-clause-spent g c s t fits last is =
+    spent g.D.Disk.state g.D.Disk.images s c.args.node.now c.resolve_by.new.self
+    (moves.Resolve c.in-ResolveBy.table c.in-ResolveBy.row c.in-ResolveBy.seen (chosen_of c.in-ResolveBy.by c.in-ResolveBy.row (Some s) c.in-ResolveBy.table)) facts.Number answers.Number (λ x. refl)
+    c.resolve_by.result c.numbered.result c.numbered.ensures (c.resolve_by.ensures.does s _ t (is_chosen c.in-ResolveBy.by c.in-ResolveBy.row s c.in-ResolveBy.table)) last is
+
+pub returns-in-ResolveBy-clause-pairs : goal.returns-in-ResolveBy-clause-pairs
+returns-in-ResolveBy-clause-pairs g c s count t is = rw c.in-ResolveBy.is tt
+
+pub returns-in-Ask-clause-pairs : goal.returns-in-Ask-clause-pairs
+returns-in-Ask-clause-pairs g c s count t is = rw c.in-Ask.is tt
+
+pub returns-in-Deliver-clause-pairs : goal.returns-in-Deliver-clause-pairs
+returns-in-Deliver-clause-pairs g c s count t is = rw c.in-Deliver.is tt
+
+pub returns-in-ResolveBy-clause-phases : goal.returns-in-ResolveBy-clause-phases
+returns-in-ResolveBy-clause-phases g c s = rw c.in-ResolveBy.is
+    (keeps_moves c.args.node.now c.resolve_by.new.self
+    (moves.Resolve c.in-ResolveBy.table c.in-ResolveBy.row c.in-ResolveBy.seen (chosen_of c.in-ResolveBy.by c.in-ResolveBy.row s c.in-ResolveBy.table)) (answer_in c.numbered.result) (λ phase table. refl)
+    c.resolve_by.ensures.phases)

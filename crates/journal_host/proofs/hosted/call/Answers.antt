@@ -53,7 +53,13 @@ pub returns-clause-plans : goal.returns-clause-plans
 returns-clause-plans g c n below = next_below g.D.Disk.state n c.args.node.now below
 
 pub returns-then-is_up-clause-phases : goal.returns-then-is_up-clause-phases
-returns-then-is_up-clause-phases g c = c.call_up.ensures.phases
+returns-then-is_up-clause-phases g c s = c.call_up.ensures.phases s
 
 pub returns-clause-phases : goal.returns-clause-phases
-returns-clause-phases g c up table = sym (refusal_leaves (asked_by c.args.request) (facts.NodeDown (nodes.Client c.args.client)) (is_open c.args.node.now) table)
+returns-clause-phases g c s up table = sym (refusal_leaves (asked_by s c.args.request) (facts.NodeDown (nodes.Client c.args.client)) (is_open c.args.node.now) table)
+
+pub returns-then-is_up-clause-pairs : goal.returns-then-is_up-clause-pairs
+returns-then-is_up-clause-pairs g c cut s count h is = c.call_up.ensures.pairs cut s count h is
+
+pub returns-clause-pairs : goal.returns-clause-pairs
+returns-clause-pairs g c cut s count h is = absurd cc

@@ -1,9 +1,9 @@
-use Rattle.std.proofs.Common.{suc, List, Some, ap, sym, subst}
+use Rattle.std.proofs.Common.{suc, List, Some, ap, sym, ◌∙◌, subst}
 use Rattle.std.proofs.lemmas.Result.{err_from_is_err_and}
 use Rattle.journal_host.specs.declared.out.ClientOut.{ClientOut}
 use Rattle.journal_host.specs.Holds.{outs_in}
 use Rattle.journal_host.specs.Steps.{HasTold}
-use Rattle.journal_host.proofs.Replying.{fits_or}
+use Rattle.journal_host.proofs.Replying.{fits_or, number_was}
 use Rattle.journal_host.proofs.Hosting.{call_made, call_dropped, call_kept, call_cause, spent_so, either_way, either_plans}
 use Rattle.client_node.proofs.PlanNumbers.{next_below, spent_plans}
 use Rattle.client_node.specs.Phases.{is_open}
@@ -71,10 +71,18 @@ returns-clause-plans g c n below =
     (λ unfit. c.reply-found.ensures.dropped a.0 a.1 unfit)) n below)
 
 pub returns-in_err-reserve-clause-phases : goal.returns-in_err-reserve-clause-phases
-returns-in_err-reserve-clause-phases g c =
+returns-in_err-reserve-clause-phases g c s =
     let p = err_from_is_err_and c.from_residual.result c.from_residual.ensures.1 in
-    rw p.1 (λ up table. sym (refusal_leaves (asked_by c.args.request) facts.NoDevice (is_open c.args.node.now) table))
+    rw p.1 (λ up table. sym (refusal_leaves (asked_by s c.args.request) facts.NoDevice (is_open c.args.node.now) table))
 
 pub returns-clause-phases : goal.returns-clause-phases
-returns-clause-phases g c =
-    rw c.answered.ensures (answered_moves c.args.node.now c.tell.new.node c.reply-found.new.node (asked_by c.args.request) c.reply-found.result c.tell.ensures.phases c.tell.ensures.up c.reply-found.ensures.phases)
+returns-clause-phases g c s =
+    rw c.answered.ensures (answered_moves c.args.node.now c.tell.new.node c.reply-found.new.node (asked_by s c.args.request) c.reply-found.result c.tell.ensures.phases c.tell.ensures.up (c.reply-found.ensures.phases s))
+
+pub returns-in_err-reserve-clause-pairs : goal.returns-in_err-reserve-clause-pairs
+returns-in_err-reserve-clause-pairs g c cut s count h is =
+    let p = err_from_is_err_and c.from_residual.result c.from_residual.ensures.1 in
+    absurd (let bad = sym p.1 ∙ is in cc)
+
+pub returns-clause-pairs : goal.returns-clause-pairs
+returns-clause-pairs g c cut s count h is = c.reply-found.ensures.pairs s count h.client (number_was c.reply-found.result count (sym c.answered.ensures ∙ is))

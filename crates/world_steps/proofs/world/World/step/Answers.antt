@@ -1,4 +1,4 @@
-use Rattle.std.proofs.Common.{◌≡◌, ℕ, false, refl, sym, ◌∙◌, subst}
+use Rattle.std.proofs.Common.{◌≡◌, ℕ, ◌+◌, false, refl, sym, ◌∙◌, subst}
 use Rattle.std.specs.Prelude.{IfOk, IfErr}
 use Rattle.table_model.specs.declared.event.Event.{Event}
 use Rattle.table_model.specs.declared.event.Event.TheVariants as events
@@ -9,15 +9,16 @@ use Rattle.world_tables.specs.Passed.{first_part}
 use Rattle.world_tables.specs.World.{Lucks, step, call}
 use Rattle.journal_host.specs.Asks.{move_of}
 use Rattle.fair_laws.specs.Reached.{IsBuilt}
+use Rattle.world_laws.specs.Begun.{IsSingle}
 use Rattle.fair_laws.proofs.Worlds.{reached_fair}
 use Rattle.world_steps.specs.declared.fault.WorldFault.TheVariants.{Limit as LimitPassed}
 use Rattle.world_steps.specs.Calls.{Comes, by_lucks}
 use Rattle.world_steps.specs.Faults.{ComesCounted}
 use Rattle.world_steps.specs.Rows.{ComesLeft}
-use Rattle.world_steps.specs.Steps.{IsStep, Spends}
+use Rattle.world_steps.specs.Steps.{HavePlansBelow, IsStep, Spends, may_begin}
 use Rattle.world_steps.proofs.Counted.{stepped, stepped_first, stepped_still, stepped_counted, never_left, left_still}
 use Rattle.world_steps.proofs.Rows.{Stays, any_ok, none_left, stay_left, stay_still, stay_taken}
-use Rattle.world_steps.proofs.Stepping.{nothing_done, memory_limit, either_limit, other_counted, memory_other, places, fair_there, nodes_same, joins_as, plans_later, plans_kept}
+use Rattle.world_steps.proofs.Stepping.{nothing_done, memory_limit, either_limit, other_counted, memory_other, places, fair_there, nodes_same, joins_as, plans_later, plans_kept, one_begun, least_begun, left_if, never_single}
 use Rattle.world_steps.proofs.Done.{comes_as}
 use Rattle.world_steps.proofs.AsCalls.{as_call, spent_limit}
 use Rattle.world_steps.proofs.world.World.step.Goals as goal
@@ -37,15 +38,18 @@ returns-in-Some-clause-limit g c w n r h k =
 
 pub returns-in-Some-clause-left : goal.returns-in-Some-clause-left
 returns-in-Some-clause-left g c w r h out =
-    left_still g.D.Disk.state w c.args.event.now (g.P.Depot.state c.args.depot.now).is_out c.args.self.now c.call.new.self c.call.result out (c.call.ensures.left w h)
+    left_if c.call.result _ c.args.event.now
+    (left_still g.D.Disk.state w c.args.event.now (g.P.Depot.state c.args.depot.now).is_out c.args.self.now c.call.new.self c.call.result out (c.call.ensures.left w h))
 
 pub returns-in-Some-clause-depot : goal.returns-in-Some-clause-depot
 returns-in-Some-clause-depot g c =
     other_counted c.call.result c.call.ensures.only (g.P.Depot.state c.args.depot.now).faults
 
 pub returns-in-Some-clause-plans : goal.returns-in-Some-clause-plans
-returns-in-Some-clause-plans g c n k =
-    c.call.ensures.plans n k
+returns-in-Some-clause-plans g c w n r h k =
+    let is = as_call c.args.event.now c.in-Some.client c.in-Some.ask (sym c.in_ok-client.ensures.asked ∙ c.in-Some.is) in
+    one_begun g.D.Disk.state w c.args.event.now n c.call.new.self (is.begins w)
+    (c.call.ensures.plans n k)
 
 pub returns-in-Store-clause-done : goal.returns-in-Store-clause-done
 returns-in-Store-clause-done g c w r h out =
@@ -54,8 +58,9 @@ returns-in-Store-clause-done g c w r h out =
     (none_left g.D.Disk.state g.D.Disk.images g.met.D.Disk.only_now w c.args.self.now.store h.store))
 
 pub returns-in-Store-clause-plans : goal.returns-in-Store-clause-plans
-returns-in-Store-clause-plans g c n k =
-    plans_later g.D.Disk.state n c.args.self.now k
+returns-in-Store-clause-plans g c w n r h k =
+    one_begun g.D.Disk.state w c.args.event.now n c.args.self.now (subst (λ (e : Event). may_begin w e ≡ 1) (sym c.in-Store.is) refl)
+    (plans_later g.D.Disk.state n c.args.self.now k)
 
 pub declare-requires-clause-made : goal.declare-requires-clause-made
 declare-requires-clause-made g c =
@@ -76,11 +81,13 @@ returns-in-Table-clause-limit g c w n r h k =
 
 pub returns-in-Table-clause-left : goal.returns-in-Table-clause-left
 returns-in-Table-clause-left g c w r h out =
-    c.declare.ensures.left w h out
+    left_if c.declare.result _ c.args.event.now
+    (c.declare.ensures.left w h out)
 
 pub returns-in-Table-clause-plans : goal.returns-in-Table-clause-plans
-returns-in-Table-clause-plans g c n k =
-    plans_kept g.D.Disk.state n c.args.self.now c.declare.new.self c.declare.ensures.clients k
+returns-in-Table-clause-plans g c w n r h k =
+    one_begun g.D.Disk.state w c.args.event.now n c.declare.new.self (subst (λ (e : Event). may_begin w e ≡ 1) (sym c.in-Table.is) refl)
+    (plans_kept g.D.Disk.state n c.args.self.now c.declare.new.self c.declare.ensures.clients k)
 
 pub join-requires-clause-numbered : goal.join-requires-clause-numbered
 join-requires-clause-numbered g c =
@@ -101,11 +108,13 @@ returns-in-Client-clause-limit g c w n r h k =
 
 pub returns-in-Client-clause-left : goal.returns-in-Client-clause-left
 returns-in-Client-clause-left g c w r h out =
-    c.join.ensures.left w h out
+    left_if c.join.result _ c.args.event.now
+    (c.join.ensures.left w h out)
 
 pub returns-in-Client-clause-plans : goal.returns-in-Client-clause-plans
-returns-in-Client-clause-plans g c n k =
-    plans_later g.D.Disk.state n c.join.new.self (c.join.ensures.plans n k)
+returns-in-Client-clause-plans g c w n r h k =
+    one_begun g.D.Disk.state w c.args.event.now n c.join.new.self (subst (λ (e : Event). may_begin w e ≡ 1) (sym c.in-Client.is) refl)
+    (plans_later g.D.Disk.state n c.join.new.self (c.join.ensures.plans n k))
 
 pub returns-in-Link-clause-done : goal.returns-in-Link-clause-done
 returns-in-Link-clause-done g c w r h out =
@@ -122,15 +131,17 @@ returns-in-Link-clause-limit g c w n r h k =
 
 pub returns-in-Link-clause-left : goal.returns-in-Link-clause-left
 returns-in-Link-clause-left g c w r h out =
-    never_left g.D.Disk.state w c.args.event.now (g.P.Depot.state c.args.depot.now).is_out c.args.self.now c.link.new.self c.link.result out c.link.ensures.memory
+    left_if c.link.result _ c.args.event.now
+    (never_left g.D.Disk.state w c.args.event.now (g.P.Depot.state c.args.depot.now).is_out c.args.self.now c.link.new.self c.link.result out c.link.ensures.memory)
 
 pub returns-in-Link-clause-depot : goal.returns-in-Link-clause-depot
 returns-in-Link-clause-depot g c =
     other_counted c.link.result (memory_other c.link.result c.link.ensures.memory) (g.P.Depot.state c.args.depot.now).faults
 
 pub returns-in-Link-clause-plans : goal.returns-in-Link-clause-plans
-returns-in-Link-clause-plans g c n k =
-    plans_later g.D.Disk.state n c.link.new.self (c.link.ensures.plans n k)
+returns-in-Link-clause-plans g c w n r h k =
+    one_begun g.D.Disk.state w c.args.event.now n c.link.new.self (subst (λ (e : Event). may_begin w e ≡ 1) (sym c.in-Link.is) refl)
+    (plans_later g.D.Disk.state n c.link.new.self (c.link.ensures.plans n k))
 
 pub returns-in-Conflicts-clause-done : goal.returns-in-Conflicts-clause-done
 returns-in-Conflicts-clause-done g c w r h out =
@@ -147,15 +158,45 @@ returns-in-Conflicts-clause-limit g c w n r h k =
 
 pub returns-in-Conflicts-clause-left : goal.returns-in-Conflicts-clause-left
 returns-in-Conflicts-clause-left g c w r h out =
-    left_still g.D.Disk.state w c.args.event.now (g.P.Depot.state c.args.depot.now).is_out c.args.self.now c.conflicts.new.self c.conflicts.result out (c.conflicts.ensures.left w h)
+    left_if c.conflicts.result _ c.args.event.now
+    (left_still g.D.Disk.state w c.args.event.now (g.P.Depot.state c.args.depot.now).is_out c.args.self.now c.conflicts.new.self c.conflicts.result out (c.conflicts.ensures.left w h))
 
 pub returns-in-Conflicts-clause-depot : goal.returns-in-Conflicts-clause-depot
 returns-in-Conflicts-clause-depot g c =
     other_counted c.conflicts.result c.conflicts.ensures.only (g.P.Depot.state c.args.depot.now).faults
 
 pub returns-in-Conflicts-clause-plans : goal.returns-in-Conflicts-clause-plans
-returns-in-Conflicts-clause-plans g c n k =
-    c.conflicts.ensures.plans n k
+returns-in-Conflicts-clause-plans g c w n r h k =
+    one_begun g.D.Disk.state w c.args.event.now n c.conflicts.new.self (subst (λ (e : Event). may_begin w e ≡ 1) (sym c.in-Conflicts.is) refl)
+    (c.conflicts.ensures.plans n k)
+
+pub returns-in-ResolveAll-clause-done : goal.returns-in-ResolveAll-clause-done
+returns-in-ResolveAll-clause-done g c w r h out =
+    stepped g.D.Disk.state g.D.Disk.images w c.args.event.now (g.P.Depot.state c.args.depot.now).is_out c.args.self.now c.resolve_all.new.self c.resolve_all.result out
+    (subst (λ (e : Event). is_declaration e ≡ false) (sym c.in-ResolveAll.is) refl)
+    (subst (λ (e : Event). (lucks : Lucks) → is_device_fault w e lucks ≡ is_fault_answer (step w e lucks).answer) (sym c.in-ResolveAll.is) (λ lucks. refl))
+    (subst (λ (e : Event). Comes g.D.Disk.state w (step w e) c.resolve_all.result c.resolve_all.new.self) (sym c.in-ResolveAll.is) (c.resolve_all.ensures.done w h))
+    c.resolve_all.ensures.counted
+    (stay_still g.D.Disk.state g.D.Disk.images w r c.args.event.now c.resolve_all.result c.args.self.now c.resolve_all.new.self g.met.D.Disk.only_now h (any_ok c.resolve_all.result _ c.resolve_all.ensures.store))
+
+pub returns-in-ResolveAll-clause-limit : goal.returns-in-ResolveAll-clause-limit
+returns-in-ResolveAll-clause-limit g c w n r h k =
+    subst (λ (e : Event). IfErr c.resolve_all.result (λ f. (code count : ℕ) → f ≡ LimitPassed code count → (code ≡ 11) × Spends n w e)) (sym c.in-ResolveAll.is) (c.resolve_all.ensures.limit w n h k)
+
+pub returns-in-ResolveAll-clause-left : goal.returns-in-ResolveAll-clause-left
+returns-in-ResolveAll-clause-left g c w r h out =
+    never_single c.resolve_all.result _ c.args.event.now (λ single. subst IsSingle c.in-ResolveAll.is single) c.resolve_all.ensures.only
+
+pub returns-in-ResolveAll-clause-depot : goal.returns-in-ResolveAll-clause-depot
+returns-in-ResolveAll-clause-depot g c =
+    other_counted c.resolve_all.result c.resolve_all.ensures.only (g.P.Depot.state c.args.depot.now).faults
+
+pub returns-in-ResolveAll-clause-plans : goal.returns-in-ResolveAll-clause-plans
+returns-in-ResolveAll-clause-plans g c w n r h k =
+    subst (λ (e : Event). HavePlansBelow g.D.Disk.state (may_begin w e + n) c.resolve_all.new.self) (sym c.in-ResolveAll.is) (c.resolve_all.ensures.plans w n h k)
+
+pub returns-in_err-client-clause-plans : goal.returns-in_err-client-clause-plans
+returns-in_err-client-clause-plans g c w n r h k = least_begun g.D.Disk.state w c.args.event.now n c.args.self.now k
 
 pub deliver-requires : goal.deliver-requires
 deliver-requires g c =
@@ -177,15 +218,17 @@ returns-in-Deliver-clause-limit g c w n r h k =
 
 pub returns-in-Deliver-clause-left : goal.returns-in-Deliver-clause-left
 returns-in-Deliver-clause-left g c w r h out =
-    left_still g.D.Disk.state w c.args.event.now (g.P.Depot.state c.args.depot.now).is_out c.args.self.now c.deliver.new.self c.deliver.result out (c.deliver.ensures.left w h)
+    left_if c.deliver.result _ c.args.event.now
+    (left_still g.D.Disk.state w c.args.event.now (g.P.Depot.state c.args.depot.now).is_out c.args.self.now c.deliver.new.self c.deliver.result out (c.deliver.ensures.left w h))
 
 pub returns-in-Deliver-clause-depot : goal.returns-in-Deliver-clause-depot
 returns-in-Deliver-clause-depot g c =
     other_counted c.deliver.result c.deliver.ensures.only (g.P.Depot.state c.args.depot.now).faults
 
 pub returns-in-Deliver-clause-plans : goal.returns-in-Deliver-clause-plans
-returns-in-Deliver-clause-plans g c n k =
-    c.deliver.ensures.plans n k
+returns-in-Deliver-clause-plans g c w n r h k =
+    one_begun g.D.Disk.state w c.args.event.now n c.deliver.new.self (subst (λ (e : Event). may_begin w e ≡ 1) (sym c.in-Deliver.is) refl)
+    (c.deliver.ensures.plans n k)
 
 pub returns-in-StoreShow-clause-done : goal.returns-in-StoreShow-clause-done
 returns-in-StoreShow-clause-done g c w r h out =
@@ -202,15 +245,17 @@ returns-in-StoreShow-clause-limit g c w n r h k =
 
 pub returns-in-StoreShow-clause-left : goal.returns-in-StoreShow-clause-left
 returns-in-StoreShow-clause-left g c w r h out =
-    never_left g.D.Disk.state w c.args.event.now (g.P.Depot.state c.args.depot.now).is_out c.args.self.now c.store_show.new.self c.store_show.result out c.store_show.ensures.memory
+    left_if c.store_show.result _ c.args.event.now
+    (never_left g.D.Disk.state w c.args.event.now (g.P.Depot.state c.args.depot.now).is_out c.args.self.now c.store_show.new.self c.store_show.result out c.store_show.ensures.memory)
 
 pub returns-in-StoreShow-clause-depot : goal.returns-in-StoreShow-clause-depot
 returns-in-StoreShow-clause-depot g c =
     other_counted c.store_show.result (memory_other c.store_show.result c.store_show.ensures.memory) (g.P.Depot.state c.args.depot.now).faults
 
 pub returns-in-StoreShow-clause-plans : goal.returns-in-StoreShow-clause-plans
-returns-in-StoreShow-clause-plans g c n k =
-    plans_kept g.D.Disk.state n c.args.self.now c.store_show.new.self c.store_show.ensures.clients k
+returns-in-StoreShow-clause-plans g c w n r h k =
+    one_begun g.D.Disk.state w c.args.event.now n c.store_show.new.self (subst (λ (e : Event). may_begin w e ≡ 1) (sym c.in-StoreShow.is) refl)
+    (plans_kept g.D.Disk.state n c.args.self.now c.store_show.new.self c.store_show.ensures.clients k)
 
 pub returns-in-Work-clause-done : goal.returns-in-Work-clause-done
 returns-in-Work-clause-done g c w r h out =
@@ -227,15 +272,17 @@ returns-in-Work-clause-limit g c w n r h k =
 
 pub returns-in-Work-clause-left : goal.returns-in-Work-clause-left
 returns-in-Work-clause-left g c w r h out =
-    never_left g.D.Disk.state w c.args.event.now (g.P.Depot.state c.args.depot.now).is_out c.args.self.now c.work.new.self c.work.result out c.work.ensures.memory
+    left_if c.work.result _ c.args.event.now
+    (never_left g.D.Disk.state w c.args.event.now (g.P.Depot.state c.args.depot.now).is_out c.args.self.now c.work.new.self c.work.result out c.work.ensures.memory)
 
 pub returns-in-Work-clause-depot : goal.returns-in-Work-clause-depot
 returns-in-Work-clause-depot g c =
     other_counted c.work.result (memory_other c.work.result c.work.ensures.memory) (g.P.Depot.state c.args.depot.now).faults
 
 pub returns-in-Work-clause-plans : goal.returns-in-Work-clause-plans
-returns-in-Work-clause-plans g c n k =
-    plans_later g.D.Disk.state n c.work.new.self (c.work.ensures.plans n k)
+returns-in-Work-clause-plans g c w n r h k =
+    one_begun g.D.Disk.state w c.args.event.now n c.work.new.self (subst (λ (e : Event). may_begin w e ≡ 1) (sym c.in-Work.is) refl)
+    (plans_later g.D.Disk.state n c.work.new.self (c.work.ensures.plans n k))
 
 pub returns-in-WorkAll-clause-done : goal.returns-in-WorkAll-clause-done
 returns-in-WorkAll-clause-done g c w r h out =
@@ -252,15 +299,17 @@ returns-in-WorkAll-clause-limit g c w n r h k =
 
 pub returns-in-WorkAll-clause-left : goal.returns-in-WorkAll-clause-left
 returns-in-WorkAll-clause-left g c w r h out =
-    never_left g.D.Disk.state w c.args.event.now (g.P.Depot.state c.args.depot.now).is_out c.args.self.now c.work_all.new.self c.work_all.result out c.work_all.ensures.memory
+    left_if c.work_all.result _ c.args.event.now
+    (never_left g.D.Disk.state w c.args.event.now (g.P.Depot.state c.args.depot.now).is_out c.args.self.now c.work_all.new.self c.work_all.result out c.work_all.ensures.memory)
 
 pub returns-in-WorkAll-clause-depot : goal.returns-in-WorkAll-clause-depot
 returns-in-WorkAll-clause-depot g c =
     other_counted c.work_all.result (memory_other c.work_all.result c.work_all.ensures.memory) (g.P.Depot.state c.args.depot.now).faults
 
 pub returns-in-WorkAll-clause-plans : goal.returns-in-WorkAll-clause-plans
-returns-in-WorkAll-clause-plans g c n k =
-    plans_later g.D.Disk.state n c.work_all.new.self (c.work_all.ensures.plans n k)
+returns-in-WorkAll-clause-plans g c w n r h k =
+    one_begun g.D.Disk.state w c.args.event.now n c.work_all.new.self (subst (λ (e : Event). may_begin w e ≡ 1) (sym c.in-WorkAll.is) refl)
+    (plans_later g.D.Disk.state n c.work_all.new.self (c.work_all.ensures.plans n k))
 
 pub returns-in-History-clause-done : goal.returns-in-History-clause-done
 returns-in-History-clause-done g c w r h out =
@@ -275,15 +324,17 @@ returns-in-History-clause-limit g c w n r h k =
 
 pub returns-in-History-clause-left : goal.returns-in-History-clause-left
 returns-in-History-clause-left g c w r h out =
-    never_left g.D.Disk.state w c.args.event.now (g.P.Depot.state c.args.depot.now).is_out c.args.self.now c.args.self.now c.history.result out c.history.ensures.memory
+    left_if c.history.result _ c.args.event.now
+    (never_left g.D.Disk.state w c.args.event.now (g.P.Depot.state c.args.depot.now).is_out c.args.self.now c.args.self.now c.history.result out c.history.ensures.memory)
 
 pub returns-in-History-clause-depot : goal.returns-in-History-clause-depot
 returns-in-History-clause-depot g c =
     other_counted c.history.result (memory_other c.history.result c.history.ensures.memory) (g.P.Depot.state c.args.depot.now).faults
 
 pub returns-in-History-clause-plans : goal.returns-in-History-clause-plans
-returns-in-History-clause-plans g c n k =
-    plans_later g.D.Disk.state n c.args.self.now k
+returns-in-History-clause-plans g c w n r h k =
+    one_begun g.D.Disk.state w c.args.event.now n c.args.self.now (subst (λ (e : Event). may_begin w e ≡ 1) (sym c.in-History.is) refl)
+    (plans_later g.D.Disk.state n c.args.self.now k)
 
 pub returns-in-Chunks-clause-done : goal.returns-in-Chunks-clause-done
 returns-in-Chunks-clause-done g c w r h out =
@@ -298,15 +349,17 @@ returns-in-Chunks-clause-limit g c w n r h k =
 
 pub returns-in-Chunks-clause-left : goal.returns-in-Chunks-clause-left
 returns-in-Chunks-clause-left g c w r h out =
-    never_left g.D.Disk.state w c.args.event.now (g.P.Depot.state c.args.depot.now).is_out c.args.self.now c.args.self.now c.chunks.result out c.chunks.ensures.memory
+    left_if c.chunks.result _ c.args.event.now
+    (never_left g.D.Disk.state w c.args.event.now (g.P.Depot.state c.args.depot.now).is_out c.args.self.now c.args.self.now c.chunks.result out c.chunks.ensures.memory)
 
 pub returns-in-Chunks-clause-depot : goal.returns-in-Chunks-clause-depot
 returns-in-Chunks-clause-depot g c =
     other_counted c.chunks.result (memory_other c.chunks.result c.chunks.ensures.memory) (g.P.Depot.state c.args.depot.now).faults
 
 pub returns-in-Chunks-clause-plans : goal.returns-in-Chunks-clause-plans
-returns-in-Chunks-clause-plans g c n k =
-    plans_later g.D.Disk.state n c.args.self.now k
+returns-in-Chunks-clause-plans g c w n r h k =
+    one_begun g.D.Disk.state w c.args.event.now n c.args.self.now (subst (λ (e : Event). may_begin w e ≡ 1) (sym c.in-Chunks.is) refl)
+    (plans_later g.D.Disk.state n c.args.self.now k)
 
 pub returns-in-Hold-clause-done : goal.returns-in-Hold-clause-done
 returns-in-Hold-clause-done g c w r h out =
@@ -321,15 +374,17 @@ returns-in-Hold-clause-limit g c w n r h k =
 
 pub returns-in-Hold-clause-left : goal.returns-in-Hold-clause-left
 returns-in-Hold-clause-left g c w r h out =
-    never_left g.D.Disk.state w c.args.event.now (g.P.Depot.state c.args.depot.now).is_out c.args.self.now c.hold.new.self c.hold.result out c.hold.ensures.memory
+    left_if c.hold.result _ c.args.event.now
+    (never_left g.D.Disk.state w c.args.event.now (g.P.Depot.state c.args.depot.now).is_out c.args.self.now c.hold.new.self c.hold.result out c.hold.ensures.memory)
 
 pub returns-in-Hold-clause-depot : goal.returns-in-Hold-clause-depot
 returns-in-Hold-clause-depot g c =
     other_counted c.hold.result (memory_other c.hold.result c.hold.ensures.memory) (g.P.Depot.state c.args.depot.now).faults
 
 pub returns-in-Hold-clause-plans : goal.returns-in-Hold-clause-plans
-returns-in-Hold-clause-plans g c n k =
-    plans_kept g.D.Disk.state n c.args.self.now c.hold.new.self c.hold.ensures.clients k
+returns-in-Hold-clause-plans g c w n r h k =
+    one_begun g.D.Disk.state w c.args.event.now n c.hold.new.self (subst (λ (e : Event). may_begin w e ≡ 1) (sym c.in-Hold.is) refl)
+    (plans_kept g.D.Disk.state n c.args.self.now c.hold.new.self c.hold.ensures.clients k)
 
 pub returns-in-Free-clause-done : goal.returns-in-Free-clause-done
 returns-in-Free-clause-done g c w r h out =
@@ -344,15 +399,17 @@ returns-in-Free-clause-limit g c w n r h k =
 
 pub returns-in-Free-clause-left : goal.returns-in-Free-clause-left
 returns-in-Free-clause-left g c w r h out =
-    never_left g.D.Disk.state w c.args.event.now (g.P.Depot.state c.args.depot.now).is_out c.args.self.now c.free.new.self c.free.result out c.free.ensures.memory
+    left_if c.free.result _ c.args.event.now
+    (never_left g.D.Disk.state w c.args.event.now (g.P.Depot.state c.args.depot.now).is_out c.args.self.now c.free.new.self c.free.result out c.free.ensures.memory)
 
 pub returns-in-Free-clause-depot : goal.returns-in-Free-clause-depot
 returns-in-Free-clause-depot g c =
     other_counted c.free.result (memory_other c.free.result c.free.ensures.memory) (g.P.Depot.state c.args.depot.now).faults
 
 pub returns-in-Free-clause-plans : goal.returns-in-Free-clause-plans
-returns-in-Free-clause-plans g c n k =
-    plans_kept g.D.Disk.state n c.args.self.now c.free.new.self c.free.ensures.clients k
+returns-in-Free-clause-plans g c w n r h k =
+    one_begun g.D.Disk.state w c.args.event.now n c.free.new.self (subst (λ (e : Event). may_begin w e ≡ 1) (sym c.in-Free.is) refl)
+    (plans_kept g.D.Disk.state n c.args.self.now c.free.new.self c.free.ensures.clients k)
 
 pub returns-in-Crash-clause-done : goal.returns-in-Crash-clause-done
 returns-in-Crash-clause-done g c w r h out =
@@ -366,15 +423,17 @@ returns-in-Crash-clause-limit g c w n r h k =
 
 pub returns-in-Crash-clause-left : goal.returns-in-Crash-clause-left
 returns-in-Crash-clause-left g c w r h out =
-    never_left g.D.Disk.state w c.args.event.now (g.P.Depot.state c.args.depot.now).is_out c.args.self.now c.crash.new.self c.crash.result out c.crash.ensures.memory
+    left_if c.crash.result _ c.args.event.now
+    (never_left g.D.Disk.state w c.args.event.now (g.P.Depot.state c.args.depot.now).is_out c.args.self.now c.crash.new.self c.crash.result out c.crash.ensures.memory)
 
 pub returns-in-Crash-clause-depot : goal.returns-in-Crash-clause-depot
 returns-in-Crash-clause-depot g c =
     other_counted c.crash.result (memory_other c.crash.result c.crash.ensures.memory) (g.P.Depot.state c.args.depot.now).faults
 
 pub returns-in-Crash-clause-plans : goal.returns-in-Crash-clause-plans
-returns-in-Crash-clause-plans g c n k =
-    plans_later g.D.Disk.state n c.crash.new.self (c.crash.ensures.plans n k)
+returns-in-Crash-clause-plans g c w n r h k =
+    one_begun g.D.Disk.state w c.args.event.now n c.crash.new.self (subst (λ (e : Event). may_begin w e ≡ 1) (sym c.in-Crash.is) refl)
+    (plans_later g.D.Disk.state n c.crash.new.self (c.crash.ensures.plans n k))
 
 pub returns-in-Start-clause-done : goal.returns-in-Start-clause-done
 returns-in-Start-clause-done g c w r h out =
@@ -390,12 +449,14 @@ returns-in-Start-clause-limit g c w n r h k =
 
 pub returns-in-Start-clause-left : goal.returns-in-Start-clause-left
 returns-in-Start-clause-left g c w r h out =
-    never_left g.D.Disk.state w c.args.event.now (g.P.Depot.state c.args.depot.now).is_out c.args.self.now c.start.new.self c.start.result out c.start.ensures.memory
+    left_if c.start.result _ c.args.event.now
+    (never_left g.D.Disk.state w c.args.event.now (g.P.Depot.state c.args.depot.now).is_out c.args.self.now c.start.new.self c.start.result out c.start.ensures.memory)
 
 pub returns-in-Start-clause-depot : goal.returns-in-Start-clause-depot
 returns-in-Start-clause-depot g c =
     other_counted c.start.result (memory_other c.start.result c.start.ensures.memory) (g.P.Depot.state c.args.depot.now).faults
 
 pub returns-in-Start-clause-plans : goal.returns-in-Start-clause-plans
-returns-in-Start-clause-plans g c n k =
-    plans_later g.D.Disk.state n c.start.new.self (c.start.ensures.plans n k)
+returns-in-Start-clause-plans g c w n r h k =
+    one_begun g.D.Disk.state w c.args.event.now n c.start.new.self (subst (λ (e : Event). may_begin w e ≡ 1) (sym c.in-Start.is) refl)
+    (plans_later g.D.Disk.state n c.start.new.self (c.start.ensures.plans n k))

@@ -3,14 +3,13 @@ use Rattle.std.proofs.Common.{◌≡◌, ◌⊎◌, ℕ, ◌<◌, ◌≤◌, Lis
 use Rattle.std.proofs.Common.{arith}
 use Rattle.table_model.specs.declared.event.Event.{Event}
 use Rattle.stab_io.specs.Lines.{Next, Line, LineTooLong, InputTooLong}
-use Rattle.script_text.specs.Names.{Names, no_names}
+use Rattle.script_text.specs.Names.{Names}
 use Rattle.script_text.specs.Grammar.{IsPassed, Spells}
-use Rattle.simba_top.specs.declared.run.TheConstants.{MOST_LINES}
 use Rattle.simba_top.specs.declared.row_names.TheConstants.{MOST_ROWS}
 use Rattle.simba_top.specs.RowNames.{rows_named, FewRows, NamesTooMany}
-use Rattle.simba_top.specs.Script.{next_in, Behind, Spelled, IsFront}
+use Rattle.simba_top.specs.Script.{next_in, Behind, Spelled}
 use Rattle.simba_top.proofs.RowNames.{rows_grow}
-use Rattle.simba_top.proofs.Fronts.{Grammar, same_line, spelled_few}
+use Rattle.simba_top.proofs.Fronts.{Grammar, same_line}
 
 -- a line behind a front that a longer one has carried out is passed over or spells an event
 module _ (Is : Names → List ℕ → Type 0) (passed : (names : Names) (line : List ℕ) → IsPassed line → Is names line → ⊥)
@@ -32,9 +31,6 @@ no_limit total rest end (line ∷ lines) next behind some is which =
     elim which [ inl l ↦ (let f = e ∙ l in cc f) | inr i ↦ (let f = e ∙ i in cc f) ]
 
 -- ---- no event is one too many
-
-pub front_few : (input : List ℕ) (script : List Event) (count : ℕ) (names : Names) (rest : List ℕ) → IsFront input script count names rest → length script ≤ MOST_LINES
-front_few input script count names rest front = omega (arith, spelled_few no_names front.lines script names front.spelled, front.counted, front.few)
 
 -- the event that the line behind a front spells is the next of a longer one
 pub event_next : Grammar → (total : ℕ) (names after : Names) (rest end : List ℕ) (lines : List (List ℕ)) (script : List Event) (line left : List ℕ) (event : Event)

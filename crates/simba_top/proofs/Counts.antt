@@ -1,46 +1,64 @@
--- No event of a script finds a number or a version spent: they are no more than the events before it.
-use Rattle.std.proofs.Common.{◌≡◌, ⊎_elim, ℕ, ◌≤◌, Bool, List, [], ◌∷◌, length, Option, Some, None, refl, subst, arith}
-use Rattle.std.specs.List.{AllByRecursion}
-use Rattle.disk_trait.specs.Calls.{DiskState}
+-- No event of a script finds a number or a version spent: a script has too few events for it.
+use Rattle.std.proofs.Common.{◌≡◌, ⊎_elim, ℕ, ◌+◌, ◌*◌, ◌≤◌, List, [], ◌∷◌, length, Option, Some, None, refl, arith}
+use Rattle.std.proofs.lemmas.Nat.{mul-le}
 use Rattle.table_model.specs.declared.event.Event.{Event}
 use Rattle.table_model.specs.declared.event.Event.TheVariants as events
-use Rattle.table_model.specs.declared.line.TextLine.{TextLine}
 use Rattle.step_tables.specs.ClientMoves.{Client}
-use Rattle.world_tables.specs.World.{start, client_at}
+use Rattle.world_tables.specs.World.{World, start, client_at, client_pairs, step}
 use Rattle.world_tables.specs.Turns.{Happening, world_from}
-use Rattle.fair_laws.specs.Reached.{IsBuilt}
-use Rattle.world_laws.specs.Begun.{IsSingle, AreSingle}
-use Rattle.world_laws.proofs.Counts.{items_few, seen_few}
+use Rattle.world_laws.specs.Begun.{begun_by, begun_from, begun_in}
+use Rattle.world_laws.proofs.Counts.{items_few, last_begun, seen_begun}
+use Rattle.world_laws.proofs.PairCounts.{pairs_few, begun_few}
+use Rattle.client_events.specs.Resolves.{IsLastWithin}
 use Rattle.journal_host.specs.Calls.{IsLast}
-use Rattle.world_steps.specs.declared.world.World.{World}
-use Rattle.world_steps.specs.Steps.{IsFull, Spends, SpendsNumber}
+use Rattle.world_steps.specs.Steps.{IsFull, Spends, SpendsNumber, SpendsWithin, may_begin}
 use Rattle.simba_top.specs.declared.run.TheConstants.{MOST_LINES}
-use Rattle.simba_top.specs.Stands.{Leads}
-use Rattle.simba_top.proofs.Sounds.{as_many}
+use Rattle.simba_top.specs.Stands.{plans_from}
 
--- no built event resolves all conflicts of a table
-is_single : (event : Event) → IsBuilt event → IsSingle event
-is_single (events.ResolveAll client table by) built = built
-is_single other built = tt
+-- an event may begin one plan more than it may begin writes
+one_more : (w : World) (event : Event) → may_begin w event ≤ begun_by w event + 1
+one_more w (events.ResolveAll client table by) = omega arith
+one_more w other = omega arith
 
-are_single : (run : List Happening) → AllByRecursion (λ (h : Happening). IsBuilt h.event) run → AreSingle run
-are_single [] built = tt
-are_single (h ∷ run) built = (is_single h.event built.0, are_single run built.1)
+plans_few : (w : World) (run : List Happening) → plans_from w run ≤ begun_from w run + length run
+plans_few w [] = omega arith
+plans_few w (h ∷ more) =
+    let first = one_more w h.event in
+    let rest = plans_few (step w h.event h.lucks).world more in
+    omega (arith, first, rest)
 
-module _ {D : Type 0} (state : D → DiskState) (script : List Event) (told : List TextLine) (world : World D) (is_out : ℕ → Bool)
-    (leads : Leads state script told world is_out) (few : length script ≤ MOST_LINES) where
+module _ (run : List Happening) (few : length run ≤ MOST_LINES) where
+  writes_few : begun_in run ≤ MOST_LINES * MOST_LINES
+  writes_few = let a = begun_few run in let b = mul-le (length run) (length run) MOST_LINES MOST_LINES few few in omega (arith, a, b)
+
+  all_plans_few : plans_from start run ≤ MOST_LINES * MOST_LINES + MOST_LINES
+  all_plans_few = let a = plans_few start run in let b = writes_few in omega (arith, a, b, few)
+
   -- no client has made its last write, and so many plans weren't begun
-  number_left : (c : ℕ) → SpendsNumber (length leads.run) (world_from start leads.run) c → ⊥
-  number_left c spent = ⊎_elim (last (client_at (world_from start leads.run) c) refl) (λ many. omega (arith, many, as_many state script told world is_out leads, few)) spent
+  number_left : (c : ℕ) → SpendsNumber (plans_from start run) (world_from start run) c → ⊥
+  number_left c spent = ⊎_elim (last (client_at (world_from start run) c) refl) (λ many. let most = all_plans_few in omega (arith, many, most)) spent
     where
-      last : (o : Option Client) → client_at (world_from start leads.run) c ≡ o → IsLast o → ⊥
+      last : (o : Option Client) → client_at (world_from start run) c ≡ o → IsLast o → ⊥
       last None at spent = spent
-      last (Some node) at spent = omega (arith, seen_few leads.run (are_single leads.run leads.built) c node at, spent, as_many state script told world is_out leads, few)
+      last (Some node) at spent = let a = seen_begun run c node at in let b = writes_few in omega (arith, a, b, spent)
 
-  version_left : IsFull (world_from start leads.run) → ⊥
-  version_left full = omega (arith, items_few leads.run full.table full.hosted full.at, full.full, as_many state script told world is_out leads, few)
+  -- not with as many more as there are rows in conflict either
+  numbers_left : (c table : ℕ) → SpendsWithin (plans_from start run) (length (client_pairs (client_at (world_from start run) c) table)) (world_from start run) c → ⊥
+  numbers_left c table spent = ⊎_elim (last (client_at (world_from start run) c) refl)
+      (λ many. let most = all_plans_few in let pairs = pairs_few run c table in omega (arith, many, most, pairs, few)) spent
+    where
+      last : (o : Option Client) → client_at (world_from start run) c ≡ o → IsLastWithin (length (client_pairs (client_at (world_from start run) c) table)) o → ⊥
+      last None at spent = spent
+      last (Some node) at spent =
+          let all = writes_few in
+          let pairs = pairs_few run c table in
+          ⊎_elim (λ many. let given = last_begun run c node at in omega (arith, given, all, pairs, few, many))
+          (λ many. let giving = seen_begun run c node at in omega (arith, giving, all, pairs, few, many)) spent
 
-  pub not_spent : (event : Event) → Spends (length leads.run) (world_from start leads.run) event → ⊥
+  version_left : IsFull (world_from start run) → ⊥
+  version_left full = let items = items_few run full.table full.hosted full.at in let is = full.full in omega (arith, items, is, few)
+
+  pub not_spent : (event : Event) → Spends (plans_from start run) (world_from start run) event → ⊥
   not_spent (events.Write client table row content) spent = number_left client spent
   not_spent (events.Edit client table row edit) spent = number_left client spent
   not_spent (events.Show client table row) spent = number_left client spent
@@ -51,5 +69,6 @@ module _ {D : Type 0} (state : D → DiskState) (script : List Event) (told : Li
   not_spent (events.Conflicts client table) spent = number_left client spent
   not_spent (events.EndCr client table) spent = number_left client spent
   not_spent (events.Resolve client table row seen choice) spent = number_left client spent
-  not_spent (events.Deliver packet) spent = ⊎_elim version_left (λ (number : (c : ℕ) × SpendsNumber (length leads.run) (world_from start leads.run) c). number_left number.0 number.1) spent
+  not_spent (events.ResolveAll client table by) spent = numbers_left client table spent
+  not_spent (events.Deliver packet) spent = ⊎_elim version_left (λ (number : (c : ℕ) × SpendsNumber (plans_from start run) (world_from start run) c). number_left number.0 number.1) spent
   not_spent other spent = spent

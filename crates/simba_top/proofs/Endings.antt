@@ -34,7 +34,7 @@ same_count {D} old new same = ap (λ (run : Run D). run.count) same
 
 module _ (P Q : List Happening → Type 0) (f : (run : List Happening) → P run → Q run) where
   run_map : (script : List Event) (lines : List TextLine) → IsRun P script lines → IsRun Q script lines
-  run_map script lines r = record { run = r.run; events = r.events; lines_are = r.lines_are; sound = r.sound; listed = r.listed; kept = f r.run r.kept }
+  run_map script lines r = record { run = r.run; events = r.events; lines_are = r.lines_are; sound = r.sound; listed = r.listed; asked = r.asked; phases = r.phases; kept = f r.run r.kept }
 
   tells_map : (script : List Event) (before after : Option (List ℕ)) → Tells P script before after → Tells Q script before after
   tells_map script before after t = (t.0, run_map script t.0 t.1, t.2)
@@ -78,7 +78,7 @@ pub still_tells : {D : Type 0} (state : D → DiskState) (script : List Event) (
     → (leads : Leads state script told world is_out) → IsUndone state (world_from start leads.run) out world new → Appends before now (transcript_text told) → Tells (Led state new) script before now
 still_tells state script told world new is_out out before now leads u was = (told, run_still state script told world is_out leads new out u, was)
 
-pub world_same : {D : Type 0} (old new : Run D) → new ≡ record old { reader = new.reader } → new.world ≡ old.world
+world_same : {D : Type 0} (old new : Run D) → new ≡ record old { reader = new.reader } → new.world ≡ old.world
 world_same {D} old new same = ap (λ (run : Run D). run.world) same
 
 module _ {D : Type 0} (state : D → DiskState) (input : List ℕ) (run : Run D) (is_out : ℕ → Bool) (left before now : Option (List ℕ))

@@ -110,7 +110,6 @@ table_made names words table schema s = record {
 spelled_built : (names : Names) (words : List (List ℕ)) (event : Event) → SpelledBy names words event → IsBuilt event
 spelled_built names words (events.Table table schema) s = table_made names words table schema s
 spelled_built names words (events.Client client gate tables) s = record { least = s.1.0; most = s.1.1 }
-spelled_built names words (events.ResolveAll client table by) s = s
 spelled_built names words other s = tt
 
 pub built : (names : Names) (line : List ℕ) (event : Event) → Spells names line event → IsBuilt event

@@ -90,13 +90,6 @@ module _ (input : List ℕ) (script : List Event) (count : ℕ) (names : Names) 
 pub front_start : (input : List ℕ) → IsFront input [] 0 no_names input
 front_start input = record { lines = []; behind = refl; spelled = (refl, refl); counted = refl; few = lit≤ tt; rows = λ table. lit≤ tt }
 
--- there are no more events than lines
-pub spelled_few : (names : Names) (lines : List (List ℕ)) (script : List Event) (after : Names) → Spelled names lines script after → length script ≤ length lines
-spelled_few names [] script after s = let e = ap (λ (es : List Event). length es) s.0 in omega (arith, e)
-spelled_few names (line ∷ lines) script after (inl s) = omega (arith, spelled_few names lines script after s.1)
-spelled_few names (line ∷ lines) script after (inr s) =
-    let e = ap (λ (es : List Event). length es) s.2 in omega (arith, e, spelled_few (with_event names s.0) lines s.1 after s.4)
-
 -- what a longer front, which leaves the bytes `end`, has behind a shorter one, which leaves `bytes`
 pub record Rest (total : ℕ) (names : Names) (front all : List (List ℕ)) (script whole : List Event) (bytes end : List ℕ) (after : Names) : Type 0 where
   pub lines : List (List ℕ)

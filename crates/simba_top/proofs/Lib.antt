@@ -7,6 +7,7 @@ pub mod OneEnd
 pub mod Puts
 pub mod Histories
 pub mod Sounds
+pub mod Underway
 pub mod Counts
 pub mod Turns
 pub mod Endings

@@ -1,6 +1,6 @@
 -- What leads to a world is a run of its script, and goes on by one event.
-use Rattle.std.proofs.Common.{◌≡◌, ℕ, suc, ◌+◌, ◌<◌, Bool, true, false, Option, Some, None, arith, length-append, List, [], ◌∷◌, ◌++◌, length, map, refl, sym, ap, subst, ◌∙◌, append-nil, append_assoc}
-use Rattle.std.proofs.lemmas.List.{map-append, length-map}
+use Rattle.std.proofs.Common.{◌≡◌, ℕ, ◌+◌, ◌<◌, Bool, true, false, Option, Some, None, arith, List, [], ◌∷◌, ◌++◌, map, refl, sym, ap, subst, ◌∙◌, append-nil, append_assoc}
+use Rattle.std.proofs.lemmas.List.{map-append}
 use Rattle.std.specs.List.{AllByRecursion}
 use Rattle.disk_trait.specs.Calls.{DiskState}
 use Rattle.table_model.specs.declared.event.Event.{Event}
@@ -15,10 +15,12 @@ use Rattle.client_laws.proofs.Grows.{client_grows, lapsed_grows}
 use Rattle.world_laws.proofs.Runs.{all_runs}
 use Rattle.world_laws.proofs.Fresh.{fresh_part}
 use Rattle.name_laws.proofs.Runs.{all_listed}
+use Rattle.asked_laws.proofs.Runs.{all_asked}
+use Rattle.asked_laws.proofs.PhaseTells.{phase_is, phase_up}
 use Rattle.world_steps.specs.declared.world.World.{World}
 use Rattle.fair_laws.specs.Reached.{IsBuilt, IsReached}
-use Rattle.world_steps.specs.Holds.{Holds, IsWorld, AreOut}
-use Rattle.world_steps.specs.Steps.{IsStep, HavePlansBelow}
+use Rattle.world_steps.specs.Holds.{Holds, AreOut}
+use Rattle.world_steps.specs.Steps.{IsStep}
 use Rattle.world_tables.specs.Faults.{one_if, is_device_fault, device_faults}
 use Rattle.world_steps.specs.Faults.{IsUndone, all_faults, all_faults_back}
 use Rattle.table_model.specs.declared.entry.Entry.{Entry}
@@ -26,7 +28,7 @@ use Rattle.world_steps.specs.Rows.{IsRowsBack, AreRowsBack}
 use Rattle.simba_top.proofs.Histories.{history_told}
 use Rattle.simba_top.specs.Faults.{Matches, Led, IsOnDisks}
 use Rattle.std.specs.Prelude.{IfSome}
-use Rattle.simba_top.specs.Ends.{IsRun}
+use Rattle.simba_top.specs.Ends.{AreToldPhases, IsRun}
 use Rattle.simba_top.specs.Stands.{Leads}
 
 -- ---- one event more
@@ -65,10 +67,10 @@ one_more faults old new true m rose same = let a = m.few in let r = rose refl in
 one_more faults old new false m rose same =
     let a = m.few in let s = same refl in record { few = omega (arith, a, s); one = λ up. let c = m.one (omega (arith, up, s)) in omega (arith, c) }
 
-one_longer : {X : Type 0} (xs : List X) (x : X) → suc (length xs) ≡ length (xs ++ x ∷ [])
-one_longer xs x = let e = length-append xs (x ∷ []) in omega (arith, e)
+told_phases : (run : List Happening) → AreToldPhases run
+told_phases run front more is client table = (phase_is front client table, phase_up front client table)
 
-all-push : {X : Type 0} (P : X → Type 0) (xs : List X) (x : X) → AllByRecursion P xs → P x → AllByRecursion P (xs ++ x ∷ [])
+pub all-push : {X : Type 0} (P : X → Type 0) (xs : List X) (x : X) → AllByRecursion P xs → P x → AllByRecursion P (xs ++ x ∷ [])
 all-push P [] x all here = (here, tt)
 all-push P (first ∷ xs) x all here = (all.0, all-push P xs x all.1 here)
 
@@ -81,22 +83,17 @@ module _ {D : Type 0} (state : D → DiskState) (script : List Event) (told : Li
     lines_are = leads.lines_are;
     sound = all_runs client_law client_grows lapsed_grows fresh_part leads.run;
     listed = all_listed leads.run;
+    asked = all_asked leads.run;
+    phases = told_phases leads.run;
     kept = record { built = leads.built; held = leads.held; counted = leads.counted };
   }
-
-  pub as_many : length leads.run ≡ length script
-  as_many = sym (length-map leads.run (λ (h : Happening). h.event)) ∙ ap (λ (es : List Event). length es) leads.events
 
   pub reached : IsReached (world_from start leads.run)
   reached = record { run = leads.run; built = leads.built; is = refl }
 
-  pub is_world : IsWorld state is_out world
-  is_world = record { w = world_from start leads.run; reached = reached; held = leads.held; out = leads.out }
-
   pub leads_on : (images : D → ℕ → List ℕ → Type 0) (event : Event) (lines : List TextLine) (new : World D) (out : ℕ → Bool) → IsBuilt event
-      → IsStep state images (world_from start leads.run) event lines out world new
-      → ((n : ℕ) → HavePlansBelow state n world → HavePlansBelow state (suc n) new) → Leads state (script ++ event ∷ []) (told ++ lines) new out
-  leads_on images event lines new out built s plans =
+      → IsStep state images (world_from start leads.run) event lines out world new → Leads state (script ++ event ∷ []) (told ++ lines) new out
+  leads_on images event lines new out built s =
       let h : Happening = record { event = event; lucks = s.lucks } in
       let behind : world_from start (leads.run ++ h ∷ []) ≡ (step (world_from start leads.run) event s.lucks).world =
       world_from-push h start leads.run in
@@ -112,7 +109,6 @@ module _ {D : Type 0} (state : D → DiskState) (script : List Event) (told : Li
         out = subst (λ (w : moves.World). AreOut out w) (sym behind) s.out;
         counted = subst (λ (n : ℕ). Matches n (all_faults state new)) (sym (faults-push h start leads.run))
             (one_more (device_faults start leads.run) (all_faults state world) (all_faults state new) (is_device_fault (world_from start leads.run) event s.lucks) leads.counted s.rose s.same);
-        plans = subst (λ (n : ℕ). HavePlansBelow state n new) (one_longer leads.run h) (plans (length leads.run) leads.plans);
       }
 
   -- an event that isn't carried out leaves all as it was
@@ -123,31 +119,13 @@ module _ {D : Type 0} (state : D → DiskState) (script : List Event) (told : Li
     lines_are = leads.lines_are;
     sound = all_runs client_law client_grows lapsed_grows fresh_part leads.run;
     listed = all_listed leads.run;
+    asked = all_asked leads.run;
+    phases = told_phases leads.run;
     kept = record { built = leads.built; held = u.held; counted = subst (λ (n : ℕ). Matches (device_faults start leads.run) n) (sym u.same) leads.counted };
   }
 
--- the world stands where a script has led, also where an event isn't carried out
-pub world_still : {D : Type 0} (state : D → DiskState) (is_out out : ℕ → Bool) (world new : World D) (old : IsWorld state is_out world) → IsUndone state old.w out world new → IsWorld state out new
-world_still state is_out out world new old u = record { w = old.w; reached = old.reached; held = u.held; out = u.out }
-
 pub nothing_undone : {D : Type 0} (state : D → DiskState) (w : moves.World) (is_out : ℕ → Bool) (world : World D) → Holds state w world → AreOut is_out w → IsUndone state w is_out world world
 nothing_undone state w is_out world h out = record { held = h; out = out; same = refl }
-
--- the world stands where a script has led, also behind one event more
-pub world_on : {D : Type 0} (state : D → DiskState) (images : D → ℕ → List ℕ → Type 0) (is_out out : ℕ → Bool) (world new : World D) (event : Event) (lines : List TextLine)
-    → (old : IsWorld state is_out world) → IsBuilt event → IsStep state images old.w event lines out world new → IsWorld state out new
-world_on state images is_out out world new event lines old built s =
-    let h : Happening = record { event = event; lucks = s.lucks } in
-    record {
-      w = (step old.w event s.lucks).world;
-      reached = record {
-        run = old.reached.run ++ h ∷ [];
-        built = all-push (λ (x : Happening). IsBuilt x.event) old.reached.run h old.reached.built built;
-        is = ap (λ (w : moves.World). (step w event s.lucks).world) old.reached.is ∙ sym (world_from-push h start old.reached.run);
-      };
-      held = s.held;
-      out = s.out;
-    }
 
 -- the disks of a world that went back
 pub on_disks : {D : Type 0} (state : D → DiskState) (world : World D) (told : Option (ℕ → Option D))

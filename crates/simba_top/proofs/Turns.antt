@@ -1,5 +1,5 @@
 -- A run goes on by one line.
-use Rattle.std.proofs.Common.{◌≡◌, ◌⊎◌, inl, inr, ℕ, suc, ◌+◌, ◌-◌, ◌<◌, ◌≤◌, lit≤, Bool, true, false, cond, List, [], ◌∷◌, ◌++◌, length, map, Option, Some, None, refl, sym, ap, subst, ◌∙◌, append-nil}
+use Rattle.std.proofs.Common.{◌≡◌, ◌⊎◌, inl, inr, ℕ, ◌+◌, ◌-◌, ◌<◌, ◌≤◌, lit≤, Bool, true, false, cond, List, [], ◌∷◌, ◌++◌, length, map, Option, Some, None, refl, sym, ap, subst, ◌∙◌, append-nil}
 use Rattle.std.proofs.Common.{length-append, arith}
 use Rattle.std.specs.Prelude.{IfSome, IfNone, IsSomeAnd, MatchOption}
 use Rattle.std.specs.Global.{Vec}
@@ -29,7 +29,7 @@ use Rattle.simba_top.specs.declared.turn.Run.{Run}
 use Rattle.simba_top.specs.declared.run.TheConstants.{MOST_LINES}
 use Rattle.fair_laws.specs.Reached.{IsBuilt}
 use Rattle.world_steps.specs.Holds.{Holds}
-use Rattle.world_steps.specs.Steps.{HavePlansBelow, IsStep, Spends}
+use Rattle.world_steps.specs.Steps.{IsStep, Spends}
 use Rattle.world_steps.specs.Faults.{all_faults}
 use Rattle.world_steps.proofs.Counted.{no_faults}
 use Rattle.simba_top.specs.Faults.{Matches}
@@ -40,11 +40,10 @@ use Rattle.simba_top.specs.declared.row_names.RowNames.{RowNames}
 use Rattle.simba_top.specs.Script.{next_in, IsFront, IsWhole}
 use Rattle.simba_top.specs.Stops.{of_line, of_world}
 use Rattle.simba_top.specs.Ends.{IsFull, IsLimitAt, IsCutOff}
-use Rattle.simba_top.specs.Stands.{IsReady, Leads, Stands, HasLine, GoesOn, IsCause}
+use Rattle.simba_top.specs.Stands.{IsReady, plans_from, IsUnderway, Leads, Stands, HasLine, GoesOn, IsCause}
 use Rattle.world_steps.specs.declared.world.World.{World}
 use Rattle.simba_top.proofs.Fronts.{front_start, front_passed, front_event}
 use Rattle.simba_top.proofs.Sounds.{leads_on}
-use Rattle.simba_top.proofs.Complete.{front_few}
 use Rattle.simba_top.proofs.Counts.{not_spent}
 
 some_and : {X : Type 0} (o : Option X) (P : X → Type 0) → IsSomeAnd o P → (x : X) × (o ≡ Some x) × P x
@@ -64,9 +63,8 @@ counted_new : {D : Type 0} (state : D → DiskState) (world : World D) (is_out :
 counted_new state world is_out held none = let z = no_faults state world held in record { few = omega arith; one = λ up. absurd (omega (arith, up, z)) }
 
 -- the run at its start
-pub leads_new : {D : Type 0} (state : D → DiskState) (world : World D) (is_out : ℕ → Bool) → Holds state start world → HavePlansBelow state 0 world → ((k : ℕ) → is_out k ≡ false)
-    → Leads state [] [] world is_out
-leads_new state world is_out held plans none =
+leads_new : {D : Type 0} (state : D → DiskState) (world : World D) (is_out : ℕ → Bool) → Holds state start world → ((k : ℕ) → is_out k ≡ false) → Leads state [] [] world is_out
+leads_new state world is_out held none =
     record {
       run = [];
       events = refl;
@@ -75,19 +73,18 @@ leads_new state world is_out held plans none =
       held = held;
       out = record { tables = λ table k some most few. none _; clients = λ c k some few. none _ };
       counted = counted_new state world is_out held none;
-      plans = plans;
     }
 
 pub stands_new : {D : Type 0} (state : D → DiskState) (input : List ℕ) (run : Run D) (is_out : ℕ → Bool)
     → run.reader ≡ record { used = 0; held = []; stopped = None; limits = record { line = LINE_LIMIT; input = INPUT_LIMIT } }
-    → run.names ≡ no_names → run.count ≡ 0 → HasRows [] run.rows → Holds state start run.world → HavePlansBelow state 0 run.world → ((k : ℕ) → is_out k ≡ false)
+    → run.names ≡ no_names → run.count ≡ 0 → HasRows [] run.rows → Holds state start run.world → ((k : ℕ) → is_out k ≡ false)
     → Stands state input [] [] run is_out (Some input)
-stands_new state input run is_out reader names count rows world plans none = record {
+stands_new state input run is_out reader names count rows world none = record {
   rest = input;
   front = rw (names, count) (front_start input);
   here = ap (λ (r : Reading). ahead r (Some input)) reader;
   used = let e = ap (λ (r : Reading). r.used) reader in omega (arith, e);
-  world = leads_new state run.world is_out world plans none;
+  world = leads_new state run.world is_out world none;
   rows = rows;
 }
 
@@ -247,6 +244,19 @@ step_texts told lines texts text =
     ∙ ap (λ (bytes : List ℕ). transcript_text told ++ bytes)
     (sym (ap (λ (ts : List (List ℕ)). flat_map (λ (text : List ℕ). text) ts) text ∙ flat_map-map (λ (text : List ℕ). text) whole lines))
 
+-- no number is spent yet
+module _ {D : Type 0} (state : D → DiskState) (is_out : ℕ → Bool) (run : Run D) (here : IsUnderway state is_out run) (few : run.count < MOST_LINES) (event : Event) where
+  not_past : (code count : ℕ) → (code ≡ 11) × Spends (plans_from start here.happenings) (world_from start here.happenings) event → ⊥
+  not_past code count spent = not_spent here.happenings (let least = here.few in omega (arith, least, few)) event spent.1
+
+  -- so the depot failed, where memory sufficed
+  pub depot_failed : (fault : WorldFault) → (of_world fault ≡ stops.Memory → ⊥)
+      → ((code count : ℕ) → fault ≡ world_faults.Limit code count → (code ≡ 11) × Spends (plans_from start here.happenings) (world_from start here.happenings) event)
+      → fault ≡ world_faults.Depot
+  depot_failed world_faults.Memory ample spent = absurd (ample refl)
+  depot_failed world_faults.Depot ample spent = refl
+  depot_failed (world_faults.Limit code count) ample spent = absurd (not_past code count (spent code count refl))
+
 module _ {D : Type 0} (state : D → DiskState) (input : List ℕ) (script : List Event) (told : List TextLine) (line : List ℕ) (run : Run D) (is_out : ℕ → Bool)
     (left : Option (List ℕ)) (has : HasLine state input script told line run is_out left) (few : run.count < MOST_LINES) where
   pub passes_over : IsPassed line → GoesOn state input told (record run { count = run.count + 1 }) is_out left []
@@ -268,10 +278,9 @@ module _ {D : Type 0} (state : D → DiskState) (input : List ℕ) (script : Lis
       → Spells run.names line event → names ≡ with_event run.names event
       → HasRows (script ++ event ∷ []) rows → FewRows (script ++ event ∷ [])
       → IsBuilt event → IsStep state images (world_from start has.world.run) event lines out run.world world
-      → ((n : ℕ) → HavePlansBelow state n run.world → HavePlansBelow state (suc n) world)
       → texts ≡ map (λ (line : TextLine). text_of line ++ 10 ∷ []) lines
       → GoesOn state input told (record run { names = names; rows = rows; world = world; count = run.count + 1 }) out left texts
-  carries_out images event names rows world out lines texts spells named has_rows few_rows built step plans text = (
+  carries_out images event names rows world out lines texts spells named has_rows few_rows built step text = (
     script ++ event ∷ [],
     told ++ lines,
     record {
@@ -279,7 +288,7 @@ module _ {D : Type 0} (state : D → DiskState) (input : List ℕ) (script : Lis
       front = rw named (front_event input script run.count run.names has.before line has.rest has.front has.next few event spells few_rows);
       here = has.here;
       used = has.used;
-      world = leads_on state script told run.world is_out has.world images event lines world out built step plans;
+      world = leads_on state script told run.world is_out has.world images event lines world out built step;
       rows = has_rows;
     },
     step_texts told lines texts text,
@@ -300,11 +309,9 @@ module _ {D : Type 0} (state : D → DiskState) (input : List ℕ) (script : Lis
   row_stops event stops.Depot spells cause = absurd cause
   row_stops event (stops.BadLine fault) spells cause = absurd cause
 
-  -- no number is spent yet
-  pub world_stops : (event : Event) (fault : WorldFault) → IsBuilt event
-      → ((code count : ℕ) → fault ≡ world_faults.Limit code count → (code ≡ 11) × Spends (length has.world.run) (world_from start has.world.run) event)
+  pub world_stops : (here : IsUnderway state is_out run) (event : Event) (fault : WorldFault)
+      → ((code count : ℕ) → fault ≡ world_faults.Limit code count → (code ≡ 11) × Spends (plans_from start here.happenings) (world_from start here.happenings) event)
       → IsCause (of_world fault) input script run.count left
-  world_stops event world_faults.Memory built spent = (run.names, has.before, has.front)
-  world_stops event world_faults.Depot built spent = (run.names, has.before, has.front)
-  world_stops event (world_faults.Limit code count) built spent =
-      absurd (not_spent state script told run.world is_out has.world (front_few input script run.count run.names has.before has.front) event (spent code count refl).1)
+  world_stops here event world_faults.Memory spent = (run.names, has.before, has.front)
+  world_stops here event world_faults.Depot spent = (run.names, has.before, has.front)
+  world_stops here event (world_faults.Limit code count) spent = absurd (not_past state is_out run here few event code count (spent code count refl))

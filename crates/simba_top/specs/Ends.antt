@@ -1,12 +1,16 @@
 -- How a run over an input ends, and what it has written then.
-use Rattle.std.specs.Prelude.{◌≡◌, ◌⊎◌, ℕ, ◌+◌, ◌-◌, ◌<◌, ◌≤◌, List, [], ◌∷◌, ◌++◌, length, map, codes, Option}
+use Rattle.std.specs.Prelude.{◌≡◌, ◌⊎◌, ℕ, ◌+◌, ◌-◌, ◌<◌, ◌≤◌, true, false, List, [], ◌∷◌, ◌++◌, length, map, codes}
+use Rattle.std.specs.Prelude.{Option}
 use Rattle.std.specs.Io.KnownBytes.{Appends}
 use Rattle.table_model.specs.declared.event.Event.{Event}
 use Rattle.table_model.specs.declared.line.TextLine.{TextLine}
 use Rattle.step_tables.specs.Lines.{line_of}
-use Rattle.world_tables.specs.Turns.{Happening, turns, transcript_of}
+use Rattle.world_tables.specs.World.{start, client_at, is_resolving}
+use Rattle.world_tables.specs.Turns.{Happening, turns, world_from, transcript_of}
 use Rattle.world_tables.specs.Sound.{IsSound}
 use Rattle.world_tables.specs.Quiet.{AreListed}
+use Rattle.asked_laws.specs.Asked.{AreAsked}
+use Rattle.asked_laws.specs.Phases.{is_away, has_phase}
 use Rattle.stab_io.specs.declared.limits.TheConstants.{LINE_LIMIT, INPUT_LIMIT}
 use Rattle.stab_io.specs.Lines.{Line, LineTooLong, InputTooLong, HasNoNewline}
 use Rattle.script_text.specs.declared.fault.BadLine.{BadLine}
@@ -19,14 +23,24 @@ use Rattle.simba_top.specs.Script.{next_in, IsFront}
 
 -- ---- what is written
 
+-- at each moment of a run a client resolves the conflicts of a table exactly where the lines so far tell of a phase of
+-- it, and then the client is up
+abbrev pub AreToldPhases : List Happening → Type 0
+AreToldPhases run = (front more : List Happening) → run ≡ front ++ more → (client table : ℕ)
+    → (is_resolving (world_from start front) client table ≡ has_phase (turns front) client table)
+    × (has_phase (turns front) client table ≡ true → is_away (client_at (world_from start front) client) ≡ false)
+
 -- A run of a script that has P: its events, each with the lucks of its device calls, and what the lines of it are. They
--- are sound, and where chunks are listed at a quiet Store they are those that its rows name
+-- are sound, where chunks are listed at a quiet Store they are those that its rows name, a row is told as resolved only
+-- where its client was asked to, and the phases in which clients resolve are those that the lines tell
 pub record IsRun (P : List Happening → Type 0) (script : List Event) (lines : List TextLine) : Type 0 where
   pub run : List Happening
   pub events : map (λ (h : Happening). h.event) run ≡ script
   pub lines_are : map line_of lines ≡ transcript_of (turns run)
   pub sound : IsSound (turns run)
   pub listed : AreListed (turns run)
+  pub asked : AreAsked (turns run)
+  pub phases : AreToldPhases run
   pub kept : P run
 
 -- where the sink tells its bytes: the transcript of a run of this script was added to them

@@ -1,12 +1,13 @@
 -- Where a run stands over an input, and how it ends there.
-use Rattle.std.specs.Prelude.{◌≡◌, ℕ, ◌+◌, ◌<◌, ◌≤◌, Bool, List, ◌++◌, length, map, Option, Some, None, IfSome}
+use Rattle.std.specs.Prelude.{◌≡◌, ℕ, ◌+◌, ◌<◌, ◌≤◌, Bool, List, [], ◌∷◌, ◌++◌, length, map, Option, Some, None, IfSome}
 use Rattle.std.specs.List.{flat_map, AllByRecursion}
 use Rattle.std.specs.Io.KnownBytes.{Appends}
 use Rattle.disk_trait.specs.Calls.{DiskState}
 use Rattle.table_model.specs.declared.event.Event.{Event}
 use Rattle.table_model.specs.declared.line.TextLine.{TextLine}
 use Rattle.step_tables.specs.Lines.{line_of}
-use Rattle.world_tables.specs.World.{start}
+use Rattle.world_tables.specs.World.{start, step}
+use Rattle.world_tables.specs.World as moves
 use Rattle.world_tables.specs.Turns.{Happening, turns, world_from, transcript_of}
 use Rattle.stab_io.specs.Faults.{Rose, AppendsFront}
 use Rattle.stab_io.specs.Lines.{Line}
@@ -23,7 +24,7 @@ use Rattle.world_tables.specs.Faults.{device_faults}
 use Rattle.world_steps.specs.Faults.{all_faults}
 use Rattle.fair_laws.specs.Reached.{IsBuilt}
 use Rattle.world_steps.specs.Holds.{Holds, AreOut}
-use Rattle.world_steps.specs.Steps.{HavePlansBelow}
+use Rattle.world_steps.specs.Steps.{HavePlansBelow, may_begin}
 use Rattle.simba_top.specs.Faults.{Matches, AnyRun}
 use Rattle.simba_top.specs.RowNames.{HasRows}
 use Rattle.simba_top.specs.Script.{next_in, IsFront, IsWhole}
@@ -35,8 +36,22 @@ pub record IsReady {D : Type 0} (run : Run D) : Type 0 where
   pub limits : run.reader.limits ≡ record { line = LINE_LIMIT; input = INPUT_LIMIT }
   pub few : run.count ≤ MOST_LINES
 
--- the events of a script led to this world, with some lucks, and wrote these lines; the disks that are out are its own;
--- and no client has begun more plans than there were events
+-- how many plans the events of a run may begin
+abbrev pub plans_from : moves.World → List Happening → ℕ
+plans_from w [] = 0
+plans_from w (h ∷ more) = may_begin w h.event + plans_from (step w h.event h.lucks).world more
+
+-- Events led to the world of a run, with some lucks, no more of them than there were lines; the disks that are out are
+-- its own; and no client has begun more plans than the events may
+pub record IsUnderway {D : Type 0} (state : D → DiskState) (is_out : ℕ → Bool) (run : Run D) : Type 0 where
+  pub happenings : List Happening
+  pub built : AllByRecursion (λ (h : Happening). IsBuilt h.event) happenings
+  pub few : length happenings ≤ run.count
+  pub held : Holds state (world_from start happenings) run.world
+  pub out : AreOut is_out (world_from start happenings)
+  pub plans : HavePlansBelow state (plans_from start happenings) run.world
+
+-- the events of a script led to this world, with some lucks, and wrote these lines; the disks that are out are its own
 pub record Leads {D : Type 0} (state : D → DiskState) (script : List Event) (told : List TextLine) (world : World D)
     (is_out : ℕ → Bool) : Type 0 where
   pub run : List Happening
@@ -46,7 +61,6 @@ pub record Leads {D : Type 0} (state : D → DiskState) (script : List Event) (t
   pub held : Holds state (world_from start run) world
   pub out : AreOut is_out (world_from start run)
   pub counted : Matches (device_faults start run) (all_faults state world)
-  pub plans : HavePlansBelow state (length run) world
 
 -- the lines so far are the first of the input and spell the script, and the bytes ahead are the rest
 pub record Stands {D : Type 0} (state : D → DiskState) (input : List ℕ) (script : List Event) (told : List TextLine)

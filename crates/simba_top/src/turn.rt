@@ -5,7 +5,7 @@ ghost use Rattle.std.specs.Io.KnownBytes.{Appends, IsAtEnd};
 ghost use Rattle.table_model.specs.declared.event.Event.{Event as AnEvent};
 ghost use Rattle.table_model.specs.declared.line.TextLine.{TextLine as ALine};
 ghost use Rattle.script_text.specs.Grammar.{Spells};
-ghost use Rattle.transcript_text.specs.Text.{text_of, stop_text, transcript_text};
+ghost use Rattle.transcript_text.specs.Text.{text_of, stop_text};
 ghost use Rattle.world_tables.specs.World.{World as AWorld};
 ghost use Rattle.world_steps.specs.Faults.{IsUndone, all_faults, all_faults_back};
 ghost use Rattle.fair_laws.specs.Reached.{IsBuilt, IsReached};
@@ -14,8 +14,8 @@ ghost use Rattle.world_steps.specs.Rows.{AreRowsBack};
 ghost use Rattle.simba_top.specs.Faults.{Led};
 ghost use Rattle.stab_io.specs.Faults.{Rose, AppendsFront};
 ghost use Rattle.simba_top.specs.Script.{IsWhole};
-ghost use Rattle.simba_top.specs.Stands.{IsReady, Stands, HasLine, Goes, GoesOn, IsCause, EndedBy, Stopped, IsDone};
-ghost use Rattle.simba_top.specs.Stands.{CountsReads, CountsPuts, CountsDepots};
+ghost use Rattle.simba_top.specs.Stands.{IsReady, IsUnderway, Stands, HasLine, Goes, GoesOn, IsCause, EndedBy, Stopped};
+ghost use Rattle.simba_top.specs.Stands.{IsDone, CountsReads, CountsPuts, CountsDepots};
 
 use crate::row_names::RowNames;
 use crate::run::MOST_LINES;
@@ -74,7 +74,7 @@ fn put_all<K: Sink>(sink: &mut K, texts: &[Bytes]) -> Result<(), Failed>
 impl<D: Disk + Drop> Run<D> {
     pub(crate) fn new(alloc: Global) -> Run<D>
         ensures ready { IsReady result }
-        ensures held { (is_out : ℕ → Bool) → ((k : ℕ) → is_out k ≡ false) → IsWorld D.state is_out result.world }
+        ensures held { (is_out : ℕ → Bool) → ((k : ℕ) → is_out k ≡ false) → IsUnderway D.state is_out result }
         ensures stands { (input : List ℕ) (is_out : ℕ → Bool) → ((k : ℕ) → is_out k ≡ false)
             → Stands D.state input [] [] result is_out (Some input) }
     {
@@ -96,7 +96,7 @@ impl<D: Disk + Drop> Run<D> {
         depot: &mut P,
     ) -> Result<(), Stop>
         requires ready { IsReady self.old }
-        requires held { IsWorld D.state (P.state depot.old).is_out self.old.world }
+        requires held { IsUnderway D.state (P.state depot.old).is_out self.old }
         ensures end { OnOk result (IsAtEnd (S.left source.new)) }
         ensures few { self.new.count ≤ MOST_LINES }
         ensures done { (input : List ℕ)
@@ -161,8 +161,8 @@ impl<D: Disk + Drop> Run<D> {
         depot: &mut P,
     ) -> Result<bool, Stop>
         requires ready { IsReady self.old }
-        requires held { IsWorld D.state (P.state depot.old).is_out self.old.world }
-        ensures held { OnOk result (IsWorld D.state (P.state depot.new).is_out self.new.world) }
+        requires held { IsUnderway D.state (P.state depot.old).is_out self.old }
+        ensures held { OnOk result (IsUnderway D.state (P.state depot.new).is_out self.new) }
         ensures ready { IfOk result (λ more. MatchBool more (IsReady self.new × (self.new.count ≡ self.old.count + 1))
             (IsAtEnd (S.left source.new))) }
         ensures few { self.new.count ≤ MOST_LINES }
@@ -259,8 +259,8 @@ impl<D: Disk + Drop> Run<D> {
     ) -> Result<Vec<Bytes>, Stop>
         requires ready { IsReady self.old }
         requires few { self.old.count < MOST_LINES }
-        requires held { IsWorld D.state (P.state depot.old).is_out self.old.world }
-        ensures held { OnOk result (IsWorld D.state (P.state depot.new).is_out self.new.world) }
+        requires held { IsUnderway D.state (P.state depot.old).is_out self.old }
+        ensures held { OnOk result (IsUnderway D.state (P.state depot.new).is_out self.new) }
         ensures ready { OnOk result (IsReady self.new × (self.new.count ≡ self.old.count + 1)) }
         ensures few { OnErr result (self.new.count ≡ self.old.count) }
         ensures texts { (input : List ℕ) (script : List AnEvent) (told : List ALine) (left : Option (List ℕ))
@@ -292,8 +292,8 @@ impl<D: Disk + Drop> Run<D> {
         requires ready { IsReady self.old }
         requires few { self.old.count < MOST_LINES }
         requires built { IsBuilt event.now }
-        requires held { IsWorld D.state (P.state depot.old).is_out self.old.world }
-        ensures held { OnOk result (IsWorld D.state (P.state depot.new).is_out self.new.world) }
+        requires held { IsUnderway D.state (P.state depot.old).is_out self.old }
+        ensures held { OnOk result (IsUnderway D.state (P.state depot.new).is_out self.new) }
         ensures ready { OnOk result (IsReady self.new × (self.new.count ≡ self.old.count + 1)) }
         ensures few { OnErr result (self.new.count ≡ self.old.count) }
         ensures texts { (input : List ℕ) (script : List AnEvent) (told : List ALine) (line : List ℕ)

@@ -1,19 +1,28 @@
 use Rattle.std.proofs.lemmas.Result.{err_from_is_err_and}
 use Rattle.world_tables.specs.World.{start}
 use Rattle.world_tables.specs.Turns.{world_from}
-use Rattle.std.proofs.Common.{refl, ap, length}
+use Rattle.std.proofs.Common.{refl, ap, inr}
 use Rattle.simba_top.specs.Stops.{of_world}
-use Rattle.simba_top.proofs.Sounds.{reached, world_on, nothing_undone}
-use Rattle.simba_top.proofs.Turns.{carries_out, row_stops, world_stops}
+use Rattle.simba_top.specs.Stands.{plans_from}
+use Rattle.simba_top.proofs.Sounds.{reached, nothing_undone}
+use Rattle.simba_top.proofs.Underway as underway
+use Rattle.simba_top.proofs.Underway.{is_world, carried_on}
+use Rattle.simba_top.proofs.Turns.{carries_out, row_stops, world_stops, depot_failed}
 use Rattle.simba_top.proofs.turn.Run.carry_out.Goals as goal
+
+pub step-requires-clause-held : goal.step-requires-clause-held
+step-requires-clause-held g c = is_world g.D.Disk.state (g.P.Depot.state c.args.depot.now).is_out c.args.self.now c.requires.held
 
 pub returns-clause-held : goal.returns-clause-held
 returns-clause-held g c =
-    let w = c.requires.held in
+    let here = c.requires.held in
+    let state = g.D.Disk.state in
     let out = (g.P.Depot.state c.args.depot.now).is_out in
     let new = (g.P.Depot.state c.step.new.depot).is_out in
-    world_on g.D.Disk.state g.D.Disk.images out new c.args.self.now.world c.step.new.self c.args.event.now c.in_ok-lines.lines w c.requires.built
-    (c.in_ok-lines.ensures.done w.w w.reached w.held w.out)
+    let w = world_from start here.happenings in
+    let was = underway.reached state out c.args.self.now here in
+    carried_on state out c.args.self.now here g.D.Disk.images c.args.event.now c.add.new.self c.add-2.new.self c.step.new.self new c.in_ok-lines.lines c.requires.built
+    (c.in_ok-lines.ensures.done w was here.held here.out) (c.in_ok-lines.ensures.plans w (plans_from start here.happenings) was here.held here.plans)
 
 pub returns-clause-texts : goal.returns-clause-texts
 returns-clause-texts g c = λ input script told line left has spells.
@@ -24,7 +33,7 @@ returns-clause-texts g c = λ input script told line left has spells.
     carries_out state input script told line c.args.self.now out left has c.requires.few g.D.Disk.images c.args.event.now c.add.new.self c.add-2.new.self c.step.new.self new
     c.in_ok-lines.lines c.in_ok-texts.texts.items
     spells c.in_ok-add.ensures.ok (c.in_ok-add-2.ensures.rows script has.rows) (c.in_ok-add-2.ensures.few script has.rows has.front.rows) c.requires.built
-    (c.in_ok-lines.ensures.done (world_from start l.run) (reached state script told c.args.self.now.world out l) l.held l.out) c.in_ok-lines.ensures.plans c.in_ok-texts.ensures
+    (c.in_ok-lines.ensures.done (world_from start l.run) (reached state script told c.args.self.now.world out l) l.held l.out) c.in_ok-texts.ensures
 
 pub returns-in_err-add-2-clause-texts : goal.returns-in_err-add-2-clause-texts
 returns-in_err-add-2-clause-texts g c = λ input script told line left has spells.
@@ -36,10 +45,10 @@ pub returns-in_err-lines-clause-texts : goal.returns-in_err-lines-clause-texts
 returns-in_err-lines-clause-texts g c = λ input script told line left has spells.
     let state = g.D.Disk.state in
     let out = (g.P.Depot.state c.args.depot.now).is_out in
-    let l = has.world in
+    let here = c.requires.held in
     let p = err_from_is_err_and c.from_residual-in_err-lines.result c.from_residual-in_err-lines.ensures.1 in
-    rw (p.1, p.2) (world_stops state input script told line c.args.self.now out left has c.requires.few c.args.event.now c.in_err-lines.field-0.0 c.requires.built
-    (c.in_err-lines.ensures.limit (world_from start l.run) (length l.run) (reached state script told c.args.self.now.world out l) l.held l.plans))
+    rw (p.1, p.2) (world_stops state input script told line c.args.self.now out left has c.requires.few here c.args.event.now c.in_err-lines.field-0.0
+    (c.in_err-lines.ensures.limit (world_from start here.happenings) (plans_from start here.happenings) (underway.reached state out c.args.self.now here) here.held here.plans))
 
 pub returns-in_err-add-clause-left : goal.returns-in_err-add-clause-left
 returns-in_err-add-clause-left g c = λ w r h out.
@@ -54,7 +63,11 @@ returns-in_err-add-2-clause-left g c = λ w r h out.
 pub returns-in_err-lines-clause-left : goal.returns-in_err-lines-clause-left
 returns-in_err-lines-clause-left g c = λ w r h out.
     let p = err_from_is_err_and c.from_residual-in_err-lines.result c.from_residual-in_err-lines.ensures.1 in
-    rw (p.1, p.2) (λ no. c.in_err-lines.ensures.left w r h out (λ is. no (ap of_world is)))
+    let here = c.requires.held in
+    let is_out = (g.P.Depot.state c.args.depot.now).is_out in
+    let spent = c.in_err-lines.ensures.limit (world_from start here.happenings) (plans_from start here.happenings) (underway.reached g.D.Disk.state is_out c.args.self.now here) here.held here.plans in
+    rw (p.1, p.2) (λ no. c.in_err-lines.ensures.left w r h out (λ is. no (ap of_world is))
+    (inr (depot_failed g.D.Disk.state is_out c.args.self.now here c.requires.few c.args.event.now c.in_err-lines.field-0.0 no spent)))
 
 pub returns-in_err-texts-clause-left : goal.returns-in_err-texts-clause-left
 returns-in_err-texts-clause-left g c = λ w r h out.

@@ -2,10 +2,14 @@ use Rattle.simba_top.proofs.Events.{built}
 use Rattle.std.proofs.lemmas.Result.{err_from_is_err_and}
 use Rattle.simba_top.proofs.Sounds.{nothing_undone}
 use Rattle.simba_top.proofs.Turns.{passes_over}
+use Rattle.simba_top.proofs.Underway.{passed_line}
 use Rattle.simba_top.proofs.turn.Run.event_texts.Goals as goal
 
 pub carry_out-requires-clause-built : goal.carry_out-requires-clause-built
 carry_out-requires-clause-built g c = built c.args.self.now.names c.args.line.now c.in-Some.event (rw c.in-Some.is at c.in_ok-event.ensures.event)
+
+pub returns-in-None-clause-held : goal.returns-in-None-clause-held
+returns-in-None-clause-held g c = passed_line g.D.Disk.state (g.P.Depot.state c.args.depot.now).is_out c.args.self.now c.requires.held
 
 pub returns-in-Some-clause-texts : goal.returns-in-Some-clause-texts
 returns-in-Some-clause-texts g c = λ input script told left has.

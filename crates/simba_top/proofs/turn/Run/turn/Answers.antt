@@ -1,12 +1,11 @@
 use Rattle.std.proofs.lemmas.Result.{err_from_is_err_and}
-use Rattle.std.proofs.Common.{sym, subst}
 use Rattle.world_tables.specs.World.{start}
 use Rattle.world_tables.specs.Turns.{world_from}
-use Rattle.world_steps.specs.declared.world.World.{World}
-use Rattle.world_steps.specs.Holds.{IsWorld}
 use Rattle.simba_top.specs.Faults.{Led}
-use Rattle.simba_top.proofs.Sounds.{reached, world_still}
-use Rattle.simba_top.proofs.Endings.{same_count, ended, ended_left, still_tells, world_same, tells, tells_same, put_done, put_failed}
+use Rattle.simba_top.proofs.Sounds.{reached}
+use Rattle.simba_top.proofs.Underway as underway
+use Rattle.simba_top.proofs.Underway.{is_world, line_read, world_still}
+use Rattle.simba_top.proofs.Endings.{same_count, ended, ended_left, still_tells, tells, tells_same, put_done, put_failed}
 use Rattle.simba_top.proofs.turn.Run.turn.Goals as goal
 
 pub returns-in_err-line-clause-ends : goal.returns-in_err-line-clause-ends
@@ -66,19 +65,28 @@ returns-clause-goes g c = λ input before goes.
 pub returns-in_err-line-clause-left : goal.returns-in_err-line-clause-left
 returns-in_err-line-clause-left g c =
     let p = err_from_is_err_and c.from_residual.result c.from_residual.ensures.1 in
-    rw (p.1, p.2) (λ no. subst (λ (w : World g.row.D.Denot). IsWorld g.D.Disk.state (g.P.Depot.state c.args.depot.now).is_out w)
-    (sym (world_same c.args.self.now c.next_line.new.self c.in_err-line.ensures.same)) c.requires.held)
+    let out = (g.P.Depot.state c.args.depot.now).is_out in
+    rw (p.1, p.2) (λ no. is_world g.D.Disk.state out c.next_line.new.self
+    (line_read g.D.Disk.state out c.args.self.now c.requires.held c.next_line.new.self c.in_err-line.ensures.same))
 
 pub returns-in_err-texts-clause-left : goal.returns-in_err-texts-clause-left
 returns-in_err-texts-clause-left g c =
     let p = err_from_is_err_and c.from_residual-in_err-texts.result c.from_residual-in_err-texts.ensures.1 in
-    let held = subst (λ (w : World g.row.D.Denot). IsWorld g.D.Disk.state (g.P.Depot.state c.args.depot.now).is_out w)
-    (sym (world_same c.args.self.now c.next_line.new.self c.in_ok-line.ensures.same)) c.requires.held in
-    rw (p.1, p.2) (λ no. world_still g.D.Disk.state (g.P.Depot.state c.args.depot.now).is_out
-    (g.P.Depot.state c.event_texts.new.depot).is_out c.next_line.new.self.world c.event_texts.new.self.world held
-    (c.in_err-texts.ensures.left held.w held.reached held.held held.out no))
+    let state = g.D.Disk.state in
+    let out = (g.P.Depot.state c.args.depot.now).is_out in
+    let here = line_read state out c.args.self.now c.requires.held c.next_line.new.self c.in_ok-line.ensures.same in
+    rw (p.1, p.2) (λ no. world_still state out c.next_line.new.self here (g.P.Depot.state c.event_texts.new.depot).is_out c.event_texts.new.self.world
+    (c.in_err-texts.ensures.left (world_from start here.happenings) (underway.reached state out c.next_line.new.self here) here.held here.out no))
 
 pub returns-in_err-put_all-clause-left : goal.returns-in_err-put_all-clause-left
 returns-in_err-put_all-clause-left g c =
     let p = err_from_is_err_and c.from_residual-in_err-put_all.result c.from_residual-in_err-put_all.ensures.1 in
-    rw (p.1, p.2) (λ no. c.in_ok-texts.ensures.held)
+    rw (p.1, p.2) (λ no. is_world g.D.Disk.state (g.P.Depot.state c.event_texts.new.depot).is_out c.event_texts.new.self c.in_ok-texts.ensures.held)
+
+pub event_texts-requires-clause-held : goal.event_texts-requires-clause-held
+event_texts-requires-clause-held g c =
+    line_read g.D.Disk.state (g.P.Depot.state c.args.depot.now).is_out c.args.self.now c.requires.held c.next_line.new.self c.in_ok-line.ensures.same
+
+pub returns-in_default-clause-held : goal.returns-in_default-clause-held
+returns-in_default-clause-held g c =
+    line_read g.D.Disk.state (g.P.Depot.state c.args.depot.now).is_out c.args.self.now c.requires.held c.next_line.new.self c.in_ok-line.ensures.same

@@ -1,5 +1,6 @@
 use Rattle.std.proofs.Common.{[], ◌∙◌}
 use Rattle.std.proofs.KnownBytes.{Appends-nil}
+use Rattle.simba_top.proofs.Underway.{is_world}
 use Rattle.simba_top.proofs.turn.Run.whole.Goals as goal
 
 pub lines-preserved : goal.lines-preserved
@@ -16,3 +17,6 @@ pub returns-clause-done : goal.returns-clause-done
 returns-clause-done g c = λ input stands.
     let holds = g.K.Sink.holds c.args.sink.now in
     rw c.if-branch.false at (c.in_ok-turn.ensures.goes input holds (c.lines.invariant.goes input holds ([], [], stands, Appends-nil holds)))
+
+pub returns-clause-held : goal.returns-clause-held
+returns-clause-held g c = is_world g.D.Disk.state (g.P.Depot.state c.turn.new.depot).is_out c.turn.new.self c.in_ok-turn.ensures.held

@@ -97,7 +97,7 @@ fn resolve_each<D: Disk + Drop>(
 ///
 /// # Errors
 ///
-/// `Spent` where no number of a write or of a plan is left, and `Memory`. The rows before are resolved.
+/// `Spent` where no more numbers of writes or of plans are left than there are rows in conflict, and `Memory`.
 pub fn resolve_all<D: Disk + Drop>(
     alloc: Global,
     clients: &mut ClientHost<D>,

@@ -58,9 +58,9 @@ impl<D: Disk + Drop> World<D> {
     /// 192+3(C-1), 192+3(C-1)+1 and 192+3(C-1)+2, for its journal, its slots and its chunks.
     ///
     /// `Limit` where a client has made its last write or has begun its last plan, or a table has given its last
-    /// version; `Depot` where the depot handed out no disk: either leaves the world as it was, but where all conflicts
-    /// of a table are resolved a limit leaves the rows before resolved. What want of memory leaves of it isn't said.
-    /// Each ends the run.
+    /// version; `Depot` where the depot handed out no disk: either leaves the world as it was. What want of memory
+    /// leaves of it isn't said, nor what a limit does where all conflicts of a table are resolved: it may come between
+    /// two rows. Each ends the run.
     pub fn step<P: Depot<Disk = D>>(
         &mut self,
         depot: &mut P,

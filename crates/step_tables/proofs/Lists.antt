@@ -17,7 +17,7 @@ use Rattle.std.proofs.lemmas.List.Folds.{find-append}
 use Rattle.table_model.specs.Last.{last_where}
 use Rattle.table_model.specs.History.{same_row}
 use Rattle.step_tables.specs.Client.{row_cmp}
-use Rattle.step_tables.specs.Members.{Among, put, put_at}
+use Rattle.step_tables.specs.Members.{Among}
 
 -- ---- members
 

@@ -1,10 +1,8 @@
 -- Maps that are functions, behind a change.
-use Rattle.std.proofs.Common.{◌≡◌, ◌≢◌, ◌⊎◌, ℕ, ◌+◌, Bool, true, false, List, refl, sym, ap, ◌∙◌, arith, inl, inr, true≢false}
-use Rattle.std.specs.Prelude.{◌==◌, ◌&&◌, if◌then◌else◌}
+use Rattle.std.proofs.Common.{◌≡◌, ◌≢◌, ◌⊎◌, ℕ, List, arith}
 use Rattle.std.proofs.lemmas.Bool.Decides.{nat_tests}
-use Rattle.table_model.specs.History.{same_row}
 use Rattle.step_tables.specs.Members.{put, put_at}
-use Rattle.step_tables.proofs.Lists.{same_row-is, same_row-refl, same_row_tells}
+use Rattle.step_tables.proofs.Lists.{same_row-refl, same_row_tells}
 
 pub put_here : {X : Type 0} (m : ℕ → X) (k : ℕ) (v : X) → put m k v k ≡ v
 put_here m k v = grind (arith, nat_tests)

@@ -3,7 +3,7 @@ use Rattle.std.specs.Prelude.{ℕ, List, Option, Some, None}
 use Rattle.std.specs.declared.cmp.Ordering.{Ordering}
 use Rattle.std.specs.Ordering.{nat_cmp}
 use Rattle.std.specs.Cmp.Lexicographic.{slice_cmp}
-use Rattle.step_tables.specs.declared.slots.Shadow.{Shadow}
+use Rattle.step_tables.specs.Slots.{Shadow}
 
 abbrev pub row_cmp : List ℕ → List ℕ → Ordering
 row_cmp a b = slice_cmp nat_cmp a b

@@ -6,6 +6,7 @@ use Rattle.std.specs.Prelude.{None, option_map, option_to_list, Result, Ok, Err,
 use Rattle.std.specs.Ordering.{nat_cmp}
 use Rattle.std.specs.Map.{lookup}
 use Rattle.std.specs.BTreeMap.{is_at, insert_entry}
+use Rattle.stab_base.specs.declared.chunk_name.ChunkName.{ChunkName}
 use Rattle.stab_base.specs.declared.step.Step.{Step}
 use Rattle.stab_base.specs.declared.step.Step.TheVariants as steps
 use Rattle.row_value.specs.declared.content.Content.{Content}
@@ -26,10 +27,11 @@ use Rattle.conflicts.specs.declared.stored.Stored.{Stored}
 use Rattle.conflicts.specs.declared.stored.Stored.TheVariants as resolvers
 use Rattle.row_edits.specs.declared.change.Edit.{Edit}
 use Rattle.row_edits.specs.Edit.{edited_to}
-use Rattle.step_tables.specs.declared.slots.Main.{Main}
-use Rattle.step_tables.specs.declared.slots.InFlight.{InFlight}
-use Rattle.step_tables.specs.declared.slots.Shadow.{Shadow}
+use Rattle.step_tables.specs.Slots.{Main}
+use Rattle.step_tables.specs.Slots.{InFlight}
+use Rattle.step_tables.specs.Slots.{Shadow}
 use Rattle.step_tables.specs.Client.{row_cmp, version_in}
+use Rattle.step_tables.specs.Chunks.{each_chunk, all_against, all_fresh, names_at, is_named, objects_of, cut}
 use Rattle.step_tables.specs.Facts.{ClientFact, Fact, Answer, Refusal, Shown}
 use Rattle.step_tables.specs.Sums.{by_digests}
 use Rattle.step_tables.specs.Facts as facts
@@ -347,6 +349,7 @@ request_for c table row out = to_owner (SyncRequest (record {
   number = out.number;
   base = out.base;
   content = out.content;
+  pieces = out.pieces;
 }))
 
 abbrev pub pull_from : ℕ → ℕ → ℕ → Send
@@ -374,14 +377,37 @@ write_plan c d table row slots content =
     record (slots_plan d table row (record slots { main = Some main }) (wrote c table row main ∷ []))
     { last = main.number }
 
+-- a write over a base, whose chunks aren't spelled yet
 abbrev pub out_of : Main → ℕ → InFlight
-out_of main base = record { number = main.number; read = main.read; base = base; content = main.content }
+out_of main base = record {
+  number = main.number;
+  read = main.read;
+  base = base;
+  content = main.content;
+  pieces = [];
+  whole = false;
+}
+
+-- the chunks of what was read last, each with the Store's name where it is known
+abbrev pub chunks_read : ℕ → Option Shadow → List (List (Option ChunkName × List ℕ))
+chunks_read size None = []
+chunks_read size (Some x) = each_chunk size x.names (objects_of x.content)
+
+-- a write whose chunks are spelled against what was read last, in chunks of a size
+abbrev pub spelled : ℕ → Option Shadow → InFlight → InFlight
+spelled size shadow out =
+    record out { pieces = all_against 0 (chunks_read size shadow) (map (cut size) (objects_of out.content)) }
 
 -- a strong write waits for its answer at once, over what was read
-abbrev pub strong_plan : ℕ → ClientDisk → ℕ → List ℕ → Slots → Content → Plan
-strong_plan c d table row slots content =
+abbrev pub strong_out : ℕ → ℕ → Slots → Content → InFlight
+strong_out size number slots content =
+    let read : ℕ = version_in slots.shadow in spelled size slots.shadow (out_of (main_of number read content) read)
+
+abbrev pub strong_plan : ℕ → ℕ → ClientDisk → ℕ → List ℕ → Slots → Content → Plan
+strong_plan size c d table row slots content =
     let main : Main = main_of (d.last + 1) (version_in slots.shadow) content in
-    record (slots_plan d table row (record slots { out = Some (out_of main main.read) }) (wrote c table row main ∷ []))
+    record (slots_plan d table row (record slots { out = Some (strong_out size main.number slots content) })
+    (wrote c table row main ∷ []))
     { last = main.number }
 
 -- the first row of a table whose write waits for its answer
@@ -393,16 +419,15 @@ first_out (entry ∷ rows) = or_later entry.1.out (first_out rows)
     or_later None later = later
     or_later (Some out) later = Some out
 
-abbrev pub write_strong : ℕ → Shape → ClientDisk → ℕ → List ℕ → Slots → Content → Option InFlight → ClientStep
-write_strong c shape d table row slots content (Some out) = refused d (facts.Outstanding out.number)
-write_strong c shape d table row slots content None =
-    let read : ℕ = version_in slots.shadow in
-    begun shape d (facts.Number (d.last + 1)) (strong_plan c d table row slots content)
-    (request_for c table row (out_of (main_of (d.last + 1) read content) read) ∷ [])
+abbrev pub write_strong : ℕ → ℕ → Shape → ClientDisk → ℕ → List ℕ → Slots → Content → Option InFlight → ClientStep
+write_strong size c shape d table row slots content (Some out) = refused d (facts.Outstanding out.number)
+write_strong size c shape d table row slots content None =
+    begun shape d (facts.Number (d.last + 1)) (strong_plan size c d table row slots content)
+    (request_for c table row (strong_out size (d.last + 1) slots content) ∷ [])
 
 abbrev pub write_by : Scheme → ℕ → Shape → ClientDisk → ℕ → List ℕ → TableDisk → Slots → Content → ClientStep
 write_by Strong c shape d table row opened slots content =
-    write_strong c shape d table row slots content (first_out opened.rows)
+    write_strong opened.schema.chunk c shape d table row slots content (first_out opened.rows)
 write_by Causal c shape d table row opened slots content =
     begun shape d (facts.Number (d.last + 1)) (write_plan c d table row slots content) []
 write_by Eventual c shape d table row opened slots content =
@@ -530,6 +555,10 @@ first_to_send [] = None
 first_to_send (entry ∷ rows) =
     or_later entry.0 entry.1 (to_send entry.1 entry.1.out entry.1.main entry.1.conflict) (first_to_send rows)
 
+-- with its chunks spelled
+abbrev pub row_out : ℕ → RowOut → RowOut
+row_out size x = record x { out = spelled size x.slots.shadow x.out }
+
 abbrev pub send_plan : ClientDisk → ℕ → RowOut → Plan
 send_plan d table x = slots_plan d table x.row (record x.slots { out = Some x.out }) []
 
@@ -545,7 +574,8 @@ sync_in c shape d agenda table None = quiet d (Some agenda) (facts.Refuses facts
 sync_in c shape d (task ∷ more) table (Some opened) =
     quiet d (Some (task ∷ more)) (facts.Refuses (facts.Busy shape.plan))
 sync_in c shape d [] table (Some opened) =
-    sync_first c shape d table (resent c table opened.rows) (first_to_send opened.rows)
+    sync_first c shape d table (resent c table opened.rows)
+    (option_map (row_out opened.schema.chunk) (first_to_send opened.rows))
 
 abbrev pub sync_step : ℕ → Shape → ClientDisk → Option (List ClientTask) → ℕ → ClientStep
 sync_step c shape d None table = down d
@@ -689,16 +719,30 @@ without number (Some main) = if main.number == number then None else Some main
 abbrev pub freed : Slots → ℕ → Slots
 freed slots number = record slots { main = without number slots.main; out = None }
 
+abbrev pub known : List (List ChunkName) → List (List (Option ChunkName))
+known names = map (λ (object : List ChunkName). map (λ (name : ChunkName). Some name) object) names
+
+-- the row at the version that it was accepted at
+abbrev pub shadow_at : ℕ → InFlight → Shadow
+shadow_at version out =
+    record { version = version; content = out.content; names = known (names_at version out.pieces) }
+
 abbrev pub ack_plan : ℕ → ClientDisk → ℕ → List ℕ → Slots → InFlight → ℕ → Plan
 ack_plan c d table row slots out version =
-    slots_plan d table row (record (freed slots out.number)
-    { shadow = Some (record { version = version; content = out.content }) })
+    slots_plan d table row (record (freed slots out.number) { shadow = Some (shadow_at version out) })
     (facts.Acked c out.number table row version ∷ [])
 
 -- what waited is refused for good
 abbrev pub lost_plan : ℕ → ClientDisk → ℕ → List ℕ → Slots → InFlight → ℕ → Plan
 lost_plan c d table row slots out latest =
     slots_plan d table row (record slots { out = None }) (facts.Refused c out.number table row latest ∷ [])
+
+-- what waited is to be sent with all its chunks
+abbrev pub whole_out : InFlight → InFlight
+whole_out out = record out { pieces = all_fresh 0 out.pieces; whole = true }
+
+abbrev pub whole_plan : ClientDisk → ℕ → List ℕ → Slots → InFlight → Plan
+whole_plan d table row slots out = slots_plan d table row (record slots { out = Some (whole_out out) }) []
 
 abbrev pub outcome_taken : ℕ → Shape → ClientDisk → ℕ → List ℕ → TableDisk → Slots → InFlight → Outcome → ClientStep
 outcome_taken c shape d table row opened slots out (messages.Accepted version) =
@@ -710,6 +754,9 @@ outcome_taken c shape d table row opened slots out (messages.Stale latest) =
     begun shape d facts.Done (lost_plan c d table row slots out latest) (pull_from c table opened.position ∷ [])
 outcome_taken c shape d table row opened slots out (messages.Conflict latest) =
     record (ignored d) { sends = pull_from c table opened.position ∷ [] }
+outcome_taken c shape d table row opened slots out messages.NeedWhole =
+    if out.whole then ignored d
+    else begun shape d facts.Done (whole_plan d table row slots out) (request_for c table row (whole_out out) ∷ [])
 
 abbrev pub response_taken : ℕ → Shape → ClientDisk → Response → TableDisk → Option InFlight → ClientStep
 response_taken c shape d response opened None = ignored d
@@ -731,7 +778,7 @@ pub record Placed : Type 0 where
   pub facts : List ClientFact
 
 abbrev pub shadow_of : Header → Shadow
-shadow_of header = record { version = header.version; content = header.content }
+shadow_of header = record { version = header.version; content = header.content; names = known header.names }
 
 abbrev pub read_new : ℕ → ℕ → Header → Slots → List ClientFact → Placed
 read_new c table header slots before = record {
@@ -807,11 +854,16 @@ row_taken c shape d pulled opened header slots =
     (row_placed opened.schema.scheme c pulled.table header slots slots.out))
     (next_pull c pulled.table pulled)
 
--- an answer to another position than the client's is dropped, and one without a row changes nothing
+-- whether an answer comes next, and names the chunks of its row
+abbrev pub comes_next : Pulled → TableDisk → Header → Bool
+comes_next pulled opened header =
+    (pulled.from == opened.position) && is_named opened.schema.chunk header.content header.names
+
+-- another is dropped, and one without a row changes nothing
 abbrev pub pulled_taken : ℕ → Shape → ClientDisk → Pulled → TableDisk → Option Header → ClientStep
 pulled_taken c shape d pulled opened None = ignored d
 pulled_taken c shape d pulled opened (Some header) =
-    if pulled.from == opened.position then row_taken c shape d pulled opened header (slots_at opened header.row)
+    if comes_next pulled opened header then row_taken c shape d pulled opened header (slots_at opened header.row)
     else ignored d
 
 abbrev pub pulled_in : ℕ → Shape → ClientDisk → Pulled → Option TableDisk → ClientStep

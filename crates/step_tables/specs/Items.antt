@@ -1,9 +1,8 @@
 -- Words on the items of a table that the laws of all nodes speak in.
-use Rattle.std.specs.Prelude.{◌≡◌, ◌≢◌, ◌≤◌, ◌⊎◌, ℕ, List}
-use Rattle.row_value.specs.declared.content.Content.{Content}
+use Rattle.std.specs.Prelude.{◌≡◌, ◌≤◌, ◌⊎◌, ℕ, List}
 use Rattle.step_tables.specs.Store.{Stored, current_of}
 use Rattle.step_tables.specs.StoreMoves.{version_of}
-use Rattle.step_tables.specs.Messages.{Pair, Header, Pulled}
+use Rattle.step_tables.specs.Messages.{Pair, Header}
 use Rattle.step_tables.specs.Members.{Among}
 
 -- the version of a row's last item, 0 where there is none

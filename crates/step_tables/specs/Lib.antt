@@ -1,4 +1,5 @@
 pub mod Names
+pub mod Slots
 pub mod Store
 pub mod Chunks
 pub mod Client

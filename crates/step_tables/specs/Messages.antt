@@ -1,19 +1,23 @@
 -- What travels between nodes, and how a device write goes.
 use Rattle.std.specs.Prelude.{ℕ, List, Option}
+use Rattle.stab_base.specs.declared.chunk_name.ChunkName.{ChunkName}
 use Rattle.row_value.specs.declared.content.Content.{Content}
+use Rattle.row_value.specs.declared.pieces.Piece.{Piece}
 use Rattle.table_model.specs.declared.message_name.MessageName.{MessageName}
 use Rattle.table_model.specs.declared.message_name.MessageName.TheVariants as names
 use Rattle.stab_base.specs.declared.node.Node.{Node}
 
--- what the Store makes of a request: it is accepted, was accepted before, comes behind a later write of its client, or
--- rests on an older version than the row's last, in a strong and in a causal table
+-- what the Store makes of a request: it is accepted, was accepted before, comes behind a later write of its client,
+-- rests on an older version than the row's last, in a strong and in a causal table, or keeps a chunk that the row hasn't
 pub data Outcome : Type 0 where
   Accepted : (version : ℕ) → Outcome
   Again : (version : ℕ) → Outcome
   Late : (last : ℕ) → Outcome
   Stale : (latest : ℕ) → Outcome
   Conflict : (latest : ℕ) → Outcome
+  NeedWhole : Outcome
 
+-- a write, and the pieces that spell the chunks of each of its objects
 pub record Request : Type 0 where
   pub client : ℕ
   pub table : ℕ
@@ -21,6 +25,7 @@ pub record Request : Type 0 where
   pub number : ℕ
   pub base : ℕ
   pub content : Content
+  pub pieces : List (List Piece)
 
 pub record Response : Type 0 where
   pub client : ℕ
@@ -39,12 +44,13 @@ pub record Pair : Type 0 where
   pub number : ℕ
   pub version : ℕ
 
--- a row as the Store has it, for one client
+-- a row as the Store has it, for one client, with the names of the chunks of each of its objects
 pub record Header : Type 0 where
   pub row : List ℕ
   pub version : ℕ
   pub yours : Pair
   pub content : Content
+  pub names : List (List ChunkName)
 
 pub record Pulled : Type 0 where
   pub client : ℕ

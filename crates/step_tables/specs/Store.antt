@@ -1,15 +1,17 @@
 -- The items of a table at the Store: its rows as they are now, and the next change above a position.
 use Rattle.std.specs.Prelude.{ℕ, ◌&&◌, nat_lt, not, List, [], ◌∷◌, map, Bool, Option, Some, None, if◌then◌else◌}
 use Rattle.std.specs.List.{list_any}
+use Rattle.stab_base.specs.declared.chunk_name.ChunkName.{ChunkName}
 use Rattle.row_value.specs.declared.content.Content.{Content}
 use Rattle.table_model.specs.declared.entry.Entry.{Entry}
 use Rattle.table_model.specs.Last.{last_where}
 use Rattle.table_model.specs.History.{same_row}
 
--- an entry of the history, and what was written
+-- an entry of the history, what was written, and the names of the chunks of each of its objects
 pub record Stored : Type 0 where
   pub entry : Entry
   pub content : Content
+  pub names : List (List ChunkName)
 
 abbrev pub entries_of : List Stored → List Entry
 entries_of stored = map (λ (s : Stored). s.entry) stored

@@ -8,12 +8,12 @@ use Rattle.stab_base.specs.declared.step.Step.{Step}
 use Rattle.stab_base.specs.declared.step.Step.TheVariants as steps
 use Rattle.row_value.specs.declared.schema.Scheme.{Scheme}
 use Rattle.row_value.specs.declared.schema.Scheme.TheVariants.{Strong, Causal, Eventual}
-use Rattle.table_model.specs.declared.entry.Entry.{Entry}
 use Rattle.stab_base.specs.declared.node.Node.{Node}
 use Rattle.table_model.specs.History.{same_row}
 use Rattle.table_model.specs.Last.{last_where}
 use Rattle.step_tables.specs.Store.{Stored, current_of, next_changed, version_or}
-use Rattle.step_tables.specs.Chunks.{without_names, rising, names_with, new_names, old_names}
+use Rattle.step_tables.specs.Chunks.{without_names, rising, chunks_of, names_with, new_names, old_names, names_at}
+use Rattle.step_tables.specs.Chunks.{is_spelled, has_kept}
 use Rattle.step_tables.specs.Facts.{Fact, Answer}
 use Rattle.step_tables.specs.Facts as facts
 use Rattle.step_tables.specs.Messages.{Request, Response, Pull, Pair, Header, Pulled, Outcome, Message, Send, Luck}
@@ -183,6 +183,10 @@ outdated Strong latest = messages.Stale latest
 outdated Causal latest = messages.Conflict latest
 outdated Eventual latest = messages.Stale latest
 
+-- why a new write isn't taken on: it keeps a chunk that the row hasn't, or its base is outdated
+abbrev pub unaccepted : Scheme → ℕ → ℕ → Outcome
+unaccepted g base current = if takes g base current then messages.NeedWhole else outdated g current
+
 abbrev pub responded : Node → Request → Outcome → Send
 responded from request outcome = record {
   to = Some from;
@@ -199,7 +203,7 @@ abbrev pub sending : StoreDisk → List Send → StoreStep
 sending d sends =
     record { store = record { disk = d; agenda = Some [] }; answer = facts.Done; facts = []; sends = sends }
 
--- the item that a request makes: its version is the next
+-- the item that a request makes: its version is the next, and its new chunks are named by it
 abbrev pub item_for : List Stored → Request → Stored
 item_for items request = record {
   entry = record {
@@ -210,6 +214,7 @@ item_for items request = record {
     base = request.base;
   };
   content = request.content;
+  names = names_at (length items + 1) request.pieces;
 }
 
 abbrev pub puts : List ChunkName → List StoreTask
@@ -218,10 +223,10 @@ puts names = map (λ name. only (PutChunk name)) names
 -- opens the entry, puts each new chunk, puts the row, drops each old chunk that the row names no more, closes the entry
 abbrev pub accepting : ℕ → ℕ → List Stored → Node → Request → Stored → List StoreTask
 accepting size table items from request item =
-    let named : List ChunkName = names_with size items item in
+    let named : List ChunkName = names_with size item in
     let old : List ChunkName = old_names size items item in
     only (Open item)
-    ∷ (puts (new_names size items item)
+    ∷ (puts (new_names size item)
     ++ (ends_with (Put item named old) (facts.Accepted table item.entry)
     ∷ (drops old
     ++ record { change = Close; facts = []; sends = responded from request (messages.Accepted item.entry.version) ∷ [] }
@@ -231,12 +236,16 @@ abbrev pub version_of : Option Stored → ℕ
 version_of None = 0
 version_of (Some item) = item.entry.version
 
--- a new write is taken over a base that the scheme takes
+-- whether the row has each chunk that a request keeps
+abbrev pub keeps_there : ℕ → List Stored → Request → Bool
+keeps_there size items request = has_kept size (chunks_of size items request.row) request.content request.pieces
+
+-- a new write is taken over a base that the scheme takes, where the row has each chunk that it keeps
 abbrev pub judged : Scheme → ℕ → ℕ → StoreDisk → Node → Request → ℕ → StoreStep
 judged g size table d from request current =
-    if takes g request.base current
+    if takes g request.base current && keeps_there size d.items request
     then quiet d (Some (accepting size table d.items from request (item_for d.items request))) facts.Done
-    else sending d (responded from request (outdated g current) ∷ [])
+    else sending d (responded from request (unaccepted g request.base current) ∷ [])
 
 abbrev pub pair_of : Option Stored → Pair
 pair_of None = record { number = 0; version = 0 }
@@ -265,6 +274,7 @@ header_for items client item = record {
   version = item.entry.version;
   yours = yours_in items client item.entry.row;
   content = item.content;
+  names = item.names;
 }
 
 abbrev pub pulled_for : List Stored → Pull → Option Stored → Pulled
@@ -291,14 +301,20 @@ abbrev pub version_at : StoreDisk → StoreChange → ℕ
 version_at d (Open item) = item.entry.version
 version_at d other = version_of d.pending
 
--- ---- a message; a table at work doesn't take it, and one that no rule takes is dropped
+-- ---- a message; a table at work doesn't take it, and one that no rule takes is dropped. So is a request that doesn't
+-- spell its chunks
+
+abbrev pub asked : Scheme → ℕ → ℕ → StoreDisk → Node → Request → StoreStep
+asked g size table d from request =
+    if is_spelled size request.content request.pieces
+    then decided g size table d from request (yours_in d.items request.client request.row)
+    else quiet d (Some []) facts.Done
 
 abbrev pub taken : Scheme → ℕ → ℕ → StoreDisk → Option (List StoreTask) → Node → Message → StoreStep
 taken g size table d None from message = down d
 taken g size table d (Some (task ∷ more)) from message =
     quiet d (Some (task ∷ more)) (facts.Refuses (facts.Busy (version_at d task.change)))
-taken g size table d (Some []) from (SyncRequest request) =
-    decided g size table d from request (yours_in d.items request.client request.row)
+taken g size table d (Some []) from (SyncRequest request) = asked g size table d from request
 taken g size table d (Some []) from (PullRequest pull) = answered d from pull
 taken g size table d (Some []) from (SyncResponse response) = quiet d (Some []) facts.Done
 taken g size table d (Some []) from (PullResponse pulled) = quiet d (Some []) facts.Done

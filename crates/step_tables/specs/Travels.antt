@@ -16,6 +16,7 @@ outcome_of (outcomes.Again version) = messages.Again version
 outcome_of (outcomes.Late last) = messages.Late last
 outcome_of (outcomes.Stale latest) = messages.Stale latest
 outcome_of (outcomes.Conflict latest) = messages.Conflict latest
+outcome_of outcomes.NeedWhole = messages.NeedWhole
 
 abbrev pub header_of : RowHeader → messages.Header
 header_of h = record {
@@ -23,6 +24,7 @@ header_of h = record {
   version = h.version;
   yours = record { number = h.yours.number; version = h.yours.version };
   content = h.content;
+  names = h.names;
 }
 
 abbrev pub pulled_of : PullResponse → messages.Pulled
@@ -43,6 +45,7 @@ message_of (kinds.SyncRequest q) = messages.SyncRequest (record {
   number = q.number;
   base = q.base;
   content = q.content;
+  pieces = q.pieces;
 })
 message_of (kinds.SyncResponse r) = messages.SyncResponse (record {
   client = r.client;

@@ -4,10 +4,9 @@
 
 mod message;
 mod out;
-mod slots;
 
 pub use message::{
-    Message, Outcome, PullRequest, PullResponse, RowHeader, SyncRequest, SyncResponse, Yours,
+    Message, ObjectNames, ObjectPieces, Outcome, PullRequest, PullResponse, RowHeader, SyncRequest,
+    SyncResponse, Yours,
 };
 pub use out::{Addressed, Out};
-pub use slots::{InFlight, Main, Shadow};

@@ -1,8 +1,15 @@
 ghost use Rattle.std.specs.Prelude.{◌≡◌};
 ghost use Rattle.step_tables.specs.Names.{name_of};
 
-use row_value::{ClientNo, Content, RowId, TableNo, Version, WriteNo};
+use row_value::{ClientNo, Content, Pieces, RowId, Sequence, TableNo, Version, WriteNo};
+use stab_base::Names;
 use table_model::MessageName;
+
+/// The pieces that spell the chunks of each object of a row.
+pub type ObjectPieces = Sequence<Pieces>;
+
+/// The Store's names of the chunks of each object of a row.
+pub type ObjectNames = Sequence<Names>;
 
 /// A client asks for the next change of a table above its position.
 #[derive(Debug, Drop)]
@@ -30,6 +37,7 @@ pub struct RowHeader {
     /// The client's last accepted write on the row, up to this version.
     pub yours: Yours,
     pub content: Content,
+    pub names: ObjectNames,
 }
 
 /// The Store's answer to a `PullRequest`: the row whose current version is the least above the position asked for, if
@@ -60,6 +68,8 @@ pub struct SyncRequest {
     /// The version that the write rests on, 0 where it rests on none.
     pub base: Version,
     pub content: Content,
+    /// The new chunks are numbered from 0 in their order, and no name is kept twice.
+    pub pieces: ObjectPieces,
 }
 
 /// What the Store made of a `SyncRequest`.
@@ -75,6 +85,8 @@ pub enum Outcome {
     Stale { latest: Version },
     /// In conflict, in a causal table: the row's version, `latest`, is no longer the one that the write rests on.
     Conflict { latest: Version },
+    /// A chunk that the request keeps isn't one of the row's.
+    NeedWhole,
 }
 
 /// The Store's answer to a `SyncRequest`.

@@ -1,0 +1,4 @@
+pub mod Cuts
+pub mod Countings
+pub mod Distinct
+pub mod Flats

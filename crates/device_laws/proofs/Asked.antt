@@ -30,12 +30,13 @@ use Rattle.store_commit.proofs.Leftovers.{among_filter}
 use Rattle.store_commit.proofs.Plans.{names_in-append}
 use Rattle.step_tables.specs.Store.{Stored}
 use Rattle.step_tables.specs.Messages.{Request}
-use Rattle.step_tables.specs.StoreMoves.{StoreDisk, item_for}
-use Rattle.step_tables.specs.Chunks.{Named, other_objects, is_of_version, count_new, objects_of, chunks_of, chunks_with}
-use Rattle.device_laws.specs.Stands.{piece_of, pieced_objects, pieced_content, HaveWords, Stands, update_for}
+use Rattle.step_tables.specs.StoreMoves.{StoreDisk, item_for, keeps_there}
+use Rattle.step_tables.specs.Chunks.{Named, others_of, is_of_version, objects_of, chunks_of, chunks_with, is_spelled}
+use Rattle.device_laws.specs.Stands.{is_new, AreNext, IsMade, HaveWords, Stands, update_for}
 use Rattle.device_laws.proofs.Names.{left_among, right_among, either_among, among_mapped, mapped_among, different_filter}
-use Rattle.device_laws.proofs.Chunks.{flat, names, is_new, AreNext, IsBetween, as_many}
-use Rattle.device_laws.proofs.Pieces.{is_kept, content_kept, objects_fresh, ordinals_count}
+use Rattle.device_laws.proofs.Chunks.{flat, names, count_new, IsBetween, as_many}
+use Rattle.device_laws.proofs.Made.{update_by, request_made, update_is_by}
+use Rattle.device_laws.proofs.Pieces.{piece_of, pieced_by, content_by, is_kept, content_kept, objects_fresh, ordinals_count}
 use Rattle.device_laws.proofs.Rows.{row_names}
 use Rattle.device_laws.proofs.Entries.{now_from, now_different, before_below, news_next}
 use Rattle.device_laws.proofs.Cuts.{bytes_of, AreCut, all_cut, all_count, all_short}
@@ -71,7 +72,7 @@ all_pieces v [] each = tt
 all_pieces v (chunk ∷ chunks) each = (each chunk (inl refl), all_pieces v chunks (λ x a. each x (inr a)))
 
 pieced_spelled : (v : ℕ) (objects : List (List ℕ)) (held : List (List Named)) → sum_by length objects < 2 ^ 32 → length (flat held) < 2 ^ 32
-    → ((x : Named) → Among x (flat held) → HasPieceSpelling (piece_of v x)) → AllByRecursion HasObjectSpelling (pieced_objects v objects held)
+    → ((x : Named) → Among x (flat held) → HasPieceSpelling (piece_of v x)) → AllByRecursion HasObjectSpelling (pieced_by v objects held)
 pieced_spelled v [] held len few each = tt
 pieced_spelled v (object ∷ objects) [] len few each =
     let sum = sum_by-cons length object objects in (
@@ -90,12 +91,12 @@ pieced_spelled v (object ∷ objects) (now ∷ held) len few each =
     )
 
 pieced_size : (v : ℕ) (objects : List (List ℕ)) (held : List (List Named))
-    → sum_by (λ (o : PieceObject). 8 + 13 * length o.pieces) (pieced_objects v objects held) ≤ 8 * length objects + 13 * length (flat held)
+    → sum_by (λ (o : PieceObject). 8 + 13 * length o.pieces) (pieced_by v objects held) ≤ 8 * length objects + 13 * length (flat held)
 pieced_size v [] held = omega arith
 pieced_size v (object ∷ objects) [] =
-    omega (arith, sum_by-cons (λ (o : PieceObject). 8 + 13 * length o.pieces) (record { len = length object; pieces = [] }) (pieced_objects v objects []), pieced_size v objects [])
+    omega (arith, sum_by-cons (λ (o : PieceObject). 8 + 13 * length o.pieces) (record { len = length object; pieces = [] }) (pieced_by v objects []), pieced_size v objects [])
 pieced_size v (object ∷ objects) (now ∷ held) =
-    let sum = sum_by-cons (λ (o : PieceObject). 8 + 13 * length o.pieces) (record { len = length object; pieces = map (piece_of v) now }) (pieced_objects v objects held) in
+    let sum = sum_by-cons (λ (o : PieceObject). 8 + 13 * length o.pieces) (record { len = length object; pieces = map (piece_of v) now }) (pieced_by v objects held) in
     omega (arith, sum, pieced_size v objects held, length-append now (flat held), length-map now (piece_of v))
 
 all_filtered : (P : List ℕ → Type 0) (p : Named → Bool) (chunks : List Named) → ((x : Named) → Among x chunks → P x.1) → AllByRecursion P (bytes_of (filter p chunks))
@@ -122,7 +123,7 @@ module _ (schema : Schema) (valid : HasSchemaSpelling schema) where
 
   module _ (v : ℕ) (held : List (List Named)) where
     pub has_spelling : (content : Content) → fit_of schema content ≡ Ok tt → HaveWords content → AreCut schema.chunk (objects_of content) held → length held ≡ length (objects_of content)
-        → ((x : Named) → Among x (flat held) → HasPieceSpelling (piece_of v x)) → AreNext v 0 (filter (is_new v) (flat held)) → HasContentSpelling (pieced_content v content held)
+        → ((x : Named) → Among x (flat held) → HasPieceSpelling (piece_of v x)) → AreNext v 0 (filter (is_new v) (flat held)) → HasContentSpelling (content_by v content held)
     has_spelling contents.Gone fits cells cut many each next = tt
     has_spelling (contents.Row cells objects) fits words cut many each next =
         let w = row_within schema cells objects fits in
@@ -135,18 +136,18 @@ module _ (schema : Schema) (valid : HasSchemaSpelling schema) where
           fresh = subst (CountsFrom 0) (sym (objects_fresh v objects held many)) (ordinals_count v 0 (filter (is_new v) (flat held)) next);
         }
       where
-        objects_many : (os : List (List ℕ)) (h : List (List Named)) → length (pieced_objects v os h) ≡ length os
+        objects_many : (os : List (List ℕ)) (h : List (List Named)) → length (pieced_by v os h) ≡ length os
         objects_many [] h = refl
-        objects_many (o ∷ os) h = ap suc (objects_many os (other_objects h))
+        objects_many (o ∷ os) h = ap suc (objects_many os (others_of h))
 
-    pub is_short : (content : Content) → fit_of schema content ≡ Ok tt → AreCut schema.chunk (objects_of content) held → content_size (pieced_content v content held) ≤ content_most
+    pub is_short : (content : Content) → fit_of schema content ≡ Ok tt → AreCut schema.chunk (objects_of content) held → content_size (content_by v content held) ≤ content_most
     is_short contents.Gone fits cut = omega arith
     is_short (contents.Row cells objects) fits cut =
         let w = row_within schema cells objects fits in
         let few = chunks_few (contents.Row cells objects) held fits cut in
         omega (arith, w.spelled, w.objects_few, valid.most, few, pieced_size v objects held)
 
-    pub fresh_count : (content : Content) → length held ≡ length (objects_of content) → length (bytes_of (filter (is_new v) (flat held))) ≡ length (fresh_of (pieced_content v content held))
+    pub fresh_count : (content : Content) → length held ≡ length (objects_of content) → length (bytes_of (filter (is_new v) (flat held))) ≡ length (fresh_of (content_by v content held))
     fresh_count contents.Gone many = none held many
       where
         none : (h : List (List Named)) → length h ≡ 0 → length (bytes_of (filter (is_new v) (flat h))) ≡ 0
@@ -159,7 +160,7 @@ module _ (schema : Schema) (valid : HasSchemaSpelling schema) where
 -- ---- the update
 
 module _ (schema : Schema) (d : Devs) (disk : StoreDisk) (st : Stands schema d disk) (request : Request) (valid : HasSchemaSpelling schema) (fits : fit_of schema request.content ≡ Ok tt)
-    (cells : HaveWords request.content) (row : IfSome (row_of d.held request.row) HasStoredSpelling) where
+    (cells : HaveWords request.content) (row : IfSome (row_of d.held request.row) HasStoredSpelling) (m : IsMade schema.chunk disk.items (item_for disk.items request)) where
   abbrev size : ℕ
   size = schema.chunk
 
@@ -173,19 +174,19 @@ module _ (schema : Schema) (d : Devs) (disk : StoreDisk) (st : Stands schema d d
   before = flat (chunks_of size disk.items request.row)
 
   abbrev held : List (List Named)
-  held = chunks_with size (chunks_of size disk.items request.row) item
+  held = chunks_with size item
 
   abbrev now : List Named
   now = flat held
 
   abbrev update : Update
-  update = update_for size disk.items request
+  update = update_by size disk.items request
 
   cut : AreCut size (objects_of request.content) held
-  cut = all_cut size v 0 (chunks_of size disk.items request.row) (objects_of request.content)
+  cut = all_cut size item.names (objects_of request.content) m.each
 
   many : length held ≡ length (objects_of request.content)
-  many = as_many size v 0 (chunks_of size disk.items request.row) (objects_of request.content)
+  many = as_many size item.names (objects_of request.content)
 
   few : length now ≤ 32768
   few = chunks_few schema valid request.content held fits cut
@@ -202,10 +203,10 @@ module _ (schema : Schema) (d : Devs) (disk : StoreDisk) (st : Stands schema d d
   stands_there x a = subst (λ (l : List ChunkName). Among x.0 l) (sym (row_names size disk.items d.held st.held.numbered st.held.rows request.row)) (mapped_among (λ (c : Named). c.0) x before a)
 
   piece_spelled : (x : Named) → Among x now → HasPieceSpelling (piece_of v x)
-  piece_spelled x a = pick (is_of_version v x.0) refl (now_from size disk.items item st.held.numbered refl x a)
+  piece_spelled x a = pick (is_of_version v x.0) refl (now_from size disk.items item st.held.numbered refl st.held.made m x a)
     where
       pick : (b : Bool) → is_of_version v x.0 ≡ b → Among x before ⊎ IsBetween v 0 (0 + count_new v now) x.0 → HasPieceSpelling (if b then Fresh x.0.ordinal else Keep x.0)
-      pick true is (inl kept) = absurd (let low = before_below size disk.items item st.held.numbered refl x kept in let same : x.0.version ≡ v = grind (arith, nat_tests) in omega arith)
+      pick true is (inl kept) = absurd (let low = before_below size disk.items item st.held.numbered refl st.held.made m x kept in let same : x.0.version ≡ v = grind (arith, nat_tests) in omega arith)
       pick true is (inr new) = let most = count_most now in omega (arith, new.most, most, few)
       pick false is (inl kept) = standing_spelled (row_of d.held request.row) row x.0 (stands_there x kept)
       pick false is (inr new) = absurd (let same = new.version_is in let test : is_of_version v x.0 ≡ true = grind (arith, nat_tests) in true≢false (sym test ∙ is))
@@ -223,17 +224,25 @@ module _ (schema : Schema) (d : Devs) (disk : StoreDisk) (st : Stands schema d d
       let is : name.version ≡ v = ap (λ (n : ChunkName). n.version) x.2 ∙ new.version_is in
       let test : is_of_version v name ≡ true = grind (arith, nat_tests) in
       absurd (true≢false (sym k.0 ∙ ap not test)))
-      (now_from size disk.items item st.held.numbered refl x.0 x.1)
+      (now_from size disk.items item st.held.numbered refl st.held.made m x.0 x.1)
 
-  pub update_is : IsClient request.client → IsUpdate d update
-  update_is client = record {
+  pub is_update_by : IsClient request.client → IsUpdate d update
+  is_update_by client = record {
     client = client;
-    content = has_spelling schema valid v held request.content fits cells cut many piece_spelled (news_next size disk.items item st.held.numbered refl);
+    content = has_spelling schema valid v held request.content fits cells cut many piece_spelled (news_next size disk.items item st.held.numbered refl st.held.made m);
     short = is_short schema valid v held request.content fits cut;
-    different = subst AreDifferent (sym kept_names) (different_filter (is_kept v) (names now) (now_different size disk.items item st.held.numbered refl));
+    different = subst AreDifferent (sym kept_names) (different_filter (is_kept v) (names now) (now_different size disk.items item st.held.numbered refl st.held.made m));
     kept = kept_stands;
     fresh = fresh_count schema valid v held request.content many;
     chunks = all_filtered (λ (bytes : List ℕ). length bytes ≤ chunk_most) (is_new v) now (λ x a. omega (arith, all_short size (objects_of request.content) held cut x a, most_size schema valid));
-    fits = update_fits schema d disk st request fits;
-    lens = update_lens schema d disk st request (some_size schema valid);
+    fits = update_fits schema d disk st request m fits;
+    lens = update_lens schema d disk st request m (some_size schema valid);
   }
+
+pub update_is : (schema : Schema) (d : Devs) (disk : StoreDisk) (st : Stands schema d disk) (request : Request) → HasSchemaSpelling schema → fit_of schema request.content ≡ Ok tt
+    → HaveWords request.content → IfSome (row_of d.held request.row) HasStoredSpelling
+    → is_spelled schema.chunk request.content request.pieces ≡ true → keeps_there schema.chunk disk.items request ≡ true → IsClient request.client
+    → IsUpdate d (update_for schema.chunk request)
+update_is schema d disk st request valid fits cells row spelled there client =
+    subst (IsUpdate d) (update_is_by schema.chunk disk.items st.held.numbered st.held.made request spelled there)
+    (is_update_by schema d disk st request valid fits cells row (request_made schema.chunk disk.items st.held.numbered st.held.made request spelled there) client)

@@ -1,8 +1,7 @@
 -- The update of a request is whole: its content fits the schema by its lengths, and its pieces have the lengths of their places.
-use Rattle.std.proofs.Common.{◌≡◌, inl, inr, ⊎_elim, ◌⊎◌, ℕ, ◌+◌, ◌<◌, ◌≤◌, Bool, true, false, List, [], ◌∷◌, ◌++◌, length, Option, Some, None, refl, sym, ◌∙◌, ap, subst, arith}
-use Rattle.std.specs.Prelude.{◌==◌, ◌&&◌, ◌*◌, ◌-◌, min, not, map, replicate, slice_get, is_ok, unwrap_or, Ok, if◌then◌else◌}
+use Rattle.std.proofs.Common.{◌≡◌, inl, inr, ⊎_elim, ℕ, ◌+◌, ◌<◌, Bool, true, false, List, [], ◌∷◌, length, Option, Some, None, refl, sym, ◌∙◌, ap, subst, arith}
+use Rattle.std.specs.Prelude.{◌==◌, ◌&&◌, not, map, is_ok, unwrap_or, Ok}
 use Rattle.std.specs.List.{list_all}
-use Rattle.std.specs.Int.{div_ceil}
 use Rattle.std.proofs.lemmas.Bool.Decides.{nat_tests}
 use Rattle.std.proofs.lemmas.List.{length-map, length-replicate}
 use Rattle.stab_base.specs.declared.chunk_name.ChunkName.{ChunkName}
@@ -11,11 +10,8 @@ use Rattle.row_value.specs.declared.schema.Schema.{Schema}
 use Rattle.row_value.specs.declared.content.Content.{Content}
 use Rattle.row_value.specs.declared.content.Content.TheVariants as contents
 use Rattle.row_value.specs.declared.pieces.Piece.{Piece}
-use Rattle.row_value.specs.declared.pieces.Piece.TheVariants.{Keep, Fresh}
-use Rattle.row_value.specs.declared.pieces.PieceObject.{PieceObject}
 use Rattle.row_value.specs.declared.pieces.PieceContent.{PieceContent}
-use Rattle.row_value.specs.declared.pieces.PieceContent.TheVariants.{Gone, Row}
-use Rattle.chunker.specs.Sized.{count_of, len_at, zeros_for, sized, fits_by_len}
+use Rattle.chunker.specs.Sized.{count_of, len_at, zeros_for, fits_by_len}
 use Rattle.chunk_store.specs.Standing.{chunk_in}
 use Rattle.row_store.specs.declared.stored.StoredRow.{StoredRow}
 use Rattle.row_store.specs.Data.{row_of}
@@ -26,12 +22,13 @@ use Rattle.store_commit.specs.Update.{brought}
 use Rattle.step_tables.specs.Store.{Stored, current_of}
 use Rattle.step_tables.specs.Messages.{Request}
 use Rattle.step_tables.specs.StoreMoves.{StoreDisk, item_for}
-use Rattle.step_tables.specs.Chunks.{Named, other_objects, objects_of, chunks_of, chunks_with, cut}
-use Rattle.device_laws.specs.Stands.{kept_objects, kept_content, piece_of, pieced_objects, pieced_content, IsStoredAs, Stands, update_for}
+use Rattle.step_tables.specs.Chunks.{Named, others_of, objects_of, chunks_of, chunks_with, cut}
+use Rattle.device_laws.specs.Stands.{kept_objects, kept_content, IsMade, IsStoredAs, Stands}
 use Rattle.device_laws.proofs.Names.{left_among, right_among}
-use Rattle.device_laws.proofs.Chunks.{flat, last_chunks}
+use Rattle.device_laws.proofs.Chunks.{flat, chunks_are, last_chunks}
+use Rattle.device_laws.proofs.Made.{update_by}
 use Rattle.device_laws.proofs.Numbered.{current_row}
-use Rattle.device_laws.proofs.Pieces.{keep}
+use Rattle.device_laws.proofs.Pieces.{keep, piece_of, pieced_by, content_by}
 use Rattle.device_laws.proofs.Rows.{at_row}
 use Rattle.device_laws.proofs.NamedDevices.{meaning}
 use Rattle.device_laws.proofs.Cuts.{bytes_of, AreCut, HaveLens, all_cut, cut_lens, now_count}
@@ -64,16 +61,16 @@ module _ (stands : Piece → Option (List ℕ)) (size : ℕ) (piece : Named → 
 
 module _ (stands : Piece → Option (List ℕ)) (size v : ℕ) where
   objects_long : (objects : List (List ℕ)) (held : List (List Named)) → 0 < size → AreCut size objects held → ((x : Named) → Among x (flat held) → stands (piece_of v x) ≡ Some x.1)
-      → list_all (has_lens stands size) (pieced_objects v objects held) ≡ true
+      → list_all (has_lens stands size) (pieced_by v objects held) ≡ true
   objects_long [] held some c each = refl
   objects_long (object ∷ objects) [] some c each = absurd c
   objects_long (object ∷ objects) (now ∷ held) some c each =
-      both (has_lens stands size (record { len = length object; pieces = map (piece_of v) now })) (list_all (has_lens stands size) (pieced_objects v objects held))
+      both (has_lens stands size (record { len = length object; pieces = map (piece_of v) now })) (list_all (has_lens stands size) (pieced_by v objects held))
       (object_long stands size (piece_of v) object now some c.0 (λ x a. each x (left_among x now (flat held) a)))
       (objects_long objects held some c.1 (λ x a. each x (right_among x now (flat held) a)))
 
   content_long : (content : Content) (held : List (List Named)) → 0 < size → AreCut size (objects_of content) held → ((x : Named) → Among x (flat held) → stands (piece_of v x) ≡ Some x.1)
-      → all_lens stands size (pieced_content v content held) ≡ true
+      → all_lens stands size (content_by v content held) ≡ true
   content_long contents.Gone held some c each = refl
   content_long (contents.Row cells objects) held some c each = objects_long objects held some c each
 
@@ -94,21 +91,21 @@ module _ (stands : Piece → Option (List ℕ)) (size v : ℕ) where
 
 kept_lens : (objects : List (List ℕ)) (held : List (List Named)) → HaveSameLens objects (zeros_for (kept_objects objects held))
 kept_lens [] held = tt
-kept_lens (object ∷ objects) held = (sym (length-replicate (length object) 0), kept_lens objects (other_objects held))
+kept_lens (object ∷ objects) held = (sym (length-replicate (length object) 0), kept_lens objects (others_of held))
 
 kept_fits : (schema : Schema) (content : Content) (held : List (List Named)) → fit_of schema content ≡ Ok tt → fits_by_len schema (kept_content content held) ≡ true
 kept_fits schema contents.Gone held fits = ap is_ok fits
 kept_fits schema (contents.Row cells objects) held fits =
     ap is_ok (sym (fits_by_lengths schema cells objects (zeros_for (kept_objects objects held)) (kept_lens objects held)) ∙ fits)
 
-content_fits : (schema : Schema) (v : ℕ) (content : Content) (held : List (List Named)) → fit_of schema content ≡ Ok tt → fits_by_len schema (pieced_content v content held) ≡ true
+content_fits : (schema : Schema) (v : ℕ) (content : Content) (held : List (List Named)) → fit_of schema content ≡ Ok tt → fits_by_len schema (content_by v content held) ≡ true
 content_fits schema v contents.Gone held fits = ap is_ok fits
 content_fits schema v (contents.Row cells objects) held fits =
-    ap is_ok (sym (fits_by_lengths schema cells objects (zeros_for (pieced_objects v objects held)) (pieced_lens v objects held)) ∙ fits)
+    ap is_ok (sym (fits_by_lengths schema cells objects (zeros_for (pieced_by v objects held)) (pieced_lens v objects held)) ∙ fits)
 
 -- ---- the update
 
-module _ (schema : Schema) (d : Devs) (disk : StoreDisk) (st : Stands schema d disk) (request : Request) where
+module _ (schema : Schema) (d : Devs) (disk : StoreDisk) (st : Stands schema d disk) (request : Request) (m : IsMade schema.chunk disk.items (item_for disk.items request)) where
   abbrev size : ℕ
   size = schema.chunk
 
@@ -116,21 +113,21 @@ module _ (schema : Schema) (d : Devs) (disk : StoreDisk) (st : Stands schema d d
   v = length disk.items + 1
 
   abbrev held : List (List Named)
-  held = chunks_with size (chunks_of size disk.items request.row) (item_for disk.items request)
+  held = chunks_with size (item_for disk.items request)
 
   abbrev stands : Piece → Option (List ℕ)
-  stands = brought (chunk_in d.chunks) (update_for size disk.items request).fresh
+  stands = brought (chunk_in d.chunks) (update_by size disk.items request).fresh
 
-  pub update_fits : fit_of schema request.content ≡ Ok tt → misfits d.held.table (update_for size disk.items request).content ≡ false
+  pub update_fits : fit_of schema request.content ≡ Ok tt → misfits d.held.table (update_by size disk.items request).content ≡ false
   update_fits fits =
-      subst (λ (o : Option (Schema × ℕ)). misfits o (pieced_content v request.content held) ≡ false) (sym st.held.table)
+      subst (λ (o : Option (Schema × ℕ)). misfits o (content_by v request.content held) ≡ false) (sym st.held.table)
       (ap not (content_fits schema v request.content held fits))
 
-  pub update_lens : 0 < schema.chunk → lacks stands d.held.table (update_for size disk.items request).content ≡ false
+  pub update_lens : 0 < schema.chunk → lacks stands d.held.table (update_by size disk.items request).content ≡ false
   update_lens some =
-      subst (λ (o : Option (Schema × ℕ)). lacks stands o (pieced_content v request.content held) ≡ false) (sym st.held.table)
-      (ap not (content_long stands size v request.content held some (all_cut size v 0 (chunks_of size disk.items request.row) (objects_of request.content))
-      (pieces_stand schema d disk st request stands (λ name. refl) (λ ordinal. refl))))
+      subst (λ (o : Option (Schema × ℕ)). lacks stands o (content_by v request.content held) ≡ false) (sym st.held.table)
+      (ap not (content_long stands size v request.content held some (all_cut size (item_for disk.items request).names (objects_of request.content) m.each)
+      (pieces_stand schema d disk st request m stands (λ name. refl) (λ ordinal. refl))))
 
 -- ---- the rows that stand
 
@@ -149,8 +146,9 @@ module _ (schema : Schema) (d : Devs) (disk : StoreDisk) (some : 0 < schema.chun
   item_whole item stored is fits s =
       let own = (current_row disk.items row item is).1 in
       let chunks = chunks_of schema.chunk disk.items row in
-      let last = last_chunks schema.chunk disk.items st.held.numbered row item is in
-      let c : AreCut schema.chunk (objects_of item.content) chunks = subst (AreCut schema.chunk (objects_of item.content)) (sym last.is) (all_cut schema.chunk item.entry.version 0 last.before (objects_of item.content)) in
+      let last = last_chunks schema.chunk disk.items st.held.numbered st.held.made row item is in
+      let c : AreCut schema.chunk (objects_of item.content) chunks =
+      subst (AreCut schema.chunk (objects_of item.content)) (sym (chunks_are schema.chunk disk.items row item is)) (all_cut schema.chunk item.names (objects_of item.content) last.each) in
       let content : stored.content ≡ kept_content item.content chunks = subst (λ (r : List ℕ). stored.content ≡ kept_content item.content (chunks_of schema.chunk disk.items r)) own s.content in
       let there : (x : Named) → Among x (flat chunks) → Some (means x.0) ≡ Some x.1 =
       λ x a. let found = st.chunks.held x.0 x.1 (record { row = row; among = a }) in found_means (chunk_in d.chunks x.0) x.1 found ∙ found in

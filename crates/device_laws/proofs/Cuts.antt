@@ -1,16 +1,16 @@
 -- An object in chunks, and the lengths of those.
-use Rattle.std.proofs.Common.{◌≡◌, inl, inr, ⊎_elim, ℕ, zero, suc, ◌+◌, ◌<◌, ◌≤◌, Bool, true, false, List, [], ◌∷◌, ◌++◌, length, take, drop, refl, sym, ◌∙◌, ap, subst, arith, length-append}
-use Rattle.std.specs.Prelude.{◌*◌, ◌-◌, min, map, sum_by, if◌then◌else◌}
+use Rattle.std.proofs.Common.{◌≡◌, inl, inr, ⊎_elim, ℕ, zero, suc, ◌+◌, ◌<◌, ◌≤◌, Bool, true, false, List, [], ◌∷◌, ◌++◌, length, take, drop, refl, sym, ◌∙◌, ap, subst, arith, length-append, true≢false}
+use Rattle.std.specs.Prelude.{◌==◌, ◌&&◌, ◌*◌, ◌-◌, min, map, zip, sum_by}
+use Rattle.std.proofs.lemmas.Bool.Decides.{nat_tests}
 use Rattle.std.specs.List.{concat, AllByRecursion}
-use Rattle.std.specs.Str.{bytes_eq}
 use Rattle.std.proofs.lemmas.List.{length-take, length-drop, take-append-drop, length-map}
 use Rattle.std.proofs.lemmas.List.Sums.{sum_by-cons}
-use Rattle.std.proofs.lemmas.Slice.Eq.{bytes_eq-Decides}
 use Rattle.row_value.specs.Fit.{chunk_count}
 use Rattle.chunker.specs.Cut.{HaveSize, IsCut}
 use Rattle.chunker.proofs.Cuts.{counted}
 use Rattle.store_commit.specs.NamedChunks.{Among}
-use Rattle.step_tables.specs.Chunks.{Named, cut_up_to, cut, name_of_new, renamed, first_object, other_objects, count_new, all_renamed}
+use Rattle.stab_base.specs.declared.chunk_name.ChunkName.{ChunkName}
+use Rattle.step_tables.specs.Chunks.{Named, cut_up_to, cut, each_chunk, is_of_each}
 use Rattle.device_laws.proofs.Names.{either_among, mapped_among}
 use Rattle.device_laws.proofs.Chunks.{flat}
 
@@ -67,17 +67,20 @@ short_lens : (size len place : ℕ) (pieces : List (List ℕ)) → HaveLens size
 short_lens size len place [] h = tt
 short_lens size len place (piece ∷ pieces) h = (omega (arith, h.0), short_lens size len (place + 1) pieces h.1)
 
--- ---- the chunks of an object have its bytes, whatever their names
+-- ---- the chunks of an object have its bytes, whatever is said of them
 
-pub renamed_bytes : (v next : ℕ) (old : List Named) (pieces : List (List ℕ)) → bytes_of (renamed v next old pieces) ≡ pieces
-renamed_bytes v next old [] = refl
-renamed_bytes v next [] (bytes ∷ pieces) = ap (λ (l : List (List ℕ)). bytes ∷ l) (renamed_bytes v (next + 1) [] pieces)
-renamed_bytes v next (held ∷ old) (bytes ∷ pieces) = pick (bytes_eq held.1 bytes) refl (renamed_bytes v next old pieces) (renamed_bytes v (next + 1) old pieces)
-  where
-    pick : (b : Bool) → bytes_eq held.1 bytes ≡ b → bytes_of (renamed v next old pieces) ≡ pieces → bytes_of (renamed v (next + 1) old pieces) ≡ pieces
-        → bytes_of (if b then held ∷ renamed v next old pieces else (name_of_new v next, bytes) ∷ renamed v (next + 1) old pieces) ≡ bytes ∷ pieces
-    pick true is kept new = ap (λ (x : List ℕ). x ∷ bytes_of (renamed v next old pieces)) ((bytes_eq-Decides held.1 bytes).0 is) ∙ ap (λ (l : List (List ℕ)). bytes ∷ l) kept
-    pick false is kept new = ap (λ (l : List (List ℕ)). bytes ∷ l) new
+pub zip_seconds : {X : Type 0} (xs : List X) (ys : List (List ℕ)) → length xs ≡ length ys → map (λ (p : X × List ℕ). p.1) (zip xs ys) ≡ ys
+zip_seconds [] [] e = refl
+zip_seconds [] (y ∷ ys) e = absurd (omega (arith, e))
+zip_seconds (x ∷ xs) [] e = absurd (omega (arith, e))
+zip_seconds (x ∷ xs) (y ∷ ys) e = ap (λ (l : List (List ℕ)). y ∷ l) (zip_seconds xs ys (omega (arith, e)))
+
+pub both_tests : (a b : Bool) → a && b ≡ true → (a ≡ true) × (b ≡ true)
+both_tests true b h = (refl, h)
+both_tests false b h = absurd (true≢false (sym h))
+
+pub same_count : (a b : ℕ) → (a == b) ≡ true → a ≡ b
+same_count a b is = grind (arith, nat_tests)
 
 -- each object of a row is in its chunks
 abbrev pub AreCut : ℕ → List (List ℕ) → List (List Named) → Type 0
@@ -85,11 +88,13 @@ AreCut size [] [] = Unit {0}
 AreCut size (object ∷ objects) (now ∷ held) = (bytes_of now ≡ cut size object) × AreCut size objects held
 AreCut size objects held = ⊥
 
-pub all_cut : (size v next : ℕ) (old : List (List Named)) (objects : List (List ℕ)) → AreCut size objects (all_renamed size v next old objects)
-all_cut size v next old [] = tt
-all_cut size v next old (object ∷ objects) =
-    let now : List Named = renamed v next (first_object old) (cut size object) in
-    (renamed_bytes v next (first_object old) (cut size object), all_cut size v (next + count_new v now) (other_objects old) objects)
+pub all_cut : (size : ℕ) (said : List (List ChunkName)) (objects : List (List ℕ)) → is_of_each size said objects ≡ true → AreCut size objects (each_chunk size said objects)
+all_cut size [] [] h = tt
+all_cut size [] (object ∷ objects) h = absurd cc
+all_cut size (here ∷ said) [] h = tt
+all_cut size (here ∷ said) (object ∷ objects) h =
+    let t = both_tests (length here == length (cut size object)) (is_of_each size said objects) h in
+    (zip_seconds here (cut size object) (same_count (length here) (length (cut size object)) t.0), all_cut size said objects t.1)
 
 pub now_count : (size : ℕ) (object : List ℕ) (now : List Named) → 0 < size → bytes_of now ≡ cut size object → length now ≡ chunk_count size object
 now_count size object now some is = sym (length-map now (λ (chunk : Named). chunk.1)) ∙ (ap length is ∙ cut_count size object some)

@@ -9,6 +9,7 @@ nothing_stands schema = record {
   held = record {
     table = refl;
     numbered = tt;
+    made = tt;
     rows = λ row. tt;
   };
   chunks = record {

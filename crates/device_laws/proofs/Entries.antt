@@ -12,24 +12,14 @@ use Rattle.store_commit.specs.NamedChunks.{is_among}
 use Rattle.store_commit.specs.Update.{unmet}
 use Rattle.store_commit.proofs.Lookups.{apart_name}
 use Rattle.step_tables.specs.Store.{Stored}
-use Rattle.step_tables.specs.Chunks.{Named, name_of_new, is_of_version, names_of, count_new, chunks_of, chunks_with, names_before, names_with, new_names, old_names, without_names}
+use Rattle.step_tables.specs.Chunks.{Named, name_of_new, is_of_version, names_of, chunks_of, chunks_with, names_before, names_with, new_names, old_names, without_names}
 use Rattle.step_tables.specs.Chunks as chunks
-use Rattle.device_laws.specs.Stands.{AreNumbered, IsEntryOf}
+use Rattle.device_laws.specs.Stands.{AreNumbered, is_new, AreNext, IsMade, AreMade, IsEntryOf}
 use Rattle.device_laws.proofs.Names.{mapped_among, among_mapped, among_tests}
-use Rattle.device_laws.proofs.Chunks.{flat, names, is_new, AreNext, row_sound, with_from, with_sound, with_next, IsSound, IsBetween}
+use Rattle.device_laws.proofs.Chunks.{flat, names, count_new, next_within, row_sound, with_from, with_sound, IsSound, IsBetween}
 use Rattle.device_laws.proofs.Pieces.{is_kept, among_kept, names_filter}
 
 -- ---- chunks whose names are the next ones
-
-pub next_within : (v k : ℕ) (xs : List Named) → AreNext v k xs → (x : Named) → Among x xs → (x.0.version ≡ v) × (k ≤ x.0.ordinal) × (x.0.ordinal < k + length xs)
-next_within v k [] n x a = absurd a
-next_within v k (c ∷ xs) n x (inl same) =
-    let is : x.0 ≡ name_of_new v k = ap (λ (y : Named). y.0) same ∙ n.0 in
-    let ordinal : x.0.ordinal ≡ k = ap (λ (y : ChunkName). y.ordinal) is in
-    (ap (λ (y : ChunkName). y.version) is, omega arith, omega arith)
-next_within v k (c ∷ xs) n x (inr more) =
-    let r = next_within v (k + 1) xs n.1 x more in
-    (r.0, omega (arith, r.1), omega (arith, r.2))
 
 pub next_has : (v k : ℕ) (xs : List Named) → AreNext v k xs → (q : ChunkName) → q.version ≡ v → k ≤ q.ordinal → q.ordinal < k + length xs → Among q (names xs)
 next_has v k [] n q is least most = absurd (omega arith)
@@ -81,7 +71,7 @@ unmet_filter there p met (n ∷ all) d t m =
 
 -- ---- what an item brings and leaves
 
-module _ (size : ℕ) (items : List Stored) (item : Stored) (numbered : AreNumbered 0 items) (next : item.entry.version ≡ length items + 1) where
+module _ (size : ℕ) (items : List Stored) (item : Stored) (numbered : AreNumbered 0 items) (next : item.entry.version ≡ length items + 1) (made : AreMade size [] items) (m : IsMade size items item) where
   abbrev v : ℕ
   v = item.entry.version
 
@@ -89,26 +79,26 @@ module _ (size : ℕ) (items : List Stored) (item : Stored) (numbered : AreNumbe
   before = flat (chunks_of size items item.entry.row)
 
   abbrev now : List Named
-  now = flat (chunks_with size (chunks_of size items item.entry.row) item)
+  now = flat (chunks_with size item)
 
   -- the new chunks
   abbrev pub news : List Named
   news = filter (is_new v) now
 
   sound : IsSound (length items) (chunks_of size items item.entry.row)
-  sound = row_sound size items numbered item.entry.row
+  sound = row_sound size items numbered made item.entry.row
 
   less : length items < v
   less = omega (arith, next)
 
   pub now_from : (x : Named) → Among x now → Among x before ⊎ IsBetween v 0 (0 + count_new v now) x.0
-  now_from x a = with_from size (length items) (chunks_of size items item.entry.row) item sound less x a
+  now_from x a = with_from size items item m x a
 
   pub now_different : AreDifferent (names now)
-  now_different = (with_sound size (length items) (chunks_of size items item.entry.row) item sound less).different
+  now_different = m.different
 
-  pub now_sound : IsSound v (chunks_with size (chunks_of size items item.entry.row) item)
-  now_sound = with_sound size (length items) (chunks_of size items item.entry.row) item sound less
+  pub now_sound : IsSound v (chunks_with size item)
+  now_sound = with_sound size items item m (length items) sound less
 
   pub before_different : AreDifferent (names before)
   before_different = sound.different
@@ -124,29 +114,29 @@ module _ (size : ℕ) (items : List Stored) (item : Stored) (numbered : AreNumbe
       grind (arith, nat_tests)
 
   pub news_next : AreNext v 0 news
-  news_next = with_next size (length items) (chunks_of size items item.entry.row) item sound less
+  news_next = m.news
 
-  pub news_names : new_names size items item ≡ names news
+  pub news_names : new_names size item ≡ names news
   news_names = names_filter v now
 
-  pub new_count : length (new_names size items item) ≡ length news
+  pub new_count : length (new_names size item) ≡ length news
   new_count = ap length news_names ∙ names_length news
 
-  pub new_is : (q : ChunkName) → Among q (new_names size items item) → (q.version ≡ v) × (q.ordinal < length (new_names size items item))
+  pub new_is : (q : ChunkName) → Among q (new_names size item) → (q.version ≡ v) × (q.ordinal < length (new_names size item))
   new_is q a =
       let x = among_mapped (λ (c : Named). c.0) q news (subst (λ (l : List ChunkName). Among q l) news_names a) in
       let w = next_within v 0 news news_next x.0 x.1 in
       let ordinal : q.ordinal ≡ x.0.0.ordinal = ap (λ (n : ChunkName). n.ordinal) x.2 in
       (ap (λ (n : ChunkName). n.version) x.2 ∙ w.0, omega (arith, w.2, new_count))
 
-  pub is_new_name : (q : ChunkName) → q.version ≡ v → q.ordinal < length (new_names size items item) → Among q (new_names size items item)
+  pub is_new_name : (q : ChunkName) → q.version ≡ v → q.ordinal < length (new_names size item) → Among q (new_names size item)
   is_new_name q is most = subst (λ (l : List ChunkName). Among q l) (sym news_names) (next_has v 0 news news_next q is (omega arith) (omega (arith, new_count)))
 
   module _ (entry : Entry) (e : IsEntryOf size items item entry) where
-    pub new_of : (q : ChunkName) → Among q (new_names size items item) → IsNewOf entry q
+    pub new_of : (q : ChunkName) → Among q (new_names size item) → IsNewOf entry q
     new_of q a = let n = new_is q a in record { version = n.0 ∙ sym e.version; ordinal = omega (arith, n.1, e.fresh) }
 
-    pub of_new : (q : ChunkName) → IsNewOf entry q → Among q (new_names size items item)
+    pub of_new : (q : ChunkName) → IsNewOf entry q → Among q (new_names size item)
     of_new q n = is_new_name q (n.version ∙ e.version) (omega (arith, n.ordinal, e.fresh))
 
   -- what the commit's own words make of the row's names

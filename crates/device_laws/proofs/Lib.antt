@@ -5,6 +5,7 @@ pub mod Pieces
 pub mod Lasts
 pub mod Rows
 pub mod Entries
+pub mod Made
 pub mod NamedDevices
 pub mod Steps
 pub mod Recoveries

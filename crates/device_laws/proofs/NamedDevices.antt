@@ -20,10 +20,10 @@ use Rattle.step_tables.specs.StoreMoves.{StoreDisk}
 use Rattle.step_tables.specs.Chunks.{Named, names_of, chunks_of, chunks_with, names_with, names_before, new_names, old_names, rising}
 use Rattle.step_tables.proofs.Lists.{same_row-refl}
 use Rattle.table_model.specs.History.{same_row}
-use Rattle.device_laws.specs.Stands.{AreNumbered, IsHeld, StandsEntry, IsBegun, Stands}
+use Rattle.device_laws.specs.Stands.{AreNumbered, AreMade, IsHeld, StandsEntry, IsBegun, Stands}
 use Rattle.device_laws.proofs.Names.{mapped_among, among_mapped, among_without, among_rising, rising_among, rising_sorted, different_rising, same_sorted}
 use Rattle.device_laws.proofs.Numbered.{numbered_most, one_version, current_own}
-use Rattle.device_laws.proofs.Chunks.{flat, names, chunk_comes_from, row_sound, last_chunks, chunks_own, chunks_other, with_sound}
+use Rattle.device_laws.proofs.Chunks.{flat, names, chunk_comes_from, row_sound, last_chunks, chunks_are, chunks_own, chunks_other}
 use Rattle.device_laws.proofs.Rows.{row_tells, one_version_of, at_row, row_names, is_at_version, none_or_less}
 use Rattle.device_laws.proofs.Entries.{new_of}
 
@@ -33,18 +33,22 @@ pub numbered_front : (n : ℕ) (items more : List Stored) → AreNumbered n (ite
 numbered_front n [] more c = tt
 numbered_front n (x ∷ items) more c = (c.0, numbered_front (n + 1) items more c.1)
 
-module _ (size : ℕ) (items : List Stored) (numbered : AreNumbered 0 items) where
+pub made_front : (size : ℕ) (before items more : List Stored) → AreMade size before (items ++ more) → AreMade size before items
+made_front size before [] more m = tt
+made_front size before (x ∷ items) more m = (m.0, made_front size (before ++ x ∷ []) items more m.1)
+
+module _ (size : ℕ) (items : List Stored) (numbered : AreNumbered 0 items) (made : AreMade size [] items) where
   pub held_below : (name : ChunkName) (bytes : List ℕ) → IsHeld size items name bytes → name.version ≤ length items
   held_below name bytes h =
-      let from = chunk_comes_from size items numbered h.row (name, bytes) h.among in
+      let from = chunk_comes_from size items numbered made h.row (name, bytes) h.among in
       let most = numbered_most 0 items from.0 numbered from.1.stands in
       let is = from.1.version_is in
       omega arith
 
   pub held_once : (name : ChunkName) (a b : List ℕ) (h : IsHeld size items name a) (k : IsHeld size items name b) → h.row ≡ k.row
   held_once name a b h k =
-      let x = chunk_comes_from size items numbered h.row (name, a) h.among in
-      let y = chunk_comes_from size items numbered k.row (name, b) k.among in
+      let x = chunk_comes_from size items numbered made h.row (name, a) h.among in
+      let y = chunk_comes_from size items numbered made k.row (name, b) k.among in
       let one : x.0 ≡ y.0 = one_version 0 items x.0 y.0 numbered x.1.stands y.1.stands (x.1.version_is ∙ sym y.1.version_is) in
       sym x.1.row_is ∙ (ap (λ (i : Stored). i.entry.row) one ∙ y.1.row_is)
 
@@ -61,12 +65,12 @@ held_with size items row name a =
 
 -- a row by its item, with one item more
 pub held_cases : (size : ℕ) (items : List Stored) (item : Stored) (name : ChunkName) (bytes : List ℕ) (h : IsHeld size (items ++ item ∷ []) name bytes)
-    → ((item.entry.row ≡ h.row) × Among (name, bytes) (flat (chunks_with size (chunks_of size items item.entry.row) item)))
+    → ((item.entry.row ≡ h.row) × Among (name, bytes) (flat (chunks_with size item)))
     ⊎ ((item.entry.row ≢ h.row) × Among (name, bytes) (flat (chunks_of size items h.row)))
 held_cases size items item name bytes h = pick (row_tells item.entry.row h.row)
   where
     pick : (item.entry.row ≡ h.row) ⊎ (same_row item.entry.row h.row ≡ false)
-        → ((item.entry.row ≡ h.row) × Among (name, bytes) (flat (chunks_with size (chunks_of size items item.entry.row) item)))
+        → ((item.entry.row ≡ h.row) × Among (name, bytes) (flat (chunks_with size item)))
         ⊎ ((item.entry.row ≢ h.row) × Among (name, bytes) (flat (chunks_of size items h.row)))
     pick (inl same) =
         let here : Among (name, bytes) (flat (chunks_of size (items ++ item ∷ []) item.entry.row)) =
@@ -79,13 +83,13 @@ held_cases size items item name bytes h = pick (row_tells item.entry.row h.row)
         )
 
 -- what a row names no more stands in no row
-pub old_apart : (size : ℕ) (items : List Stored) (item : Stored) → AreNumbered 0 items → (name : ChunkName) → Among name (old_names size items item) → (bytes : List ℕ)
+pub old_apart : (size : ℕ) (items : List Stored) (item : Stored) → AreNumbered 0 items → AreMade size [] items → (name : ChunkName) → Among name (old_names size items item) → (bytes : List ℕ)
     → IsHeld size (items ++ item ∷ []) name bytes → ⊥
-old_apart size items item numbered name old bytes h =
-    let o = among_without (names_with size items item) (names_before size items item) name old in
+old_apart size items item numbered made name old bytes h =
+    let o = among_without (names_with size item) (names_before size items item) name old in
     ⊎_elim
-    (λ own. o.1 (mapped_among (λ (c : Named). c.0) (name, bytes) (flat (chunks_with size (chunks_of size items item.entry.row) item)) own.1))
-    (λ other. let was = held_with size items item.entry.row name o.0 in other.0 (held_once size items numbered name was.0 bytes was.1 (record { row = h.row; among = other.1 })))
+    (λ own. o.1 (mapped_among (λ (c : Named). c.0) (name, bytes) (flat (chunks_with size item)) own.1))
+    (λ other. let was = held_with size items item.entry.row name o.0 in other.0 (held_once size items numbered made name was.0 bytes was.1 (record { row = h.row; among = other.1 })))
     (held_cases size items item name bytes h)
 
 module _ (schema : Schema) (d : Devs) (disk : StoreDisk) (st : Stands schema d disk) where
@@ -139,19 +143,20 @@ module _ (schema : Schema) (d : Devs) (disk : StoreDisk) (st : Stands schema d d
   begun_leaves : (item : Stored) (entry : Entry) → IsBegun size disk item entry → (name : ChunkName) → Leaves item entry name
   begun_leaves item entry b name = ⊎_elim to_come put b.stage
     where
-      to_come : (disk.items ≡ b.before) × ((q : ChunkName) → Among q disk.left → Among q (new_names size b.before item)) → Leaves item entry name
+      to_come : (disk.items ≡ b.before) × ((q : ChunkName) → Among q disk.left → Among q (new_names size item)) → Leaves item entry name
       to_come s =
           let numbered : AreNumbered 0 b.before = subst (AreNumbered 0) s.0 st.held.numbered in
+          let made : AreMade size [] b.before = subst (AreMade size []) s.0 st.held.made in
           let most = none_or_less size disk.items d.held st.held.numbered st.held.rows entry.row in
           let count : length disk.items ≡ length b.before = ap length s.0 in
           let version = b.entry_of.version in
           let next = b.next in
           let above : version_of d.held entry.row < entry.version = omega arith in
           let test : (version_of d.held entry.row == entry.version) ≡ false = grind (arith, nat_tests) in (
-            λ a. subst (λ (t : Bool). left_of t entry name) (sym test) (new_of size b.before item numbered b.next entry b.entry_of name (s.1 name a)),
+            λ a. subst (λ (t : Bool). left_of t entry name) (sym test) (new_of size b.before item numbered b.next made b.made entry b.entry_of name (s.1 name a)),
             λ left bytes h.
                 let new : IsNewOf entry name = subst (λ (t : Bool). left_of t entry name) test left in
-                let low = held_below size disk.items st.held.numbered name bytes h in
+                let low = held_below size disk.items st.held.numbered st.held.made name bytes h in
                 let is = new.version in
                 absurd (omega arith),
           )
@@ -165,7 +170,8 @@ module _ (schema : Schema) (d : Devs) (disk : StoreDisk) (st : Stands schema d d
             λ a. subst (λ (t : Bool). left_of t entry name) (sym test) (subst (λ (l : List ChunkName). Among name l) (sym b.entry_of.old) (s.1 name a)),
             λ left bytes h.
                 let old : Among name (old_names size b.before item) = subst (λ (l : List ChunkName). Among name l) b.entry_of.old (subst (λ (t : Bool). left_of t entry name) test left) in
-                old_apart size b.before item (numbered_front 0 b.before (item ∷ []) (subst (AreNumbered 0) s.0 st.held.numbered)) name old bytes
+                old_apart size b.before item (numbered_front 0 b.before (item ∷ []) (subst (AreNumbered 0) s.0 st.held.numbered))
+                (made_front size [] b.before (item ∷ []) (subst (AreMade size []) s.0 st.held.made)) name old bytes
                 (subst (λ (l : List Stored). IsHeld size l name bytes) s.0 h),
           )
 
@@ -201,10 +207,9 @@ module _ (schema : Schema) (d : Devs) (disk : StoreDisk) (st : Stands schema d d
       (λ none. let both : Some a.stored ≡ None = sym a.there ∙ none.1 in absurd cc)
       (λ some.
       let same = one_version_of some.1 a.stored (sym some.3 ∙ a.there) in
-      let last = last_chunks size disk.items st.held.numbered a.row some.0 some.2 in
-      let whole = with_sound size last.most last.before some.0 last.sound last.above in
-      let inside : Among name (names_of (chunks_with size last.before some.0)) = subst (λ (l : List (List Named)). Among name (names_of l)) last.is (named_among name a) in
-      let low = names_below some.0.entry.version (flat (chunks_with size last.before some.0)) whole.below name inside in
+      let last = last_chunks size disk.items st.held.numbered st.held.made a.row some.0 some.2 in
+      let inside : Among name (names_of (chunks_with size some.0)) = subst (λ (l : List (List Named)). Among name (names_of l)) (chunks_are size disk.items a.row some.0 some.2) (named_among name a) in
+      let low = names_below some.0.entry.version (flat (chunks_with size some.0)) last.sound.below name inside in
       let version : some.1.version ≡ some.0.entry.version = some.4.version in
       omega arith)
       (at_row size disk.items d.held st.held.numbered st.held.rows a.row)
@@ -214,8 +219,8 @@ module _ (schema : Schema) (d : Devs) (disk : StoreDisk) (st : Stands schema d d
     there = λ name a. let h = named_is_held name a in found_meaning (chunk_in d.chunks name) h.0 (st.chunks.held name h.0 h.1);
     different = λ row stored there.
         let names_are : devices.names_of stored.content ≡ names_of (chunks_of size disk.items row) = ap names_if (sym there) ∙ row_names size disk.items d.held st.held.numbered st.held.rows row in
-        subst AreDifferent (sym names_are) (row_sound size disk.items st.held.numbered row).different;
-    once = λ name a b. let h = named_is_held name a in let k = named_is_held name b in held_once size disk.items st.held.numbered name h.0 k.0 h.1 k.1;
+        subst AreDifferent (sym names_are) (row_sound size disk.items st.held.numbered st.held.made row).different;
+    once = λ name a b. let h = named_is_held name a in let k = named_is_held name b in held_once size disk.items st.held.numbered st.held.made name h.0 k.0 h.1 k.1;
     below = row_below;
     others = λ name bytes found. ⊎_elim (λ h. inl (held_is_named name bytes h)) (λ left. inr (left_has_entry name left)) (st.chunks.only name bytes found);
     apart = λ entry name is left a. let h = named_is_held name a in left_apart entry is name h.0 left h.1;

@@ -5,12 +5,11 @@ use Rattle.std.specs.List.{list_any}
 use Rattle.std.specs.Option.{option_or}
 use Rattle.std.proofs.lemmas.Bool.{cases_lt}
 use Rattle.std.proofs.lemmas.Bool.Decides.{nat_tests}
-use Rattle.table_model.specs.Last.{last_where}
 use Rattle.table_model.specs.History.{same_row}
 use Rattle.stab_base.specs.declared.row_version.RowVersion.{RowVersion}
 use Rattle.row_value.specs.declared.schema.Schema.{Schema}
 use Rattle.row_store.specs.declared.stored.StoredRow.{StoredRow}
-use Rattle.row_store.specs.Data.{row_of, version_if, IsNextChanged}
+use Rattle.row_store.specs.Data.{version_if, IsNextChanged}
 use Rattle.store_commit.specs.Devs.{Devs}
 use Rattle.step_tables.specs.Store.{Stored, current_of, is_of_row, next_changed}
 use Rattle.step_tables.specs.StoreMoves.{StoreDisk}

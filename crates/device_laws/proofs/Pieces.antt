@@ -19,9 +19,9 @@ use Rattle.store_commit.specs.NamedChunks as devices
 use Rattle.store_commit.specs.Agenda.{fresh_name, named_piece, named_object, named_content}
 use Rattle.store_commit.specs.NamedChunks.{is_among}
 use Rattle.store_commit.proofs.Lookups.{apart_name}
-use Rattle.step_tables.specs.Chunks.{Named, first_object, other_objects, is_of_version, names_of, objects_of}
-use Rattle.device_laws.specs.Stands.{kept_objects, kept_content, piece_of, pieced_objects, pieced_content}
-use Rattle.device_laws.proofs.Chunks.{flat, names, is_new, AreNext}
+use Rattle.step_tables.specs.Chunks.{Named, first_of, others_of, is_of_version, names_of, objects_of}
+use Rattle.device_laws.specs.Stands.{kept_objects, kept_content, is_new, AreNext}
+use Rattle.device_laws.proofs.Chunks.{flat, names}
 
 abbrev pub keep : Named → Piece
 keep chunk = Keep chunk.0
@@ -46,7 +46,19 @@ content_names (contents.Row cells objects) held e = ap names_in (kept_pieces obj
 
 -- ---- a content with its new chunks by their ordinals
 
-pieced_pieces : (v : ℕ) (objects : List (List ℕ)) (held : List (List Named)) → length held ≡ length objects → pieces_of (pieced_objects v objects held) ≡ map (piece_of v) (flat held)
+abbrev pub piece_of : ℕ → Named → Piece
+piece_of version held = if is_of_version version held.0 then Fresh held.0.ordinal else Keep held.0
+
+abbrev pub pieced_by : ℕ → List (List ℕ) → List (List Named) → List PieceObject
+pieced_by version [] held = []
+pieced_by version (object ∷ objects) held =
+    record { len = length object; pieces = map (piece_of version) (first_of held) } ∷ pieced_by version objects (others_of held)
+
+abbrev pub content_by : ℕ → Content → List (List Named) → PieceContent
+content_by version contents.Gone held = piece_contents.Gone
+content_by version (contents.Row cells objects) held = piece_contents.Row cells (pieced_by version objects held)
+
+pieced_pieces : (v : ℕ) (objects : List (List ℕ)) (held : List (List Named)) → length held ≡ length objects → pieces_of (pieced_by v objects held) ≡ map (piece_of v) (flat held)
 pieced_pieces v [] [] e = refl
 pieced_pieces v [] (now ∷ held) e = absurd (omega (arith, e))
 pieced_pieces v (object ∷ objects) [] e = absurd (omega (arith, e))
@@ -68,13 +80,13 @@ named_pieces v (chunk ∷ chunks) =
 abbrev with_pieces : List ℕ → List Piece → PieceObject
 with_pieces object pieces = record { len = length object; pieces = pieces }
 
-named_objects : (v : ℕ) (objects : List (List ℕ)) (held : List (List Named)) → map (named_object v) (pieced_objects v objects held) ≡ kept_objects objects held
+named_objects : (v : ℕ) (objects : List (List ℕ)) (held : List (List Named)) → map (named_object v) (pieced_by v objects held) ≡ kept_objects objects held
 named_objects v [] held = refl
 named_objects v (object ∷ objects) held =
-    ap (λ (l : List Piece). with_pieces object l ∷ map (named_object v) (pieced_objects v objects (other_objects held))) (named_pieces v (first_object held))
-    ∙ ap (λ (l : List PieceObject). with_pieces object (map keep (first_object held)) ∷ l) (named_objects v objects (other_objects held))
+    ap (λ (l : List Piece). with_pieces object l ∷ map (named_object v) (pieced_by v objects (others_of held))) (named_pieces v (first_of held))
+    ∙ ap (λ (l : List PieceObject). with_pieces object (map keep (first_of held)) ∷ l) (named_objects v objects (others_of held))
 
-pub content_named : (v : ℕ) (content : Content) (held : List (List Named)) → named_content v (pieced_content v content held) ≡ kept_content content held
+pub content_named : (v : ℕ) (content : Content) (held : List (List Named)) → named_content v (content_by v content held) ≡ kept_content content held
 content_named v contents.Gone held = refl
 content_named v (contents.Row cells objects) held = ap (λ (l : List PieceObject). kept_row l) (named_objects v objects held)
   where
@@ -96,7 +108,7 @@ names_pieced v (chunk ∷ chunks) = pick (is_of_version v chunk.0) (names_pieced
     pick false more = ap (λ (l : List ChunkName). chunk.0 ∷ l) more
 
 pub content_kept : (v : ℕ) (content : Content) (held : List (List Named)) → length held ≡ length (objects_of content)
-    → devices.names_of (pieced_content v content held) ≡ filter (is_kept v) (names_of held)
+    → devices.names_of (content_by v content held) ≡ filter (is_kept v) (names_of held)
 content_kept v contents.Gone [] e = refl
 content_kept v contents.Gone (now ∷ held) e = absurd (omega (arith, e))
 content_kept v (contents.Row cells objects) held e = ap names_in (pieced_pieces v objects held e) ∙ names_pieced v (flat held)
@@ -114,7 +126,7 @@ fresh_pieced v (chunk ∷ chunks) = pick (is_of_version v chunk.0) (fresh_pieced
     pick false more = more
 
 pub objects_fresh : (v : ℕ) (objects : List (List ℕ)) (held : List (List Named)) → length held ≡ length objects
-    → fresh_in (pieces_of (pieced_objects v objects held)) ≡ ordinals (filter (is_new v) (flat held))
+    → fresh_in (pieces_of (pieced_by v objects held)) ≡ ordinals (filter (is_new v) (flat held))
 objects_fresh v objects held e = ap fresh_in (pieced_pieces v objects held e) ∙ fresh_pieced v (flat held)
 
 pub ordinals_count : (v next : ℕ) (chunks : List Named) → AreNext v next chunks → CountsFrom next (ordinals chunks)

@@ -17,7 +17,7 @@ use Rattle.step_tables.specs.Chunks.{names_of, objects_of, chunks_of, chunks_wit
 use Rattle.step_tables.proofs.Lists.{same_row-is}
 use Rattle.device_laws.specs.Stands.{pair_or, pair_in, kept_content, IsStoredAs, StandsRow, AreNumbered}
 use Rattle.device_laws.proofs.Numbered.{numbered_most, current_row, current_own, current_other, last_item}
-use Rattle.device_laws.proofs.Chunks.{no_chunks, last_chunks, chunks_own, chunks_other, as_many}
+use Rattle.device_laws.proofs.Chunks.{no_chunks, chunks_are, chunks_own, chunks_other, as_many}
 use Rattle.device_laws.proofs.Pieces.{content_names}
 use Rattle.device_laws.proofs.Lasts.{pair_put, yours_own, yours_other, none_yours}
 
@@ -55,14 +55,14 @@ module _ (size : ℕ) (items : List Stored) (held : TableData) (numbered : AreNu
       → devices.names_of stored.content ≡ names_of (chunks_of size items row)
   stored_names row item stored is s =
       let own = (current_row items row item is).1 in
-      let last = last_chunks size items numbered item.entry.row item (subst (λ (r : List ℕ). current_of items r ≡ Some item) (sym own) is) in
-      let many : length (chunks_of size items item.entry.row) ≡ length (objects_of item.content) = ap length last.is ∙ as_many size item.entry.version 0 last.before (objects_of item.content) in
+      let many : length (chunks_of size items item.entry.row) ≡ length (objects_of item.content) =
+      ap length (chunks_are size items item.entry.row item (subst (λ (r : List ℕ). current_of items r ≡ Some item) (sym own) is)) ∙ as_many size item.names (objects_of item.content) in
       ap devices.names_of s.content ∙ (content_names item.content (chunks_of size items item.entry.row) many ∙ ap (λ (r : List ℕ). names_of (chunks_of size items r)) own)
 
   pub row_names : (row : List ℕ) → names_if (row_of held row) ≡ names_of (chunks_of size items row)
   row_names row =
       ⊎_elim
-      (λ none. ap names_if none.1 ∙ sym (ap names_of (no_chunks size items numbered row none.0)))
+      (λ none. ap names_if none.1 ∙ sym (ap names_of (no_chunks size items row none.0)))
       (λ some. ap names_if some.3 ∙ stored_names row some.0 some.1 some.2 some.4)
       (at_row row)
 
@@ -182,7 +182,7 @@ module _ (size : ℕ) (items : List Stored) (held : TableData) (numbered : AreNu
   same_lasts item q false = row_lasts item.entry.row q
 
   pub stored_as : (item : Stored) (stored : StoredRow) → stored.row ≡ item.entry.row → stored.version ≡ item.entry.version
-      → stored.content ≡ kept_content item.content (chunks_with size (chunks_of size items item.entry.row) item)
+      → stored.content ≡ kept_content item.content (chunks_with size item)
       → stored.pairs ≡ with_last (lasts_at item) (last_of item)
       → IsClient item.entry.client → item.entry.number < 2 ^ 64 → item.entry.version < 2 ^ 64
       → IsStoredAs size (items ++ item ∷ []) item stored

@@ -24,18 +24,18 @@ gate = Gate 1
 
 pub first_stands : Stands small (holding first_row first_chunks) first_disk
 first_stands =
-    let all = update_follows small (nothing_in small) nothing_there (nothing_stands small) refl first_request third (omega arith) (omega arith) gate 1 in
+    let all = update_follows small (nothing_in small) nothing_there (nothing_stands small) refl first_request refl refl third (omega arith) (omega arith) gate 1 in
     all.2.2.2.2.2.2
 
 pub second_stands : Stands small (holding second_row second_chunks) second_disk
 second_stands =
-    let all = update_follows small (holding first_row first_chunks) first_disk first_stands refl second_request third (omega arith) (omega arith) gate 1 in
+    let all = update_follows small (holding first_row first_chunks) first_disk first_stands refl second_request refl refl third (omega arith) (omega arith) gate 1 in
     all.2.2.2.2.2
 
 -- each chunk that is held is of the one row
 held_here : (n : ChunkName) (bytes : List ℕ) → IsHeld 2 second_disk.items n bytes → Among (n, bytes) (flat (chunks_of 2 second_disk.items row_id))
 held_here n bytes h =
-    let from = chunk_comes_from 2 second_disk.items (refl, (refl, tt)) h.row (n, bytes) h.among in
+    let from = chunk_comes_from 2 second_disk.items second_stands.held.numbered second_stands.held.made h.row (n, bytes) h.among in
     let is : from.0.entry.row ≡ row_id = ⊎_elim
     (λ same. ap (λ (i : Stored). i.entry.row) (sym same))
     (λ more. ⊎_elim (λ same. ap (λ (i : Stored). i.entry.row) (sym same)) (λ none. absurd (among_none from.0 none)) (among_cons second_item [] from.0 more))

@@ -19,7 +19,7 @@ use Rattle.step_tables.specs.Messages.{Send}
 use Rattle.step_tables.specs.StoreMoves.{StoreDisk, StoreTask, changed}
 use Rattle.step_tables.specs.StoreMoves as moves
 use Rattle.step_tables.specs.Chunks.{without_names}
-use Rattle.device_laws.specs.Stands.{AreNumbered, IsHeld, StandChunks, StandsEntry, IsEntryOf, Stands, Follows}
+use Rattle.device_laws.specs.Stands.{AreNumbered, IsMade, AreMade, IsHeld, StandChunks, StandsEntry, IsEntryOf, Stands, Follows}
 use Rattle.device_laws.proofs.Names.{left_among, right_among, either_among, none_among, among_without, without_among}
 use Rattle.device_laws.proofs.NamedDevices.{held_below, none_open}
 
@@ -38,13 +38,14 @@ entry_less size items pending left less sub (Some item) (Some entry) h = record 
   before = h.before;
   entry_of = h.entry_of;
   next = h.next;
+  made = h.made;
   stage = ⊎_elim (λ s. inl (s.0, λ name a. s.1 name (sub name a))) (λ s. inr (s.0, λ name a. s.1 name (sub name a))) h.stage;
 }
 
 pub dropped : (schema : Schema) (d : Devs) (disk : StoreDisk) (name : ChunkName) → Stands schema d disk → Among name disk.left
     → Stands schema (changed_by d (devs.DropChunk name)) (changed disk (moves.DropChunk name))
 dropped schema d disk name st a = record {
-  held = record { table = st.held.table; numbered = st.held.numbered; rows = st.held.rows };
+  held = record { table = st.held.table; numbered = st.held.numbered; made = st.held.made; rows = st.held.rows };
   chunks = record {
     held = λ q bytes h. chunk_dropped_other d.chunks name q (λ same. st.chunks.apart q bytes (subst (λ (n : ChunkName). Among n disk.left) same a) h) ∙ st.chunks.held q bytes h;
     left = λ q b.
@@ -69,30 +70,31 @@ dropped schema d disk name st a = record {
 
 pub closed : (schema : Schema) (d : Devs) (disk : StoreDisk) → Stands schema d disk → disk.left ≡ [] → Stands schema (changed_by d devs.CloseEntry) (changed disk moves.Close)
 closed schema d disk st none = record {
-  held = record { table = st.held.table; numbered = st.held.numbered; rows = st.held.rows };
+  held = record { table = st.held.table; numbered = st.held.numbered; made = st.held.made; rows = st.held.rows };
   chunks = record { held = st.chunks.held; left = st.chunks.left; only = st.chunks.only; apart = st.chunks.apart };
   entry = none;
 }
 
 pub opened : (schema : Schema) (d : Devs) (disk : StoreDisk) (item : Stored) (entry : Entry) → Stands schema d disk → disk.pending ≡ None → IsEntryOf schema.chunk disk.items item entry
-    → item.entry.version ≡ length disk.items + 1 → Stands schema (changed_by d (devs.OpenEntry entry)) (changed disk (moves.Open item))
-opened schema d disk item entry st is e next = record {
-  held = record { table = st.held.table; numbered = st.held.numbered; rows = st.held.rows };
+    → item.entry.version ≡ length disk.items + 1 → IsMade schema.chunk disk.items item → Stands schema (changed_by d (devs.OpenEntry entry)) (changed disk (moves.Open item))
+opened schema d disk item entry st is e next made = record {
+  held = record { table = st.held.table; numbered = st.held.numbered; made = st.held.made; rows = st.held.rows };
   chunks = record { held = st.chunks.held; left = st.chunks.left; only = st.chunks.only; apart = st.chunks.apart };
   entry = record {
     before = disk.items;
     entry_of = e;
     next = next;
+    made = made;
     stage = inl (refl, λ name a. absurd (subst (λ (l : List ChunkName). Among name l) (none_open schema d disk st is).1 a));
   };
 }
 
 -- ---- a new chunk is put
 
-pub put_chunk : (size : ℕ) (cs : List (ChunkName × List ℕ)) (items : List Stored) (pending : Option Stored) (left : List ChunkName) (name : ChunkName) (bytes : List ℕ) → AreNumbered 0 items
+pub put_chunk : (size : ℕ) (cs : List (ChunkName × List ℕ)) (items : List Stored) (pending : Option Stored) (left : List ChunkName) (name : ChunkName) (bytes : List ℕ) → AreNumbered 0 items → AreMade size [] items
     → length items < name.version → StandChunks size cs (record { items = items; pending = pending; left = left })
     → StandChunks size (insert_entry name_cmp cs name bytes) (record { items = items; pending = pending; left = left ++ name ∷ [] })
-put_chunk size cs items pending left name bytes numbered above st = record {
+put_chunk size cs items pending left name bytes numbered made above st = record {
   held = λ q b h. chunk_put_other cs name bytes q (not_held q b h) ∙ st.held q b h;
   left = λ q a. ⊎_elim (was_left q (cases_name name q)) (λ here. ⊎_elim (λ same. is_put q (sym same)) (λ none. absurd none) here) (either_among q left (name ∷ []) a);
   only = λ q b found. pick q b found (cases_name name q);
@@ -100,7 +102,7 @@ put_chunk size cs items pending left name bytes numbered above st = record {
 }
   where
     not_held : (q : ChunkName) (b : List ℕ) → IsHeld size items q b → name ≡ q → ⊥
-    not_held q b h same = let low = held_below size items numbered q b h in let is : name.version ≡ q.version = ap (λ (n : ChunkName). n.version) same in absurd (omega arith)
+    not_held q b h same = let low = held_below size items numbered made q b h in let is : name.version ≡ q.version = ap (λ (n : ChunkName). n.version) same in absurd (omega arith)
 
     is_put : (q : ChunkName) → name ≡ q → IsSome (chunk_in (insert_entry name_cmp cs name bytes) q)
     is_put q same = some_is _ bytes (subst (λ (n : ChunkName). chunk_in (insert_entry name_cmp cs name bytes) n ≡ Some bytes) same (chunk_put cs name bytes))

@@ -25,26 +25,27 @@ use Rattle.step_tables.specs.Store.{Stored}
 use Rattle.step_tables.specs.Facts as facts
 use Rattle.step_tables.specs.Messages.{Request}
 use Rattle.step_tables.specs.Messages as messages
-use Rattle.step_tables.specs.StoreMoves.{StoreDisk, StoreTask, changed, item_for, accepting, ends_with, responded}
+use Rattle.step_tables.specs.StoreMoves.{StoreDisk, StoreTask, changed, item_for, accepting, keeps_there, ends_with, responded}
 use Rattle.step_tables.specs.StoreMoves as moves
-use Rattle.step_tables.specs.Chunks.{Named, name_of_new, is_of_version, names_of, objects_of, chunks_of, chunks_with, names_before, names_with, new_names, old_names, without_names}
+use Rattle.step_tables.specs.Chunks.{Named, name_of_new, is_of_version, names_of, objects_of, chunks_of, chunks_with, names_before, names_with, new_names, old_names, without_names, is_spelled}
 use Rattle.step_tables.specs.Chunks as chunks
 use Rattle.table_model.specs.History.{same_row}
-use Rattle.device_laws.specs.Stands.{IsHeld, StandChunks, IsEntryOf, IsStoredAs, Stands, Follows, update_for}
+use Rattle.device_laws.specs.Stands.{is_new, AreNext, IsMade, IsHeld, StandChunks, IsEntryOf, IsStoredAs, Stands, Follows, update_for}
 use Rattle.device_laws.proofs.Names.{left_among, right_among, either_among, mapped_among, among_mapped, different_filter, among_without, without_among}
 use Rattle.device_laws.proofs.Numbered.{numbered_push}
-use Rattle.device_laws.proofs.Chunks.{flat, names, is_new, AreNext, chunks_own, chunks_other, as_many}
+use Rattle.device_laws.proofs.Chunks.{flat, names, next_within, made_push, chunks_own, chunks_other, as_many}
 use Rattle.device_laws.proofs.Pieces.{content_named, content_kept, names_filter}
 use Rattle.device_laws.proofs.Rows.{row_tells, row_names, rows_with, stored_as}
-use Rattle.device_laws.proofs.Entries.{next_within, one_named, now_from, now_different, before_different, before_below, news, news_next, news_names, new_count, old_is}
+use Rattle.device_laws.proofs.Entries.{one_named, now_from, now_different, before_different, before_below, news, news_next, news_names, new_count, old_is}
 use Rattle.device_laws.proofs.NamedDevices.{held_with, held_cases, old_apart, none_open}
 use Rattle.device_laws.proofs.Steps.{some_is, put_chunk, drops_follow}
+use Rattle.device_laws.proofs.Made.{update_by, request_made, update_is_by}
 
 is_there : (o : Option (List ℕ)) (bytes : List ℕ) → o ≡ Some bytes → is_some o ≡ true
 is_there None bytes e = absurd cc
 is_there (Some found) bytes e = refl
 
-module _ (schema : Schema) (d : Devs) (disk : StoreDisk) (st : Stands schema d disk) (none : disk.pending ≡ None) (request : Request) where
+module _ (schema : Schema) (d : Devs) (disk : StoreDisk) (st : Stands schema d disk) (none : disk.pending ≡ None) (request : Request) (m : IsMade schema.chunk disk.items (item_for disk.items request)) where
   abbrev size : ℕ
   size = schema.chunk
 
@@ -58,7 +59,7 @@ module _ (schema : Schema) (d : Devs) (disk : StoreDisk) (st : Stands schema d d
   v = length items + 1
 
   abbrev update : Update
-  update = update_for size items request
+  update = update_by size items request
 
   abbrev entry : Entry
   entry = entry_for d v update
@@ -70,16 +71,16 @@ module _ (schema : Schema) (d : Devs) (disk : StoreDisk) (st : Stands schema d d
   before = flat (chunks_of size items request.row)
 
   abbrev held : List (List Named)
-  held = chunks_with size (chunks_of size items request.row) item
+  held = chunks_with size item
 
   abbrev now : List Named
   now = flat held
 
   abbrev new : List Named
-  new = news size items item st.held.numbered refl
+  new = news size items item st.held.numbered refl st.held.made m
 
   many : length held ≡ length (objects_of request.content)
-  many = as_many size v 0 (chunks_of size items request.row) (objects_of request.content)
+  many = as_many size item.names (objects_of request.content)
 
   before_there : (q : ChunkName) → Among q (names before) → is_some (chunk_in d.chunks q) ≡ true
   before_there q a = let h = held_with size items request.row q a in is_there (chunk_in d.chunks q) h.0 (st.chunks.held q h.0 h.1)
@@ -91,9 +92,9 @@ module _ (schema : Schema) (d : Devs) (disk : StoreDisk) (st : Stands schema d d
     client = refl;
     number = refl;
     base = refl;
-    fresh = length-map new (λ (chunk : Named). chunk.1) ∙ sym (new_count size items item st.held.numbered refl);
+    fresh = length-map new (λ (chunk : Named). chunk.1) ∙ sym (new_count size items item st.held.numbered refl st.held.made m);
     old = ap (λ (l : List ChunkName). unmet (λ name. is_some (chunk_in d.chunks name)) (devices.names_of update.content) l) (row_names size items d.held st.held.numbered st.held.rows request.row)
-        ∙ old_is size items item st.held.numbered refl (λ name. is_some (chunk_in d.chunks name)) (devices.names_of update.content) before_there (content_kept v request.content held many);
+        ∙ old_is size items item st.held.numbered refl st.held.made m (λ name. is_some (chunk_in d.chunks name)) (devices.names_of update.content) before_there (content_kept v request.content held many);
   }
 
   -- ---- the new chunks are put
@@ -112,23 +113,24 @@ module _ (schema : Schema) (d : Devs) (disk : StoreDisk) (st : Stands schema d d
 
   putting_stands : (cs : List (ChunkName × List ℕ)) (left : List ChunkName) (more : List Named) → IsPutting cs left more → Stands schema (putting cs) (at_work left)
   putting_stands cs left more p = record {
-    held = record { table = st.held.table; numbered = st.held.numbered; rows = st.held.rows };
+    held = record { table = st.held.table; numbered = st.held.numbered; made = st.held.made; rows = st.held.rows };
     chunks = p.chunks;
     entry = record {
       before = items;
       entry_of = entry_is;
       next = refl;
-      stage = inl (refl, λ q a. subst (λ (l : List ChunkName). Among q l) (sym (news_names size items item st.held.numbered refl)) (p.only_new q a));
+      made = m;
+      stage = inl (refl, λ q a. subst (λ (l : List ChunkName). Among q l) (sym (news_names size items item st.held.numbered refl st.held.made m)) (p.only_new q a));
     };
   }
 
   new_different : AreDifferent (names new)
-  new_different = subst AreDifferent (names_filter v now) (different_filter (is_of_version v) (names now) (now_different size items item st.held.numbered refl))
+  new_different = subst AreDifferent (names_filter v now) (different_filter (is_of_version v) (names now) (now_different size items item st.held.numbered refl st.held.made m))
 
   put_next : (cs : List (ChunkName × List ℕ)) (left : List ChunkName) (x : Named) (more : List Named) → IsPutting cs left (x ∷ more)
       → IsPutting (insert_entry name_cmp cs x.0 x.1) (left ++ x.0 ∷ []) more
   put_next cs left x more p = record {
-    chunks = let is = (next_within v 0 new (news_next size items item st.held.numbered refl) x here).0 in put_chunk size cs items (Some item) left x.0 x.1 st.held.numbered (omega arith) p.chunks;
+    chunks = let is = (next_within v 0 new (news_next size items item st.held.numbered refl st.held.made m) x here).0 in put_chunk size cs items (Some item) left x.0 x.1 st.held.numbered st.held.made (omega arith) p.chunks;
     within = λ y a. p.within y (inr a);
     only_new = λ q a. ⊎_elim
         (λ old. p.only_new q old)
@@ -166,7 +168,7 @@ module _ (schema : Schema) (d : Devs) (disk : StoreDisk) (st : Stands schema d d
   -- ---- the row is put
 
   abbrev named : List ChunkName
-  named = names_with size items item
+  named = names_with size item
 
   abbrev old : List ChunkName
   old = old_names size items item
@@ -198,7 +200,7 @@ module _ (schema : Schema) (d : Devs) (disk : StoreDisk) (st : Stands schema d d
     held = held_now;
     left = λ q a. old_there q (left_is_old left p.only_new q a);
     only = λ q bytes found. ⊎_elim (λ h. was_held q bytes h (row_tells request.row h.row)) (λ l. was_new q bytes found l) (p.chunks.only q bytes found);
-    apart = λ q bytes a h. old_apart size items item st.held.numbered q (left_is_old left p.only_new q a) bytes h;
+    apart = λ q bytes a h. old_apart size items item st.held.numbered st.held.made q (left_is_old left p.only_new q a) bytes h;
   }
     where
       new_there : (x : Named) → Among x new → chunk_in cs x.0 ≡ Some x.1
@@ -213,7 +215,7 @@ module _ (schema : Schema) (d : Devs) (disk : StoreDisk) (st : Stands schema d d
           let is = b.version_is in
           let test : (q.version == v) ≡ true = grind (arith, nat_tests) in
           new_there (q, bytes) (filter_among (is_new v) (q, bytes) now test own.1))
-          (now_from size items item st.held.numbered refl (q, bytes) own.1))
+          (now_from size items item st.held.numbered refl st.held.made m (q, bytes) own.1))
           (λ other. p.chunks.held q bytes (record { row = h.row; among = other.1 }))
           (held_cases size items item q bytes h)
 
@@ -226,13 +228,13 @@ module _ (schema : Schema) (d : Devs) (disk : StoreDisk) (st : Stands schema d d
       kept_or_old : (q : ChunkName) (bytes : List ℕ) → Among (q, bytes) before → Among q named ⊎ (Among q named → ⊥) → IsHeld size with_item q bytes ⊎ Among q (left_behind left)
       kept_or_old q bytes a (inl inside) =
           let x = among_mapped (λ (c : Named). c.0) q now inside in
-          let low = before_below size items item st.held.numbered refl (q, bytes) a in
+          let low = before_below size items item st.held.numbered refl st.held.made m (q, bytes) a in
           ⊎_elim
           (λ kept.
-          let one : x.0 ≡ (q, bytes) = one_named before (before_different size items item st.held.numbered refl) x.0 (q, bytes) kept a (sym x.2) in
+          let one : x.0 ≡ (q, bytes) = one_named before (before_different size items item st.held.numbered refl st.held.made m) x.0 (q, bytes) kept a (sym x.2) in
           inl (own_held (q, bytes) (subst (λ (y : Named). Among y now) one x.1)))
           (λ b. let is = b.version_is in let same : q.version ≡ x.0.0.version = ap (λ (n : ChunkName). n.version) x.2 in absurd (omega arith))
-          (now_from size items item st.held.numbered refl x.0 x.1)
+          (now_from size items item st.held.numbered refl st.held.made m x.0 x.1)
       kept_or_old q bytes a (inr outside) =
           inr (right_among q (without_names named left) old (without_among named (names_before size items item) q (mapped_among (λ (c : Named). c.0) (q, bytes) before a) outside))
 
@@ -259,6 +261,7 @@ module _ (schema : Schema) (d : Devs) (disk : StoreDisk) (st : Stands schema d d
       held = record {
         table = st.held.table;
         numbered = numbered_push 0 items item st.held.numbered (omega arith);
+        made = made_push size [] items item st.held.made m;
         rows = rows_with size items d.held st.held.numbered st.held.rows item stored stored_is;
       };
       chunks = put_chunks cs left p;
@@ -266,6 +269,7 @@ module _ (schema : Schema) (d : Devs) (disk : StoreDisk) (st : Stands schema d d
         before = items;
         entry_of = entry_is;
         next = refl;
+        made = m;
         stage = inr (refl, λ q a. left_is_old left p.only_new q a);
       };
     }
@@ -286,15 +290,15 @@ module _ (schema : Schema) (d : Devs) (disk : StoreDisk) (st : Stands schema d d
     behind_row from cs left p =
         let all = drops_follow schema old (changed_by (putting cs) (devs.PutRow stored)) (changed (at_work left) (moves.Put item named old))
         [] (responded from request (messages.Accepted v) ∷ []) (row_put cs left p)
-        (different_filter (λ (q : ChunkName). not (chunks.is_among named q)) (names before) (before_different size items item st.held.numbered refl))
+        (different_filter (λ (q : ChunkName). not (chunks.is_among named q)) (names before) (before_different size items item st.held.numbered refl st.held.made m))
         (λ q a. right_among q (without_names named left) old a) (λ q a. left_is_old left p.only_new q a) in
         subst
         (λ (l : List ChunkName). Follows schema (changed_by (putting cs) (devs.PutRow stored)) (drops l ++ devs.CloseEntry ∷ [])
         (changed (at_work left) (moves.Put item named old)) (moves.drops old ++ closes from))
         (sym entry_is.old) all
 
-    pub update_follows : (from : Node) (table : ℕ) → Follows schema d (update_writes entry update.fresh stored) disk (accepting size table items from request item)
-    update_follows from table =
+    pub follows_by : (from : Node) (table : ℕ) → Follows schema d (update_writes entry update.fresh stored) disk (accepting size table items from request item)
+    follows_by from table =
         let nothing_left = (none_open schema d disk st none).1 in
         let start : IsPutting d.chunks disk.left new = record {
           chunks = record { held = st.chunks.held; left = st.chunks.left; only = st.chunks.only; apart = st.chunks.apart };
@@ -302,10 +306,23 @@ module _ (schema : Schema) (d : Devs) (disk : StoreDisk) (st : Stands schema d d
           only_new = λ q a. absurd (subst (λ (l : List ChunkName). Among q l) nothing_left a);
           there = λ x a. inl a;
         } in
-        let all = puts_follow 0 new d.chunks disk.left last_writes (last_tasks from table) (news_next size items item st.held.numbered refl) start
+        let all = puts_follow 0 new d.chunks disk.left last_writes (last_tasks from table) (news_next size items item st.held.numbered refl st.held.made m) start
         (λ cs left p. (putting_stands cs left [] p, (refl, refl), behind_row from cs left p)) in (
           st,
           entry_is,
           subst (λ (l : List ChunkName). Follows schema (putting d.chunks) (puts v 0 (map (λ (chunk : Named). chunk.1) new) ++ last_writes) (at_work disk.left) (moves.puts l ++ last_tasks from table))
-              (sym (news_names size items item st.held.numbered refl)) all,
+              (sym (news_names size items item st.held.numbered refl st.held.made m)) all,
         )
+
+pub update_follows : (schema : Schema) (d : Devs) (disk : StoreDisk) (st : Stands schema d disk) → disk.pending ≡ None → (request : Request)
+    → is_spelled schema.chunk request.content request.pieces ≡ true → keeps_there schema.chunk disk.items request ≡ true
+    → IsClient request.client → request.number < 2 ^ 64 → length disk.items + 1 < 2 ^ 64 → (from : Node) (table : ℕ)
+    → Follows schema d
+    (update_writes (entry_for d (length disk.items + 1) (update_for schema.chunk request)) (update_for schema.chunk request).fresh (stored_for d (length disk.items + 1) (update_for schema.chunk request)))
+    disk (accepting schema.chunk table disk.items from request (item_for disk.items request))
+update_follows schema d disk st none request spelled there client number fits from table =
+    let v = length disk.items + 1 in
+    subst
+    (λ (u : Update). Follows schema d (update_writes (entry_for d v u) u.fresh (stored_for d v u)) disk (accepting schema.chunk table disk.items from request (item_for disk.items request)))
+    (update_is_by schema.chunk disk.items st.held.numbered st.held.made request spelled there)
+    (follows_by schema d disk st none request (request_made schema.chunk disk.items st.held.numbered st.held.made request spelled there) client number fits from table)

@@ -18,7 +18,7 @@ use Rattle.device_laws.specs.Stands.{kept_objects, kept_content, pair_in, IsStor
 use Rattle.device_laws.specs.Reads.{AreRead, Reads}
 use Rattle.device_laws.proofs.Names.{left_among, right_among}
 use Rattle.device_laws.proofs.Numbered.{current_row}
-use Rattle.device_laws.proofs.Chunks.{flat, last_chunks}
+use Rattle.device_laws.proofs.Chunks.{flat, chunks_are, last_chunks}
 use Rattle.device_laws.proofs.Pieces.{keep}
 use Rattle.device_laws.proofs.Cuts.{bytes_of, AreCut, all_cut, cut_is}
 use Rattle.device_laws.proofs.Rows.{at_row}
@@ -57,8 +57,8 @@ module _ (schema : Schema) (d : Devs) (disk : StoreDisk) (some : 0 < schema.chun
 
   chunks_cut : (item : Stored) → current_of disk.items row ≡ Some item → AreCut schema.chunk (objects_of item.content) (chunks_of schema.chunk disk.items row)
   chunks_cut item is =
-      let last = last_chunks schema.chunk disk.items st.held.numbered row item is in
-      subst (AreCut schema.chunk (objects_of item.content)) (sym last.is) (all_cut schema.chunk item.entry.version 0 last.before (objects_of item.content))
+      let last = last_chunks schema.chunk disk.items st.held.numbered st.held.made row item is in
+      subst (AreCut schema.chunk (objects_of item.content)) (sym (chunks_are schema.chunk disk.items row item is)) (all_cut schema.chunk item.names (objects_of item.content) last.each)
 
   found_reads : (item : Stored) (stored : StoredRow) → current_of disk.items row ≡ Some item → row_of d.held row ≡ Some stored → IsStoredAs schema.chunk disk.items item stored → Given item
   found_reads item stored is there s =

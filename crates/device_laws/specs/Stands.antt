@@ -1,8 +1,8 @@
 -- What a table's three devices hold, as the disk of the Store's step table; and the writes of an agenda as its tasks.
 use Rattle.std.specs.Prelude.{◌≡◌, ◌⊎◌, ℕ, ◌+◌, ◌==◌, List, [], ◌∷◌, ◌++◌, length, map, Option, Some, None}
-use Rattle.std.specs.Prelude.{filter, IsSome, FitsSigned, if◌then◌else◌}
+use Rattle.std.specs.Prelude.{true, Bool, filter, IsSome, FitsSigned}
 use Rattle.std.specs.Int.{w64}
-use Rattle.std.specs.List.{flat_map, find, AllByRecursion}
+use Rattle.std.specs.List.{find, AllByRecursion}
 use Rattle.stab_base.specs.declared.chunk_name.ChunkName.{ChunkName}
 use Rattle.row_value.specs.declared.schema.Schema.{Schema}
 use Rattle.row_value.specs.declared.content.Cell.{Cell}
@@ -23,13 +23,43 @@ use Rattle.status_log.specs.Entry.{Entry}
 use Rattle.store_commit.specs.declared.update.Update.{Update}
 use Rattle.store_commit.specs.Devs.{Devs, Write, changed_by}
 use Rattle.store_commit.specs.Devs as devs
-use Rattle.store_commit.specs.NamedChunks.{Among}
+use Rattle.store_commit.specs.NamedChunks.{Among, AreDifferent}
 use Rattle.step_tables.specs.Store.{Stored, current_of}
 use Rattle.step_tables.specs.Messages.{Pair, Request}
-use Rattle.step_tables.specs.Chunks.{Named, first_object, other_objects, is_of_version, chunks_of, chunks_with}
-use Rattle.step_tables.specs.Chunks.{new_names, old_names}
-use Rattle.step_tables.specs.StoreMoves.{StoreDisk, StoreChange, StoreTask, changed, yours_in, item_for}
+use Rattle.step_tables.specs.Chunks.{Named, first_of, others_of, flat, objects_of, each_chunk, is_of_each, name_of_new}
+use Rattle.step_tables.specs.Chunks.{is_of_version, names_of, chunks_of, chunks_with, new_names, old_names}
+use Rattle.step_tables.specs.StoreMoves.{StoreDisk, StoreChange, StoreTask, changed, yours_in}
 use Rattle.step_tables.specs.StoreMoves as moves
+
+-- ---- the items of a table
+
+abbrev pub is_new : ℕ → Named → Bool
+is_new version chunk = is_of_version version chunk.0
+
+-- the chunks have the names of a version, numbered in order from here on
+abbrev pub AreNext : ℕ → ℕ → List Named → Type 0
+AreNext version next [] = Unit {0}
+AreNext version next (chunk ∷ more) = (chunk.0 ≡ name_of_new version next) × AreNext version (next + 1) more
+
+-- HOW AN ITEM NAMES ITS CHUNKS, BEHIND THESE: each has a name, and none twice; one that isn't new is one of its row, with
+-- the same bytes; and the new ones are numbered in order.
+pub record IsMade (size : ℕ) (before : List Stored) (item : Stored) : Type 0 where
+  pub each : is_of_each size item.names (objects_of item.content) ≡ true
+  pub different : AreDifferent (names_of (chunks_with size item))
+  pub from : (chunk : Named) → Among chunk (flat (chunks_with size item))
+      → Among chunk (flat (chunks_of size before item.entry.row)) ⊎ (chunk.0.version ≡ item.entry.version)
+  pub news : AreNext item.entry.version 0
+      (filter (is_new item.entry.version) (flat (chunks_with size item)))
+
+-- and so each of these items, behind those
+abbrev pub AreMade : ℕ → List Stored → List Stored → Type 0
+AreMade size before [] = Unit {0}
+AreMade size before (item ∷ items) = IsMade size before item × AreMade size (before ++ item ∷ []) items
+
+-- versions run 1 to n
+abbrev pub AreNumbered : ℕ → List Stored → Type 0
+AreNumbered n [] = Unit {0}
+AreNumbered n (item ∷ items) = (item.entry.version ≡ n + 1) × AreNumbered (n + 1) items
 
 -- ---- a row
 
@@ -40,7 +70,7 @@ kept_object object held = record { len = length object; pieces = map (λ (chunk 
 abbrev pub kept_objects : List (List ℕ) → List (List Named) → List PieceObject
 kept_objects [] held = []
 kept_objects (object ∷ objects) held =
-    kept_object object (first_object held) ∷ kept_objects objects (other_objects held)
+    kept_object object (first_of held) ∷ kept_objects objects (others_of held)
 
 -- a content by the names of its chunks
 abbrev pub kept_content : Content → List (List Named) → PieceContent
@@ -74,7 +104,7 @@ StandsRow size items (Some item) (Some stored) = IsStoredAs size items item stor
 -- a chunk that a row has
 pub record IsHeld (size : ℕ) (items : List Stored) (name : ChunkName) (bytes : List ℕ) : Type 0 where
   pub row : List ℕ
-  pub among : Among (name, bytes) (flat_map (λ (object : List Named). object) (chunks_of size items row))
+  pub among : Among (name, bytes) (flat (chunks_of size items row))
 
 -- the device has the chunks of the rows and those that are left, and no other
 pub record StandChunks (size : ℕ) (chunks : List (ChunkName × List ℕ)) (disk : StoreDisk) : Type 0 where
@@ -93,7 +123,7 @@ pub record IsEntryOf (size : ℕ) (before : List Stored) (item : Stored) (entry 
   pub client : entry.client ≡ item.entry.client
   pub number : entry.number ≡ item.entry.number
   pub base : entry.base ≡ item.entry.base
-  pub fresh : entry.fresh ≡ length (new_names size before item)
+  pub fresh : entry.fresh ≡ length (new_names size item)
   pub old : entry.old ≡ old_names size before item
 
 -- each of these is one of those
@@ -105,7 +135,8 @@ pub record IsBegun (size : ℕ) (disk : StoreDisk) (item : Stored) (entry : Entr
   pub before : List Stored
   pub entry_of : IsEntryOf size before item entry
   pub next : item.entry.version ≡ length before + 1
-  pub stage : ((disk.items ≡ before) × AreWithin disk.left (new_names size before item))
+  pub made : IsMade size before item
+  pub stage : ((disk.items ≡ before) × AreWithin disk.left (new_names size item))
       ⊎ ((disk.items ≡ before ++ item ∷ []) × AreWithin disk.left (old_names size before item))
 
 abbrev pub StandsEntry : ℕ → StoreDisk → Option Stored → Option Entry → Type 0
@@ -116,16 +147,12 @@ StandsEntry size disk (Some item) (Some entry) = IsBegun size disk item entry
 
 -- ---- the devices
 
--- versions run 1 to n
-abbrev pub AreNumbered : ℕ → List Stored → Type 0
-AreNumbered n [] = Unit {0}
-AreNumbered n (item ∷ items) = (item.entry.version ≡ n + 1) × AreNumbered (n + 1) items
-
 -- What the device of the rows holds is that of a disk: each row by its last item, with the names of its chunks and the
--- last write of each client on it.
+-- last write of each client on it. The items are numbered, and name their chunks one behind the other.
 pub record HasRows (schema : Schema) (held : TableData) (disk : StoreDisk) : Type 0 where
   pub table : held.table ≡ Some (schema, 2)
   pub numbered : AreNumbered 0 disk.items
+  pub made : AreMade schema.chunk [] disk.items
   pub rows : (row : List ℕ) → StandsRow schema.chunk disk.items (current_of disk.items row) (row_of held row)
 
 -- What the devices of a live table hold is this disk: its rows; each chunk of a row, and what is left; and the open
@@ -170,36 +197,29 @@ abbrev pub HaveWords : Content → Type 0
 HaveWords contents.Gone = Unit {0}
 HaveWords (contents.Row some objects) = AllByRecursion IsWord some
 
-abbrev pub piece_of : ℕ → Named → Piece
-piece_of version held = if is_of_version version held.0 then Fresh held.0.ordinal else Keep held.0
+abbrev pub pieced_objects : List (List ℕ) → List (List Piece) → List PieceObject
+pieced_objects [] pieces = []
+pieced_objects (object ∷ objects) pieces =
+    record { len = length object; pieces = first_of pieces } ∷ pieced_objects objects (others_of pieces)
 
-abbrev pub pieced_objects : ℕ → List (List ℕ) → List (List Named) → List PieceObject
-pieced_objects version [] held = []
-pieced_objects version (object ∷ objects) held =
-    record { len = length object; pieces = map (piece_of version) (first_object held) }
-    ∷ pieced_objects version objects (other_objects held)
+-- a content by the pieces of its objects
+abbrev pub pieced_content : Content → List (List Piece) → PieceContent
+pieced_content contents.Gone pieces = Gone
+pieced_content (contents.Row cells objects) pieces = Row cells (pieced_objects objects pieces)
 
--- a content with its new chunks by their ordinals
-abbrev pub pieced_content : ℕ → Content → List (List Named) → PieceContent
-pieced_content version contents.Gone held = Gone
-pieced_content version (contents.Row cells objects) held = Row cells (pieced_objects version objects held)
+-- the bytes of the new chunks, in their order
+abbrev pub fresh_bytes : List (Piece × List ℕ) → List (List ℕ)
+fresh_bytes [] = []
+fresh_bytes ((Keep name, chunk) ∷ more) = fresh_bytes more
+fresh_bytes ((Fresh ordinal, chunk) ∷ more) = chunk ∷ fresh_bytes more
 
--- the bytes of the new chunks, by their ordinals
-abbrev pub fresh_bytes : ℕ → List (List Named) → List (List ℕ)
-fresh_bytes version held =
-    map (λ (chunk : Named). chunk.1)
-    (filter (λ (chunk : Named). is_of_version version chunk.0) (flat_map (λ (object : List Named). object) held))
-
--- what a Store takes on for a request: the next version, whose chunks are those of its content against the row's
-abbrev pub update_for : ℕ → List Stored → Request → Update
-update_for size items request =
-    let item : Stored = item_for items request in
-    let held : List (List Named) = chunks_with size (chunks_of size items request.row) item in
-    record {
-      row = request.row;
-      client = request.client;
-      number = request.number;
-      base = request.base;
-      content = pieced_content item.entry.version request.content held;
-      fresh = fresh_bytes item.entry.version held;
-    }
+-- what a Store takes on for a request: its content by the pieces that spell it, and its new chunks
+abbrev pub update_for : ℕ → Request → Update
+update_for size request = record {
+  row = request.row;
+  client = request.client;
+  number = request.number;
+  base = request.base;
+  content = pieced_content request.content request.pieces;
+  fresh = fresh_bytes (flat (each_chunk size request.pieces (objects_of request.content)));
+}

@@ -4,7 +4,7 @@ use Rattle.stab_base.specs.declared.chunk_name.ChunkName.{ChunkName}
 use Rattle.row_value.specs.declared.schema.Schema.{Schema}
 use Rattle.row_value.specs.declared.schema.Scheme.TheVariants.{Strong}
 use Rattle.row_value.specs.declared.content.Content.TheVariants as contents
-use Rattle.row_value.specs.declared.pieces.Piece.TheVariants.{Keep}
+use Rattle.row_value.specs.declared.pieces.Piece.TheVariants.{Keep, Fresh}
 use Rattle.row_value.specs.declared.pieces.PieceContent.TheVariants.{Row}
 use Rattle.row_store.specs.declared.stored.LastWrite.{LastWrite}
 use Rattle.row_store.specs.declared.stored.StoredRow.{StoredRow}
@@ -46,9 +46,10 @@ first_request = record {
   number = 1;
   base = 0;
   content = contents.Row [] ((1 ∷ 2 ∷ 3 ∷ []) ∷ (4 ∷ []) ∷ []);
+  pieces = (Fresh 0 ∷ Fresh 1 ∷ []) ∷ (Fresh 2 ∷ []) ∷ [];
 }
 
--- and another last byte of the first one
+-- and another last byte of the first one: it keeps the first chunk and the last one
 abbrev pub second_request : Request
 second_request = record {
   client = 3;
@@ -57,6 +58,7 @@ second_request = record {
   number = 2;
   base = 1;
   content = contents.Row [] ((1 ∷ 2 ∷ 5 ∷ []) ∷ (4 ∷ []) ∷ []);
+  pieces = (Keep (name 1 0) ∷ Fresh 0 ∷ []) ∷ (Keep (name 1 2) ∷ []) ∷ [];
 }
 
 abbrev pub first_item : Stored

@@ -2,7 +2,7 @@
 //! recovery are the tasks of its agendas.
 #![tactic(auto)]
 
-ghost use Rattle.std.specs.Prelude.{◌≡◌, ℕ, ◌+◌, ◌<◌, ◌^◌, List, [], ◌∷◌, Option, Some, None, is_some, Ok, length};
+ghost use Rattle.std.specs.Prelude.{◌≡◌, ℕ, ◌+◌, ◌<◌, ◌^◌, List, [], ◌∷◌, Option, Some, None, is_some, Ok, length, true};
 ghost use Rattle.std.specs.Prelude.{IfSome, option_map};
 ghost use Rattle.stab_base.specs.declared.chunk_name.ChunkName.{ChunkName};
 ghost use Rattle.stab_base.specs.declared.node.Node.{Node};
@@ -21,11 +21,11 @@ ghost use Rattle.store_commit.specs.Agenda.{update_writes, recovery_writes, AreL
 ghost use Rattle.store_commit.specs.Devs.{Devs};
 ghost use Rattle.store_commit.specs.NamedChunks.{NamedChunks};
 ghost use Rattle.store_commit.specs.Update.{IsUpdate, entry_for, stored_for};
-ghost use Rattle.step_tables.specs.Chunks.{rising, chunks_of};
+ghost use Rattle.step_tables.specs.Chunks.{rising, chunks_of, is_spelled};
 ghost use Rattle.step_tables.specs.Messages.{Request};
 ghost use Rattle.step_tables.specs.Store.{Stored, current_of, next_changed};
 ghost use Rattle.step_tables.specs.StoreMoves.{StoreDisk, item_for, accepting, recovering, reopening, yours_in};
-ghost use Rattle.step_tables.specs.StoreMoves.{Open, PutChunk, Put, DropChunk, Close};
+ghost use Rattle.step_tables.specs.StoreMoves.{keeps_there, Open, PutChunk, Put, DropChunk, Close};
 ghost use Rattle.device_laws.specs.Stands.{Stands, Follows, HaveWords, pair_in, update_for};
 ghost use Rattle.device_laws.specs.Reads.{Reads, row_version_of};
 ghost use Rattle.device_laws.specs.Worked.{nothing_in, nothing_there, small, holding, first_row, second_row};
@@ -38,18 +38,23 @@ pub fn devices_have_named_chunks()
         → (meaning : ChunkName → List ℕ) × NamedChunks meaning d }
 {}
 
-/// A request that a table takes on: what it writes to the devices are the tasks of the step table's agenda, and the
-/// devices stand for the agenda's disk before and behind each of them. (Does nothing: its clauses are laws.)
+/// A request that a table takes on, which spells its chunks and keeps none that its row hasn't: what it writes to the
+/// devices are the tasks of the step table's agenda, and the devices stand for the agenda's disk before and behind each
+/// of them. (Does nothing: its clauses are laws.)
 pub fn updates_follow_the_table()
     ensures update { (schema : Schema) (d : Devs) (disk : StoreDisk) (request : Request)
         → HasSchemaSpelling schema → Stands schema d disk → disk.pending ≡ None → IsClient request.client
         → fit_of schema request.content ≡ Ok tt → HaveWords request.content
         → IfSome (row_of d.held request.row) HasStoredSpelling
-        → IsUpdate d (update_for schema.chunk disk.items request) }
+        → is_spelled schema.chunk request.content request.pieces ≡ true
+        → keeps_there schema.chunk disk.items request ≡ true
+        → IsUpdate d (update_for schema.chunk request) }
     ensures follows { (schema : Schema) (d : Devs) (disk : StoreDisk) (request : Request) (from : Node) (table : ℕ)
         → 0 < schema.chunk → IsClient request.client → request.number < 2 ^ 64 → length disk.items + 1 < 2 ^ 64
         → Stands schema d disk → disk.pending ≡ None
-        → let update = update_for schema.chunk disk.items request in
+        → is_spelled schema.chunk request.content request.pieces ≡ true
+        → keeps_there schema.chunk disk.items request ≡ true
+        → let update = update_for schema.chunk request in
         let item = item_for disk.items request in
         let version = length disk.items + 1 in
         Follows schema d (update_writes (entry_for d version update) update.fresh (stored_for d version update)) disk
@@ -108,7 +113,9 @@ pub fn a_small_table_is_worked_out()
     ensures second { Stands small (holding second_row second_chunks) second_disk }
     ensures chunks { chunks_of 2 second_disk.items row_id
         ≡ ((name 1 0, 1 ∷ 2 ∷ []) ∷ (name 2 0, 5 ∷ []) ∷ []) ∷ ((name 1 2, 4 ∷ []) ∷ []) ∷ [] }
-    ensures update { update_for 2 first_disk.items second_request ≡ record {
+    ensures spelled { is_spelled 2 second_request.content second_request.pieces ≡ true }
+    ensures there { keeps_there 2 first_disk.items second_request ≡ true }
+    ensures update { update_for 2 second_request ≡ record {
       row = row_id;
       client = 3;
       number = 2;

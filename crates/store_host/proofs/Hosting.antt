@@ -1,6 +1,6 @@
 -- A table behind a step of its node, and what it tells put behind what was told.
 use Rattle.std.proofs.Common.{◌≡◌, inl, inr, ℕ, ◌<◌, ◌++◌, length, map, Bool, true, false, cond, List, [], ◌∷◌, Option, Some, None, Result, Ok, Err, refl, sym, ◌∙◌, ap, subst, append-nil}
-use Rattle.std.specs.Prelude.{filter, ◌==◌, nat_lt, ◌↔◌, IfErr, IsErrOf, if◌then◌else◌}
+use Rattle.std.specs.Prelude.{◌&&◌, filter, ◌==◌, nat_lt, ◌↔◌, IfErr, IsErrOf, if◌then◌else◌}
 use Rattle.std.proofs.lemmas.List.{map-append}
 use Rattle.disk_trait.specs.Calls.{DiskState}
 use Rattle.row_value.specs.declared.schema.Schema.{Schema}
@@ -14,7 +14,8 @@ use Rattle.step_tables.specs.Travels.{message_of}
 use Rattle.step_tables.specs.declared.message.Message.{Message}
 use Rattle.step_tables.specs.Messages as messages
 use Rattle.step_tables.specs.StoreMoves.{StoreDisk, StoreTask, TableStore, StoreStep, Take, Start, crashed, worked, store_step}
-use Rattle.step_tables.specs.StoreMoves.{takes, quiet, accepting, item_for, sending, responded, outdated, judged, decided, version_of, version_at, taken, yours_in}
+use Rattle.step_tables.specs.StoreMoves.{takes, quiet, accepting, item_for, sending, responded, unaccepted, keeps_there, judged, decided, asked, version_of, version_at, taken, yours_in}
+use Rattle.step_tables.specs.Chunks.{is_spelled}
 use Rattle.store_node.specs.declared.node.TableNode.{TableNode}
 use Rattle.store_node.specs.declared.node.StoreOut.{StoreOut}
 use Rattle.step_tables.specs.Travels.{send_of}
@@ -253,9 +254,9 @@ none_at_work disk (Some (task ∷ tasks)) version e w = cc
 -- a message tells no facts
 module _ (g : Scheme) (size table : ℕ) (d : StoreDisk) (from : Node) where
   judged_facts : (q : Request) (current : ℕ) → (judged g size table d from q current).facts ≡ []
-  judged_facts q current = go (takes g q.base current)
+  judged_facts q current = go (takes g q.base current && keeps_there size d.items q)
     where
-      go : (b : Bool) → (if b then quiet d (Some (accepting size table d.items from q (item_for d.items q))) facts.Done else sending d (responded from q (outdated g current) ∷ [])).facts ≡ []
+      go : (b : Bool) → (if b then quiet d (Some (accepting size table d.items from q (item_for d.items q))) facts.Done else sending d (responded from q (unaccepted g q.base current) ∷ [])).facts ≡ []
       go true = refl
       go false = refl
 
@@ -268,10 +269,17 @@ module _ (g : Scheme) (size table : ℕ) (d : StoreDisk) (from : Node) where
       go false true = refl
       go false false = judged_facts q (version_of (current_of d.items q.row))
 
+  asked_facts : (q : Request) → (asked g size table d from q).facts ≡ []
+  asked_facts q = go (is_spelled size q.content q.pieces)
+    where
+      go : (b : Bool) → (if b then decided g size table d from q (yours_in d.items q.client q.row) else quiet d (Some []) facts.Done).facts ≡ []
+      go true = decided_facts q (yours_in d.items q.client q.row)
+      go false = refl
+
   take_facts : (agenda : Option (List StoreTask)) (m : messages.Message) → (taken g size table d agenda from m).facts ≡ []
   take_facts None m = refl
   take_facts (Some (task ∷ more)) m = refl
-  take_facts (Some []) (messages.SyncRequest q) = decided_facts q (yours_in d.items q.client q.row)
+  take_facts (Some []) (messages.SyncRequest q) = asked_facts q
   take_facts (Some []) (messages.PullRequest q) = refl
   take_facts (Some []) (messages.SyncResponse q) = refl
   take_facts (Some []) (messages.PullResponse q) = refl

@@ -1,7 +1,7 @@
 -- What a move of one table makes of all, and what the moves of all make of them.
 use Rattle.std.proofs.Common.{◌≡◌, ℕ, zero, suc, ◌+◌, ◌<◌, ◌≤◌, ◌++◌, length, drop, Bool, true, false, cond, List, [], ◌∷◌, Option, Some, None, Result, Ok, Err, inl, inr, refl, sym, ap, ◌∙◌, subst, arith}
 use Rattle.std.proofs.Common.{◌≢◌, rules, append-nil, append_assoc}
-use Rattle.std.specs.Prelude.{filter, ◌||◌, ◌==◌, nat_lt, IfOk, IsSome, option_map, slice_index_or, if◌then◌else◌}
+use Rattle.std.specs.Prelude.{◌&&◌, filter, ◌||◌, ◌==◌, nat_lt, IfOk, IsSome, option_map, slice_index_or, if◌then◌else◌}
 use Rattle.std.proofs.lemmas.Result.{on_ok_weaker, on_err_weaker}
 use Rattle.std.specs.List.{find}
 use Rattle.std.specs.declared.cmp.Ordering.{Ordering}
@@ -27,7 +27,8 @@ use Rattle.step_tables.specs.declared.message.Message.TheVariants as kinds
 use Rattle.step_tables.specs.Messages.{Luck, Request, Pair}
 use Rattle.step_tables.specs.Messages as messages
 use Rattle.step_tables.specs.StoreMoves.{StoreDisk, StoreTask, TableStore, StoreStep, StoreMove, Take, Work, Crash, Start, crashed, worked, started, recover, recovered, item_at}
-use Rattle.step_tables.specs.StoreMoves.{takes, quiet, accepting, item_for, sending, responded, outdated, judged, decided, version_of, taken, yours_in}
+use Rattle.step_tables.specs.StoreMoves.{takes, quiet, accepting, item_for, sending, responded, unaccepted, keeps_there, judged, decided, asked, version_of, taken, yours_in}
+use Rattle.step_tables.specs.Chunks.{is_spelled}
 use Rattle.store_node.specs.declared.fault.NodeFault.{NodeFault}
 use Rattle.store_node.specs.declared.fault.NodeFault.TheVariants.{Disk as DiskFailed}
 use Rattle.store_node.specs.declared.node.StoreOut.{StoreOut}
@@ -366,9 +367,9 @@ module _ {D : Type 0} (state : D → DiskState) (w : World) (numbers : List ℕ)
 
 module _ (g : Scheme) (size table : ℕ) (d : StoreDisk) (from : Node) where
   judged_answer : (q : Request) (current : ℕ) → is_fault (judged g size table d from q current).answer ≡ false
-  judged_answer q current = go (takes g q.base current)
+  judged_answer q current = go (takes g q.base current && keeps_there size d.items q)
     where
-      go : (b : Bool) → is_fault (if b then quiet d (Some (accepting size table d.items from q (item_for d.items q))) facts.Done else sending d (responded from q (outdated g current) ∷ [])).answer ≡ false
+      go : (b : Bool) → is_fault (if b then quiet d (Some (accepting size table d.items from q (item_for d.items q))) facts.Done else sending d (responded from q (unaccepted g q.base current) ∷ [])).answer ≡ false
       go true = refl
       go false = refl
 
@@ -381,10 +382,17 @@ module _ (g : Scheme) (size table : ℕ) (d : StoreDisk) (from : Node) where
       go false true = refl
       go false false = judged_answer q (version_of (current_of d.items q.row))
 
+  asked_answer : (q : Request) → is_fault (asked g size table d from q).answer ≡ false
+  asked_answer q = go (is_spelled size q.content q.pieces)
+    where
+      go : (b : Bool) → is_fault (if b then decided g size table d from q (yours_in d.items q.client q.row) else quiet d (Some []) facts.Done).answer ≡ false
+      go true = decided_answer q (yours_in d.items q.client q.row)
+      go false = refl
+
   pub take_answer : (agenda : Option (List StoreTask)) (m : messages.Message) → is_fault (taken g size table d agenda from m).answer ≡ false
   take_answer None m = refl
   take_answer (Some (task ∷ more)) m = refl
-  take_answer (Some []) (messages.SyncRequest q) = decided_answer q (yours_in d.items q.client q.row)
+  take_answer (Some []) (messages.SyncRequest q) = asked_answer q
   take_answer (Some []) (messages.PullRequest q) = refl
   take_answer (Some []) (messages.SyncResponse q) = refl
   take_answer (Some []) (messages.PullResponse q) = refl
@@ -429,8 +437,8 @@ module _ {D : Type 0} (state : D → DiskState) (w : World) (numbers : List ℕ)
             λ b. (k.busy version).1 (subst (λ (x : world.Hosted). IsAtWork x.store.disk x.store.agenda version) (sym (agenda_is b.0 b.1)) b.2),
           );
           given = λ fits s.
-              k.given (sym f.2.number, fits_there w message was.node.schema f.2.schema fits) (subst (λ (x : world.Hosted). IsSpent was.node.schema.scheme x.store.disk message) (sym (agenda_is s.0 s.1)) (subst (λ (o : Option Schema). IsSpent (scheme_in o) s.0.store.disk message) f.2.schema s.3));
-          spent = λ last e. let s = k.spent last e in ((hosted, f.1, s.0, subst (λ (o : Option Schema). IsSpent (scheme_in o) hosted.store.disk message) (sym f.2.schema) s.1), s.2);
+              k.given (sym f.2.number, fits_there w message was.node.schema f.2.schema fits) (subst (λ (x : world.Hosted). IsSpent was.node.schema.scheme was.node.schema.chunk x.store.disk message) (sym (agenda_is s.0 s.1)) (subst (λ (o : Option Schema). IsSpent (scheme_in o) (chunk_in o) s.0.store.disk message) f.2.schema s.3));
+          spent = λ last e. let s = k.spent last e in ((hosted, f.1, s.0, subst (λ (o : Option Schema). IsSpent (scheme_in o) (chunk_in o) hosted.store.disk message) (sym f.2.schema) s.1), s.2);
           refused = λ no. on_err_weaker r (λ t. (same_tables state w numbers old new table it was at wrote h hosted f.1 t.0, t.1)) (k.refused no);
           fallen = λ is.
               let t = k.fallen is in (

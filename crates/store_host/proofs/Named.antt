@@ -1,6 +1,6 @@
 -- The chunks that a node names are those that the world has on the table's device.
-use Rattle.std.proofs.Common.{◌≡◌, ◌⊎◌, inl, inr, ⊎_elim, ℕ, Bool, true, false, List, [], ◌∷◌, ◌++◌, Option, Some, Result, Ok, Err, refl, sym, ap, ◌∙◌, subst}
-use Rattle.std.specs.Prelude.{not, IfOk, if◌then◌else◌}
+use Rattle.std.proofs.Common.{◌≡◌, inl, inr, ⊎_elim, ℕ, Bool, true, false, cond, List, [], ◌∷◌, ◌++◌, Option, Some, None, Result, Ok, Err, refl, sym, ap, ◌∙◌, subst}
+use Rattle.std.specs.Prelude.{not, IfOk}
 use Rattle.std.specs.Ordering.{nat_cmp}
 use Rattle.std.specs.BTreeMap as tree
 use Rattle.disk_trait.specs.Calls.{DiskState}
@@ -8,10 +8,11 @@ use Rattle.row_value.specs.declared.schema.Schema.{Schema}
 use Rattle.std.specs.List.{flat_map}
 use Rattle.stab_base.specs.declared.chunk_name.ChunkName.{ChunkName}
 use Rattle.table_model.specs.History.{same_row}
-use Rattle.step_tables.specs.Chunks.{Named, names_of, chunks_of, chunks_from, chunks_with, rising}
-use Rattle.step_tables.specs.Store.{Stored}
+use Rattle.step_tables.specs.Chunks.{names_of, chunks_in, chunks_of, rising}
+use Rattle.step_tables.specs.Store.{Stored, current_of, is_of_row}
+use Rattle.std.specs.Option.{option_or}
 use Rattle.step_tables.specs.StoreMoves.{StoreDisk, TableStore}
-use Rattle.step_tables.proofs.Lists.{same_row-is}
+use Rattle.step_tables.proofs.Lists.{same_row-is, last_where-cons}
 use Rattle.store_commit.specs.NamedChunks.{Among}
 use Rattle.store_commit.proofs.Leftovers.{filter_among}
 use Rattle.device_laws.proofs.Names.{left_among, right_among, either_among, among_rising, rising_among, rising_sorted, same_sorted}
@@ -34,15 +35,18 @@ among_flat f x [] a = absurd a
 among_flat f x (z ∷ ys) a = ⊎_elim (λ here. (z, here)) (λ more. among_flat f x ys more) (either_among x (f z) (flat_map f ys) a)
 
 -- a row that names a chunk has an item
-row_there : (size : ℕ) (items : List Stored) (row : List ℕ) (held : List (List Named)) (name : ChunkName) → Among name (names_of (chunks_from size row held items)) → Among name (names_of held) ⊎ Among row (rows_in items)
-row_there size [] row held name a = inl a
-row_there size (item ∷ items) row held name a = go (same_row item.entry.row row) refl (λ now b. row_there size items row now name b) a
+row_there : (size : ℕ) (items : List Stored) (row : List ℕ) (name : ChunkName) → Among name (names_of (chunks_of size items row)) → Among row (rows_in items)
+row_there size [] row name a = absurd a
+row_there size (item ∷ items) row name a =
+    go (same_row item.entry.row row) refl (current_of items row) refl (row_there size items row name)
+    (subst (λ (o : Option Stored). Among name (names_of (chunks_in size o))) (last_where-cons (is_of_row row) item items) a)
   where
-    go : (b : Bool) → same_row item.entry.row row ≡ b
-        → ((now : List (List Named)) → Among name (names_of (chunks_from size row now items)) → Among name (names_of now) ⊎ Among row (rows_in items))
-        → Among name (names_of (chunks_from size row (if b then chunks_with size held item else held) items)) → Among name (names_of held) ⊎ Among row (rows_in (item ∷ items))
-    go true is rest a = inr (inl (sym (same_row-is item.entry.row row is)))
-    go false is rest a = ⊎_elim (λ early. inl early) (λ m. inr (inr (filter_among (λ r. not (same_row item.entry.row r)) row (rows_in items) (ap not is) m))) (rest held a)
+    go : (b : Bool) → same_row item.entry.row row ≡ b → (o : Option Stored) → current_of items row ≡ o → (Among name (names_of (chunks_of size items row)) → Among row (rows_in items))
+        → Among name (names_of (chunks_in size (option_or o (cond b (Some item) None)))) → Among row (rows_in (item ∷ items))
+    go true is o at rest a = inl (sym (same_row-is item.entry.row row is))
+    go false is None at rest a = absurd a
+    go false is (Some later) at rest a =
+        inr (filter_among (λ r. not (same_row item.entry.row r)) row (rows_in items) (ap not is) (rest (subst (λ (o : Option Stored). Among name (names_of (chunks_in size o))) (sym at) a)))
 
 module _ (size : ℕ) (disk : StoreDisk) where
   abbrev all_names : List ChunkName
@@ -52,7 +56,7 @@ module _ (size : ℕ) (disk : StoreDisk) where
   to_all name (inr left) = right_among name (flat_map (λ row. names_of (chunks_of size disk.items row)) (rows_in disk.items)) disk.left left
   to_all name (inl held) =
       left_among name (flat_map (λ row. names_of (chunks_of size disk.items row)) (rows_in disk.items)) disk.left
-      (⊎_elim (λ none. absurd none) (λ there. flat_among (λ row. names_of (chunks_of size disk.items row)) name held.0 (rows_in disk.items) there held.1) (row_there size disk.items held.0 [] name held.1))
+      (flat_among (λ row. names_of (chunks_of size disk.items row)) name held.0 (rows_in disk.items) (row_there size disk.items held.0 name held.1) held.1)
 
   from_all : (name : ChunkName) → Among name all_names → IsKept size disk name
   from_all name a =

@@ -1,6 +1,6 @@
 -- Where a Store is up, each of its tables is: what the moves that no device call of fails make of that.
 use Rattle.std.proofs.Common.{◌≡◌, ◌≢◌, ◌⊎◌, inl, inr, ℕ, Bool, true, false, List, [], ◌∷◌, Option, Some, None, refl, sym, ap, ◌∙◌, subst, arith, ⊎_elim, true≢false}
-use Rattle.std.specs.Prelude.{◌==◌, ◌||◌, nat_lt, if◌then◌else◌}
+use Rattle.std.specs.Prelude.{◌==◌, ◌&&◌, ◌||◌, nat_lt, if◌then◌else◌}
 use Rattle.std.proofs.lemmas.Bool.Decides.{nat_tests}
 use Rattle.std.specs.Ordering.{nat_cmp}
 use Rattle.std.specs.Cmp.{unsigned_tied}
@@ -9,6 +9,7 @@ use Rattle.std.specs.BTreeMap.{is_at, insert_entry}
 use Rattle.stab_base.specs.declared.node.Node.{Node}
 use Rattle.row_value.specs.declared.schema.Schema.{Schema}
 use Rattle.row_value.specs.declared.schema.Scheme.{Scheme}
+use Rattle.step_tables.specs.Chunks.{is_spelled}
 use Rattle.step_tables.specs.Store.{Stored, current_of}
 use Rattle.step_tables.specs.Members.{Among}
 use Rattle.step_tables.specs.Messages.{Request, Pair, Message, Luck, SyncRequest, SyncResponse, PullRequest, PullResponse}
@@ -25,10 +26,10 @@ use Rattle.store_host.specs.Holds.{IsUpAt, AllUp}
 
 module _ (x : Scheme) (size table : ℕ) (d : StoreDisk) where
   judged_up : (from : Node) (q : Request) (current : ℕ) → IsUpAt (store.judged x size table d from q current).store.agenda
-  judged_up from q current = go (store.takes x q.base current)
+  judged_up from q current = go (store.takes x q.base current && store.keeps_there size d.items q)
     where
       go : (b : Bool) → IsUpAt (if b then store.quiet d (Some (store.accepting size table d.items from q (store.item_for d.items q))) facts.Done
-          else store.sending d (store.responded from q (store.outdated x current) ∷ [])).store.agenda
+          else store.sending d (store.responded from q (store.unaccepted x q.base current) ∷ [])).store.agenda
       go true = (_, refl)
       go false = ([], refl)
 
@@ -42,9 +43,16 @@ module _ (x : Scheme) (size table : ℕ) (d : StoreDisk) where
       go false true = ([], refl)
       go false false = judged_up from q (store.version_of (current_of d.items q.row))
 
+  asked_up : (from : Node) (q : Request) → IsUpAt (store.asked x size table d from q).store.agenda
+  asked_up from q = go (is_spelled size q.content q.pieces)
+    where
+      go : (b : Bool) → IsUpAt (if b then store.decided x size table d from q (store.yours_in d.items q.client q.row) else store.quiet d (Some []) facts.Done).store.agenda
+      go true = decided_up from q (store.yours_in d.items q.client q.row)
+      go false = ([], refl)
+
   taken_up : (agenda : List StoreTask) (from : Node) (m : Message) → IsUpAt (store.taken x size table d (Some agenda) from m).store.agenda
   taken_up (task ∷ more) from m = (task ∷ more, refl)
-  taken_up [] from (SyncRequest q) = decided_up from q (store.yours_in d.items q.client q.row)
+  taken_up [] from (SyncRequest q) = asked_up from q
   taken_up [] from (PullRequest q) = ([], refl)
   taken_up [] from (SyncResponse q) = ([], refl)
   taken_up [] from (PullResponse q) = ([], refl)

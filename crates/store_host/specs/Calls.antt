@@ -21,7 +21,7 @@ use Rattle.store_node.specs.declared.node.StoreOut.{StoreOut}
 use Rattle.store_node.specs.declared.showing.ShownRow.{ShownRow}
 use Rattle.store_node.specs.Calls.{IsAtWork, IsSpent}
 use Rattle.store_node.specs.Reading.{shown_of}
-use Rattle.world_tables.specs.World.{World, Moved, owner, scheme_in, schema_at, hosted_at, move_table, table_falls}
+use Rattle.world_tables.specs.World.{World, Moved, owner, scheme_in, chunk_in, schema_at, hosted_at, move_table, table_falls}
 use Rattle.world_tables.specs.World.{store_falls}
 use Rattle.world_tables.specs.World.{table_crashes, crash_luck, first_luck, other_lucks, busy_table}
 use Rattle.world_tables.specs.World as world
@@ -91,7 +91,8 @@ IsBusyWith w table version = (hosted : world.Hosted) × (hosted_at w table ≡ S
 abbrev pub IsSpentIn : World → Message → Type 0
 IsSpentIn w message = (hosted : world.Hosted) × (hosted_at w (table_in message) ≡ Some hosted)
     × (hosted.store.agenda ≡ Some [])
-    × IsSpent (scheme_in (schema_at w (table_in message))) hosted.store.disk message
+    × IsSpent (scheme_in (schema_at w (table_in message))) (chunk_in (schema_at w (table_in message))) hosted.store.disk
+    message
 
 -- Why a message was refused, and which disks failed in it: some of one table, where it says so, and else none.
 pub record HasTakeCause {D : Type 0} (state : D → DiskState) (old new : tree.BTreeMap ℕ (Hosted D))

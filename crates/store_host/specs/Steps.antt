@@ -116,9 +116,10 @@ pub record HasTaken {D : Type 0} (state : D → DiskState) (declared : Option Sc
       → OnOk result (IsHosted state declared table hosted new × (after ≡ before))
   pub idle : (IsBusy result → ⊥) → hosted.store.agenda ≡ Some []
   pub busy : (version : ℕ) → IsErrOf result (Busy version) ↔ IsAtWork hosted.store.disk hosted.store.agenda version
-  pub given : IsTaken old.node message → IsSpent old.node.schema.scheme hosted.store.disk message → OnOk result ⊥
+  pub given : IsTaken old.node message
+      → IsSpent old.node.schema.scheme old.node.schema.chunk hosted.store.disk message → OnOk result ⊥
   pub spent : (last : ℕ) → IsErrOf result (Spent last) → (hosted.store.agenda ≡ Some [])
-      × IsSpent old.node.schema.scheme hosted.store.disk message × (last ≡ NUMBER_MAX)
+      × IsSpent old.node.schema.scheme old.node.schema.chunk hosted.store.disk message × (last ≡ NUMBER_MAX)
   pub refused : (IsErrOf result Disk → ⊥)
       → OnErr result (IsHosted state declared table hosted new × (after ≡ before))
   pub fallen : IsErrOf result Disk → HasTold state declared table hosted

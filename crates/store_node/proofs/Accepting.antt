@@ -59,7 +59,7 @@ module _ (store table : ℕ) (from : Node) (request : Request) (item : Stored) (
 
   pub accepting_tells : (size : ℕ) (items : List Stored) → TasksTell store table o (accepting size table items from request item)
   accepting_tells size items =
-      ((λ b. refl), refl, puts_tell (new_names size items item) _ ((λ b. refl), refl, tail_tells (old_names size items item)))
+      ((λ b. refl), refl, puts_tell (new_names size item) _ ((λ b. refl), refl, tail_tells (old_names size items item)))
 
   tail_facts : (names : List ChunkName) → facts_in (drops names ++ record { change = Close; facts = []; sends = responded from request (messages.Accepted item.entry.version) ∷ [] } ∷ []) ≡ 0
   tail_facts [] = refl
@@ -79,13 +79,13 @@ module _ (store table : ℕ) (from : Node) (request : Request) (item : Stored) (
 
   pub accepting_facts : (size : ℕ) (items : List Stored) → facts_in (accepting size table items from request item) ≡ 1
   accepting_facts size items =
-      let a = puts_facts (new_names size items item) (ends_with (Put item (names_with size items item) (old_names size items item)) (facts.Accepted table item.entry) ∷ (drops (old_names size items item) ++ record { change = Close; facts = []; sends = responded from request (messages.Accepted item.entry.version) ∷ [] } ∷ [])) in
+      let a = puts_facts (new_names size item) (ends_with (Put item (names_with size item) (old_names size items item)) (facts.Accepted table item.entry) ∷ (drops (old_names size items item) ++ record { change = Close; facts = []; sends = responded from request (messages.Accepted item.entry.version) ∷ [] } ∷ [])) in
       let b = tail_facts (old_names size items item) in
       omega arith
 
   pub accepting_sends : (size : ℕ) (items : List Stored) → sends_in (accepting size table items from request item) ≡ 1
   accepting_sends size items =
-      let a = puts_sends (new_names size items item) (ends_with (Put item (names_with size items item) (old_names size items item)) (facts.Accepted table item.entry) ∷ (drops (old_names size items item) ++ record { change = Close; facts = []; sends = responded from request (messages.Accepted item.entry.version) ∷ [] } ∷ [])) in
+      let a = puts_sends (new_names size item) (ends_with (Put item (names_with size item) (old_names size items item)) (facts.Accepted table item.entry) ∷ (drops (old_names size items item) ++ record { change = Close; facts = []; sends = responded from request (messages.Accepted item.entry.version) ∷ [] } ∷ [])) in
       let b = tail_sends (old_names size items item) in
       omega arith
 
@@ -108,4 +108,4 @@ module _ (schema : Schema) (close : StoreTask) (closes : close.change ≡ Close)
 pub accepting_well : (schema : Schema) (size table : ℕ) (disk : StoreDisk) (from : Node) (request : Request) (item : Stored) → AreFit schema disk.items → fit_of schema item.content ≡ Ok tt → GoesWell schema disk (accepting size table disk.items from request item)
 accepting_well schema size table disk from request item fit is =
     let close : StoreTask = record { change = Close; facts = []; sends = responded from request (messages.Accepted item.entry.version) ∷ [] } in
-    (fit, puts_well schema close refl (record disk { pending = Some item }) (new_names size disk.items item) _ fit (λ left. (fit, tail_well schema close refl _ (old_names size disk.items item) (fit_push schema disk.items item fit is))))
+    (fit, puts_well schema close refl (record disk { pending = Some item }) (new_names size item) _ fit (λ left. (fit, tail_well schema close refl _ (old_names size disk.items item) (fit_push schema disk.items item fit is))))

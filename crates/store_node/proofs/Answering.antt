@@ -1,5 +1,5 @@
 -- What a node that is up and has nothing to be done makes of a request or a pull, from what its devices do.
-use Rattle.std.proofs.Common.{◌≡◌, ◌⊎◌, ⊎_elim, ℕ, ◌<◌, ◌++◌, length, map, true, List, [], ◌∷◌, Option, Some, None, Result, Ok, Err, refl, sym, ◌∙◌, ap, subst}
+use Rattle.std.proofs.Common.{◌≡◌, ◌⊎◌, ⊎_elim, ℕ, ◌<◌, ◌++◌, length, map, Bool, true, false, true≢false, List, [], ◌∷◌, Option, Some, None, Result, Ok, Err, refl, sym, ◌∙◌, ap, subst}
 use Rattle.std.proofs.lemmas.List.{map-append}
 use Rattle.disk_trait.specs.Image.{IsImage}
 use Rattle.disk_trait.specs.Calls.{DiskState}
@@ -18,8 +18,11 @@ use Rattle.step_tables.specs.declared.message.SyncRequest.{SyncRequest}
 use Rattle.step_tables.specs.declared.message.SyncResponse.{SyncResponse}
 use Rattle.step_tables.specs.Messages.{Send, Pulled}
 use Rattle.step_tables.specs.Messages as ends
-use Rattle.step_tables.specs.Store.{next_changed}
-use Rattle.step_tables.specs.StoreMoves.{StoreDisk, StoreStep, StoreTask, TableStore, answered, responded, pulled_for, item_for, yours_in}
+use Rattle.std.specs.Prelude.{if◌then◌else◌}
+use Rattle.step_tables.specs.Chunks.{is_spelled}
+use Rattle.step_tables.specs.Facts as facts_of
+use Rattle.step_tables.specs.Store.{current_of, next_changed}
+use Rattle.step_tables.specs.StoreMoves.{StoreDisk, StoreStep, StoreTask, TableStore, asked, decided, quiet, answered, responded, pulled_for, item_for, yours_in, version_of, keeps_there}
 use Rattle.step_tables.specs.Travels.{outcome_of, pulled_of, send_of}
 use Rattle.store_commit.specs.declared.devs.TableDevs.{TableDevs}
 use Rattle.store_commit.specs.declared.fault.CommitFault.{CommitFault}
@@ -39,12 +42,12 @@ use Rattle.store_node.specs.Fault.{fault_of}
 use Rattle.store_node.specs.Gathered.{HasRoom}
 use Rattle.store_node.specs.Messages.{entry_of}
 use Rattle.store_node.specs.Node.{IsTable, sent_by}
-use Rattle.store_node.specs.Calls.{Fell, Answers, Delivers, IsTaken}
-use Rattle.store_node.specs.Taking.{Serves, IsPulled, IsTaking, refused_by, step_for}
+use Rattle.store_node.specs.Calls.{Fell, Answers, Delivers, IsTaken, IsSpentOn}
+use Rattle.store_node.specs.Taking.{Serves, IsPulled, IsTaking, refusal_of, refused_by, step_for}
 use Rattle.store_node.specs.Update.{request_of, pull_of}
 use Rattle.store_node.proofs.Following.{follows_now}
-use Rattle.store_node.proofs.Delivering.{idle_state, drops, passes, answers}
-use Rattle.store_node.proofs.Serving.{decided_is, at_idle, sends_one, takes_on, fails, short_of}
+use Rattle.store_node.proofs.Delivering.{idle_state, drops, passes, answers, stays_put, answers_as}
+use Rattle.store_node.proofs.Serving.{decided_is, kept_there, at_idle, sends_one, takes_on, fails, short_of}
 use Rattle.store_node.proofs.Telling.{pulled_is}
 
 pub pushed : {T : Type 0} (new mid old : List T) (x : T) → new ≡ mid ++ x ∷ [] → mid ≡ old → new ≡ old ++ x ∷ []
@@ -88,14 +91,40 @@ module _ {D : Type 0} (state : D → DiskState) (images : D → ℕ → List ℕ
     pub dropped_at : (from : Node) (message : Message) → (IsTaken old message → ⊥) → (s : TableStore) → IsTable state old s → Delivers state images s from message old old (Ok tt)
     dropped_at from message isnt s t = drops state images only_now old s.disk s.agenda (idle_state state images only_now old s.disk s.agenda t up none) t from message isnt
 
+    -- a request as the step table asks for it
+    abbrev asks : Node → SyncRequest → StoreDisk → StoreStep
+    asks from request d = asked old.schema.scheme old.schema.chunk old.table d from (request_of request)
+
+    abbrev is_spent_on : SyncRequest → StoreDisk → Type 0
+    is_spent_on request d = IsSpentOn old.schema.scheme old.schema.chunk d request
+
+    pub unspelled_at : (from : Node) (request : SyncRequest) → is_spelled old.schema.chunk request.content request.pieces ≡ false
+        → (s : TableStore) → IsTable state old s → Answers state images s (asks from request s.disk) (is_spent_on request s.disk) old old (Ok tt)
+    unspelled_at from request isnt s t =
+        idly (λ x. Answers state images x (asks from request x.disk) (is_spent_on request x.disk) old old (Ok tt)) s t
+        (λ disk u. stays_put state images only_now old disk u (asks from request disk)
+        (ap (λ (b : Bool). if b then decided old.schema.scheme old.schema.chunk old.table disk from (request_of request) (yours_in disk.items request.client request.row) else quiet disk (Some []) facts_of.Done) isnt)
+        (is_spent_on request disk) (λ spent. true≢false (sym spent.0 ∙ isnt)))
+
+    pub spelled_at : (from : Node) (request : SyncRequest) → is_spelled old.schema.chunk request.content request.pieces ≡ true → (new : TableNode D) (r : Result (Unit {0}) NodeFault) → (s : TableStore)
+        → Answers state images s (step_for old.schema.chunk old.table s.disk from (request_of request) (refused_by old.schema.scheme old.schema.chunk s.disk request))
+        ((refused_by old.schema.scheme old.schema.chunk s.disk request ≡ None) × (length s.disk.items ≡ NUMBER_MAX)) old new r
+        → Answers state images s (asks from request s.disk) (is_spent_on request s.disk) old new r
+    spelled_at from request is new r s a =
+        let d = s.disk in
+        let step : StoreStep = step_for old.schema.chunk old.table d from (request_of request) (refused_by old.schema.scheme old.schema.chunk d request) in
+        let same : step ≡ asks from request d =
+        sym (ap (λ (b : Bool). if b then decided old.schema.scheme old.schema.chunk old.table d from (request_of request) (yours_in d.items request.client request.row) else quiet d (Some []) facts_of.Done) is
+        ∙ decided_is old.schema.scheme old.schema.chunk old.table d from (request_of request) (yours_in d.items request.client request.row) (refused_by old.schema.scheme old.schema.chunk d request) refl) in
+        answers_as state images only_now s step (asks from request d) same ((refused_by old.schema.scheme old.schema.chunk d request ≡ None) × (length d.items ≡ NUMBER_MAX)) (is_spent_on request d) (λ spent. (spent.1, spent.2)) (λ spent. (is, spent.0, spent.1)) old new r a
+
     pub delivers_request : (new : TableNode D) (from : Node) (message : Message) (request : SyncRequest) → message ≡ kinds.SyncRequest request → (r : Result (Unit {0}) NodeFault) → IsTaken old message
-        → ((s : TableStore) → IsTable state old s → Answers state images s (step_for old.schema.chunk old.table s.disk from (request_of request) (refused_by old.schema.scheme s.disk request)) ((refused_by old.schema.scheme s.disk request ≡ None) × (length s.disk.items ≡ NUMBER_MAX)) old new r)
+        → ((s : TableStore) → IsTable state old s → Answers state images s (asks from request s.disk) (is_spent_on request s.disk) old new r)
         → (s : TableStore) → IsTable state old s → Delivers state images s from message old new r
     delivers_request new from message request is r taken a s t =
         subst (λ (m : Message). Delivers state images s from m old new r) (sym is)
-        (answers state images only_now old new s.disk s.agenda (idle_state state images only_now old s.disk s.agenda t up none) from (kinds.SyncRequest request) r (λ d. step_for old.schema.chunk old.table d from (request_of request) (refused_by old.schema.scheme d request))
-        ((refused_by old.schema.scheme s.disk request ≡ None) × (length s.disk.items ≡ NUMBER_MAX))
-        (λ d. sym (decided_is old.schema.scheme old.schema.chunk old.table d from (request_of request) (yours_in d.items request.client request.row) (refused_by old.schema.scheme d request) refl)) (λ x. x) (λ x. x) (subst (IsTaken old) is taken) (a s t))
+        (answers state images only_now old new s.disk s.agenda (idle_state state images only_now old s.disk s.agenda t up none) from (kinds.SyncRequest request) r (asks from request) (is_spent_on request s.disk)
+        (λ d. refl) (λ x. x) (λ x. x) (subst (IsTaken old) is taken) (a s t))
 
     pub delivers_pull : (new : TableNode D) (from : Node) (message : Message) (request : PullRequest) → message ≡ kinds.PullRequest request → (r : Result (Unit {0}) NodeFault) → IsTaken old message
         → ((s : TableStore) → IsTable state old s → Answers state images s (answered s.disk from (pull_of request)) ⊥ old new r)
@@ -150,10 +179,10 @@ module _ {D : Type 0} (state : D → DiskState) (images : D → ℕ → List ℕ
       -- ---- a request
 
       abbrev step_of : Node → SyncRequest → StoreDisk → StoreStep
-      step_of from request disk = step_for old.schema.chunk old.table disk from (request_of request) (refused_by old.schema.scheme disk request)
+      step_of from request disk = step_for old.schema.chunk old.table disk from (request_of request) (refused_by old.schema.scheme old.schema.chunk disk request)
 
       abbrev is_spent_of : SyncRequest → StoreDisk → Type 0
-      is_spent_of request disk = (refused_by old.schema.scheme disk request ≡ None) × (length disk.items ≡ NUMBER_MAX)
+      is_spent_of request disk = (refused_by old.schema.scheme old.schema.chunk disk request ≡ None) × (length disk.items ≡ NUMBER_MAX)
 
       pub answers_request : (from : Node) (request : SyncRequest) (outcome : Outcome) (send : Option Node × Message) (x : Taken) → x ≡ Answered outcome → Serves st im old.devs table (Ok x)
           → ((disk : StoreDisk) → Stands old.schema (devs st old.devs) disk → disk.pending ≡ None → IsTaking old.schema.scheme old.schema.chunk (devs st old.devs) disk request (writes_of table) x)
@@ -163,23 +192,26 @@ module _ {D : Type 0} (state : D → DiskState) (images : D → ℕ → List ℕ
           idly (λ y. Answers state images y (step_of from request y.disk) (is_spent_of request y.disk) old (record old { devs = table; facts = facts; messages = messages }) (Ok tt)) s t
           (λ disk u.
           let taking = subst (λ (y : Taken). IsTaking old.schema.scheme old.schema.chunk (devs st old.devs) disk request (writes_of table) y) is_answered (takes disk (stands_at disk u) u.at.1.well.1) in
-          let refused : refused_by old.schema.scheme disk request ≡ Some (outcome_of outcome) = taking.0 in
+          let refused : refused_by old.schema.scheme old.schema.chunk disk request ≡ Some (outcome_of outcome) = taking.0 in
           subst (λ (o : Option ends.Outcome). Answers state images (at disk (Some [])) (step_for old.schema.chunk old.table disk from (request_of request) o) (is_spent_of request disk) old (record old { devs = table; facts = facts; messages = messages }) (Ok tt)) (sym refused)
           (sends_one state images only_now old disk u (is_spent_of request disk) (λ is. let both : Some (outcome_of outcome) ≡ None = sym refused ∙ is.0 in cc) table facts messages x (responded from (request_of request) (outcome_of outcome)) k (taking.1 ∙ sym none) told
           (ap (map send_of) sent ∙ (map-append send_of old.messages.items.items (send ∷ []) ∙ ap (λ (q : Send). sent_by old ++ q ∷ []) made))))
 
       pub begins_request : (from : Node) (request : SyncRequest) (version : ℕ) (entry : Entry) (x : Taken) → x ≡ Begun version → Serves st im old.devs table (Ok x)
           → ((disk : StoreDisk) → Stands old.schema (devs st old.devs) disk → disk.pending ≡ None → IsTaking old.schema.scheme old.schema.chunk (devs st old.devs) disk request (writes_of table) x)
-          → entry ≡ entry_of request version → request.table ≡ old.table → IsClient request.client → fit_of old.schema request.content ≡ Ok tt
+          → is_spelled old.schema.chunk request.content request.pieces ≡ true → entry ≡ entry_of request version → request.table ≡ old.table → IsClient request.client → fit_of old.schema request.content ≡ Ok tt
           → facts.items.items ≡ old.facts.items.items → messages.items.items ≡ old.messages.items.items → HasRoom facts 1 → HasRoom messages 1
           → (s : TableStore) → IsTable state old s → Answers state images s (step_of from request s.disk) (is_spent_of request s.disk) old (record old { devs = table; facts = facts; messages = messages; owed = owed.Update from entry }) (Ok tt)
-      begins_request from request version entry x is_begun k takes made of_table client fits told sent fact_room message_room s t =
+      begins_request from request version entry x is_begun k takes spelled made of_table client fits told sent fact_room message_room s t =
           idly (λ y. Answers state images y (step_of from request y.disk) (is_spent_of request y.disk) old (record old { devs = table; facts = facts; messages = messages; owed = owed.Update from entry }) (Ok tt)) s t
           (λ disk u.
           let taking = subst (λ (y : Taken). IsTaking old.schema.scheme old.schema.chunk (devs st old.devs) disk request (writes_of table) y) is_begun (takes disk (stands_at disk u) u.at.1.well.1) in
-          let refused : refused_by old.schema.scheme disk request ≡ None = taking.0 in
+          let refused : refused_by old.schema.scheme old.schema.chunk disk request ≡ None = taking.0 in
           let begun = taking.1 in
           let same : entry ≡ (item_for disk.items (request_of request)).entry = made ∙ ap (entry_of request) begun.version_is in
           subst (λ (o : Option ends.Outcome). Answers state images (at disk (Some [])) (step_for old.schema.chunk old.table disk from (request_of request) o) (is_spent_of request disk) old (record old { devs = table; facts = facts; messages = messages; owed = owed.Update from entry }) (Ok tt)) (sym refused)
           (subst (λ (e : Entry). Answers state images (at disk (Some [])) (step_for old.schema.chunk old.table disk from (request_of request) None) (is_spent_of request disk) old (record old { devs = table; facts = facts; messages = messages; owed = owed.Update from e }) (Ok tt)) (sym same)
-          (takes_on state images only_now old disk u (is_spent_of request disk) (λ is. begun.left is.1) table facts messages from request x version k begun of_table client fits told sent fact_room message_room)))
+          (takes_on state images only_now old disk u (is_spent_of request disk) (λ is. begun.left is.1) table facts messages from request x version k begun spelled
+          (kept_there (keeps_there old.schema.chunk disk.items (request_of request))
+          (refusal_of old.schema.scheme request.base (version_of (current_of disk.items request.row)) (yours_in disk.items request.client request.row) request.number) refused)
+          of_table client fits told sent fact_room message_room)))

@@ -104,7 +104,7 @@ module _ {D : Type 0} (state : D → DiskState) (images : D → ℕ → List ℕ
       ap (λ (l : List StoreTask). Some l) (no_task node.schema (devs st node.devs) disk tasks (subst (λ (l : List Write). Follows node.schema (devs st node.devs) l disk tasks) none t.at.1.follows))
 
   drops_at : (node : TableNode D) (disk : StoreDisk) → IsTable state node (at disk (Some [])) → (from : Node) (message : Message) → (IsTaken node message → IsBehind state node node (step_at node (at disk (Some [])) (Take from (message_of message))))
-      → (IsTaken node message → IsSpent node.schema.scheme disk message → ⊥)
+      → (IsTaken node message → IsSpent node.schema.scheme node.schema.chunk disk message → ⊥)
       → Delivers state images (at disk (Some [])) from message node node (Ok tt)
   drops_at node disk t from message taken none = record {
     taken = taken;
@@ -129,7 +129,7 @@ module _ {D : Type 0} (state : D → DiskState) (images : D → ℕ → List ℕ
 
   -- a message that no rule takes
   pub passes : (node : TableNode D) (disk : StoreDisk) (agenda : Option (List StoreTask)) → agenda ≡ Some [] → IsTable state node (at disk agenda) → (from : Node) (message : Message)
-      → ((d : StoreDisk) → step_at node (at d (Some [])) (Take from (message_of message)) ≡ moves.quiet d (Some []) facts_of.Done) → (IsSpent node.schema.scheme disk message → ⊥)
+      → ((d : StoreDisk) → step_at node (at d (Some [])) (Take from (message_of message)) ≡ moves.quiet d (Some []) facts_of.Done) → (IsSpent node.schema.scheme node.schema.chunk disk message → ⊥)
       → Delivers state images (at disk agenda) from message node node (Ok tt)
   passes node disk None is t from message quiet none = absurd cc
   passes node disk (Some (task ∷ tasks)) is t from message quiet none = absurd cc
@@ -158,7 +158,7 @@ module _ {D : Type 0} (state : D → DiskState) (images : D → ℕ → List ℕ
 
   -- a message that the devices were asked for
   pub answers : (old new : TableNode D) (disk : StoreDisk) (agenda : Option (List StoreTask)) → agenda ≡ Some [] → (from : Node) (message : Message) (r : Result (Unit {0}) NodeFault) (step : StoreDisk → StoreStep) (is_spent : Type 0)
-      → ((d : StoreDisk) → step d ≡ step_at old (at d (Some [])) (Take from (message_of message))) → (IsSpent old.schema.scheme disk message → is_spent) → (is_spent → IsSpent old.schema.scheme disk message) → IsTaken old message
+      → ((d : StoreDisk) → step d ≡ step_at old (at d (Some [])) (Take from (message_of message))) → (IsSpent old.schema.scheme old.schema.chunk disk message → is_spent) → (is_spent → IsSpent old.schema.scheme old.schema.chunk disk message) → IsTaken old message
       → Answers state images (at disk agenda) (step disk) is_spent old new r → Delivers state images (at disk agenda) from message old new r
   answers old new disk None is from message r step is_spent same to back taken a = absurd cc
   answers old new disk (Some (task ∷ tasks)) is from message r step is_spent same to back taken a = absurd cc
@@ -176,6 +176,40 @@ module _ {D : Type 0} (state : D → DiskState) (images : D → ℕ → List ℕ
     any_moment = a.any_moment;
     rows_left = a.rows_left;
   }
+
+  -- a request that is dropped, and one that is taken as another step has it
+  pub stays_put : (node : TableNode D) (disk : StoreDisk) → IsTable state node (at disk (Some [])) → (step : StoreStep) → step ≡ moves.quiet disk (Some []) facts_of.Done → (is_spent : Type 0) → (is_spent → ⊥)
+      → Answers state images (at disk (Some [])) step is_spent node node (Ok tt)
+  stays_put node disk t step is is_spent none =
+      subst (λ (x : StoreStep). Answers state images (at disk (Some [])) x is_spent node node (Ok tt)) (sym is)
+      (record {
+        done = record { table = t; told = sym (append-nil (told_by node)); sent = sym (append-nil (sent_by node)); same = record { store = refl; table = refl; schema = refl } };
+        given = λ s. absurd (none s);
+        spent = λ e. absurd cc;
+        refused = λ _. tt;
+        fallen = λ e. absurd cc;
+        counted = λ _. refl;
+        cause = λ e. absurd cc;
+        only = tt;
+        any_moment = rests node disk [] t.at.1;
+        rows_left = still_rows state images only_now node disk [] t.at.1;
+      })
+
+  pub answers_as : (s : TableStore) (step other : StoreStep) → step ≡ other → (a b : Type 0) → (b → a) → (a → b) → (old new : TableNode D) (r : Result (Unit {0}) NodeFault) → Answers state images s step a old new r → Answers state images s other b old new r
+  answers_as s step other is a b to back old new r k =
+      subst (λ (x : StoreStep). Answers state images s x b old new r) is
+      (record {
+        done = k.done;
+        given = λ spent. k.given (to spent);
+        spent = λ e. back (k.spent e);
+        refused = k.refused;
+        fallen = k.fallen;
+        counted = k.counted;
+        cause = k.cause;
+        only = k.only;
+        any_moment = k.any_moment;
+        rows_left = k.rows_left;
+      })
 
   -- ---- a node behind it
 

@@ -14,6 +14,7 @@ pub mod Beginning
 pub mod Nodes
 pub mod Accepting
 pub mod Pieced
+pub mod Noted
 pub mod Onlys
 pub mod Asks
 pub mod Readers

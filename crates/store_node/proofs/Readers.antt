@@ -8,7 +8,8 @@ use Rattle.row_value.specs.declared.pieces.Piece.TheVariants.{Keep, Fresh}
 use Rattle.row_value.specs.declared.pieces.PieceObject.{PieceObject}
 use Rattle.store_commit.specs.Devs.{Devs}
 use Rattle.step_tables.specs.Chunks.{Named}
-use Rattle.store_node.specs.Reading.{bytes_in, named_in, held_by, whole_object}
+use Rattle.stab_base.specs.declared.chunk_name.ChunkName.{ChunkName}
+use Rattle.store_node.specs.Reading.{bytes_in, named_in, held_by, whole_object, names_held}
 
 named_append : (d : Devs) (xs : List Piece) (ys : List Piece) → named_in d (xs ++ ys) ≡ named_in d xs ++ named_in d ys
 named_append d [] ys = refl
@@ -32,3 +33,10 @@ pub bytes_more : (held : List Named) (i : ℕ) (now new bytes : List ℕ) (e : N
 bytes_more held i now new bytes e within so_far is at =
     is ∙ (ap (λ (l : List ℕ). now ++ l) at ∙ (ap (λ (l : List ℕ). l ++ (get_or held i e).1) so_far ∙ (sym (concat-push (map (λ (c : Named). c.1) (take i held)) (get_or held i e).1)
     ∙ (ap concat (sym (map-append (λ (c : Named). c.1) (take i held) (get_or held i e ∷ []))) ∙ ap whole_object (sym (take_more held i e within))))))
+
+pub names_more : (held : List (List Named)) (i : ℕ) (now new : List (List ChunkName)) (names : List ChunkName) (object : List Named) → i < length held → object ≡ get_or held i object → now ≡ names_held (take i held)
+    → names ≡ map (λ (c : Named). c.0) object → new ≡ now ++ names ∷ [] → new ≡ names_held (take (i + 1) held)
+names_more held i now new names object within at so_far read is =
+    is ∙ (ap (λ (l : List (List ChunkName)). l ++ names ∷ []) so_far ∙ (ap (λ (n : List ChunkName). names_held (take i held) ++ n ∷ []) read
+    ∙ (sym (map-append (λ (o : List Named). map (λ (c : Named). c.0) o) (take i held) (object ∷ []))
+    ∙ ap names_held (ap (λ (o : List Named). take i held ++ o ∷ []) at ∙ sym (take_more held i object within)))))

@@ -1,5 +1,5 @@
 -- How a table's devices take a request, from what was read of them.
-use Rattle.std.proofs.Common.{◌≡◌, ℕ, ◌+◌, ◌<◌, ◌^◌, List, [], length, Option, Result, Ok, Err, sym, ◌∙◌, ap, subst}
+use Rattle.std.proofs.Common.{◌≡◌, ℕ, ◌+◌, ◌<◌, ◌^◌, List, [], length, Bool, true, Option, Some, None, Result, Ok, Err, sym, ◌∙◌, ap, subst}
 use Rattle.std.specs.Prelude.{IsErrOf, IfOk, IfSome, option_map}
 use Rattle.disk_trait.specs.Calls.{DiskState}
 use Rattle.stab_base.specs.declared.limits.TheConstants.{NUMBER_MAX}
@@ -23,20 +23,25 @@ use Rattle.store_commit.proofs.Seen.{seen_all}
 use Rattle.step_tables.specs.declared.message.SyncRequest.{SyncRequest}
 use Rattle.step_tables.specs.declared.message.Outcome.{Outcome}
 use Rattle.step_tables.specs.declared.message.Yours.{Yours}
-use Rattle.step_tables.specs.Chunks.{Named, chunks_of}
+use Rattle.step_tables.specs.Chunks.{Named, chunks_of, names_of, has_kept, is_spelled}
 use Rattle.step_tables.specs.Messages.{Pair}
 use Rattle.step_tables.specs.Store.{current_of}
-use Rattle.step_tables.specs.StoreMoves.{StoreDisk, version_of, yours_in}
+use Rattle.step_tables.specs.StoreMoves.{StoreDisk, version_of, yours_in, keeps_there}
 use Rattle.step_tables.specs.Travels.{outcome_of}
 use Rattle.device_laws.specs.Stands.{Stands, HaveWords, pair_in, update_for}
 use Rattle.device_laws.proofs.Asked.{update_is}
 use Rattle.device_laws.proofs.Rows.{table_version}
 use Rattle.store_node.specs.Reading.{Only}
-use Rattle.store_node.specs.Taking.{held_if, refusal_of, version_if, pair_of, Serves, IsBegunBy, refused_by}
-use Rattle.store_node.specs.Update.{AreAllOlder, request_of, update_with}
+use Rattle.store_node.specs.Taking.{held_if, refusal_of, version_if, pair_of, Serves, IsBegunBy, IsTaking, IsTakingNew, or_whole, refused_by}
+use Rattle.row_value.specs.declared.schema.Scheme.{Scheme}
+use Rattle.step_tables.specs.Messages as ends
+use Rattle.store_node.specs.declared.taking.Taken.{Taken}
+use Rattle.store_node.specs.declared.taking.Taken.TheVariants.{Answered, Begun}
+use Rattle.store_node.specs.Update.{made_if, request_of}
 use Rattle.store_node.proofs.Onlys.{only_same, only_hidden, only_ready}
 use Rattle.store_node.proofs.Asks.{serves_then, serves_takes}
-use Rattle.store_node.proofs.Telling.{held_is, yours_is, version_is, chunks_older}
+use Rattle.store_node.proofs.Telling.{held_is, held_different, yours_is, version_is}
+use Rattle.store_commit.specs.NamedChunks.{AreDifferent}
 
 -- ---- an answer with another value
 
@@ -73,6 +78,14 @@ module _ {D T S : Type 0} (state : D → DiskState) (images : D → ℕ → List
       here : (f : CommitFault) → IsErrOf {T = T} (Err e) f → IsErrOf {T = S} (Err e) f
       here f is = let same : e ≡ f = cc in ap (λ (x : CommitFault). Err x) same
 
+-- a new write that was taken on, or wasn't for want of a chunk, is so as the request was judged
+pub taken_as : (g : Scheme) (size : ℕ) (d : Devs) (disk : StoreDisk) (request : SyncRequest) (writes : List Write) (r : Result Taken CommitFault)
+    → refused_by g size disk request ≡ or_whole (keeps_there size disk.items (request_of request)) None → IfOk r (IsTakingNew size d disk request writes) → IfOk r (IsTaking g size d disk request writes)
+taken_as g size d disk request writes (Err e) refused t = tt
+taken_as g size d disk request writes (Ok (Answered outcome)) refused t =
+    (refused ∙ (ap (λ (b : Bool). or_whole b None) t.0 ∙ ap (λ (o : ends.Outcome). Some o) (sym t.1)), t.2)
+taken_as g size d disk request writes (Ok (Begun version)) refused t = (refused ∙ ap (λ (b : Bool). or_whole b None) t.0, t.1)
+
 module _ {D : Type 0} (state : D → DiskState) (images : D → ℕ → List ℕ → Type 0) where
   module _ (old : TableDevs D) (schema : Schema) (request : SyncRequest) (hidden : NothingHidden old) where
     abbrev d : Devs
@@ -91,19 +104,26 @@ module _ {D : Type 0} (state : D → DiskState) (images : D → ℕ → List ℕ
           (table_version schema.chunk disk.items d.held st.held.numbered st.held.rows)
 
       module _ (standing : Option StoredRow) (stands : row_of d.held request.row ≡ standing) where
-        pub update_for_is : (held : List (List Named)) → held ≡ held_if d standing → (update : Update) → ((v : ℕ) → AreAllOlder v held → update ≡ update_with schema.chunk v held (request_of request))
-            → update ≡ update_for schema.chunk disk.items (request_of request)
-        update_for_is held is update made =
-            let same : held ≡ chunks_of schema.chunk disk.items request.row = is ∙ (ap (held_if d) (sym stands) ∙ held_is schema d disk some st request.row) in
-            made (length disk.items + 1) (subst (AreAllOlder (length disk.items + 1)) (sym same) (chunks_older schema d disk some st (request_of request)))
-            ∙ ap (λ (h : List (List Named)). update_with schema.chunk (length disk.items + 1) h (request_of request)) same
+        held_of_row : (held : List (List Named)) → held ≡ held_if d standing → held ≡ chunks_of schema.chunk disk.items request.row
+        held_of_row held is = is ∙ (ap (held_if d) (sym stands) ∙ held_is schema d disk some st request.row)
+
+        -- none of the names of what was read stands twice
+        pub read_different : (held : List (List Named)) → held ≡ held_if d standing → AreDifferent (names_of held)
+        read_different held is = subst (λ (l : List (List Named)). AreDifferent (names_of l)) (sym (held_of_row held is)) (held_different schema d disk some st request.row)
+
+        pub prepared_is : (held : List (List Named)) → held ≡ held_if d standing → (made : Option Update)
+            → made ≡ made_if (has_kept schema.chunk held request.content request.pieces) (update_for schema.chunk (request_of request))
+            → made ≡ made_if (keeps_there schema.chunk disk.items (request_of request)) (update_for schema.chunk (request_of request))
+        prepared_is held is made same =
+            same ∙ ap (λ (l : List (List Named)). made_if (has_kept schema.chunk l request.content request.pieces) (update_for schema.chunk (request_of request))) (held_of_row held is)
 
         pub refused_is : (yours : Yours) → pair_of yours ≡ pair_in (lasts_if standing) request.client → (current : ℕ) → current ≡ version_if standing → (o : Option Outcome)
-            → option_map outcome_of o ≡ refusal_of schema.scheme request.base current (pair_of yours) request.number → refused_by schema.scheme disk request ≡ option_map outcome_of o
+            → option_map outcome_of o ≡ refusal_of schema.scheme request.base current (pair_of yours) request.number
+            → refused_by schema.scheme schema.chunk disk request ≡ or_whole (keeps_there schema.chunk disk.items (request_of request)) (option_map outcome_of o)
         refused_is yours is current version o made =
             let now : pair_of yours ≡ yours_in disk.items request.client request.row = is ∙ (ap (λ (s : Option StoredRow). pair_in (lasts_if s) request.client) (sym stands) ∙ yours_is schema d disk some st request.row request.client) in
             let at : current ≡ version_of (current_of disk.items request.row) = version ∙ (ap version_if (sym stands) ∙ version_is schema d disk some st request.row) in
-            sym (made ∙ (ap (λ (v : ℕ). refusal_of schema.scheme request.base v (pair_of yours) request.number) at ∙ ap (λ (p : Pair). refusal_of schema.scheme request.base (version_of (current_of disk.items request.row)) p request.number) now))
+            ap (or_whole (keeps_there schema.chunk disk.items (request_of request))) (sym (made ∙ (ap (λ (v : ℕ). refusal_of schema.scheme request.base v (pair_of yours) request.number) at ∙ ap (λ (p : Pair). refusal_of schema.scheme request.base (version_of (current_of disk.items request.row)) p request.number) now)))
 
     module _ (mid : TableDevs D) {T : Type 0} (x : T) (o : Only state images old mid (Ok x)) where
       pub seen_mid : seen state mid ≡ d
@@ -113,15 +133,14 @@ module _ {D : Type 0} (state : D → DiskState) (images : D → ℕ → List ℕ
       last_of_mid disk st v is = one_version d.held v (length disk.items) (subst (λ (x : Devs). IsTableVersion x.held v) seen_mid is)
           (table_version schema.chunk disk.items d.held st.held.numbered st.held.rows)
 
-      pub asked : (disk : StoreDisk) → Stands schema d disk → HasSchemaSpelling schema → fit_of schema request.content ≡ Ok tt → HaveWords request.content → IsClient request.client
-          → (standing : Option StoredRow) → row_of d.held request.row ≡ standing → IfSome standing HasStoredSpelling
-          → (update : Update) → update ≡ update_for schema.chunk disk.items (request_of request) → IsUpdate (seen state mid) update
-      asked disk st valid fits words client standing stands spelled update is =
+      pub is_asked : (disk : StoreDisk) → Stands schema d disk → HasSchemaSpelling schema → fit_of schema request.content ≡ Ok tt → HaveWords request.content → IsClient request.client
+          → IfSome (row_of d.held request.row) HasStoredSpelling → is_spelled schema.chunk request.content request.pieces ≡ true → keeps_there schema.chunk disk.items (request_of request) ≡ true
+          → (update : Update) → update ≡ update_for schema.chunk (request_of request) → IsUpdate (seen state mid) update
+      is_asked disk st valid fits words client standing spelled there update is =
           subst (λ (x : Devs). IsUpdate x update) (sym seen_mid)
-          (subst (λ (u : Update). IsUpdate d u) (sym is)
-          (update_is schema d disk st (request_of request) valid fits words (subst (λ (s : Option StoredRow). IfSome s HasStoredSpelling) (sym stands) spelled) client))
+          (subst (λ (u : Update). IsUpdate d u) (sym is) (update_is schema d disk st (request_of request) valid fits words standing spelled there client))
 
-      pub begun_by : (disk : StoreDisk) → Stands schema d disk → (new : TableDevs D) (r : Result ℕ CommitFault) (update : Update) → update ≡ update_for schema.chunk disk.items (request_of request)
+      pub begun_by : (disk : StoreDisk) → Stands schema d disk → (new : TableDevs D) (r : Result ℕ CommitFault) (update : Update) → update ≡ update_for schema.chunk (request_of request)
           → IfOk r (λ v. writes_of new ≡ update_writes (entry_for (seen state mid) v update) update.fresh (stored_for (seen state mid) v update)) → IfOk r (λ v. IsNextVersion (seen state mid).held v) → IfOk r (λ v. v < 2 ^ 64)
           → request.number < 2 ^ 64 → (length disk.items ≡ NUMBER_MAX → ⊥) → IfOk r (IsBegunBy schema.chunk d disk request (writes_of new))
       begun_by disk st new (Err e) update is writes next few number left = tt

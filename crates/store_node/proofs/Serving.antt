@@ -1,6 +1,6 @@
 -- What a node with nothing to be done makes of a message, from what its devices do.
 use Rattle.std.proofs.Common.{◌≡◌, ◌⊎◌, inl, inr, ⊎_elim, ℕ, ◌+◌, ◌<◌, ◌^◌, ◌++◌, length, map, Bool, true, false, List, [], ◌∷◌, Option, Some, None, Result, Ok, Err, refl, sym, ◌∙◌, ap, subst, arith, append-nil}
-use Rattle.std.specs.Prelude.{◌==◌, nat_lt, if◌then◌else◌, IsErrOf}
+use Rattle.std.specs.Prelude.{◌==◌, ◌&&◌, nat_lt, if◌then◌else◌, IsErrOf}
 use Rattle.disk_trait.specs.Image.{IsImage}
 use Rattle.disk_trait.specs.Calls.{DiskState}
 use Rattle.disk_trait.specs.Fuse.{behind, inner_of}
@@ -18,9 +18,10 @@ use Rattle.row_store.specs.Spelling.{IsClient}
 use Rattle.step_tables.specs.declared.message.Message.{Message}
 use Rattle.step_tables.specs.declared.message.SyncRequest.{SyncRequest}
 use Rattle.step_tables.specs.Facts as facts_of
-use Rattle.step_tables.specs.Messages.{Send, Pair, Outcome, Request, Again, Late, Stale, Conflict}
+use Rattle.step_tables.specs.Messages.{Send, Pair, Outcome, Request, Again, Late, Stale, Conflict, NeedWhole}
 use Rattle.step_tables.specs.Store.{Stored, current_of}
-use Rattle.step_tables.specs.StoreMoves.{StoreDisk, StoreTask, StoreStep, TableStore, accepting, item_for, sending, quiet, responded, decided, judged, version_of}
+use Rattle.step_tables.specs.StoreMoves.{StoreDisk, StoreTask, StoreStep, TableStore, accepting, item_for, sending, quiet, responded, decided, takes, unaccepted, keeps_there, version_of}
+use Rattle.step_tables.specs.Chunks.{is_spelled}
 use Rattle.store_commit.specs.declared.devs.TableDevs.{TableDevs}
 use Rattle.store_commit.specs.declared.fault.CommitFault.{CommitFault}
 use Rattle.store_commit.specs.declared.fault.CommitFault.TheVariants as commits
@@ -37,7 +38,7 @@ use Rattle.step_tables.specs.Travels.{send_of}
 use Rattle.store_node.specs.Due.{fact_of}
 use Rattle.store_node.specs.Fault.{fault_of}
 use Rattle.store_node.specs.Gathered.{HasRoom}
-use Rattle.store_node.specs.Taking.{refusal_of, answer_to, Serves, IsBegunBy, step_for}
+use Rattle.store_node.specs.Taking.{refusal_of, answer_to, or_whole, Serves, IsBegunBy, step_for}
 use Rattle.store_node.specs.Update.{request_of}
 use Rattle.store_node.specs.declared.gathered.Gathered.{Gathered}
 use Rattle.store_node.specs.declared.told.StoreFact.{StoreFact}
@@ -57,28 +58,40 @@ use Rattle.store_node.proofs.Working.{still_leaves, still_rows}
 
 -- ---- a request, as it is decided
 
-pub decided_is : (g : Scheme) (size table : ℕ) (d : StoreDisk) (from : Node) (request : Request) (yours : Pair) (o : Option Outcome) → refusal_of g request.base (version_of (current_of d.items request.row)) yours request.number ≡ o
+pub decided_is : (g : Scheme) (size table : ℕ) (d : StoreDisk) (from : Node) (request : Request) (yours : Pair) (o : Option Outcome)
+    → or_whole (keeps_there size d.items request) (refusal_of g request.base (version_of (current_of d.items request.row)) yours request.number) ≡ o
     → decided g size table d from request yours ≡ step_for size table d from request o
 decided_is g size table d from request yours o is =
     subst (λ (x : Option Outcome). decided g size table d from request yours ≡ step_for size table d from request x) is
-    (pick (version_of (current_of d.items request.row)) g (yours.number == request.number) (nat_lt request.number yours.number))
+    (pick (version_of (current_of d.items request.row)) (keeps_there size d.items request) g (yours.number == request.number) (nat_lt request.number yours.number))
   where
-    pick : (now : ℕ) (x : Scheme) (b c : Bool) → (if b then sending d (responded from request (Again yours.version) ∷ []) else (if c then sending d (responded from request (Late yours.number) ∷ []) else judged x size table d from request now))
-        ≡ step_for size table d from request (answer_to (if b then decisions.Again yours.version else (if c then decisions.Late yours.number else schemes.judged x request.base now)))
-    pick now x true c = refl
-    pick now x false true = refl
-    pick now x false false = by_scheme x
+    pick : (now : ℕ) (k : Bool) (x : Scheme) (b c : Bool)
+        → (if b then sending d (responded from request (Again yours.version) ∷ []) else (if c then sending d (responded from request (Late yours.number) ∷ []) else (if takes x request.base now && k then quiet d (Some (accepting size table d.items from request (item_for d.items request))) facts_of.Done else sending d (responded from request (unaccepted x request.base now) ∷ []))))
+        ≡ step_for size table d from request (or_whole k (answer_to (if b then decisions.Again yours.version else (if c then decisions.Late yours.number else schemes.judged x request.base now))))
+    pick now k x true c = refl
+    pick now k x false true = refl
+    pick now k x false false = by_scheme x
       where
-        by_base : (latest : Outcome) (decision : Decision) (e : Bool) → answer_to decision ≡ Some latest
-            → (if e then quiet d (Some (accepting size table d.items from request (item_for d.items request))) facts_of.Done else sending d (responded from request latest ∷ []))
-            ≡ step_for size table d from request (answer_to (if e then decisions.Accept else decision))
-        by_base latest decision true is = refl
-        by_base latest decision false is = ap (step_for size table d from request) (sym is)
+        by_base : (latest : Outcome) (decision : Decision) (e there : Bool) → answer_to decision ≡ Some latest
+            → (if e && there then quiet d (Some (accepting size table d.items from request (item_for d.items request))) facts_of.Done else sending d (responded from request (if e then NeedWhole else latest) ∷ [])) ≡ step_for size table d from request (or_whole there (answer_to (if e then decisions.Accept else decision)))
+        by_base latest decision true true is = refl
+        by_base latest decision true false is = refl
+        by_base latest decision false there is = ap (λ (a : Option Outcome). step_for size table d from request (or_whole there a)) (sym is)
 
-        by_scheme : (y : Scheme) → judged y size table d from request now ≡ step_for size table d from request (answer_to (schemes.judged y request.base now))
-        by_scheme Strong = by_base (Stale now) (decisions.Stale now) (request.base == now) refl
-        by_scheme Causal = by_base (Conflict now) (decisions.Conflict now) (request.base == now) refl
-        by_scheme Eventual = refl
+        always : (there : Bool) → (if there then quiet d (Some (accepting size table d.items from request (item_for d.items request))) facts_of.Done else sending d (responded from request NeedWhole ∷ [])) ≡ step_for size table d from request (or_whole there None)
+        always true = refl
+        always false = refl
+
+        by_scheme : (y : Scheme) → (if takes y request.base now && k then quiet d (Some (accepting size table d.items from request (item_for d.items request))) facts_of.Done else sending d (responded from request (unaccepted y request.base now) ∷ [])) ≡ step_for size table d from request (or_whole k (answer_to (schemes.judged y request.base now)))
+        by_scheme Strong = by_base (Stale now) (decisions.Stale now) (request.base == now) k refl
+        by_scheme Causal = by_base (Conflict now) (decisions.Conflict now) (request.base == now) k refl
+        by_scheme Eventual = always k
+
+-- what isn't refused keeps chunks of its row alone
+pub kept_there : (k : Bool) (o : Option Outcome) → or_whole k o ≡ None → k ≡ true
+kept_there k (Some outcome) is = absurd cc
+kept_there true None is = refl
+kept_there false None is = absurd cc
 
 module _ {D : Type 0} (state : D → DiskState) (images : D → ℕ → List ℕ → Type 0) (only_now : (disk : FuseDisk D) (image : List ℕ) → images (inner_of disk) (behind state disk).moment image → IsImage (behind state disk).pending image) where
   abbrev st : FuseDisk D → DiskState
@@ -183,18 +196,19 @@ module _ {D : Type 0} (state : D → DiskState) (images : D → ℕ → List ℕ
 
     -- a write is taken on
     pub takes_on : (is_spent : Type 0) → (is_spent → ⊥) → (table : TableDevs (FuseDisk D)) (facts : Gathered StoreFact) (messages : Gathered (Option Node × Message)) (from : Node) (request : SyncRequest) {T : Type 0} (x : T) (version : ℕ)
-        → Serves st im old.devs table (Ok x) → IsBegunBy old.schema.chunk (devs st old.devs) disk request (writes_of table) version → request.table ≡ old.table → IsClient request.client → fit_of old.schema request.content ≡ Ok tt
+        → Serves st im old.devs table (Ok x) → IsBegunBy old.schema.chunk (devs st old.devs) disk request (writes_of table) version
+        → is_spelled old.schema.chunk request.content request.pieces ≡ true → keeps_there old.schema.chunk disk.items (request_of request) ≡ true → request.table ≡ old.table → IsClient request.client → fit_of old.schema request.content ≡ Ok tt
         → facts.items.items ≡ old.facts.items.items → messages.items.items ≡ old.messages.items.items → HasRoom facts 1 → HasRoom messages 1
         → Answers state images s (quiet disk (Some (accepting old.schema.chunk old.table disk.items from (request_of request) (item_for disk.items (request_of request)))) facts_of.Done) is_spent old
         (record (with_all old table facts messages) { owed = owed.Update from (item_for disk.items (request_of request)).entry }) (Ok tt)
-    takes_on is_spent not_spent table facts messages from request x version k b of_table client fits told sent fact_room message_room =
+    takes_on is_spent not_spent table facts messages from request x version k b spelled there of_table client fits told sent fact_room message_room =
         let q : Request = request_of request in
         let item : Stored = item_for disk.items q in
         let size = old.schema.chunk in
         let here = devs st old.devs in
         let few : length disk.items + 1 < 2 ^ 64 = let v = b.version_is in let f = b.few in omega (arith, v, f) in
-        let follows = update_follows old.schema here disk stands h.well.1 q client b.number few from old.table in
-        let writes = b.writes_are ∙ ap (λ (v : ℕ). update_writes (entry_for here v (update_for size disk.items q)) (update_for size disk.items q).fresh (stored_for here v (update_for size disk.items q))) b.version_is in
+        let follows = update_follows old.schema here disk stands h.well.1 q spelled there client b.number few from old.table in
+        let writes = b.writes_are ∙ ap (λ (v : ℕ). update_writes (entry_for here v (update_for size q)) (update_for size q).fresh (stored_for here v (update_for size q))) b.version_is in
         let ready = k.ready (λ is. cc) in
         let now = subst (λ (l : List Write). Follows old.schema here l disk (accepting size old.table disk.items from q item)) (sym writes) follows in
         let one_fact = accepting_facts old.store old.table from q item of_table refl refl refl size disk.items in

@@ -1,6 +1,7 @@
 -- What is read from devices that stand for a disk is what the step table tells of it.
-use Rattle.std.proofs.Common.{◌≡◌, inl, inr, ⊎_elim, ℕ, ◌+◌, ◌<◌, List, [], ◌∷◌, length, Option, Some, None, Ok, refl, sym, ◌∙◌, ap, subst, arith}
-use Rattle.std.specs.Prelude.{map, option_map, unwrap_or}
+use Rattle.std.proofs.Common.{◌≡◌, inl, inr, ⊎_elim, ℕ, ◌<◌, List, [], ◌∷◌, length, Option, Some, None, Ok, refl, sym, ◌∙◌, ap, subst, arith}
+use Rattle.std.specs.Prelude.{◌==◌, ◌^◌, true, map, zip, sum_by, option_map, unwrap_or}
+use Rattle.stab_base.specs.declared.chunk_name.ChunkName.{ChunkName}
 use Rattle.std.specs.List.{concat}
 use Rattle.row_value.specs.Fit.{fit_of}
 use Rattle.row_value.specs.declared.schema.Schema.{Schema}
@@ -11,32 +12,30 @@ use Rattle.chunk_store.specs.Standing.{chunk_in}
 use Rattle.row_store.specs.declared.stored.StoredRow.{StoredRow}
 use Rattle.row_store.specs.Data.{row_of}
 use Rattle.store_commit.specs.Devs.{Devs}
-use Rattle.store_commit.specs.NamedChunks.{Among}
+use Rattle.store_commit.specs.NamedChunks.{Among, AreDifferent}
 use Rattle.store_commit.specs.Update.{lasts_if}
 use Rattle.store_commit.proofs.Begins.{one_version}
 use Rattle.step_tables.specs.Store.{Stored, current_of, next_changed}
 use Rattle.step_tables.specs.Store as table
-use Rattle.step_tables.specs.StoreMoves.{StoreDisk, version_of, yours_in, item_for, header_for, pulled_for}
-use Rattle.step_tables.specs.Messages.{Header, Request}
+use Rattle.step_tables.specs.StoreMoves.{StoreDisk, version_of, yours_in, header_for, pulled_for}
+use Rattle.step_tables.specs.Messages.{Header}
 use Rattle.step_tables.specs.Travels.{header_of, pulled_of}
-use Rattle.step_tables.specs.Chunks.{Named, objects_of, chunks_of}
+use Rattle.step_tables.specs.Chunks.{Named, objects_of, chunks_of, names_of, each_chunk, is_of_each, cut}
 use Rattle.step_tables.specs.declared.message.PullRequest.{PullRequest}
 use Rattle.step_tables.specs.declared.message.PullResponse.{PullResponse}
 use Rattle.device_laws.specs.Stands.{Stands, IsStoredAs, kept_objects, kept_content, pair_in}
 use Rattle.device_laws.specs.Reads.{row_version_of}
 use Rattle.device_laws.proofs.Names.{left_among, right_among}
 use Rattle.device_laws.proofs.Numbered.{current_row}
-use Rattle.device_laws.proofs.Chunks.{flat, no_chunks, last_chunks}
+use Rattle.device_laws.proofs.Chunks.{flat, no_chunks, chunks_are, last_chunks, row_sound}
 use Rattle.device_laws.proofs.Pieces.{keep}
-use Rattle.device_laws.proofs.Cuts.{AreCut, all_cut, cut_is}
+use Rattle.device_laws.proofs.Cuts.{AreCut, all_cut, cut_is, both_tests, same_count}
 use Rattle.device_laws.proofs.Rows.{at_row, row_lasts, table_version}
-use Rattle.device_laws.proofs.Entries.{before_below}
 use Rattle.device_laws.proofs.Fits.{row_within}
 use Rattle.device_laws.proofs.Next.{changed_is, next_stands}
-use Rattle.store_node.specs.Reading.{bytes_in, named_in, held_by, held_in, whole_object, whole_of, whole_row, whole_at, shown_row, shown_of}
+use Rattle.store_node.specs.Reading.{bytes_in, named_in, held_by, held_in, whole_object, whole_of, whole_row, whole_at, names_held, shown_row, shown_of}
 use Rattle.store_node.specs.declared.showing.ShownRow.{ShownRow}
 use Rattle.store_node.specs.Taking.{held_if, version_if, header_by, header_at, version_or, IsPulled}
-use Rattle.store_node.specs.Update.{AreOlder, AreAllOlder, AreCounted}
 
 -- ---- a content by its chunks
 
@@ -74,6 +73,22 @@ module _ (d : Devs) (size : ℕ) (some : 0 < size) where
   content_whole contents.Gone held c = refl
   content_whole (contents.Row cells objects) held c = ap (λ (l : List (List ℕ)). contents.Row cells l) (objects_whole objects held c)
 
+-- ---- the names of the chunks
+
+zip_names : (names : List ChunkName) (bytes : List (List ℕ)) → length names ≡ length bytes → map (λ (chunk : Named). chunk.0) (zip names bytes) ≡ names
+zip_names [] bytes e = refl
+zip_names (name ∷ names) [] e = absurd (omega (arith, e))
+zip_names (name ∷ names) (chunk ∷ bytes) e = ap (λ (l : List ChunkName). name ∷ l) (zip_names names bytes (omega (arith, e)))
+
+names_back : (size : ℕ) (names : List (List ChunkName)) (objects : List (List ℕ)) → is_of_each size names objects ≡ true → names_held (each_chunk size names objects) ≡ names
+names_back size [] [] h = refl
+names_back size [] (object ∷ objects) h = absurd cc
+names_back size (here ∷ names) [] h = absurd cc
+names_back size (here ∷ names) (object ∷ objects) h =
+    let t = both_tests (length here == length (cut size object)) (is_of_each size names objects) h in
+    ap (λ (l : List ChunkName). l ∷ names_held (each_chunk size names objects)) (zip_names here (cut size object) (same_count (length here) (length (cut size object)) t.0))
+    ∙ ap (λ (l : List (List ChunkName)). here ∷ l) (names_back size names objects t.1)
+
 -- ---- devices that stand for a disk
 
 module _ (schema : Schema) (d : Devs) (disk : StoreDisk) (some : 0 < schema.chunk) (st : Stands schema d disk) where
@@ -89,8 +104,8 @@ module _ (schema : Schema) (d : Devs) (disk : StoreDisk) (some : 0 < schema.chun
 
     chunks_cut : (item : Stored) → current_of items row ≡ Some item → AreCut size (objects_of item.content) chunks
     chunks_cut item is =
-        let last = last_chunks size items st.held.numbered row item is in
-        subst (AreCut size (objects_of item.content)) (sym last.is) (all_cut size item.entry.version 0 last.before (objects_of item.content))
+        let last = last_chunks size items st.held.numbered st.held.made row item is in
+        subst (AreCut size (objects_of item.content)) (sym (chunks_are size items row item is)) (all_cut size item.names (objects_of item.content) last.each)
 
     chunks_there : There d size some (flat chunks)
     chunks_there x a = st.chunks.held x.0 x.1 (record { row = row; among = a })
@@ -104,9 +119,13 @@ module _ (schema : Schema) (d : Devs) (disk : StoreDisk) (some : 0 < schema.chun
     pub held_is : held_if d (row_of d.held row) ≡ chunks
     held_is =
         ⊎_elim
-        (λ none. ap (held_if d) none.1 ∙ sym (no_chunks size items st.held.numbered row none.0))
+        (λ none. ap (held_if d) none.1 ∙ sym (no_chunks size items row none.0))
         (λ found. ap (held_if d) found.3 ∙ held_now found.0 found.1 found.2 found.4)
         (at_row size items d.held st.held.numbered st.held.rows row)
+
+    -- none of their names stands twice
+    pub held_different : AreDifferent (names_of chunks)
+    held_different = (row_sound size items st.held.numbered st.held.made row).different
 
     pub yours_is : (client : ℕ) → pair_in (lasts_if (row_of d.held row)) client ≡ yours_in items client row
     yours_is client = row_lasts size items d.held st.held.numbered st.held.rows row client
@@ -122,12 +141,16 @@ module _ (schema : Schema) (d : Devs) (disk : StoreDisk) (some : 0 < schema.chun
     whole_now item stored is s =
         ap (whole_of stored.content) (held_now item stored is s) ∙ (ap (λ (c : PieceContent). whole_of c chunks) (content_is item stored is s) ∙ content_whole d size some item.content chunks (chunks_cut item is))
 
+    names_now : (item : Stored) (stored : StoredRow) → current_of items row ≡ Some item → IsStoredAs size items item stored → names_held (held_in d stored.content) ≡ item.names
+    names_now item stored is s =
+        ap names_held (held_now item stored is s ∙ chunks_are size items row item is) ∙ names_back size item.names (objects_of item.content) (last_chunks size items st.held.numbered st.held.made row item is).each
+
     header_now : (client : ℕ) (item : Stored) (stored : StoredRow) → current_of items row ≡ Some item → IsStoredAs size items item stored → header_by client (whole_row d stored) ≡ header_for items client item
-    header_now client item stored is s = made (whole_now item stored is s) s.row s.version (s.lasts client)
+    header_now client item stored is s = made (whole_now item stored is s) (names_now item stored is s) s.row s.version (s.lasts client)
       where
-        made : whole_of stored.content (held_in d stored.content) ≡ item.content → stored.row ≡ item.entry.row → stored.version ≡ item.entry.version → pair_in stored.pairs client ≡ yours_in items client item.entry.row
+        made : whole_of stored.content (held_in d stored.content) ≡ item.content → names_held (held_in d stored.content) ≡ item.names → stored.row ≡ item.entry.row → stored.version ≡ item.entry.version → pair_in stored.pairs client ≡ yours_in items client item.entry.row
             → header_by client (whole_row d stored) ≡ header_for items client item
-        made content row_ version yours = cc
+        made content names row_ version yours = cc
 
     pub header_is : (client : ℕ) → option_map (header_by client) (whole_at d row) ≡ option_map (header_for items client) (current_of items row)
     header_is client =
@@ -150,18 +173,6 @@ module _ (schema : Schema) (d : Devs) (disk : StoreDisk) (some : 0 < schema.chun
         (λ found. ap (λ (o : Option StoredRow). option_map shown_row (option_map (whole_row d) o)) found.3
         ∙ (ap (λ (x : ShownRow). Some x) (shown_now found.0 found.1 found.2 found.4) ∙ sym (ap (option_map shown_of) found.2)))
         (at_row size items d.held st.held.numbered st.held.rows row)
-
-  -- the chunks of a row are older than the next version
-  all_older : (v : ℕ) (held : List (List Named)) → ((x : Named) → Among x (flat held) → x.0.version < v) → AreAllOlder v held
-  all_older v [] each = tt
-  all_older v (now ∷ held) each = (older now (λ x a. each x (left_among x now (flat held) a)), all_older v held (λ x a. each x (right_among x now (flat held) a)))
-    where
-      older : (now : List Named) → ((x : Named) → Among x now → x.0.version < v) → AreOlder v now
-      older [] each = tt
-      older (x ∷ now) each = (each x (inl refl), older now (λ y a. each y (inr a)))
-
-  pub chunks_older : (request : Request) → AreAllOlder (length items + 1) (chunks_of size items request.row)
-  chunks_older request = all_older (length items + 1) (chunks_of size items request.row) (λ x a. before_below size items (item_for items request) st.held.numbered refl x a)
 
   -- ---- a pull
 
@@ -191,8 +202,6 @@ module _ (schema : Schema) (d : Devs) (disk : StoreDisk) (some : 0 < schema.chun
 
 -- ---- what fits is counted
 
-pub fits_counted : (schema : Schema) (content : Content) → fit_of schema content ≡ Ok tt → AreCounted schema.chunk (objects_of content)
-fits_counted schema contents.Gone fits = record { len = omega arith; chunks = omega arith }
-fits_counted schema (contents.Row cells objects) fits =
-    let w = row_within schema cells objects fits in
-    record { len = let l = w.len in omega (arith, l); chunks = let c = w.chunks in omega (arith, c) }
+pub fits_counted : (schema : Schema) (content : Content) → fit_of schema content ≡ Ok tt → sum_by length (objects_of content) < 2 ^ 32
+fits_counted schema contents.Gone fits = omega arith
+fits_counted schema (contents.Row cells objects) fits = let w = row_within schema cells objects fits in let l = w.len in omega (arith, l)

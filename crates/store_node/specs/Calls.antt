@@ -33,6 +33,8 @@ use Rattle.store_node.specs.Node.{IsTable, IsSame, told_by, sent_by, own_faults,
 use Rattle.store_node.specs.Node.{LeavesRows, LeavesNone, HoldsNone, HasBlankDisks}
 use Rattle.store_node.specs.Node.{nothing_stored, Fits}
 use Rattle.store_node.specs.Messages.{IsFor}
+use Rattle.step_tables.specs.Chunks.{is_spelled}
+use Rattle.step_tables.specs.declared.message.SyncRequest.{SyncRequest}
 use Rattle.store_node.specs.Taking.{refused_by}
 
 -- what a move makes of the node's table
@@ -203,9 +205,13 @@ IsAtWork disk (Some []) version = ⊥
 IsAtWork disk (Some (task ∷ tasks)) version = version ≡ version_at disk task.change
 
 -- a write that is to be taken on where no version is left
-abbrev pub IsSpent : Scheme → StoreDisk → Message → Type 0
-IsSpent g disk (kinds.SyncRequest request) = (refused_by g disk request ≡ None) × (length disk.items ≡ NUMBER_MAX)
-IsSpent g disk other = ⊥
+abbrev pub IsSpentOn : Scheme → ℕ → StoreDisk → SyncRequest → Type 0
+IsSpentOn g size disk request = (is_spelled size request.content request.pieces ≡ true)
+    × (refused_by g size disk request ≡ None) × (length disk.items ≡ NUMBER_MAX)
+
+abbrev pub IsSpent : Scheme → ℕ → StoreDisk → Message → Type 0
+IsSpent g size disk (kinds.SyncRequest request) = IsSpentOn g size disk request
+IsSpent g size disk other = ⊥
 
 -- What a node with nothing to be done makes of a message: this step; or nothing, where it was refused; or it is down,
 -- with the disk as it was.
@@ -223,17 +229,18 @@ pub record Answers {D : Type 0} (state : D → DiskState) (images : D → ℕ �
   pub rows_left : LeavesRows state images old new s.disk s.disk
 
 -- A message that is taken makes the table's step, and any other is dropped. Each refusal has its cause, and leaves all
--- as it was; where a disk has failed the node is down, with the disk as it was. That no version is left is told before
--- chunks are read, but behind the read of the row.
+-- as it was; where a disk has failed the node is down, with the disk as it was. That no version is left is told behind
+-- the reads of the row and its chunks.
 pub record Delivers {D : Type 0} (state : D → DiskState) (images : D → ℕ → List ℕ → Type 0) (s : TableStore)
     (from : Node) (message : Message) (old new : TableNode D) (result : Result (Unit {0}) NodeFault) : Type 0 where
   pub taken : IsTaken old message
       → OnOk result (IsBehind state old new (step_at old s (Take from (message_of message))))
   pub dropped : (IsTaken old message → ⊥) → OnOk result (Stays state old new s)
   pub busy : (version : ℕ) → IsErrOf result (Busy version) ↔ IsAtWork s.disk s.agenda version
-  pub given : IsTaken old message → IsSpent old.schema.scheme s.disk message → OnOk result ⊥
+  pub given : IsTaken old message → IsSpent old.schema.scheme old.schema.chunk s.disk message → OnOk result ⊥
   pub spent : (last : ℕ) → IsErrOf result (Spent last)
-      → IsTaken old message × IsSpent old.schema.scheme s.disk message × (s.agenda ≡ Some []) × (last ≡ NUMBER_MAX)
+      → IsTaken old message × IsSpent old.schema.scheme old.schema.chunk s.disk message × (s.agenda ≡ Some [])
+      × (last ≡ NUMBER_MAX)
   pub refused : (IsErrOf result Disk → ⊥) → OnErr result (Stays state old new s)
   pub fallen : IsErrOf result Disk → Stays state old new (record { disk = s.disk; agenda = None })
   pub counted : (IsErrOf result Disk → ⊥) → own_faults state new ≡ own_faults state old

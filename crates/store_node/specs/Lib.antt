@@ -10,3 +10,4 @@ pub mod Kept
 pub mod Node
 pub mod Calls
 pub mod Halts
+pub mod Finding

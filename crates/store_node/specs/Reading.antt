@@ -47,12 +47,17 @@ abbrev pub whole_of : PieceContent → List (List Named) → Content
 whole_of Gone held = contents.Gone
 whole_of (Row some objects) held = contents.Row some (map whole_object held)
 
+-- the names of the chunks of each object
+abbrev pub names_held : List (List Named) → List (List ChunkName)
+names_held held = map (λ (chunks : List Named). map (λ (chunk : Named). chunk.0) chunks) held
+
 -- a row of the devices with its content whole, and what is shown of it
 abbrev pub whole_row : Devs → StoredRow → WholeRow
 whole_row d stored = record {
   row = stored.row;
   version = stored.version;
   content = whole_of stored.content (held_in d stored.content);
+  names = names_held (held_in d stored.content);
   pairs = stored.pairs;
 }
 

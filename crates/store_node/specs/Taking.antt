@@ -1,5 +1,6 @@
 -- What a request and a pull make of a table's devices.
-use Rattle.std.specs.Prelude.{◌≡◌, ◌⊎◌, ℕ, ◌+◌, ◌<◌, ◌^◌, List, [], ◌∷◌, length, Option, Some, None, option_map, Result}
+use Rattle.std.specs.Prelude.{◌≡◌, ◌⊎◌, ℕ, ◌+◌, ◌<◌, ◌^◌, Bool, true, false, List, [], length, Option, Some, None}
+use Rattle.std.specs.Prelude.{◌∷◌, option_map, Result}
 use Rattle.std.specs.Prelude.{OnErr, IfErr, IsErrOf}
 use Rattle.disk_trait.specs.Calls.{DiskState}
 use Rattle.stab_base.specs.declared.limits.TheConstants.{NUMBER_MAX}
@@ -22,11 +23,11 @@ use Rattle.store_commit.specs.Update.{entry_for, stored_for}
 use Rattle.stab_base.specs.declared.node.Node.{Node}
 use Rattle.step_tables.specs.Facts as facts_of
 use Rattle.step_tables.specs.Chunks.{Named}
-use Rattle.step_tables.specs.Messages.{Pair, Header, Outcome, Again, Late, Stale, Conflict, Request}
+use Rattle.step_tables.specs.Messages.{Pair, Header, Outcome, Again, Late, Stale, Conflict, NeedWhole, Request}
 use Rattle.step_tables.specs.Travels.{outcome_of, header_of}
 use Rattle.step_tables.specs.Store.{current_of}
 use Rattle.step_tables.specs.StoreMoves.{StoreDisk, StoreStep, yours_in, accepting, item_for, quiet, sending, responded}
-use Rattle.step_tables.specs.StoreMoves.{version_of}
+use Rattle.step_tables.specs.StoreMoves.{version_of, keeps_there}
 use Rattle.step_tables.specs.declared.message.SyncRequest.{SyncRequest}
 use Rattle.step_tables.specs.declared.message.PullRequest.{PullRequest}
 use Rattle.step_tables.specs.declared.message.PullResponse.{PullResponse}
@@ -88,20 +89,34 @@ pub record IsBegunBy (size : ℕ) (d : Devs) (disk : StoreDisk) (request : SyncR
   pub few : version < 2 ^ 64
   pub number : request.number < 2 ^ 64
   pub left : length disk.items ≡ NUMBER_MAX → ⊥
-  pub writes_are : writes ≡ update_writes (entry_for d version (update_for size disk.items (request_of request)))
-      (update_for size disk.items (request_of request)).fresh
-      (stored_for d version (update_for size disk.items (request_of request)))
+  pub writes_are : writes ≡ update_writes (entry_for d version (update_for size (request_of request)))
+      (update_for size (request_of request)).fresh (stored_for d version (update_for size (request_of request)))
 
-abbrev pub refused_by : Scheme → StoreDisk → SyncRequest → Option Outcome
-refused_by g disk request = refusal_of g request.base (version_of (current_of disk.items request.row))
-    (yours_in disk.items request.client request.row) request.number
+-- a write that is to be taken on by its base and number isn't where its row lacks a chunk that it keeps
+abbrev pub or_whole : Bool → Option Outcome → Option Outcome
+or_whole there (Some outcome) = Some outcome
+or_whole true None = None
+or_whole false None = Some NeedWhole
+
+-- what is answered to a request that isn't taken on
+abbrev pub refused_by : Scheme → ℕ → StoreDisk → SyncRequest → Option Outcome
+refused_by g size disk request = or_whole (keeps_there size disk.items (request_of request))
+    (refusal_of g request.base (version_of (current_of disk.items request.row))
+    (yours_in disk.items request.client request.row) request.number)
 
 -- A write that isn't taken on was answered, and no write is to be done; or it is.
 abbrev pub IsTaking : Scheme → ℕ → Devs → StoreDisk → SyncRequest → List Write → Taken → Type 0
 IsTaking g size d disk request writes (Answered outcome) =
-    (refused_by g disk request ≡ Some (outcome_of outcome)) × (writes ≡ [])
+    (refused_by g size disk request ≡ Some (outcome_of outcome)) × (writes ≡ [])
 IsTaking g size d disk request writes (Begun version) =
-    (refused_by g disk request ≡ None) × IsBegunBy size d disk request writes version
+    (refused_by g size disk request ≡ None) × IsBegunBy size d disk request writes version
+
+-- The same of a write that is to be taken on by its base and number: it is, where its row has each chunk that it keeps.
+abbrev pub IsTakingNew : ℕ → Devs → StoreDisk → SyncRequest → List Write → Taken → Type 0
+IsTakingNew size d disk request writes (Answered outcome) =
+    (keeps_there size disk.items (request_of request) ≡ false) × (outcome_of outcome ≡ NeedWhole) × (writes ≡ [])
+IsTakingNew size d disk request writes (Begun version) =
+    (keeps_there size disk.items (request_of request) ≡ true) × IsBegunBy size d disk request writes version
 
 -- what a table makes of a request, by what is answered to it
 abbrev pub step_for : ℕ → ℕ → StoreDisk → Node → Request → Option Outcome → StoreStep
@@ -117,6 +132,7 @@ header_by client found = record {
   version = found.version;
   yours = pair_in found.pairs client;
   content = found.content;
+  names = found.names;
 }
 
 abbrev pub header_at : Devs → ℕ → Option RowVersion → Option Header

@@ -4,6 +4,7 @@
 mod devices;
 mod due;
 mod fault;
+mod finding;
 mod gathered;
 mod gathering;
 mod live;

@@ -12,13 +12,14 @@ ghost use Rattle.row_store.specs.Spelling.{IsClient, table_payload};
 ghost use Rattle.row_store.specs.Standing as rows;
 ghost use Rattle.status_log.specs.Standing as logs;
 ghost use Rattle.store_commit.specs.Standing.{writes_of};
-ghost use Rattle.step_tables.specs.StoreMoves.{TableStore, answered};
+ghost use Rattle.step_tables.specs.Chunks.{is_spelled};
+ghost use Rattle.step_tables.specs.StoreMoves.{TableStore, answered, asked};
 ghost use Rattle.step_tables.specs.Travels.{send_of};
 ghost use Rattle.store_node.specs.Due.{fact_of};
 ghost use Rattle.store_node.specs.Kept.{AreKept};
 ghost use Rattle.store_node.specs.Node.{IsTable, IsNode, IsSame, told_by, sent_by, nothing_stored, has_task};
 ghost use Rattle.store_node.specs.Calls.{Works, Crashes, Declares, DeclaresLate, Recovers, Starts, Falls, Fell};
-ghost use Rattle.store_node.specs.Calls.{Answers, Delivers, Shows};
+ghost use Rattle.store_node.specs.Calls.{Answers, Delivers, Shows, IsSpentOn};
 ghost use Rattle.store_node.specs.Fault.{fault_of};
 ghost use Rattle.store_node.specs.Halts.{Halts};
 ghost use Rattle.store_node.specs.Taking.{refused_by, step_for};
@@ -35,6 +36,7 @@ use crate::showing::{ShownRow, read_row, shown};
 use crate::taking::{Taken, take_write};
 use crate::told::StoreFact;
 use disk_trait::{Disk, FuseDisk};
+use row_pieces::is_spelled;
 use row_value::{Schema, Sequence};
 use stab_base::{Names, Node, RowId, Step, StoreNo, TableNo};
 use std::alloc::Global;
@@ -372,10 +374,12 @@ impl<D: Disk + Drop> TableNode<D> {
         requires table { request.now.table ≡ self.old.table }
         requires client { IsClient request.now.client }
         requires fits { fit_of self.old.schema request.now.content ≡ Ok tt }
+        requires pieces { is_spelled self.old.schema.chunk request.now.content request.now.pieces ≡ true }
         ensures answers { (s : TableStore) → IsTable D.state self.old s
             → Answers D.state D.images s (step_for self.old.schema.chunk self.old.table s.disk from
-            (request_of request.now) (refused_by self.old.schema.scheme s.disk request.now))
-            ((refused_by self.old.schema.scheme s.disk request.now ≡ None) × (length s.disk.items ≡ NUMBER_MAX)) self.old self.new result }
+            (request_of request.now) (refused_by self.old.schema.scheme self.old.schema.chunk s.disk request.now))
+            ((refused_by self.old.schema.scheme self.old.schema.chunk s.disk request.now ≡ None)
+            × (length s.disk.items ≡ NUMBER_MAX)) self.old self.new result }
         ensures declared { self.new.is_declared ≡ self.old.is_declared }
     {
         self.facts.reserve(1)?;
@@ -396,8 +400,33 @@ impl<D: Disk + Drop> TableNode<D> {
         }
     }
 
+    // Takes a request that spells its chunks, and drops any other.
+    fn take_spelled(&mut self, from: Node, request: &SyncRequest) -> Result<(), NodeFault>
+        requires node { IsNode D.state self.old }
+        requires up { self.old.is_up ≡ true }
+        requires idle { writes_of self.old.devs ≡ [] }
+        requires table { request.now.table ≡ self.old.table }
+        requires client { IsClient request.now.client }
+        requires fits { fit_of self.old.schema request.now.content ≡ Ok tt }
+        ensures answers { (s : TableStore) → IsTable D.state self.old s
+            → Answers D.state D.images s (asked self.old.schema.scheme self.old.schema.chunk self.old.table s.disk from
+            (request_of request.now))
+            (IsSpentOn self.old.schema.scheme self.old.schema.chunk s.disk request.now) self.old self.new result }
+        ensures declared { self.new.is_declared ≡ self.old.is_declared }
+    {
+        if !is_spelled(
+            self.alloc,
+            self.schema.chunk,
+            &request.content,
+            &request.pieces,
+        )? {
+            return Ok(());
+        }
+        self.take_request(from, request)
+    }
+
     /// Takes a message. A request or a pull is answered, or its update is begun. Any other message, one of another
-    /// table, and one whose content is no row of this table are dropped.
+    /// table, one whose content is no row of this table, and one that doesn't spell its chunks are dropped.
     ///
     /// `Busy` where writes are still to be done, and `Spent` where a new write finds no version left. `Disk` where a
     /// disk failed: the node is then down.
@@ -418,7 +447,7 @@ impl<D: Disk + Drop> TableNode<D> {
             return Ok(());
         }
         match message {
-            Message::SyncRequest(request) => self.take_request(from, request),
+            Message::SyncRequest(request) => self.take_spelled(from, request),
             Message::PullRequest(request) => self.answer_pull(from, request),
             Message::SyncResponse(_) | Message::PullResponse(_) => Ok(()),
         }

@@ -21,6 +21,7 @@ fn header(client: ClientNo, found: WholeRow) -> RowHeader
         version: found.version,
         yours: yours_in(&found.pairs, client),
         content: found.content,
+        names: found.names,
     }
 }
 

@@ -1,13 +1,15 @@
 //! What a node reads from its devices.
 ghost use Rattle.std.specs.Prelude.{◌≡◌, ◌++◌, [], ◌∷◌, List, map, length, IfOk, OnOk};
 ghost use Rattle.store_commit.specs.Standing.{devs, AreUp, AreLookedAt};
-ghost use Rattle.store_node.specs.Reading.{bytes_in, named_in, held_by, held_in, whole_object, whole_of, Only};
+ghost use Rattle.store_node.specs.Reading.{bytes_in, named_in, held_by, held_in, whole_object, whole_of, names_held};
+ghost use Rattle.store_node.specs.Reading.{Only};
 
 use chunker::NamedChunks;
 use disk_trait::Disk;
 use row_value::{Content, Objects, Piece, PieceContent, PieceObject};
-use stab_base::{Bytes, ChunkName, Sequence, SharedBytes};
+use stab_base::{Bytes, ChunkName, Names, Sequence, SharedBytes};
 use std::alloc::{AllocError, Global};
+use step_tables::ObjectNames;
 use store_commit::{CommitFault, TableDevs};
 
 /// The chunks of each object of a row, with their names.
@@ -129,6 +131,27 @@ fn join_objects(alloc: Global, held: &HeldChunks) -> Result<Objects, AllocError>
         objects.push(join_object(alloc, chunks)?)?;
     }
     Ok(objects)
+}
+
+fn names_in(alloc: Global, held: &NamedChunks) -> Result<Names, AllocError>
+    ensures { IfOk result (λ names. names ≡ map (λ chunk. chunk.0) held.now) }
+{
+    let mut names = Names::new(alloc);
+    for (name, _) in held.as_slice() {
+        names.push(*name)?;
+    }
+    Ok(names)
+}
+
+/// The names of the chunks of each object.
+pub(crate) fn names_held(alloc: Global, held: &HeldChunks) -> Result<ObjectNames, AllocError>
+    ensures { IfOk result (λ names. names ≡ names_held held.now) }
+{
+    let mut names = ObjectNames::new(alloc);
+    for chunks in held.as_slice() {
+        names.push(names_in(alloc, chunks)?)?;
+    }
+    Ok(names)
 }
 
 /// A content whose objects have these chunks.

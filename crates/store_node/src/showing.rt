@@ -3,20 +3,22 @@ ghost use Rattle.std.specs.Prelude.{◌≡◌, option_map, IfOk};
 ghost use Rattle.store_commit.specs.Standing.{devs, AreUp, AreLookedAt, NothingHidden};
 ghost use Rattle.store_node.specs.Reading.{Only, whole_row, whole_at, shown_row};
 
-use crate::reading::{read_content, whole};
+use crate::reading::{names_held, read_content, whole};
 use disk_trait::Disk;
 use row_store::{LastWrites, StoredRow};
 use row_value::Content;
 use stab_base::{RowId, Version};
 use std::alloc::Global;
+use step_tables::ObjectNames;
 use store_commit::{CommitFault, TableDevs};
 
-/// A row with its content whole, and the last write of each client on it.
+/// A row with its content whole, the names of its chunks, and the last write of each client on it.
 #[derive(Debug, Drop)]
 pub(crate) struct WholeRow {
     pub(crate) row: RowId,
     pub(crate) version: Version,
     pub(crate) content: Content,
+    pub(crate) names: ObjectNames,
     pub(crate) pairs: LastWrites,
 }
 
@@ -39,10 +41,12 @@ fn read_whole<D: Disk + Drop>(
     ensures row { IfOk result (λ found. found ≡ whole_row (devs D.state table.old) stored) }
 {
     let held = read_content(alloc, table, &stored.content)?;
+    let names = names_held(alloc, &held)?;
     Ok(WholeRow {
         row: stored.row,
         version: stored.version,
         content: whole(alloc, stored.content, &held)?,
+        names,
         pairs: stored.pairs,
     })
 }

@@ -1,19 +1,21 @@
 //! What a request is made into, once the chunks of its row are read.
-ghost use Rattle.std.specs.Prelude.{◌≡◌, ℕ, ◌+◌, ◌<◌, ◌≤◌, ◌^◌, [], ◌∷◌, ◌++◌, List, length, map, IfOk, OnOk};
-ghost use Rattle.std.specs.Prelude.{option_copied, drop, slice_get};
-ghost use Rattle.std.specs.List.{AllByRecursion};
-ghost use Rattle.row_value.specs.Fit.{chunk_count};
-ghost use Rattle.step_tables.specs.Chunks.{Named, first_object, objects_of, all_renamed};
-ghost use Rattle.device_laws.specs.Stands.{IsWord, HaveWords, pieced_objects, pieced_content, fresh_bytes};
-ghost use Rattle.store_node.specs.Update.{is_fresh, fresh_of, AreOlder, AreAllOlder, AreCounted, pieced, chunks_now};
-ghost use Rattle.store_node.specs.Update.{request_of, update_with};
+ghost use Rattle.std.specs.Prelude.{◌≡◌, ◌<◌, ◌^◌, [], ◌∷◌, ◌++◌, length, sum_by, zip, IfOk, OnOk, option_copied, drop};
+ghost use Rattle.std.specs.Prelude.{slice_get};
+ghost use Rattle.std.specs.List.{AllByRecursion, list_all};
+ghost use Rattle.chunk_store.specs.Standing.{chunk_in};
+ghost use Rattle.store_commit.specs.NamedChunks.{AreDifferent};
+ghost use Rattle.step_tables.specs.Chunks.{first_of, flat, each_chunk, objects_of, cut, names_of, has_kept};
+ghost use Rattle.device_laws.specs.Stands.{IsWord, HaveWords, pieced_objects, pieced_content, fresh_bytes, update_for};
+ghost use Rattle.store_node.specs.Finding.{values_by};
+ghost use Rattle.store_node.specs.Update.{is_fresh, fresh_of, is_found, made_if, request_of};
 
+use crate::finding::{FoundChunks, are_found, found_in};
 use crate::reading::HeldChunks;
-use chunker::{Chunks, NamedChunks, cut, pieces_against};
+use chunker::{Chunks, cut};
 use row_value::{Cell, Cells, Content, Piece, PieceContent, PieceObject, PieceObjects, Pieces};
 use stab_base::{Bytes, Sequence, SharedBytes, WriteNo};
 use std::alloc::{AllocError, Global};
-use step_tables::SyncRequest;
+use step_tables::{ObjectPieces, SyncRequest};
 use store_commit::Update;
 
 // Whether the piece at a place is there, and a new one.
@@ -50,7 +52,6 @@ fn add_all_fresh(
     pieces: &Pieces,
     chunks: &Chunks,
 ) -> Result<(), AllocError>
-    requires { length pieces.now ≡ length chunks.now }
     ensures { OnOk result (fresh.new.items ≡ fresh.old.items ++ fresh_of pieces.now chunks.now) }
 {
     for (place, chunk) in chunks.as_slice().iter().enumerate() {
@@ -59,66 +60,83 @@ fn add_all_fresh(
     Ok(())
 }
 
-// An object by its pieces against the chunks of the old one. Its new chunks are added, and count on from those that
-// are there.
+fn copied_pieces(alloc: Global, pieces: &Pieces) -> Result<Pieces, AllocError>
+    ensures { IfOk result (λ made. made ≡ pieces.now) }
+{
+    let mut made = Pieces::new(alloc);
+    for piece in pieces.as_slice() {
+        made.push(*piece)?;
+    }
+    Ok(made)
+}
+
+// An object by its pieces, where each chunk that it keeps is found. Its new chunks are added.
 fn piece_object(
     alloc: Global,
     size: u32,
-    old: &NamedChunks,
+    found: &FoundChunks<'_>,
+    pieces: &Pieces,
     object: &SharedBytes,
     fresh: &mut Vec<Bytes>,
-) -> Result<PieceObject, AllocError>
+) -> Result<Option<PieceObject>, AllocError>
     requires size { 0 < size }
     requires len { length object.now < 2 ^ 32 }
-    requires few { length fresh.old.items + chunk_count size object.now < 2 ^ 32 }
-    ensures object { (v : ℕ) → AreOlder v old.now → IfOk result (λ made.
-        made ≡ pieced v object.now (chunks_now size v (length fresh.old.items) old.now object.now)) }
-    ensures fresh { (v : ℕ) → AreOlder v old.now → OnOk result (fresh.new.items ≡ fresh.old.items
-        ++ fresh_bytes v (chunks_now size v (length fresh.old.items) old.now object.now ∷ [])) }
-    ensures few { OnOk result (length fresh.new.items ≤ length fresh.old.items + chunk_count size object.now) }
+    ensures object { IfOk result (λ made. made
+        ≡ made_if (list_all (is_found (chunk_in (values_by found.now.entries (λ bytes. bytes.now))))
+        (zip pieces.now (cut size object.now)))
+        (record { len = length object.now; pieces = pieces.now })) }
+    ensures fresh { OnOk result (fresh.new.items
+        ≡ fresh.old.items ++ fresh_bytes (zip pieces.now (cut size object.now))) }
 {
     let chunks = cut(alloc, object.as_slice(), size)?;
-    let pieces = pieces_against(alloc, old, &chunks, fresh.len() as u32)?;
-    add_all_fresh(alloc, fresh, &pieces, &chunks)?;
-    Ok(PieceObject {
+    add_all_fresh(alloc, fresh, pieces, &chunks)?;
+    if !are_found(found, pieces, &chunks) {
+        return Ok(None);
+    }
+    let pieces = copied_pieces(alloc, pieces)?;
+    Ok(Some(PieceObject {
         len: object.len() as u32,
         pieces,
-    })
+    }))
 }
 
-// The chunks of the object at a place, or none.
-fn held_at<'a>(held: &'a HeldChunks, none: &'a NamedChunks, place: usize) -> &'a NamedChunks
+// The pieces of the object at a place, or none.
+fn pieces_at<'a>(pieces: &'a ObjectPieces, none: &'a Pieces, place: usize) -> &'a Pieces
     requires { none.now ≡ [] }
-    ensures { result.now ≡ first_object (drop place held.now) }
+    ensures { result.now ≡ first_of (drop place pieces.now) }
 {
-    match held.get(place) {
-        Some(chunks) => chunks,
+    match pieces.get(place) {
+        Some(pieces) => pieces,
         None => none,
     }
 }
 
-// The objects of a row by their pieces, and the new chunks.
+// The objects of a row by their pieces, and the new chunks, where each chunk that is kept is found.
 fn piece_objects(
     alloc: Global,
     size: u32,
-    held: &HeldChunks,
+    found: &FoundChunks<'_>,
+    pieces: &ObjectPieces,
     objects: &[SharedBytes],
-) -> Result<(PieceObjects, Vec<Bytes>), AllocError>
+) -> Result<Option<(PieceObjects, Sequence<Bytes>)>, AllocError>
     requires size { 0 < size }
-    requires counted { AreCounted size objects.now }
-    ensures objects { (v : ℕ) → AreAllOlder v held.now → IfOk result (λ made.
-        made.0 ≡ pieced_objects v objects.now (all_renamed size v 0 held.now objects.now)) }
-    ensures fresh { (v : ℕ) → AreAllOlder v held.now → IfOk result (λ made.
-        made.1.items ≡ fresh_bytes v (all_renamed size v 0 held.now objects.now)) }
+    requires len { sum_by length objects.now < 2 ^ 32 }
+    ensures { IfOk result (λ made. made
+        ≡ made_if (list_all (is_found (chunk_in (values_by found.now.entries (λ bytes. bytes.now))))
+        (flat (each_chunk size pieces.now objects.now)))
+        (pieced_objects objects.now pieces.now, fresh_bytes (flat (each_chunk size pieces.now objects.now)))) }
 {
-    let none = NamedChunks::new(alloc);
+    let none = Pieces::new(alloc);
     let mut fresh = Vec::new(alloc);
     let mut made = PieceObjects::new(alloc);
     for (place, object) in objects.iter().enumerate() {
-        let old = held_at(held, &none, place);
-        made.push(piece_object(alloc, size, old, object, &mut fresh)?)?;
+        let here = pieces_at(pieces, &none, place);
+        match piece_object(alloc, size, found, here, object, &mut fresh)? {
+            Some(object) => made.push(object)?,
+            None => return Ok(None),
+        }
     }
-    Ok((made, fresh))
+    Ok(Some((made, Sequence::from_vec(fresh))))
 }
 
 // A copy of a cell, whose number is one of 64 bits.
@@ -147,23 +165,28 @@ fn copied_cells(alloc: Global, cells: &Cells) -> Result<Cells, AllocError>
 fn pieced(
     alloc: Global,
     size: u32,
-    held: &HeldChunks,
+    found: &FoundChunks<'_>,
+    pieces: &ObjectPieces,
     content: &Content,
-) -> Result<(PieceContent, Vec<Bytes>), AllocError>
+) -> Result<Option<(PieceContent, Sequence<Bytes>)>, AllocError>
     requires size { 0 < size }
-    requires counted { AreCounted size (objects_of content.now) }
-    ensures content { (v : ℕ) → AreAllOlder v held.now → IfOk result (λ made.
-        made.0 ≡ pieced_content v content.now (all_renamed size v 0 held.now (objects_of content.now))) }
-    ensures fresh { (v : ℕ) → AreAllOlder v held.now → IfOk result (λ made.
-        made.1.items ≡ fresh_bytes v (all_renamed size v 0 held.now (objects_of content.now))) }
+    requires len { sum_by length (objects_of content.now) < 2 ^ 32 }
+    ensures content { IfOk result (λ made. made ≡ made_if
+        (list_all (is_found (chunk_in (values_by found.now.entries (λ bytes. bytes.now))))
+        (flat (each_chunk size pieces.now (objects_of content.now)))) (
+          pieced_content content.now pieces.now,
+          fresh_bytes (flat (each_chunk size pieces.now (objects_of content.now))),
+        )) }
     ensures words { OnOk result (HaveWords content.now) }
 {
     match content {
-        Content::Gone => Ok((PieceContent::Gone, Vec::new(alloc))),
+        Content::Gone => Ok(Some((PieceContent::Gone, Sequence::new(alloc)))),
         Content::Row { cells, objects } => {
             let cells = copied_cells(alloc, cells)?;
-            let (objects, fresh) = piece_objects(alloc, size, held, objects.as_slice())?;
-            Ok((PieceContent::Row { cells, objects }, fresh))
+            match piece_objects(alloc, size, found, pieces, objects.as_slice())? {
+                Some((objects, fresh)) => Ok(Some((PieceContent::Row { cells, objects }, fresh))),
+                None => Ok(None),
+            }
         }
     }
 }
@@ -176,28 +199,34 @@ pub(crate) fn of_64_bits(number: WriteNo) -> WriteNo
     number
 }
 
-/// What a Store takes on for a request, where these are the chunks of its row.
+/// What a Store takes on for a request, where these are the chunks of its row; none where a chunk that the request
+/// keeps isn't one of them.
 pub(crate) fn update_of(
     alloc: Global,
     size: u32,
     held: &HeldChunks,
     request: &SyncRequest,
-) -> Result<Update, AllocError>
+) -> Result<Option<Update>, AllocError>
     requires size { 0 < size }
-    requires counted { AreCounted size (objects_of request.now.content) }
-    ensures update { (v : ℕ) → AreAllOlder v held.now → IfOk result (λ update.
-        update ≡ update_with size v held.now (request_of request.now)) }
+    requires len { sum_by length (objects_of request.now.content) < 2 ^ 32 }
+    requires different { AreDifferent (names_of held.now) }
+    ensures update { IfOk result (λ made. made
+        ≡ made_if (has_kept size held.now request.now.content request.now.pieces)
+        (update_for size (request_of request.now))) }
     ensures words { OnOk result (HaveWords request.now.content) }
     ensures number { OnOk result (request.now.number < 2 ^ 64) }
 {
     let number = of_64_bits(request.number);
-    let (content, fresh) = pieced(alloc, size, held, &request.content)?;
-    Ok(Update {
-        row: request.row,
-        client: request.client,
-        number,
-        base: request.base,
-        content,
-        fresh: Sequence::from_vec(fresh),
-    })
+    let found = found_in(alloc, held)?;
+    match pieced(alloc, size, &found, &request.pieces, &request.content)? {
+        Some((content, fresh)) => Ok(Some(Update {
+            row: request.row,
+            client: request.client,
+            number,
+            base: request.base,
+            content,
+            fresh,
+        })),
+        None => Ok(None),
+    }
 }

@@ -11,6 +11,12 @@ returns-clause-second c = second_stands
 pub returns-clause-chunks : goal.returns-clause-chunks
 returns-clause-chunks c = refl
 
+pub returns-clause-spelled : goal.returns-clause-spelled
+returns-clause-spelled c = refl
+
+pub returns-clause-there : goal.returns-clause-there
+returns-clause-there c = refl
+
 pub returns-clause-update : goal.returns-clause-update
 returns-clause-update c = refl
 

@@ -17,4 +17,4 @@ pub returns-clause-reads : goal.returns-clause-reads
 returns-clause-reads g c = only_named g.D.Disk.state g.D.Disk.images g.met.D.Disk.only_now c.args.table.now c.read_content.new.table c.in_ok-held.held _ c.in_ok-held.ensures.reads
 
 pub returns-clause-row : goal.returns-clause-row
-returns-clause-row g c = rw (c.in_ok-whole.ensures, c.in_ok-held.ensures.held) refl
+returns-clause-row g c = rw (c.in_ok-whole.ensures, c.in_ok-names.ensures, c.in_ok-held.ensures.held) refl

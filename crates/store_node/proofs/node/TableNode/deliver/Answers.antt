@@ -14,12 +14,12 @@ returns-then-not-is_taken-clause-delivers g c s t =
 
 pub returns-in-SyncRequest-clause-delivers : goal.returns-in-SyncRequest-clause-delivers
 returns-in-SyncRequest-clause-delivers g c s t =
-    delivers_request g.D.Disk.state g.D.Disk.images (λ f image left. g.met.D.Disk.only_now (inner_of f) image left) c.args.self.now c.requires.up c.if-not-idle.ensures c.take_request.new.self c.args.from c.args.message.now c.in-SyncRequest.request c.in-SyncRequest.is c.take_request.result c.if-not-is_taken.ensures c.take_request.ensures.answers s t
+    delivers_request g.D.Disk.state g.D.Disk.images (λ f image left. g.met.D.Disk.only_now (inner_of f) image left) c.args.self.now c.requires.up c.if-not-idle.ensures c.take_spelled.new.self c.args.from c.args.message.now c.in-SyncRequest.request c.in-SyncRequest.is c.take_spelled.result c.if-not-is_taken.ensures c.take_spelled.ensures.answers s t
 
 pub returns-in-SyncRequest-clause-node : goal.returns-in-SyncRequest-clause-node
 returns-in-SyncRequest-clause-node g c =
     let n = c.requires.node in
-    delivers_node g.D.Disk.state g.D.Disk.images (λ f image left. g.met.D.Disk.only_now (inner_of f) image left) n.0 c.args.from c.args.message.now c.args.self.now c.take_request.new.self c.take_request.result (inl c.if-not-is_taken.ensures) (returns-in-SyncRequest-clause-delivers g c n.0 n.1)
+    delivers_node g.D.Disk.state g.D.Disk.images (λ f image left. g.met.D.Disk.only_now (inner_of f) image left) n.0 c.args.from c.args.message.now c.args.self.now c.take_spelled.new.self c.take_spelled.result (inl c.if-not-is_taken.ensures) (returns-in-SyncRequest-clause-delivers g c n.0 n.1)
 
 pub returns-in-PullRequest-clause-delivers : goal.returns-in-PullRequest-clause-delivers
 returns-in-PullRequest-clause-delivers g c s t =

@@ -11,8 +11,8 @@ use Rattle.conflicts.specs.declared.pair.Choice.{Choice}
 use Rattle.conflicts.specs.declared.pair.Choice.TheVariants as choices
 use Rattle.conflicts.specs.declared.stored.Stored.{Stored}
 use Rattle.table_model.specs.declared.line.RowPair.{RowPair}
-use Rattle.step_tables.specs.declared.slots.Main.{Main}
-use Rattle.step_tables.specs.declared.slots.Shadow.{Shadow}
+use Rattle.step_tables.specs.Slots.{Main}
+use Rattle.step_tables.specs.Slots.{Shadow}
 use Rattle.step_tables.specs.Facts.{Answer, ClientFact, Refusal}
 use Rattle.step_tables.specs.Facts as facts
 use Rattle.step_tables.specs.Messages.{Luck}

@@ -31,14 +31,14 @@ use Rattle.client_journal.proofs.Wholes.{has_left, has_right}
 use Rattle.step_tables.specs.Messages.{Send}
 use Rattle.step_tables.specs.ClientMoves.{request_for}
 use Rattle.step_tables.specs.Travels.{send_of}
-use Rattle.journal_laws.specs.Whole.{whole, whole_out}
+use Rattle.journal_laws.specs.Whole.{whole_out}
 use Rattle.journal_laws.proofs.Plans.{named_in}
 use Rattle.held_contents.specs.Reading.{AreThere}
 use Rattle.client_node.specs.declared.fault.CallFault.{CallFault}
 use Rattle.client_node.specs.Answers.{held_at}
 use Rattle.client_node.specs.Looks.{IsNotDisk, Looks}
 use Rattle.client_node.specs.NotedRows.{rows_among, zeros}
-use Rattle.client_node.specs.Requesting.{request_with, asked_again, all_asked_again, first_ready, NoneWaits, NoneSends, IsFirstReady}
+use Rattle.client_node.specs.Requesting.{asked_again, all_asked_again, first_ready, NoneWaits, NoneSends, IsFirstReady}
 use Rattle.client_node.proofs.NotedIds.{noted_between}
 use Rattle.client_node.proofs.Serving.{looks_none, looks_then, looks_err, looks_other}
 
@@ -69,7 +69,7 @@ pushes before more sent what pushed is = ap (map send_of) pushed ∙ (map_push b
 
 -- one that waits is asked again
 pub asks_one : (meaning : LocalName → List ℕ) (c : ℕ) (d : ClientDevs) (table : ℕ) (row : List ℕ) (slots : HeldSlots) → slots ≡ held_at d table row → (out : HeldOut) → slots.out ≡ Some out → (before more : Sends)
-    → map send_of more ≡ map send_of before ++ request_with c table row out.number out.base (whole meaning out.content) ∷ [] → map send_of more ≡ map send_of before ++ asked_again meaning c d table row
+    → map send_of more ≡ map send_of before ++ request_for c table row (whole_out meaning out) ∷ [] → map send_of more ≡ map send_of before ++ asked_again meaning c d table row
 asks_one meaning c d table row slots here out at before more added =
     added ∙ ap (λ (o : Option HeldOut). map send_of before ++ option_to_list (option_map (λ out. request_for c table row (whole_out meaning out)) o)) (sym at ∙ ap (λ (x : HeldSlots). x.out) here)
 

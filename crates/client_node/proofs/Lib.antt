@@ -32,6 +32,7 @@ pub mod Retelling
 pub mod Shown
 pub mod Readers
 pub mod Opened
+pub mod SpelledRows
 pub mod NewContents
 pub mod Outstanding
 pub mod Contended

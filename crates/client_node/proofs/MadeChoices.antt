@@ -19,8 +19,8 @@ use Rattle.held_value.specs.declared.slots.Slots.{Slots}
 use Rattle.client_journal.specs.declared.devs.Journal.{Journal}
 use Rattle.client_journal.specs.Devs.{ClientDevs}
 use Rattle.client_journal.specs.Standing.{devs, writes_of}
-use Rattle.step_tables.specs.declared.slots.Main.{Main as TableMain}
-use Rattle.step_tables.specs.declared.slots.Shadow.{Shadow as TableShadow}
+use Rattle.step_tables.specs.Slots.{Main as TableMain}
+use Rattle.step_tables.specs.Slots.{Shadow as TableShadow}
 use Rattle.step_tables.specs.ClientMoves.{Slots as TableSlots, ClientDisk, Resolve, slots_of, seen as seen_disk}
 use Rattle.journal_laws.specs.Whole.{whole, whole_main, whole_shadow, whole_slots}
 use Rattle.held_contents.specs.Reading.{AreThere}

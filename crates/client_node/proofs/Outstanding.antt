@@ -14,7 +14,7 @@ use Rattle.slot_store.specs.Data.{id_cmp, slots_of}
 use Rattle.client_journal.specs.declared.devs.Journal.{Journal}
 use Rattle.client_journal.specs.Devs.{ClientDevs}
 use Rattle.client_journal.specs.Standing.{devs, writes_of, AreUp, IsReady}
-use Rattle.step_tables.specs.declared.slots.InFlight.{InFlight}
+use Rattle.step_tables.specs.Slots.{InFlight}
 use Rattle.step_tables.specs.ClientMoves.{Slots, TableDisk, no_slots, slots_at}
 use Rattle.step_tables.specs.ClientMoves as moves
 use Rattle.journal_laws.specs.Holds.{slots_or_empty}

@@ -5,6 +5,7 @@ use Rattle.std.specs.BTreeSet.{BTreeSet}
 use Rattle.slot_store.specs.declared.held.RowKey.{RowKey}
 use Rattle.disk_trait.specs.Calls.{DiskState}
 use Rattle.row_value.specs.declared.content.Content.{Content}
+use Rattle.row_value.specs.declared.pieces.Piece.{Piece}
 use Rattle.row_value.specs.declared.schema.Schema.{Schema}
 use Rattle.row_value.specs.declared.schema.Scheme.{Scheme}
 use Rattle.row_value.specs.declared.schema.Scheme.TheVariants.{Strong, Causal, Eventual}
@@ -20,14 +21,15 @@ use Rattle.client_tables.specs.Transitions.{written, written_strong}
 use Rattle.client_journal.specs.declared.devs.Journal.{Journal}
 use Rattle.client_journal.specs.Devs.{ClientDevs}
 use Rattle.client_journal.specs.Standing.{devs, writes_of}
+use Rattle.step_tables.specs.Chunks.{cut, objects_of, all_against}
 use Rattle.step_tables.specs.Client.{version_in as table_version}
 use Rattle.step_tables.specs.Facts.{Fact, Number}
 use Rattle.step_tables.specs.Lines.{fact_of}
 use Rattle.step_tables.specs.Messages.{Send}
-use Rattle.step_tables.specs.ClientMoves.{Slots, TableDisk, ClientDisk, Plan, Shape, table_at, slots_at, slots_in, seen, told, begun, write_plan, strong_plan, is_strong, first_out as table_first_out}
+use Rattle.step_tables.specs.ClientMoves.{Slots, TableDisk, ClientDisk, Plan, Shape, table_at, slots_at, slots_in, seen, told, begun, write_plan, chunks_read, strong_out, strong_plan, request_for, is_strong, first_out as table_first_out}
 use Rattle.step_tables.specs.ClientMoves as moves
 use Rattle.journal_laws.specs.Moves.{IsNewTo}
-use Rattle.journal_laws.specs.Whole.{whole_slots, whole_shadow, whole_out}
+use Rattle.journal_laws.specs.Whole.{whole_slots, whole_shadow, whole_out, pieces_by}
 use Rattle.held_contents.specs.declared.holding.HeldNew.{HeldNew}
 use Rattle.held_contents.specs.Reading.{chunks_shown}
 use Rattle.client_node.specs.declared.fault.CallFault.{CallFault}
@@ -40,12 +42,13 @@ use Rattle.client_node.specs.Preparing.{IsOpenedRow, HoldsNew, MakesChange, IsWr
 use Rattle.client_node.specs.Readied.{IsIdleAt, IsReadied}
 use Rattle.client_node.specs.Requesting.{request_with, first_out, IsFirstOut}
 use Rattle.client_node.specs.Sending.{with_tasks}
+use Rattle.client_node.specs.Spelling.{SpellsContent}
 use Rattle.client_node.proofs.Links.{opened_is, slots_are}
 use Rattle.client_node.proofs.Opened.{seen_rests, table_steady}
 use Rattle.client_node.proofs.Outstanding.{first_waits}
 use Rattle.client_node.proofs.RowReady.{slots_here}
 use Rattle.client_node.proofs.Shown.{there_shown}
-use Rattle.client_node.proofs.WritePlans.{number_is, read_is, free_readied, strong_readied}
+use Rattle.client_node.proofs.WritePlans.{number_is, read_is, free_readied, spelled_there, strong_readied}
 use Rattle.client_node.proofs.WriteRefusals.{by_fault, by_spent, write_cut_off, write_behind}
 use Rattle.client_node.proofs.Writes.{write_begun, write_sent}
 
@@ -138,7 +141,7 @@ module _ {D : Type 0} (state : D → DiskState) (old : Journal D) (waiting : Wai
     V = written_strong at.slots x.number f.new.content f.pieces
 
     abbrev S : List Send
-    S = request_with c at.table at.row x.number (version_in at.slots.shadow) content ∷ []
+    S = request_with c at.table at.row x.number (version_in at.slots.shadow) content (pieces_by f.new.content f.pieces) ∷ []
 
     v : IsWrite d c at content f.new V S x
     v = f.is
@@ -146,7 +149,12 @@ module _ {D : Type 0} (state : D → DiskState) (old : Journal D) (waiting : Wai
     strong_at : (disk : ClientDisk) (i : IsIdleAt d c waiting disk) → IsPrepared d phase linked c (moves.Write at.table at.row content) disk i.stands.0 x
     strong_at disk i =
         let slots = slots_in (table_at disk at.table) at.row in
-        let p : Plan = strong_plan c disk at.table at.row slots content in
+        let size : ℕ = at.opened.schema.chunk in
+        let p : Plan = strong_plan at.opened.schema.chunk c disk at.table at.row slots content in
+        let parted : List (List Piece) = pieces_by f.new.content f.pieces in
+        let spells : SpellsContent d at.opened.schema.chunk (held_at d at.table at.row).shadow content f.pieces = subst (λ (s : HeldSlots). SpellsContent d at.opened.schema.chunk s.shadow content f.pieces) is.slots f.spells in
+        let spelled : pieces_by f.new.content f.pieces ≡ all_against 0 (chunks_read at.opened.schema.chunk (slots_in (table_at disk at.table) at.row).shadow) (map (cut at.opened.schema.chunk) (objects_of content)) =
+        spelled_there c d waiting disk i at.table at.row at.opened is.opened schema content fits v.words f.new (holds_here f.new V S v disk i) x.number v.next v.few is.size x.planned f.pieces spells in
         let makes : MakesChange (held_at d at.table at.row) (written_strong (held_at d at.table at.row) x.number f.new.content f.pieces) f.new.brought at.table x.number at.row x.planned =
         subst (λ (s : HeldSlots). MakesChange s (written_strong s x.number f.new.content f.pieces) f.new.brought at.table x.number at.row x.planned) is.slots v.makes in
         let unused : IsNewTo (held_at d at.table at.row).main x.number = subst (λ (s : HeldSlots). IsNewTo s.main x.number) is.slots f.unused in
@@ -158,12 +166,14 @@ module _ {D : Type 0} (state : D → DiskState) (old : Journal D) (waiting : Wai
         record {
           p = p;
           sends = S;
-          readied = strong_readied c d waiting disk i at.table at.row at.opened is.opened schema content fits v.words f.new (holds_here f.new V S v disk i) x.number v.next v.few is.size x.planned f.pieces f.fit unused makes (tells_there f.new V S v disk i) S v.sends_are;
+          readied = strong_readied c d waiting disk i at.table at.row at.opened is.opened schema content fits v.words f.new (holds_here f.new V S v disk i) x.number v.next v.few is.size x.planned f.pieces spells unused makes (tells_there f.new V S v disk i) S v.sends_are;
           step = λ shape.
               write_sent phase linked c shape disk [] at.table at.row o.0 o.1 content (fits_there f.new V S v disk i) refl closed (calm_there f.new V S v disk i) (ap (λ (s : Schema). s.scheme) (sym o.2) ∙ strong) up waits
-              ∙ (ap (λ (s : Slots). begun shape disk (Number (disk.last + 1)) (strong_plan c disk at.table at.row s content) (request_with c at.table at.row (disk.last + 1) (table_version s.shadow) content ∷ [])) (sym (there_is f.new V S v disk i))
-              ∙ (ap (λ (k : ℕ). begun shape disk (Number k) p (request_with c at.table at.row k (table_version slots.shadow) content ∷ [])) (sym (given_number f.new V S v disk i))
-              ∙ ap (λ (v : ℕ). begun shape disk (Number x.number) p (request_with c at.table at.row x.number v content ∷ [])) (sym (read_there f.new V S v disk i))));
+              ∙ (ap (λ (g : Schema). begun shape disk (Number (disk.last + 1)) (strong_plan g.chunk c disk at.table at.row (slots_at o.0 at.row) content) (request_for c at.table at.row (strong_out g.chunk (disk.last + 1) (slots_at o.0 at.row) content) ∷ [])) (sym o.2)
+              ∙ (ap (λ (s : Slots). begun shape disk (Number (disk.last + 1)) (strong_plan size c disk at.table at.row s content) (request_for c at.table at.row (strong_out size (disk.last + 1) s content) ∷ [])) (sym (there_is f.new V S v disk i))
+              ∙ (ap (λ (l : List (List Piece)). begun shape disk (Number (disk.last + 1)) p (request_with c at.table at.row (disk.last + 1) (table_version slots.shadow) content l ∷ [])) (sym spelled)
+              ∙ (ap (λ (k : ℕ). begun shape disk (Number k) p (request_with c at.table at.row k (table_version slots.shadow) content parted ∷ [])) (sym (given_number f.new V S v disk i))
+              ∙ ap (λ (v : ℕ). begun shape disk (Number x.number) p (request_with c at.table at.row x.number v content parted ∷ [])) (sym (read_there f.new V S v disk i))))));
         }
 
     pub strong_prepared : Prepares state old waiting phase linked c (moves.Write at.table at.row content) (Ok x)

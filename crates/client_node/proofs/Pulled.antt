@@ -4,12 +4,14 @@ use Rattle.std.specs.Prelude.{◌==◌, ◌^◌, ◌&&◌, ◌||◌, nat_le, OnO
 use Rattle.std.specs.List.{AllByRecursion}
 use Rattle.std.proofs.lemmas.Bool.{cases_Bool}
 use Rattle.std.proofs.lemmas.Bool.Decides.{nat_tests}
+use Rattle.stab_base.specs.declared.chunk_name.ChunkName.{ChunkName}
 use Rattle.stab_base.specs.declared.limits.TheConstants.{NUMBER_MAX}
 use Rattle.row_value.specs.declared.content.Content.{Content}
 use Rattle.row_value.specs.declared.schema.Schema.{Schema}
 use Rattle.row_value.specs.declared.schema.Scheme.{Scheme}
 use Rattle.row_value.specs.Fit.{fit_of}
 use Rattle.table_model.specs.declared.message.Yours.{Yours as RowYours}
+use Rattle.value_codec.specs.Spelling.{HasNameSpelling}
 use Rattle.held_codec.specs.Spelling.{HasHeldPiece}
 use Rattle.held_value.specs.declared.local_name.LocalName.{LocalName}
 use Rattle.held_value.specs.declared.content.HeldContent.{HeldContent}
@@ -45,9 +47,10 @@ use Rattle.client_journal.proofs.Wholes.{has_left, has_right}
 use Rattle.step_tables.specs.declared.message.Message.TheVariants as kinds
 use Rattle.step_tables.specs.declared.message.PullResponse.{PullResponse}
 use Rattle.step_tables.specs.declared.message.RowHeader.{RowHeader}
+use Rattle.step_tables.specs.Chunks.{is_named, is_of_each, objects_of, are_apart, flat}
 use Rattle.step_tables.specs.Facts as facts
 use Rattle.step_tables.specs.Messages.{Header, Pulled, Send}
-use Rattle.step_tables.specs.ClientMoves.{TableDisk, Plan, ClientDisk, ClientStep, Slots, Shape, table_at, slots_at, slots_in, seen, begun, ignored, told, top, row_plan, row_placed, position_plan, next_pull, row_taken, pulled_taken, pulled_in}
+use Rattle.step_tables.specs.ClientMoves.{TableDisk, Plan, ClientDisk, ClientStep, Slots, Shape, table_at, slots_at, slots_in, seen, begun, ignored, told, top, row_plan, row_placed, position_plan, next_pull, row_taken, comes_next, pulled_taken, pulled_in}
 use Rattle.step_tables.specs.Travels.{header_of as table_header, pulled_of, message_of}
 use Rattle.journal_laws.specs.Holds.{IsRecordOf, Say}
 use Rattle.journal_laws.specs.Moves.{header_of, plan_meaning}
@@ -68,7 +71,7 @@ use Rattle.client_node.specs.declared.planning.Planned.{Planned}
 use Rattle.client_node.specs.declared.waiting.Waiting.{Waiting}
 use Rattle.client_node.specs.Answering.{yours_in}
 use Rattle.client_node.specs.Answers.{record_at, held_at}
-use Rattle.client_node.specs.Placing.{HoldsRow, IsOfPosition}
+use Rattle.client_node.specs.Placing.{HoldsRow, IsNext, IsOfPosition}
 use Rattle.client_node.specs.Readied.{IsOfRow, IsReadied, IsIdleAt, IsIdle, Readies, taken_at}
 use Rattle.client_node.specs.Taking.{FitsTable, FitsClient}
 use Rattle.value_codec.specs.SchemaSpelling.{HasSchemaSpelling, IsChunkSize}
@@ -79,6 +82,10 @@ use Rattle.client_node.proofs.Shown.{there_shown}
 
 some_is : {X : Type 0} (x y : X) → Some x ≡ Some y → x ≡ y
 some_is x y is = cc
+
+both_true : (a b : Bool) → a && b ≡ true → (a ≡ true) × (b ≡ true)
+both_true true b h = (refl, h)
+both_true false b h = absurd cc
 
 -- ---- names by both lists
 
@@ -171,21 +178,30 @@ module _ (d : ClientDevs) (c : ℕ) (pulled : PullResponse) where
       header_is : q.header ≡ Some h
       header_is = ap (option_map table_header) has
 
-      -- it doesn't come next, or doesn't fit
-      pub pulled_other : (pulled.from ≡ found.position → fit_of found.schema header.content ≡ Ok tt → ⊥) → Readies d c (kinds.PullResponse pulled) None
+      -- whether it comes next
+      comes : (t : TableDisk) → comes_next q t h ≡ (pulled.from == t.position) && is_named t.schema.chunk header.content header.names
+      comes t = refl
+
+      -- it doesn't come next, or doesn't fit, or isn't named
+      pub pulled_other : (IsNext found pulled.from header → ⊥) → Readies d c (kinds.PullResponse pulled) None
       pulled_other other = record {
         none = λ _ w disk shape idle fit.
-            in_opened w disk idle shape ∙ (ap (λ (o : Option Header). pulled_taken c shape disk q (t w disk idle) o) header_is ∙ pick w disk idle shape (fits_now w disk idle (Some h) (subst (λ (o : Option Header). FitsTable (table_at (seen disk) pulled.table) o) header_is fit)) (pulled.from == (t w disk idle).position) refl);
+            in_opened w disk idle shape ∙ (ap (λ (o : Option Header). pulled_taken c shape disk q (t w disk idle) o) header_is ∙ pick w disk idle shape (fits_now w disk idle (Some h) (subst (λ (o : Option Header). FitsTable (table_at (seen disk) pulled.table) o) header_is fit)) (comes_next q (t w disk idle) h) refl);
         some = tt;
       }
         where
-          pick : (w : Waiting) (disk : ClientDisk) (idle : IsIdleAt d c w disk) (shape : Shape) → fit_of (t w disk idle).schema header.content ≡ Ok tt → (b : Bool) → (pulled.from == (t w disk idle).position) ≡ b
+          pick : (w : Waiting) (disk : ClientDisk) (idle : IsIdleAt d c w disk) (shape : Shape) → fit_of (t w disk idle).schema header.content ≡ Ok tt → (b : Bool) → comes_next q (t w disk idle) h ≡ b
               → pulled_taken c shape disk q (t w disk idle) (Some h) ≡ ignored disk
           pick w disk idle shape fit true is =
-              absurd (other (eqb-true pulled.from (t w disk idle).position is ∙ sym (opened_as w disk idle).2.position) (ap (λ (s : Schema). fit_of s header.content) (opened_as w disk idle).2.schema ∙ fit))
+              let both = both_true (pulled.from == (t w disk idle).position) (is_named (t w disk idle).schema.chunk header.content header.names) is in
+              absurd (other (record {
+                position = eqb-true pulled.from (t w disk idle).position both.0 ∙ sym (opened_as w disk idle).2.position;
+                fits = ap (λ (s : Schema). fit_of s header.content) (opened_as w disk idle).2.schema ∙ fit;
+                named = ap (λ (s : Schema). is_named s.chunk header.content header.names) (opened_as w disk idle).2.schema ∙ both.1;
+              }))
           pick w disk idle shape fit false is = ap (λ (b : Bool). if b then row_taken c shape disk q (t w disk idle) h (slots_at (t w disk idle) h.row) else ignored disk) is
 
-      module _ (from : pulled.from ≡ found.position) (fit : fit_of found.schema header.content ≡ Ok tt) where
+      module _ (from : pulled.from ≡ found.position) (fit : fit_of found.schema header.content ≡ Ok tt) (named : is_named found.schema.chunk header.content header.names ≡ true) where
         abbrev now : HeldSlots
         now = held_at d pulled.table header.row
 
@@ -193,11 +209,16 @@ module _ (d : ClientDevs) (c : ℕ) (pulled : PullResponse) where
           at_position : (pulled.from == (t w disk idle).position) ≡ true
           at_position = let same : pulled.from ≡ (t w disk idle).position = from ∙ (opened_as w disk idle).2.position in grind (arith, nat_tests)
 
+          comes_here : comes_next q (t w disk idle) h ≡ true
+          comes_here =
+              let named_here : is_named (t w disk idle).schema.chunk header.content header.names ≡ true = sym (ap (λ (s : Schema). is_named s.chunk header.content header.names) (opened_as w disk idle).2.schema) ∙ named in
+              ap (λ (b : Bool). b && is_named (t w disk idle).schema.chunk header.content header.names) at_position ∙ named_here
+
           -- the row is taken
           taken_step : (shape : Shape) → taken_at c (kinds.PullResponse pulled) shape disk ≡ row_taken c shape disk q (t w disk idle) h (slots_at (t w disk idle) header.row)
           taken_step shape =
               in_opened w disk idle shape ∙ (ap (λ (o : Option Header). pulled_taken c shape disk q (t w disk idle) o) header_is
-              ∙ ap (λ (b : Bool). if b then row_taken c shape disk q (t w disk idle) h (slots_at (t w disk idle) h.row) else ignored disk) at_position)
+              ∙ ap (λ (b : Bool). if b then row_taken c shape disk q (t w disk idle) h (slots_at (t w disk idle) h.row) else ignored disk) comes_here)
 
           its_fit : FitsClient disk (message_of (kinds.PullResponse pulled))
           its_fit =
@@ -288,7 +309,7 @@ module _ (d : ClientDevs) (c : ℕ) (pulled : PullResponse) where
         -- ---- a newer row
 
         module _ (newer : nat_le header.version (seen_in now.conflict now.shadow) ≡ false) (last : ℕ) (number_is : last ≡ (redone d).last) (held : HeldNew)
-            (holds : (meaning : LocalName → List ℕ) → AreThereIf meaning d (shown_content now) → HoldsRow found.schema.chunk (chunks_shown meaning (shown_content now)) header.content held) (words : HaveWords header.content) (wide : IsWord header.version) (wide_yours : IsWord header.yours.version)
+            (holds : (meaning : LocalName → List ℕ) → AreThereIf meaning d (shown_content now) → HoldsRow found.schema.chunk (chunks_shown meaning (shown_content now)) header.content header.names held) (words : HaveWords header.content) (spelled : AllByRecursion (AllByRecursion HasNameSpelling) header.names) (wide : IsWord header.version) (wide_yours : IsWord header.yours.version)
             (made : RowPlan) (is : IsRowPlanOf now (taken found.schema.scheme now (yours_in header.yours) (record { version = header.version; content = held.content })) held.brought made) (len : length header.row ≡ 16) (few : pulled.to < 2 ^ 64)
             (known : (scheme : Scheme) (slots : HeldSlots) (event : SlotEvent) (count : ℕ) → AreKnown slots count (names_with event) → AreKnown slots count (tree_names (slots_behind scheme slots event))) (planned : Planned)
             (o : IsOfRow c pulled.table header.row last (Some pulled.to) made (next_pull c pulled.table q) planned) where
@@ -311,7 +332,7 @@ module _ (d : ClientDevs) (c : ℕ) (pulled : PullResponse) where
             schema : HasSchemaSpelling found.schema
             schema = schema_spelled c d disk idle.stands idle.rests pulled.table header.row found opened w idle.steady
 
-            k : HoldsRow found.schema.chunk (chunks_shown idle.stands.0 (shown_content now)) header.content held
+            k : HoldsRow found.schema.chunk (chunks_shown idle.stands.0 (shown_content now)) header.content header.names held
             k = holds idle.stands.0 (there_shown idle.stands.0 d idle.stands.1.named pulled.table header.row now refl)
 
             shown : IsShownFit idle.stands.0 (d.journal.greatest + 1) (Some found) now.main now.shadow now.out now.conflict (shown_content now)
@@ -319,7 +340,7 @@ module _ (d : ClientDevs) (c : ℕ) (pulled : PullResponse) where
                 shown_fit idle.stands.0 (d.journal.greatest + 1) (Some found) now.main now.shadow now.out now.conflict (fit_here c d disk idle.stands idle.rests pulled.table header.row found opened) (older_now c d disk idle.stands idle.rests pulled.table header.row)
 
             content_fit : IsFitContent (plan_meaning idle.stands.0 (d.journal.greatest + 1) held.brought) (Some found) held.content
-            content_fit = new_fit idle.stands.0 (d.journal.greatest + 1) found (chunks_shown idle.stands.0 (shown_content now)) schema shown.are shown.spelled shown.once header.content held.content held.brought fit words k.against
+            content_fit = new_fit idle.stands.0 (d.journal.greatest + 1) found (chunks_shown idle.stands.0 (shown_content now)) header.names schema shown.are shown.spelled spelled shown.once header.content held.content held.brought fit words k.against
 
             puts : PutsRow found.schema.scheme now yours x (taken found.schema.scheme now yours x)
             puts = puts_row found.schema.scheme now yours x newer
@@ -339,7 +360,7 @@ module _ (d : ClientDevs) (c : ℕ) (pulled : PullResponse) where
             whole_means = whole_now c d disk idle.stands idle.rests pulled.table header.row held.brought ∙ ap (λ (y : Option TableDisk). slots_in y header.row) (opened_as w disk idle).1
 
             abbrev placed : Plan
-            placed = row_plan c disk pulled.table header.row pulled.to (row_placed found.schema.scheme c pulled.table (header_of means header.row yours x) (whole_slots means now) (whole_slots means now).out)
+            placed = row_plan c disk pulled.table header.row pulled.to (row_placed found.schema.scheme c pulled.table (header_of means header.row yours x header.names) (whole_slots means now) (whole_slots means now).out)
 
             made_of : IsOfRow c pulled.table header.row disk.last (Some pulled.to) made (next_pull c pulled.table q) planned
             made_of = subst (λ (n : ℕ). IsOfRow c pulled.table header.row n (Some pulled.to) made (next_pull c pulled.table q) planned) (number_is ∙ last_is c d disk idle.stands idle.rests) o
@@ -352,10 +373,10 @@ module _ (d : ClientDevs) (c : ℕ) (pulled : PullResponse) where
                 row_readied c d disk idle.stands idle.rests pulled.table header.row found opened w idle.steady found.schema.scheme (RowEvent yours x) held.brought (wide_yours, wide, content_fit) (k.lens idle.stands.0 (d.journal.greatest + 1) shown.are)
                 (known found.schema.scheme now (RowEvent yours x) (length held.brought) known_names) made is (Some pulled.to) few (next_pull c pulled.table q) planned made_of len
                 (λ ordinal less. subst (λ (y : HeldSlots). Has (names_in y) (brought_name ordinal)) same_behind (brings ordinal less)) (chunks_short found.schema.chunk held.brought schema.size k.small) placed refl refl refl puts.plain
-                (row_plans c means disk pulled.table header.row found.schema.scheme yours x now pulled.to newer)
+                (row_plans c means disk pulled.table header.row found.schema.scheme yours x header.names k.named now pulled.to newer)
 
-            header_same : header_of means header.row yours x ≡ h
-            header_same = ap (λ (y : Content). record { row = header.row; version = header.version; yours = record { number = header.yours.number; version = header.yours.version }; content = y }) (k.whole_is idle.stands.0 (d.journal.greatest + 1) shown.are)
+            header_same : header_of means header.row yours x header.names ≡ h
+            header_same = ap (λ (y : Content). record { row = header.row; version = header.version; yours = record { number = header.yours.number; version = header.yours.version }; content = y; names = header.names }) (k.whole_is idle.stands.0 (d.journal.greatest + 1) shown.are)
 
             placed_step : (shape : Shape) → taken_at c (kinds.PullResponse pulled) shape disk ≡ begun shape disk facts.Done placed (next_pull c pulled.table q)
             placed_step shape =
@@ -365,7 +386,7 @@ module _ (d : ClientDevs) (c : ℕ) (pulled : PullResponse) where
                 ∙ (ap (λ (b : Bool). if b then begun shape disk facts.Done (position_plan c disk pulled.table pulled.to) (next_pull c pulled.table q) else place (t w disk idle).schema.scheme h (slots_at (t w disk idle) header.row)) is_new
                 ∙ (ap (λ (s : Slots). place (t w disk idle).schema.scheme h s) (sym whole_means)
                 ∙ (ap (λ (y : Header). place (t w disk idle).schema.scheme y (whole_slots means now)) (sym header_same)
-                ∙ ap (λ (g : Scheme). place g (header_of means header.row yours x) (whole_slots means now)) (sym (ap (λ (s : Schema). s.scheme) (opened_as w disk idle).2.schema)))))
+                ∙ ap (λ (g : Scheme). place g (header_of means header.row yours x header.names) (whole_slots means now)) (sym (ap (λ (s : Schema). s.scheme) (opened_as w disk idle).2.schema)))))
 
           pub placed_readies : Readies d c (kinds.PullResponse pulled) (Some planned)
           placed_readies = record {
@@ -384,13 +405,17 @@ some_size n (inr (inr is)) = omega (arith, is)
 pub chunk_some : (d : ClientDevs) (c : ℕ) → IsIdle d c → (table : ℕ) (found : TableRecord) → record_at d table ≡ Some found → 0 < found.schema.chunk
 chunk_some d c idle table found opened = some_size found.schema.chunk (schema_spelled c d idle.disk idle.at.stands idle.at.rests table [] found opened idle.waiting idle.at.steady).size
 
-module _ (d : ClientDevs) (c : ℕ) (pulled : PullResponse) (found : TableRecord) (opened : record_at d pulled.table ≡ Some found) (header : RowHeader) (has : pulled.header ≡ Some header) (from : pulled.from ≡ found.position) (fit : fit_of found.schema header.content ≡ Ok tt) (slots : HeldSlots)
+-- a named content has a name for each chunk
+pub of_each : (size : ℕ) (content : Content) (names : List (List ChunkName)) → is_named size content names ≡ true → is_of_each size names (objects_of content) ≡ true
+of_each size content names is = (both_true (is_of_each size names (objects_of content)) (are_apart (flat names)) is).0
+
+module _ (d : ClientDevs) (c : ℕ) (pulled : PullResponse) (found : TableRecord) (opened : record_at d pulled.table ≡ Some found) (header : RowHeader) (has : pulled.header ≡ Some header) (next : IsNext found pulled.from header) (slots : HeldSlots)
     (here : slots ≡ held_at d pulled.table header.row) where
   pub moved_found : nat_le header.version (seen_in slots.conflict slots.shadow) ≡ true → (last : ℕ) → last ≡ (redone d).last → pulled.to < 2 ^ 64 → (o : Option Planned) → (o ≡ None → ⊥) → IfSome o (IsOfPosition c pulled.table last pulled.to (next_pull c pulled.table (pulled_of pulled)))
       → Readies d c (kinds.PullResponse pulled) o
   moved_found old last is few None none some = absurd (none refl)
   moved_found old last is few (Some planned) none some =
-      moved_readies d c pulled found opened header has from fit (ap (λ (s : HeldSlots). nat_le header.version (seen_in s.conflict s.shadow)) (sym here) ∙ old) planned (subst (λ (n : ℕ). IsOfPosition c pulled.table n pulled.to (next_pull c pulled.table (pulled_of pulled)) planned) is some) few
+      moved_readies d c pulled found opened header has next.position next.fits next.named (ap (λ (s : HeldSlots). nat_le header.version (seen_in s.conflict s.shadow)) (sym here) ∙ old) planned (subst (λ (n : ℕ). IsOfPosition c pulled.table n pulled.to (next_pull c pulled.table (pulled_of pulled)) planned) is some) few
 
   pub moved_result : nat_le header.version (seen_in slots.conflict slots.shadow) ≡ true → (last : ℕ) → last ≡ (redone d).last → (r : Result (Option Planned) CallFault) → OnOk r (pulled.to < 2 ^ 64) → IfOk r (λ o. o ≡ None → ⊥) → IfOk r (λ o. IfSome o (IsOfPosition c pulled.table last pulled.to (next_pull c pulled.table (pulled_of pulled))))
       → IfOk r (Readies d c (kinds.PullResponse pulled))
@@ -398,7 +423,7 @@ module _ (d : ClientDevs) (c : ℕ) (pulled : PullResponse) (found : TableRecord
   moved_result old last is (Err e) few none some = tt
 
   module _ (newer : nat_le header.version (seen_in slots.conflict slots.shadow) ≡ false) (last : ℕ) (number_is : last ≡ (redone d).last) (held : HeldNew)
-      (holds : (meaning : LocalName → List ℕ) → AreThereIf meaning d (shown_content slots) → HoldsRow found.schema.chunk (chunks_shown meaning (shown_content slots)) header.content held) (words : HaveWords header.content) (version : ℕ) (same_version : version ≡ header.version) (wide : IsWord header.version)
+      (holds : (meaning : LocalName → List ℕ) → AreThereIf meaning d (shown_content slots) → HoldsRow found.schema.chunk (chunks_shown meaning (shown_content slots)) header.content header.names held) (words : HaveWords header.content) (spelled : AllByRecursion (AllByRecursion HasNameSpelling) header.names) (version : ℕ) (same_version : version ≡ header.version) (wide : IsWord header.version)
       (row_yours : RowYours) (same_yours : row_yours ≡ yours_in header.yours) (wide_yours : row_yours.version < 2 ^ 64) (made : RowPlan) (is : IsRowPlanOf slots (taken found.schema.scheme slots row_yours (record { version = version; content = held.content })) held.brought made) (len : length header.row ≡ 16) (to : ℕ) (same_to : to ≡ pulled.to) (few : pulled.to < 2 ^ 64)
       (known : (scheme : Scheme) (slots : HeldSlots) (event : SlotEvent) (count : ℕ) → AreKnown slots count (names_with event) → AreKnown slots count (tree_names (slots_behind scheme slots event))) (sends : List Send) (sends_are : sends ≡ next_pull c pulled.table (pulled_of pulled)) where
     newest_row : nat_le header.version (seen_in (held_at d pulled.table header.row).conflict (held_at d pulled.table header.row).shadow) ≡ false
@@ -410,8 +435,8 @@ module _ (d : ClientDevs) (c : ℕ) (pulled : PullResponse) (found : TableRecord
         (subst (λ (y : RowYours). IsRowPlanOf slots (taken found.schema.scheme slots y (record { version = header.version; content = held.content })) held.brought made) same_yours
         (subst (λ (v : ℕ). IsRowPlanOf slots (taken found.schema.scheme slots row_yours (record { version = v; content = held.content })) held.brought made) same_version is))
 
-    holds_now : (meaning : LocalName → List ℕ) → AreThereIf meaning d (shown_content (held_at d pulled.table header.row)) → HoldsRow found.schema.chunk (chunks_shown meaning (shown_content (held_at d pulled.table header.row))) header.content held
-    holds_now meaning = subst (λ (s : HeldSlots). AreThereIf meaning d (shown_content s) → HoldsRow found.schema.chunk (chunks_shown meaning (shown_content s)) header.content held) here (holds meaning)
+    holds_now : (meaning : LocalName → List ℕ) → AreThereIf meaning d (shown_content (held_at d pulled.table header.row)) → HoldsRow found.schema.chunk (chunks_shown meaning (shown_content (held_at d pulled.table header.row))) header.content header.names held
+    holds_now meaning = subst (λ (s : HeldSlots). AreThereIf meaning d (shown_content s) → HoldsRow found.schema.chunk (chunks_shown meaning (shown_content s)) header.content header.names held) here (holds meaning)
 
     -- a newer row changes its slots
     changes : (taken found.schema.scheme slots row_yours (record { version = version; content = held.content })).slots ≡ None → {P : Type 0} → P
@@ -423,5 +448,5 @@ module _ (d : ClientDevs) (c : ℕ) (pulled : PullResponse) (found : TableRecord
     pub placed_found : (o : Option Planned) → (o ≡ None → made.change.slots ≡ None) → IfSome o (IsOfRow c pulled.table header.row last (Some to) made sends) → Readies d c (kinds.PullResponse pulled) o
     placed_found None none some = changes (ap (λ (y : Change). y.slots) (sym is.change) ∙ none refl)
     placed_found (Some planned) none some =
-        placed_readies d c pulled found opened header has from fit newest_row last number_is held holds_now words wide (subst (λ (y : RowYours). y.version < 2 ^ 64) same_yours wide_yours) made is_now len few known planned
+        placed_readies d c pulled found opened header has next.position next.fits next.named newest_row last number_is held holds_now words spelled wide (subst (λ (y : RowYours). y.version < 2 ^ 64) same_yours wide_yours) made is_now len few known planned
         (subst (λ (n : ℕ). IsOfRow c pulled.table header.row last (Some n) made (next_pull c pulled.table (pulled_of pulled)) planned) same_to (subst (λ (l : List Send). IsOfRow c pulled.table header.row last (Some to) made l planned) sends_are some))

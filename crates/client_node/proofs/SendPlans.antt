@@ -5,6 +5,7 @@ use Rattle.std.specs.List.{AllByRecursion}
 use Rattle.field_codec.specs.Forms.{AreEach}
 use Rattle.row_value.specs.declared.content.Content.{Content}
 use Rattle.row_value.specs.declared.pieces.Piece.{Piece}
+use Rattle.row_value.specs.declared.schema.Schema.{Schema}
 use Rattle.row_value.specs.declared.schema.Scheme.{Scheme}
 use Rattle.row_value.specs.declared.schema.Scheme.TheVariants.{Eventual}
 use Rattle.value_codec.specs.Spelling.{HasPieceSpelling}
@@ -32,15 +33,12 @@ use Rattle.client_journal.specs.Plan.{no_id}
 use Rattle.client_journal.specs.Redone.{redone}
 use Rattle.client_journal.specs.There.{repeats}
 use Rattle.client_journal.proofs.Wholes.{has_left}
-use Rattle.step_tables.specs.declared.slots.InFlight.{InFlight}
-use Rattle.step_tables.specs.declared.slots.Main.{Main}
-use Rattle.step_tables.specs.declared.slots.Shadow.{Shadow}
-use Rattle.step_tables.specs.Client.{version_in}
+use Rattle.step_tables.specs.Slots.{InFlight}
 use Rattle.step_tables.specs.Messages.{Send}
-use Rattle.step_tables.specs.ClientMoves.{Slots, RowOut, TableDisk, Plan, ClientDisk, table_at, slots_in, slots_at, to_send, send_plan, request_for, out_of}
+use Rattle.step_tables.specs.ClientMoves.{Slots, RowOut, TableDisk, ClientDisk, table_at, slots_in, slots_at, to_send, row_out, spelled, send_plan, request_for, out_of}
 use Rattle.journal_laws.specs.Holds.{empty}
-use Rattle.journal_laws.specs.Moves.{PlansChange, plan_meaning}
-use Rattle.journal_laws.specs.Whole.{whole, whole_main, whole_shadow, whole_slots}
+use Rattle.journal_laws.specs.Moves.{Spells, plan_meaning}
+use Rattle.journal_laws.specs.Whole.{whole, whole_main, whole_shadow, whole_slots, pieces_by}
 use Rattle.journal_laws.proofs.Transitions.{send_plans}
 use Rattle.held_contents.specs.Holding.{names_shown}
 use Rattle.held_contents.specs.Reading.{AreThere, AreThereIf, chunks_in}
@@ -55,9 +53,12 @@ use Rattle.client_node.specs.declared.waiting.Waiting.{Waiting}
 use Rattle.client_node.specs.Answers.{record_at, held_at}
 use Rattle.client_node.specs.Readied.{IsOfRow, IsReadied, IsIdleAt, IsIdle}
 use Rattle.client_node.specs.Requesting.{request_with}
+use Rattle.client_node.specs.Spelling.{SpellsContent, IsFewChunks}
 use Rattle.client_node.specs.Syncing.{IsSendOf}
+use Rattle.client_node.proofs.Looked.{some_size}
 use Rattle.client_node.proofs.RowReady.{IsPlain, opened_now, whole_now, whole_here, last_is, fit_here, steady_here, schema_spelled, row_readied}
 use Rattle.client_node.proofs.Shown.{there_shown}
+use Rattle.client_node.proofs.SpelledRows.{main_same, main_chunks, main_spells, main_count}
 
 -- ---- a content has few chunks
 
@@ -123,14 +124,16 @@ plain_sent slots pieces (Some main) = tt
 some_is : {X : Type 0} (x y : X) → Some x ≡ Some y → x ≡ y
 some_is x y is = cc
 
--- the request of Main is that of what is sent
-main_request : (meaning : LocalName → List ℕ) (c table : ℕ) (row : List ℕ) (m : HeldMain) (s : Option HeldShadow) (o : Option HeldOut) (k : Option HeldShadow) (out : InFlight)
+-- the request of Main, so spelled, is that of what is sent
+main_request : (meaning : LocalName → List ℕ) (c table : ℕ) (row : List ℕ) (size : ℕ) (m : HeldMain) (s : Option HeldShadow) (o : Option HeldOut) (k : Option HeldShadow) (pieces : List Piece) → Spells meaning size s m.content pieces → (out : InFlight)
     → (let w = whole_slots meaning (record { main = Some m; shadow = s; out = o; conflict = k }) in to_send w w.out w.main w.conflict ≡ Some out)
-    → request_with c table row m.number (held_version s) (whole meaning m.content) ≡ request_for c table row out
-main_request meaning c table row m s (Some waits) k out is = absurd cc
-main_request meaning c table row m s None (Some x) out is = absurd cc
-main_request meaning c table row m None None None out is = ap (request_for c table row) (some_is (out_of (whole_main meaning m) 0) out is)
-main_request meaning c table row m (Some shadow) None None out is = ap (request_for c table row) (some_is (out_of (whole_main meaning m) shadow.version) out is)
+    → request_with c table row m.number (held_version s) (whole meaning m.content) (pieces_by m.content pieces) ≡ request_for c table row (spelled size (option_map (whole_shadow meaning) s) out)
+main_request meaning c table row size m s (Some waits) k pieces spells out is = absurd cc
+main_request meaning c table row size m s None (Some x) pieces spells out is = absurd cc
+main_request meaning c table row size m None None None pieces spells out is =
+    ap (request_with c table row m.number 0 (whole meaning m.content)) spells ∙ ap (λ (x : InFlight). request_for c table row (spelled size None x)) (some_is (out_of (whole_main meaning m) 0) out is)
+main_request meaning c table row size m (Some shadow) None None pieces spells out is =
+    ap (request_with c table row m.number shadow.version (whole meaning m.content)) spells ∙ ap (λ (x : InFlight). request_for c table row (spelled size (Some (whole_shadow meaning shadow)) x)) (some_is (out_of (whole_main meaning m) shadow.version) out is)
 
 module _ (d : ClientDevs) (c table : ℕ) (row : List ℕ) (found : TableRecord) (opened : record_at d table ≡ Some found) (main : HeldMain) (main_is : (held_at d table row).main ≡ Some main) where
   abbrev now : HeldSlots
@@ -141,87 +144,128 @@ module _ (d : ClientDevs) (c table : ℕ) (row : List ℕ) (found : TableRecord)
   pub main_there : (w : Waiting) (disk : ClientDisk) (idle : IsIdleAt d c w disk) → AreThere idle.stands.0 d main.content
   main_there w disk idle = subst (λ (o : Option HeldContent). AreThereIf idle.stands.0 d o) (ap (λ (o : Option HeldMain). content_by o now.shadow) main_is) (there_shown idle.stands.0 d idle.stands.1.named table row now refl)
 
-  pub main_few : (w : Waiting) (disk : ClientDisk) → IsIdleAt d c w disk → length (names_of main.content) < 2 ^ 32
+  schema_here : (w : Waiting) (disk : ClientDisk) → IsIdleAt d c w disk → HasSchemaSpelling found.schema
+  schema_here w disk idle = schema_spelled c d disk idle.stands idle.rests table row found opened w idle.steady
+
+  sized : (w : Waiting) (disk : ClientDisk) → IsIdleAt d c w disk → 0 < found.schema.chunk
+  sized w disk idle = some_size found.schema.chunk (schema_here w disk idle).size
+
+  main_few : (w : Waiting) (disk : ClientDisk) → IsIdleAt d c w disk → length (names_of main.content) < 2 ^ 32
   main_few w disk idle =
-      few_names idle.stands.0 found (schema_spelled c d disk idle.stands idle.rests table row found opened w idle.steady) main now.shadow now.out now.conflict
+      few_names idle.stands.0 found (schema_here w disk idle) main now.shadow now.out now.conflict
       (subst (λ (o : Option HeldMain). IsFitRow idle.stands.0 (Some found) (record { main = o; shadow = now.shadow; out = now.out; conflict = now.conflict })) main_is (fit_here c d disk idle.stands idle.rests table row found opened))
 
-  module _ (last : ℕ) (number_is : last ≡ (redone d).last) (pieces : List Piece) (pieces_fit : AreFitPieces main.content pieces) (made : RowPlan) (is : IsRowPlanOf now (sent now pieces) [] made) (len : length row ≡ 16)
+  pub few_chunks : IsIdle d c → IsFewChunks d found.schema.chunk main.content
+  few_chunks i =
+      let count = main_chunks c d i.disk i.at.stands i.at.rests table row found opened (sized i.waiting i.disk i.at) main main_is in
+      record {
+        meaning = i.at.stands.0;
+        there = main_there i.waiting i.disk i.at;
+        few = subst (λ (n : ℕ). n < 2 ^ 32) (sym count) (main_few i.waiting i.disk i.at);
+      }
+
+  pub some_chunk : IsIdle d c → 0 < found.schema.chunk
+  some_chunk i = sized i.waiting i.disk i.at
+
+  module _ (last : ℕ) (number_is : last ≡ (redone d).last) (content : Content) (content_is : (meaning : LocalName → List ℕ) → AreThere meaning d main.content → content ≡ whole meaning main.content) (pieces : List Piece) (spells : SpellsContent d found.schema.chunk now.shadow content pieces)
+      (made : RowPlan) (is : IsRowPlanOf now (sent now pieces) [] made) (len : length row ≡ 16)
       (known : (scheme : Scheme) (slots : HeldSlots) (event : SlotEvent) (count : ℕ) → AreKnown slots count (names_with event) → AreKnown slots count (tree_names (slots_behind scheme slots event))) (request : Send)
-      (request_is : (meaning : LocalName → List ℕ) → AreThere meaning d main.content → request ≡ request_with c table row main.number (held_version now.shadow) (whole meaning main.content)) (planned : Planned) (o : IsOfRow c table row last None made (request ∷ []) planned) where
+      (request_is : request ≡ request_with c table row main.number (held_version now.shadow) content (pieces_by main.content pieces)) (planned : Planned) (o : IsOfRow c table row last None made (request ∷ []) planned) where
     module _ (w : Waiting) (disk : ClientDisk) (idle : IsIdleAt d c w disk) where
       abbrev means : LocalName → List ℕ
       means = plan_meaning idle.stands.0 (d.journal.greatest + 1) []
 
+      abbrev size : ℕ
+      size = found.schema.chunk
+
       whole_is : whole_slots means now ≡ slots_in (table_at disk table) row
       whole_is = whole_now c d disk idle.stands idle.rests table row []
 
+      content_here : content ≡ whole idle.stands.0 main.content
+      content_here = content_is idle.stands.0 (main_there w disk idle)
+
+      spells_main : Spells means found.schema.chunk now.shadow main.content pieces
+      spells_main = main_spells c d disk idle.stands idle.rests table row found opened (sized w disk idle) main main_is content content_here pieces spells
+
+      count : length pieces ≡ length (names_of main.content)
+      count = main_count c d disk idle.stands idle.rests table row found opened (sized w disk idle) main main_is content content_here pieces spells
+
       event_fits : IfSome now.main (λ main. AreFitPieces main.content pieces)
-      event_fits = subst (λ (o : Option HeldMain). IfSome o (λ main. AreFitPieces main.content pieces)) (sym main_is) pieces_fit
+      event_fits = subst (λ (o : Option HeldMain). IfSome o (λ main. AreFitPieces main.content pieces)) (sym main_is) (record { count = count; spelled = spells.spelled })
 
       event_holds : IfSome now.main (λ main. length pieces ≡ length (names_of main.content))
-      event_holds = subst (λ (o : Option HeldMain). IfSome o (λ main. length pieces ≡ length (names_of main.content))) (sym main_is) pieces_fit.count
+      event_holds = subst (λ (o : Option HeldMain). IfSome o (λ main. length pieces ≡ length (names_of main.content))) (sym main_is) count
+
+      event_spells : IfSome now.main (λ main. Spells means found.schema.chunk now.shadow main.content pieces)
+      event_spells = subst (λ (o : Option HeldMain). IfSome o (λ main. Spells means found.schema.chunk now.shadow main.content pieces)) (sym main_is) spells_main
 
       -- where this is to be sent
-      readied_here : (out : InFlight) → to_send (whole_slots means now) (whole_slots means now).out (whole_slots means now).main (whole_slots means now).conflict ≡ Some out
-          → IsReadied d c idle.stands.0 disk planned (send_plan disk table (record { row = row; slots = whole_slots means now; out = out })) (request ∷ [])
+      abbrev IsReadiedSo : ℕ → Slots → List ℕ → InFlight → Send → Type 0
+      IsReadiedSo n s r out q = IsReadied d c idle.stands.0 disk planned (send_plan disk table (row_out n (record { row = r; slots = s; out = out }))) (q ∷ [])
+
+      readied_here : (out : InFlight) → to_send (whole_slots means now) (whole_slots means now).out (whole_slots means now).main (whole_slots means now).conflict ≡ Some out → IsReadiedSo size (whole_slots means now) row out request
       readied_here out sends =
           let last_now : last ≡ disk.last = number_is ∙ last_is c d disk idle.stands idle.rests in
           let made_of : IsOfRow c table row disk.last None made (request ∷ []) planned = subst (λ (n : ℕ). IsOfRow c table row n None made (request ∷ []) planned) last_now o in
           row_readied c d disk idle.stands idle.rests table row found opened w idle.steady Eventual (SendEvent pieces) [] event_fits event_holds (known Eventual now (SendEvent pieces) 0 (λ name has. absurd cc)) made is None tt (request ∷ []) planned made_of len
-          (λ ordinal less. absurd (omega (arith, less))) tt (send_plan disk table (record { row = row; slots = whole_slots means now; out = out })) refl refl refl (plain_sent now pieces now.main)
-          (send_plans c means disk table row now.main now.shadow now.out now.conflict pieces out sends)
+          (λ ordinal less. absurd (omega (arith, less))) tt (send_plan disk table (row_out size (record { row = row; slots = whole_slots means now; out = out }))) refl refl refl (plain_sent now pieces now.main)
+          (send_plans c means disk table row size now.main now.shadow now.out now.conflict pieces out sends event_spells)
 
-      request_now : (out : InFlight) → to_send (whole_slots means now) (whole_slots means now).out (whole_slots means now).main (whole_slots means now).conflict ≡ Some out → request ≡ request_for c table row out
+      request_now : (out : InFlight) → to_send (whole_slots means now) (whole_slots means now).out (whole_slots means now).main (whole_slots means now).conflict ≡ Some out → request ≡ request_for c table row (spelled size (whole_slots means now).shadow out)
       request_now out sends =
-          let wholes : whole_slots means now ≡ whole_slots idle.stands.0 now = whole_is ∙ sym (whole_here c d disk idle.stands idle.rests table row) in
-          let there : request ≡ request_with c table row main.number (held_version now.shadow) (whole idle.stands.0 main.content) = request_is idle.stands.0 (main_there w disk idle) in
-          let sends_here : to_send (whole_slots idle.stands.0 now) (whole_slots idle.stands.0 now).out (whole_slots idle.stands.0 now).main (whole_slots idle.stands.0 now).conflict ≡ Some out =
-          subst (λ (s : Slots). to_send s s.out s.main s.conflict ≡ Some out) wholes sends in
-          let split : (let x = whole_slots idle.stands.0 (record { main = Some main; shadow = now.shadow; out = now.out; conflict = now.conflict }) in to_send x x.out x.main x.conflict ≡ Some out) =
-          subst (λ (m : Option HeldMain). let x = whole_slots idle.stands.0 (record { main = m; shadow = now.shadow; out = now.out; conflict = now.conflict }) in to_send x x.out x.main x.conflict ≡ Some out) main_is sends_here in
-          there ∙ main_request idle.stands.0 c table row main now.shadow now.out now.conflict out split
+          let here : content ≡ whole means main.content = content_here ∙ main_same c d disk idle.stands idle.rests table row found opened (sized w disk idle) main main_is in
+          let split : (let x = whole_slots means (record { main = Some main; shadow = now.shadow; out = now.out; conflict = now.conflict }) in to_send x x.out x.main x.conflict ≡ Some out) =
+          subst (λ (m : Option HeldMain). let x = whole_slots means (record { main = m; shadow = now.shadow; out = now.out; conflict = now.conflict }) in to_send x x.out x.main x.conflict ≡ Some out) main_is sends in
+          request_is ∙ (ap (λ (x : Content). request_with c table row main.number (held_version now.shadow) x (pieces_by main.content pieces)) here
+          ∙ main_request means c table row size main now.shadow now.out now.conflict pieces spells_main out split)
+
+      -- the table on the disk has chunks of the same size
+      size_is : (t : TableDisk) → table_at disk table ≡ Some t → found.schema.chunk ≡ t.schema.chunk
+      size_is t at =
+          let there = opened_now c d disk idle.stands idle.rests table found opened in
+          ap (λ (x : Schema). x.chunk) there.2.schema ∙ ap (λ (x : TableDisk). x.schema.chunk) (some_is there.0 t (sym there.1 ∙ at))
+
+      send_here : (t : TableDisk) → table_at disk table ≡ Some t → (x : RowOut) → x.row ≡ row → x.slots ≡ slots_at t row → to_send x.slots x.slots.out x.slots.main x.slots.conflict ≡ Some x.out
+          → IsReadied d c idle.stands.0 disk planned (send_plan disk table (row_out t.schema.chunk x)) (request_for c table row (row_out t.schema.chunk x).out ∷ [])
+      send_here t at x row_is slots_is sends =
+          let wholes : whole_slots means now ≡ x.slots = whole_is ∙ (ap (λ (o : Option TableDisk). slots_in o row) at ∙ sym slots_is) in
+          let here : to_send (whole_slots means now) (whole_slots means now).out (whole_slots means now).main (whole_slots means now).conflict ≡ Some x.out =
+          subst (λ (s : Slots). to_send s s.out s.main s.conflict ≡ Some x.out) (sym wholes) sends in
+          subst (λ (n : ℕ). IsReadiedSo n x.slots x.row x.out (request_for c table row (spelled n x.slots.shadow x.out))) (size_is t at)
+          (subst (λ (r : List ℕ). IsReadiedSo size x.slots r x.out (request_for c table row (spelled size x.slots.shadow x.out))) (sym row_is)
+          (subst (λ (s : Slots). IsReadiedSo size s row x.out (request_for c table row (spelled size s.shadow x.out))) wholes
+          (subst (λ (q : Send). IsReadiedSo size (whole_slots means now) row x.out q) (request_now x.out here) (readied_here x.out here))))
 
     pub is_send : IsSendOf d c table row (Some planned)
-    is_send = record {
-      some = λ none. cc;
-      plan = λ w disk idle x row_is slots_is sends.
-          let wholes : whole_slots (means w disk idle) now ≡ x.slots = whole_is w disk idle ∙ sym slots_is in
-          let here : to_send (whole_slots (means w disk idle) now) (whole_slots (means w disk idle) now).out (whole_slots (means w disk idle) now).main (whole_slots (means w disk idle) now).conflict ≡ Some x.out =
-          subst (λ (s : Slots). to_send s s.out s.main s.conflict ≡ Some x.out) (sym wholes) sends in
-          subst (λ (l : List Send). IsReadied d c idle.stands.0 disk planned (send_plan disk table x) l) (ap (λ (q : Send). q ∷ []) (request_now w disk idle x.out here))
-          (subst (λ (r : List ℕ). IsReadied d c idle.stands.0 disk planned (send_plan disk table (record { row = r; slots = x.slots; out = x.out })) (request ∷ [])) (sym row_is)
-          (subst (λ (s : Slots). IsReadied d c idle.stands.0 disk planned (send_plan disk table (record { row = row; slots = s; out = x.out })) (request ∷ [])) wholes (readied_here w disk idle x.out here)));
-    }
+    is_send = record { some = λ none. cc; plan = λ w disk idle t at x row_is slots_is sends. send_here w disk idle t at x row_is slots_is sends }
 
 -- ---- of what is found
 
-some_there : {X : Type 0} (o : Option X) → IsSome o → (x : X) × (o ≡ Some x)
-some_there None is = absurd cc
-some_there (Some x) is = (x, refl)
-
-module _ (d : ClientDevs) (c table : ℕ) (row : List ℕ) (opened : IsSome (record_at d table)) (slots : HeldSlots) (here : slots ≡ held_at d table row) (main : HeldMain) (main_is : slots.main ≡ Some main) where
+module _ (d : ClientDevs) (c table : ℕ) (row : List ℕ) (found : TableRecord) (opened : record_at d table ≡ Some found) (slots : HeldSlots) (here : slots ≡ held_at d table row) (main : HeldMain) (main_is : slots.main ≡ Some main) where
   main_now : (held_at d table row).main ≡ Some main
   main_now = ap (λ (s : HeldSlots). s.main) (sym here) ∙ main_is
 
-  pub few_chunks : IsIdle d c → length (names_of main.content) < 2 ^ 32
-  few_chunks idle = let f = some_there (record_at d table) opened in main_few d c table row f.0 f.1 main main_now idle.waiting idle.disk idle.at
+  pub few_there : IsIdle d c → IsFewChunks d found.schema.chunk main.content
+  few_there idle = few_chunks d c table row found opened main main_now idle
+
+  pub some_sized : IsIdle d c → 0 < found.schema.chunk
+  some_sized idle = some_chunk d c table row found opened main main_now idle
 
   changes_some : (pieces : List Piece) → IsSome (sent slots pieces).slots
   changes_some pieces = subst (λ (o : Option HeldMain). IsSome (sent_main slots pieces o).slots) (sym main_is) refl
 
-  pub sending_is : (last : ℕ) → last ≡ (redone d).last → (pieces : List Piece) → length pieces ≡ length (names_of main.content) → AreEach HasPieceSpelling pieces → (made : RowPlan) → IsRowPlanOf slots (sent slots pieces) [] made → length row ≡ 16
+  pub sending_is : (last : ℕ) → last ≡ (redone d).last → (content : Content) → ((meaning : LocalName → List ℕ) → AreThere meaning d main.content → content ≡ whole meaning main.content) → (pieces : List Piece) → SpellsContent d found.schema.chunk slots.shadow content pieces
+      → (made : RowPlan) → IsRowPlanOf slots (sent slots pieces) [] made → length row ≡ 16
       → ((scheme : Scheme) (slots : HeldSlots) (event : SlotEvent) (count : ℕ) → AreKnown slots count (names_with event) → AreKnown slots count (tree_names (slots_behind scheme slots event))) → (request : Send)
-      → ((meaning : LocalName → List ℕ) → AreThere meaning d main.content → request ≡ request_with c table row main.number (held_version slots.shadow) (whole meaning main.content)) → (sends : List Send) → sends ≡ request ∷ [] → (o : Option Planned) → (o ≡ None → made.change.slots ≡ None)
+      → request ≡ request_with c table row main.number (held_version slots.shadow) content (pieces_by main.content pieces) → (sends : List Send) → sends ≡ request ∷ [] → (o : Option Planned) → (o ≡ None → made.change.slots ≡ None)
       → IfSome o (IsOfRow c table row last None made sends) → IsSendOf d c table row o
-  sending_is last number_is pieces count spelled made is len known request request_is sends sends_are None none some =
+  sending_is last number_is content content_is pieces spells made is len known request request_is sends sends_are None none some =
       let no : (sent slots pieces).slots ≡ None = ap (λ (x : Change). x.slots) (sym is.change) ∙ none refl in
       let wrong : IsSome {T = HeldSlots} None = subst (λ (o : Option HeldSlots). IsSome o) no (changes_some pieces) in
       absurd cc
-  sending_is last number_is pieces count spelled made is len known request request_is sends sends_are (Some planned) none some =
-      let f = some_there (record_at d table) opened in
-      is_send d c table row f.0 f.1 main main_now last number_is pieces (record { count = count; spelled = spelled }) made (subst (λ (s : HeldSlots). IsRowPlanOf s (sent s pieces) [] made) here is) len known request
-      (λ meaning there. request_is meaning there ∙ ap (λ (s : HeldSlots). request_with c table row main.number (held_version s.shadow) (whole meaning main.content)) here) planned (subst (λ (l : List Send). IsOfRow c table row last None made l planned) sends_are some)
+  sending_is last number_is content content_is pieces spells made is len known request request_is sends sends_are (Some planned) none some =
+      is_send d c table row found opened main main_now last number_is content content_is pieces (subst (λ (s : HeldSlots). SpellsContent d found.schema.chunk s.shadow content pieces) here spells) made (subst (λ (s : HeldSlots). IsRowPlanOf s (sent s pieces) [] made) here is) len known request
+      (request_is ∙ ap (λ (s : HeldSlots). request_with c table row main.number (held_version s.shadow) content (pieces_by main.content pieces)) here) planned (subst (λ (l : List Send). IsOfRow c table row last None made l planned) sends_are some)
 
 -- a row without a write has nothing to send
 pub cannot_send : (slots : HeldSlots) {P : Type 0} → slots.main ≡ None → can_send slots ≡ true → P

@@ -17,7 +17,7 @@ use Rattle.client_tables.specs.Transitions.{can_send}
 use Rattle.client_journal.specs.declared.devs.Journal.{Journal}
 use Rattle.client_journal.specs.Devs.{ClientDevs}
 use Rattle.client_journal.specs.Standing.{devs}
-use Rattle.step_tables.specs.declared.slots.InFlight.{InFlight}
+use Rattle.step_tables.specs.Slots.{InFlight}
 use Rattle.step_tables.specs.Messages.{Send}
 use Rattle.step_tables.specs.ClientMoves.{Slots, RowOut, TableDisk, no_slots, slots_at, request_for, resent, to_send, or_later, first_to_send}
 use Rattle.journal_laws.specs.Holds.{slots_or_empty}

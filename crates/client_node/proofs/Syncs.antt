@@ -1,6 +1,6 @@
 -- A synchronization of a table is that of the step table.
 use Rattle.std.proofs.Common.{◌≡◌, ◌⊎◌, ⊎_elim, ℕ, ◌+◌, ◌++◌, Bool, true, false, List, [], ◌∷◌, length, Option, Some, None, Result, Ok, Err, refl, sym, ◌∙◌, ap, subst, arith}
-use Rattle.std.specs.Prelude.{◌<◌, ◌^◌, map, IfSome, IsSome, IfOk, IfErr, OnOk, IsErrOf}
+use Rattle.std.specs.Prelude.{◌<◌, ◌^◌, map, option_map, IfSome, IsSome, IfOk, IfErr, OnOk, IsErrOf}
 use Rattle.disk_trait.specs.Calls.{DiskState}
 use Rattle.held_value.specs.declared.local_name.LocalName.{LocalName}
 use Rattle.held_value.specs.declared.slots.Slots.{Slots as HeldSlots}
@@ -13,7 +13,7 @@ use Rattle.client_journal.specs.Standing.{devs, writes_of}
 use Rattle.step_tables.specs.Facts.{Answer, Refusal}
 use Rattle.step_tables.specs.Facts as facts
 use Rattle.step_tables.specs.Messages.{Send}
-use Rattle.step_tables.specs.ClientMoves.{TableDisk, Plan, ClientDisk, ClientTask, ClientStep, RowOut, Slots, Shape, Sync, table_at, slots_in, seen, begun, quiet, request_for, send_plan, first_to_send, resent, to_send, sync_first, sync_in, sync_step, is_before_link}
+use Rattle.step_tables.specs.ClientMoves.{TableDisk, Plan, ClientDisk, ClientTask, ClientStep, RowOut, Slots, Shape, Sync, table_at, slots_at, slots_in, seen, begun, quiet, request_for, send_plan, row_out, first_to_send, resent, to_send, sync_first, sync_in, sync_step, is_before_link}
 use Rattle.step_tables.specs.Travels.{send_of}
 use Rattle.journal_laws.specs.Holds.{IsRecordOf}
 use Rattle.journal_laws.specs.Whole.{whole_slots}
@@ -61,10 +61,14 @@ module _ {D : Type 0} (state : D → DiskState) (client : Journal D) (c table : 
     found_now : AreFound idle.stands.0 d table (first_ready d table ready) (first_to_send t.rows)
     found_now = first_found state client c table idle.stands.0 waiting t steady same (slots_here c d disk idle.stands idle.rests table) ready b
 
-    step_now : (shape : Shape) → sync_step c shape disk (Some []) table ≡ sync_first c shape disk table (again_of synced) (first_to_send t.rows)
+    -- with its chunks spelled
+    abbrev spelled_out : Option RowOut → Option RowOut
+    spelled_out o = option_map (row_out t.schema.chunk) o
+
+    step_now : (shape : Shape) → sync_step c shape disk (Some []) table ≡ sync_first c shape disk table (again_of synced) (spelled_out (first_to_send t.rows))
     step_now shape =
         ap (λ (x : ClientDisk). sync_in c shape disk [] table (table_at x table)) (seen_is c d disk idle.stands idle.rests)
-        ∙ (ap (λ (o : Option TableDisk). sync_in c shape disk [] table o) opened_as.1 ∙ ap (λ (l : List Send). sync_first c shape disk table l (first_to_send t.rows)) (sym again_now))
+        ∙ (ap (λ (o : Option TableDisk). sync_in c shape disk [] table o) opened_as.1 ∙ ap (λ (l : List Send). sync_first c shape disk table l (spelled_out (first_to_send t.rows))) (sym again_now))
 
     -- no row has something to send
     none_next : (f : Option (List ℕ × HeldSlots)) (y : Option RowOut) → IsNextOf (devs state client) c table f synced.next → AreFound idle.stands.0 d table f y → synced.next ≡ None → y ≡ None
@@ -74,18 +78,18 @@ module _ {D : Type 0} (state : D → DiskState) (client : Journal D) (c table : 
     none_next (Some first) (Some x) n k none = absurd (n.some none)
 
     some_next : (planned : Planned) (f : Option (List ℕ × HeldSlots)) (y : Option RowOut) → IsNextOf (devs state client) c table f (Some planned) → AreFound idle.stands.0 d table f y
-        → (x : RowOut) × (y ≡ Some x) × IsReadied (devs state client) c idle.stands.0 disk planned (send_plan disk table x) (request_for c table x.row x.out ∷ [])
+        → (x : RowOut) × (y ≡ Some x) × IsReadied (devs state client) c idle.stands.0 disk planned (send_plan disk table (row_out t.schema.chunk x)) (request_for c table x.row (row_out t.schema.chunk x).out ∷ [])
     some_next planned None y n k = absurd cc
     some_next planned (Some first) None n k = absurd k
     some_next planned (Some first) (Some x) n k =
-        let slots : x.slots ≡ slots_in (table_at disk table) first.0 = k.slots_is ∙ (ap (λ (h : HeldSlots). whole_slots idle.stands.0 h) k.held_is ∙ whole_here c d disk idle.stands idle.rests table first.0) in
-        let r = n.plan waiting disk idle x k.row_is slots (ap (λ (s : Slots). to_send s s.out s.main s.conflict) k.slots_is ∙ k.sends) in
-        (x, refl, subst (λ (q : List ℕ). IsReadied (devs state client) c idle.stands.0 disk planned (send_plan disk table x) (request_for c table q x.out ∷ [])) (sym k.row_is) r)
+        let slots : x.slots ≡ slots_at t first.0 = k.slots_is ∙ (ap (λ (h : HeldSlots). whole_slots idle.stands.0 h) k.held_is ∙ same first.0) in
+        let r = n.plan waiting disk idle t opened_as.1 x k.row_is slots (ap (λ (s : Slots). to_send s s.out s.main s.conflict) k.slots_is ∙ k.sends) in
+        (x, refl, subst (λ (q : List ℕ). IsReadied (devs state client) c idle.stands.0 disk planned (send_plan disk table (row_out t.schema.chunk x)) (request_for c table q (row_out t.schema.chunk x).out ∷ [])) (sym k.row_is) r)
 
   pub syncs : Syncs (devs state client) c table waiting synced
   syncs = record {
     none = λ none disk shape idle.
-        step_now disk idle shape ∙ ap (λ (o : Option RowOut). sync_first c shape disk table (again_of synced) o) (none_next disk idle (first_ready d table ready) (first_to_send (t disk idle).rows) next (found_now disk idle) none);
+        step_now disk idle shape ∙ ap (λ (o : Option RowOut). sync_first c shape disk table (again_of synced) (spelled_out disk idle o)) (none_next disk idle (first_ready d table ready) (first_to_send (t disk idle).rows) next (found_now disk idle) none);
     some = pick synced.next refl;
   }
     where
@@ -95,7 +99,7 @@ module _ {D : Type 0} (state : D → DiskState) (client : Journal D) (c table : 
       pick None is = tt
       pick (Some planned) is = λ disk idle.
           let n = some_next disk idle planned (first_ready d table ready) (first_to_send (t disk idle).rows) (subst (λ (o : Option Planned). IsNextOf (devs state client) c table (first_ready d table ready) o) is next) (found_now disk idle) in
-          (send_plan disk table n.0, request_for c table n.0.row n.0.out ∷ [], n.2, λ shape. step_now disk idle shape ∙ ap (λ (o : Option RowOut). sync_first c shape disk table (again_of synced) o) n.1)
+          (send_plan disk table (row_out (t disk idle).schema.chunk n.0), request_for c table n.0.row (row_out (t disk idle).schema.chunk n.0).out ∷ [], n.2, λ shape. step_now disk idle shape ∙ ap (λ (o : Option RowOut). sync_first c shape disk table (again_of synced) (spelled_out disk idle o)) n.1)
 
 -- ---- refusals
 
@@ -157,28 +161,23 @@ module _ {D : Type 0} (state : D → DiskState) (old : Journal D) (up : Bool) (c
           let what : facts.Offline ≡ refusal = same_refusal e call.Offline refusal facts.Offline same refl is in
           let at = opened_is c (devs state old) disk st table found opened in
           ap (λ (o : Option TableDisk). (step_in disk tasks shape o).answer) at.1 ∙ (ap (λ (l : List ClientTask). (step_in disk l shape (Some at.0)).answer) (of.none idle)
-          ∙ (ap (λ (x : ClientStep). x.answer) (link_down up disk (Some []) (sync_in c shape disk [] table (Some at.0)) down (not_before shape disk (resent c table at.0.rows) (first_to_send at.0.rows))) ∙ ap (λ (r : Refusal). facts.Refuses r) what));
+          ∙ (ap (λ (x : ClientStep). x.answer) (link_down up disk (Some []) (sync_in c shape disk [] table (Some at.0)) down (not_before shape disk (resent c table at.0.rows) (option_map (row_out at.0.schema.chunk) (first_to_send at.0.rows)))) ∙ ap (λ (r : Refusal). facts.Refuses r) what));
       unspent = λ last is. cc;
     }
 
   pub sync_sent : (x : Synced) → up ≡ true → Syncs (devs state old) c table waiting x → AreStale (devs state old) table x.stale → SendsAgain state old up c table waiting (Ok x)
   sync_sent x linked s a = record { syncs = s; stale = a; linked = linked; refused = λ disk tasks shape st of work. tt; unspent = λ last is. cc }
 
-some_there : {X : Type 0} (o : Option X) → IsSome o → (x : X) × (o ≡ Some x)
-some_there None is = absurd cc
-some_there (Some x) is = (x, refl)
-
 -- an opened table has a small number
-pub table_small : (d : ClientDevs) (c table : ℕ) → IsIdle d c → IsSome (record_at d table) → table + 1 < 2 ^ 32
-table_small d c table idle opened =
-    let f = some_there (record_at d table) opened in
-    let most = (steady_here c d idle.disk idle.at.stands idle.at.rests table [] f.0 f.1 idle.waiting idle.at.steady).numbered.most in
+pub table_small : (d : ClientDevs) (c table : ℕ) → IsIdle d c → (found : TableRecord) → record_at d table ≡ Some found → table + 1 < 2 ^ 32
+table_small d c table idle found opened =
+    let most = (steady_here c d idle.disk idle.at.stands idle.at.rests table [] found opened idle.waiting idle.at.steady).numbered.most in
     omega (arith, most)
 
 -- the requests and the plan of an opened table
-pub syncs_of : {D : Type 0} (state : D → DiskState) (client : Journal D) (c table : ℕ) → IsSome (record_at (devs state client) table) → (waiting : Waiting) (outs ready : List (List ℕ)) → AreNotedRows waiting.outs table outs → AreNotedRows waiting.ready table ready → (synced : Synced)
+pub syncs_of : {D : Type 0} (state : D → DiskState) (client : Journal D) (c table : ℕ) (found : TableRecord) → record_at (devs state client) table ≡ Some found → (waiting : Waiting) (outs ready : List (List ℕ)) → AreNotedRows waiting.outs table outs → AreNotedRows waiting.ready table ready → (synced : Synced)
     → ((meaning : LocalName → List ℕ) → NamedSlots meaning (devs state client) → map send_of synced.again.items ≡ all_asked_again meaning c (devs state client) table outs) → IsNextOf (devs state client) c table (first_ready (devs state client) table ready) synced.next → Syncs (devs state client) c table waiting synced
-syncs_of state client c table opened waiting outs ready a b synced again next = let f = some_there (record_at (devs state client) table) opened in syncs state client c table f.0 f.1 waiting outs ready a b synced again next
+syncs_of state client c table found opened waiting outs ready a b synced again next = syncs state client c table found opened waiting outs ready a b synced again next
 
 pub on_ok : {T : Type 0} (r : Result T CallFault) {P : Type 0} → P → OnOk r P
 on_ok (Ok x) p = p

@@ -21,9 +21,9 @@ use Rattle.step_tables.specs.Facts.{Answer, Refusal}
 use Rattle.step_tables.specs.Facts as facts
 use Rattle.step_tables.specs.Messages.{Send}
 use Rattle.step_tables.specs.ClientMoves.{Plan, RowPut, Slots, ClientDisk, ClientTask, Client, ClientStep, ClientMove, Shape, begun, to_send}
-use Rattle.step_tables.specs.declared.slots.InFlight.{InFlight}
-use Rattle.step_tables.specs.declared.slots.Main.{Main}
-use Rattle.step_tables.specs.declared.slots.Shadow.{Shadow}
+use Rattle.step_tables.specs.Slots.{InFlight}
+use Rattle.step_tables.specs.Slots.{Main}
+use Rattle.step_tables.specs.Slots.{Shadow}
 use Rattle.journal_laws.specs.Holds.{StandsPut, IsPutOf}
 use Rattle.journal_laws.specs.Moves.{IsPlanShape, bring_steps, drop_steps}
 use Rattle.journal_laws.specs.Whole.{whole_slots}

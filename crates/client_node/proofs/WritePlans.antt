@@ -24,9 +24,10 @@ use Rattle.step_tables.specs.Client.{version_in as table_version}
 use Rattle.step_tables.specs.Lines.{fact_of}
 use Rattle.step_tables.specs.Messages.{Send}
 use Rattle.step_tables.specs.Travels.{send_of}
-use Rattle.step_tables.specs.ClientMoves.{Slots, Plan, ClientDisk, table_at, slots_in, told, write_plan, strong_plan}
-use Rattle.journal_laws.specs.Moves.{PlansChange, IsNewTo}
-use Rattle.journal_laws.specs.Whole.{whole, whole_slots, whole_shadow}
+use Rattle.step_tables.specs.Chunks.{cut, objects_of, all_against}
+use Rattle.step_tables.specs.ClientMoves.{Slots, Plan, ClientDisk, table_at, slots_in, told, chunks_read, write_plan, strong_plan}
+use Rattle.journal_laws.specs.Moves.{PlansChange, IsNewTo, Spells}
+use Rattle.journal_laws.specs.Whole.{whole, whole_slots, whole_shadow, pieces_by}
 use Rattle.journal_laws.proofs.Alike.{has_front, has_behind}
 use Rattle.journal_laws.proofs.Transitions.{write_plans, strong_plans}
 use Rattle.held_contents.specs.declared.holding.HeldNew.{HeldNew}
@@ -37,8 +38,11 @@ use Rattle.client_node.specs.declared.waiting.Waiting.{Waiting}
 use Rattle.client_node.specs.Answers.{record_at, held_at}
 use Rattle.client_node.specs.Preparing.{HoldsNew, MakesChange, change_for, plan_for, wrote}
 use Rattle.client_node.specs.Readied.{IsIdleAt, IsPlanFor, IsReadied}
+use Rattle.client_node.specs.Spelling.{SpellsContent}
+use Rattle.client_node.proofs.Looked.{some_size}
 use Rattle.client_node.proofs.NewContents.{means, fit_new, lens_new, whole_new, known_new, small_new}
 use Rattle.client_node.proofs.RowReady.{last_is, whole_now, event_readied}
+use Rattle.client_node.proofs.SpelledRows.{spells_now, count_now}
 
 pub version_whole : (meaning : LocalName → List ℕ) (o : Option HeldShadow) → table_version (option_map (whole_shadow meaning) o) ≡ version_in o
 version_whole meaning None = refl
@@ -125,9 +129,31 @@ module _ (c : ℕ) (d : ClientDevs) (w : Waiting) (disk : ClientDisk) (idle : Is
 
   -- ---- sent at once
 
-  module _ (pieces : List Piece) (pieces_fit : AreFitPieces new.content pieces) (unused : IsNewTo slots.main number) (made : MakesChange slots (written_strong slots number new.content pieces) new.brought table number row planned) where
+  module _ (pieces : List Piece) (spells : SpellsContent d found.schema.chunk slots.shadow content pieces) where
+    some : 0 < found.schema.chunk
+    some = some_size found.schema.chunk schema.size
+
+    spells_new : Spells meaning found.schema.chunk slots.shadow new.content pieces
+    spells_new =
+        spells_now c d disk idle.stands idle.rests table row found opened some new.brought new.content (lens_new c d w disk idle table row found opened schema content fits words new holds) (fit_new c d w disk idle table row found opened schema content fits words new holds)
+        content (sym content_whole) pieces spells
+
+    pieces_fit : AreFitPieces new.content pieces
+    pieces_fit = record {
+      count = count_now c d disk idle.stands idle.rests table row found opened some new.brought new.content (lens_new c d w disk idle table row found opened schema content fits words new holds) (fit_new c d w disk idle table row found opened schema content fits words new holds)
+          content (sym content_whole) pieces spells;
+      spelled = spells.spelled;
+    }
+
+    -- they are those of the step table
+    pub spelled_there : pieces_by new.content pieces ≡ all_against 0 (chunks_read found.schema.chunk there.shadow) (map (cut found.schema.chunk) (objects_of content))
+    spelled_there =
+        spells_new ∙ (ap (λ (x : Slots). all_against 0 (chunks_read found.schema.chunk x.shadow) (map (cut found.schema.chunk) (objects_of (whole meaning new.content)))) slots_whole
+        ∙ ap (λ (x : Content). all_against 0 (chunks_read found.schema.chunk there.shadow) (map (cut found.schema.chunk) (objects_of x))) content_whole)
+
+  module _ (pieces : List Piece) (spells : SpellsContent d found.schema.chunk slots.shadow content pieces) (unused : IsNewTo slots.main number) (made : MakesChange slots (written_strong slots number new.content pieces) new.brought table number row planned) where
     abbrev p_strong : Plan
-    p_strong = strong_plan c disk table row there content
+    p_strong = strong_plan found.schema.chunk c disk table row there content
 
     abbrev behind_strong : HeldSlots
     behind_strong = record slots {
@@ -137,12 +163,15 @@ module _ (c : ℕ) (d : ClientDevs) (w : Waiting) (disk : ClientDisk) (idle : Is
     abbrev event_strong : SlotEvent
     event_strong = kept.WriteStrong number new.content pieces
 
+    fit_pieces : AreFitPieces new.content pieces
+    fit_pieces = pieces_fit pieces spells
+
     plans_strong : PlansChange meaning c row slots (written_strong slots number new.content pieces) p_strong
     plans_strong =
         subst (λ (k : ℕ). PlansChange meaning c row slots (written_strong slots k new.content pieces) p_strong) (sym number_is)
-        (subst (λ (x : Content). PlansChange meaning c row slots (written_strong slots (disk.last + 1) new.content pieces) (strong_plan c disk table row there x)) content_whole
-        (subst (λ (x : Slots). PlansChange meaning c row slots (written_strong slots (disk.last + 1) new.content pieces) (strong_plan c disk table row x (whole meaning new.content))) slots_whole
-        (strong_plans c meaning disk table row slots new.content pieces (subst (λ (k : ℕ). IsNewTo slots.main k) number_is unused))))
+        (subst (λ (x : Content). PlansChange meaning c row slots (written_strong slots (disk.last + 1) new.content pieces) (strong_plan found.schema.chunk c disk table row there x)) content_whole
+        (subst (λ (x : Slots). PlansChange meaning c row slots (written_strong slots (disk.last + 1) new.content pieces) (strong_plan found.schema.chunk c disk table row x (whole meaning new.content))) slots_whole
+        (strong_plans c meaning disk table row slots found.schema.chunk new.content pieces (subst (λ (k : ℕ). IsNewTo slots.main k) number_is unused) (spells_new pieces spells))))
 
     named_strong : (ordinal : ℕ) → ordinal < length new.brought → Has (names_in behind_strong) (record { plan = 0; ordinal = ordinal })
     named_strong ordinal less =
@@ -153,7 +182,7 @@ module _ (c : ℕ) (d : ClientDevs) (w : Waiting) (disk : ClientDisk) (idle : Is
     pub strong_readied : map fact_of planned.facts.items ≡ told p_strong → (sends : List Send) → map send_of planned.messages.items ≡ sends → IsReadied d c idle.stands.0 disk planned p_strong sends
     strong_readied tells sends sends_are =
         event_readied c d disk idle.stands idle.rests table row found opened w idle.steady Eventual event_strong new.brought
-        (word, fit_new c d w disk idle table row found opened schema content fits words new holds, pieces_fit) (lens_new c d w disk idle table row found opened schema content fits words new holds, pieces_fit.count)
+        (word, fit_new c d w disk idle table row found opened schema content fits words new holds, fit_pieces) (lens_new c d w disk idle table row found opened schema content fits words new holds, fit_pieces.count)
         (made.known Eventual slots event_strong (length new.brought) (known_new c d w disk idle table row found opened schema content fits words new holds)) made.made made.row_plan None tt number least few planned
         (made_for slots behind_strong (written_strong slots number new.content pieces) new.brought table number row planned made refl) size named_strong (small_new c d w disk idle table row found opened schema content fits words new holds)
         p_strong refl (sym number_is) refl plans_strong tells sends sends_are

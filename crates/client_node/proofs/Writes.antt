@@ -9,12 +9,11 @@ use Rattle.row_value.specs.declared.schema.Scheme.TheVariants.{Strong, Causal, E
 use Rattle.row_value.specs.Fit.{fit_of}
 use Rattle.row_edits.specs.declared.change.Edit.{Edit}
 use Rattle.row_edits.specs.Edit.{edited_to}
-use Rattle.step_tables.specs.declared.slots.InFlight.{InFlight}
-use Rattle.step_tables.specs.declared.slots.Shadow.{Shadow}
+use Rattle.step_tables.specs.Slots.{InFlight}
+use Rattle.step_tables.specs.Slots.{Shadow}
 use Rattle.step_tables.specs.Facts.{Answer, Refusal}
 use Rattle.step_tables.specs.Facts as facts
-use Rattle.step_tables.specs.Client.{version_in}
-use Rattle.step_tables.specs.ClientMoves.{Slots, TableDisk, ClientDisk, ClientTask, ClientStep, Shape, Write, Change, table_at, slots_at, seen, quiet, begun, write_plan, strong_plan, request_for, out_of, main_of}
+use Rattle.step_tables.specs.ClientMoves.{Slots, TableDisk, ClientDisk, ClientTask, ClientStep, Shape, Write, Change, table_at, slots_at, seen, quiet, begun, write_plan, strong_plan, request_for, strong_out}
 use Rattle.step_tables.specs.ClientMoves.{first_out, write_strong, write_by, write_free, write_idle, write_fitting, write_to, edit_made, edit_over, edit_in, content_of, shown_in, if_open, is_before_write, is_before_link, is_strong, is_strong_in}
 use Rattle.client_node.specs.Editing.{made_or_unfit, edited_over}
 use Rattle.client_node.specs.Linked.{unless_kept, phased_step}
@@ -150,7 +149,7 @@ module _ (phase : ℕ → Bool) (linked : Bool) (c : ℕ) (shape : Shape) (disk 
           write_is content (Ok tt) fit ∙ ap (gate (Some t)) (ap (λ (l : List ClientTask). write_idle t.schema.scheme c shape disk l table row t content) idle ∙ ap (free t.schema.scheme) is)
 
       abbrev sent : Option InFlight → ClientStep
-      sent first = write_strong c shape disk table row slots content first
+      sent first = write_strong t.schema.chunk c shape disk table row slots content first
 
       -- what is refused from here on comes behind the phase
       sent_late : (first : Option InFlight) → is_before_write (sent first).answer ≡ false
@@ -199,8 +198,8 @@ module _ (phase : ℕ → Bool) (linked : Bool) (c : ℕ) (shape : Shape) (disk 
 
             pub write_sent : linked ≡ true → first_out t.rows ≡ None
                 → phased_step phase linked c shape (with_tasks disk tasks) (Write table row content)
-                ≡ begun shape disk (facts.Number (disk.last + 1)) (strong_plan c disk table row slots content)
-                (request_for c table row (out_of (main_of (disk.last + 1) (version_in slots.shadow) content) (version_in slots.shadow)) ∷ [])
+                ≡ begun shape disk (facts.Number (disk.last + 1)) (strong_plan t.schema.chunk c disk table row slots content)
+                (request_for c table row (strong_out t.schema.chunk (disk.last + 1) slots content) ∷ [])
             write_sent up none = strong_is None none ∙ gate_linked linked true disk tasks (sent None) (phase table) closed up
 
           -- ---- in a causal and in an eventual one

@@ -21,6 +21,7 @@ pub mod Readied
 pub mod Placing
 pub mod NotedRows
 pub mod Requesting
+pub mod Spelling
 pub mod Preparing
 pub mod Resolving
 pub mod Listing

@@ -41,11 +41,11 @@ use Rattle.step_tables.specs.Messages.{Send}
 use Rattle.step_tables.specs.Travels.{send_of}
 use Rattle.step_tables.specs.ClientMoves.{Plan, Shape, ClientDisk, ClientTask, ClientMove, begun}
 use Rattle.journal_laws.specs.Moves.{IsNewTo, plan_meaning}
-use Rattle.journal_laws.specs.Whole.{whole, HaveLens}
+use Rattle.journal_laws.specs.Whole.{whole, pieces_by, HaveLens}
 use Rattle.held_contents.specs.declared.holding.HeldNew.{HeldNew}
 use Rattle.held_contents.specs.Reading.{AreThereIf, chunks_shown}
 use Rattle.held_contents.specs.Holding.{IsHeldAgainst, AreShown, names_shown, brought_name}
-use Rattle.plan_limits.specs.Fit.{HaveWords, AreFitPieces}
+use Rattle.plan_limits.specs.Fit.{HaveWords}
 use Rattle.client_node.specs.declared.fault.CallFault.{CallFault}
 use Rattle.client_node.specs.declared.fault.CallFault.TheVariants.{Offline, Outstanding, Spent}
 use Rattle.client_node.specs.declared.planning.Planned.{Planned}
@@ -59,6 +59,7 @@ use Rattle.client_node.specs.Node.{StandsFor}
 use Rattle.client_node.specs.Sending.{with_tasks, AreTasksOf}
 use Rattle.client_node.specs.Readied.{IsIdleAt, IsReadied}
 use Rattle.client_node.specs.Requesting.{request_with, IsFirstOut}
+use Rattle.client_node.specs.Spelling.{SpellsContent}
 use Rattle.client_node.specs.Steady.{IsSteady}
 
 -- ---- what is read first
@@ -155,10 +156,11 @@ pub record IsFreeWrite (d : ClientDevs) (c : ℕ) (at : OpenedRow) (content : Co
 pub record IsStrongWrite (d : ClientDevs) (c : ℕ) (at : OpenedRow) (content : Content) (x : Prepared) : Type 0 where
   pub new : HeldNew
   pub pieces : List Piece
-  pub fit : AreFitPieces new.content pieces
+  pub spells : SpellsContent d at.opened.schema.chunk at.slots.shadow content pieces
   pub unused : IsNewTo at.slots.main x.number
   pub is : IsWrite d c at content new (written_strong at.slots x.number new.content pieces)
-      (request_with c at.table at.row x.number (version_in at.slots.shadow) content ∷ []) x
+      (request_with c at.table at.row x.number (version_in at.slots.shadow) content (pieces_by new.content pieces) ∷ [])
+      x
 
 -- the last number is given, or a disk has failed, or memory was refused
 abbrev pub IsSpent : ClientDevs → CallFault → Type 0

@@ -5,6 +5,7 @@ use Rattle.std.specs.List.{AllByRecursion, Contains}
 use Rattle.std.specs.List.Sorted.{IsStrictlySortedBy}
 use Rattle.std.specs.BTreeSet.{BTreeSet, contains}
 use Rattle.row_value.specs.declared.content.Content.{Content}
+use Rattle.row_value.specs.declared.pieces.Piece.{Piece}
 use Rattle.held_value.specs.declared.local_name.LocalName.{LocalName}
 use Rattle.held_value.specs.declared.slots.Out.{Out as HeldOut}
 use Rattle.held_value.specs.declared.slots.Slots.{Slots as HeldSlots}
@@ -18,10 +19,16 @@ use Rattle.journal_laws.specs.Whole.{whole_out}
 use Rattle.client_node.specs.Answers.{held_at}
 use Rattle.client_node.specs.NotedRows.{AreNotedRows}
 
--- the request of a write with this number, base and content
-abbrev pub request_with : ℕ → ℕ → List ℕ → ℕ → ℕ → Content → Send
-request_with c table row number base content =
-    request_for c table row (record { number = number; read = 0; base = base; content = content })
+-- the request of a write with this number, base and content, the chunks of whose objects these pieces spell
+abbrev pub request_with : ℕ → ℕ → List ℕ → ℕ → ℕ → Content → List (List Piece) → Send
+request_with c table row number base content pieces = request_for c table row (record {
+  number = number;
+  read = 0;
+  base = base;
+  content = content;
+  pieces = pieces;
+  whole = false;
+})
 
 -- the request of a row whose write waits for its answer
 abbrev pub asked_again : (LocalName → List ℕ) → ℕ → ClientDevs → ℕ → List ℕ → List Send

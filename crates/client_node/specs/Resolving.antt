@@ -28,8 +28,8 @@ use Rattle.client_tables.specs.Transitions.{resolved}
 use Rattle.client_journal.specs.declared.devs.Journal.{Journal}
 use Rattle.client_journal.specs.Devs.{ClientDevs}
 use Rattle.client_journal.specs.Redone.{redone}
-use Rattle.step_tables.specs.declared.slots.Main.{Main as TableMain}
-use Rattle.step_tables.specs.declared.slots.Shadow.{Shadow as TableShadow}
+use Rattle.step_tables.specs.Slots.{Main as TableMain}
+use Rattle.step_tables.specs.Slots.{Shadow as TableShadow}
 use Rattle.step_tables.specs.ClientMoves.{Slots as TableSlots, Resolve}
 use Rattle.journal_laws.specs.Whole.{whole, whole_main, whole_shadow, whole_slots}
 use Rattle.held_contents.specs.declared.holding.HeldNew.{HeldNew}

@@ -12,8 +12,9 @@ use Rattle.client_journal.specs.Standing.{devs, writes_of}
 use Rattle.step_tables.specs.Facts.{Refusal}
 use Rattle.step_tables.specs.Facts as facts
 use Rattle.step_tables.specs.Messages.{Send}
-use Rattle.step_tables.specs.ClientMoves.{Plan, Shape, ClientDisk, ClientStep, RowOut, quiet, begun, sync_step}
-use Rattle.step_tables.specs.ClientMoves.{ClientTask, Sync, table_at, slots_in, to_send, send_plan, request_for}
+use Rattle.step_tables.specs.ClientMoves.{Plan, Shape, TableDisk, ClientDisk, ClientStep, RowOut, quiet, begun}
+use Rattle.step_tables.specs.ClientMoves.{ClientTask, Sync, table_at, slots_at, to_send, row_out, send_plan, request_for}
+use Rattle.step_tables.specs.ClientMoves.{sync_step}
 use Rattle.step_tables.specs.Travels.{send_of}
 use Rattle.client_node.specs.Does.{refusal_in}
 use Rattle.client_node.specs.Linked.{linked_step}
@@ -33,11 +34,11 @@ use Rattle.client_node.specs.declared.calls.sending.Synced.{Synced}
 pub record IsSendOf (d : ClientDevs) (c table : ℕ) (row : List ℕ) (found : Option Planned) : Type 0 where
   pub some : found ≡ None → ⊥
   pub plan : IfSome found (λ planned. (waiting : Waiting) (disk : ClientDisk)
-      → (idle : IsIdleAt d c waiting disk) → (x : RowOut) → x.row ≡ row
-      → x.slots ≡ slots_in (table_at disk table) row
+      → (idle : IsIdleAt d c waiting disk) → (t : TableDisk) → table_at disk table ≡ Some t
+      → (x : RowOut) → x.row ≡ row → x.slots ≡ slots_at t row
       → to_send x.slots x.slots.out x.slots.main x.slots.conflict ≡ Some x.out
-      → IsReadied d c idle.stands.0 disk planned (send_plan disk table x)
-      (request_for c table row x.out ∷ []))
+      → IsReadied d c idle.stands.0 disk planned (send_plan disk table (row_out t.schema.chunk x))
+      (request_for c table row (row_out t.schema.chunk x).out ∷ []))
 
 -- the plan of the first of these rows that has something to send
 abbrev pub IsNextOf : ClientDevs → ℕ → ℕ → Option (List ℕ × HeldSlots) → Option Planned → Type 0

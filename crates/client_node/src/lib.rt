@@ -17,6 +17,7 @@ mod reading;
 mod requesting;
 mod responding;
 mod row_plan;
+mod spelling;
 mod starting;
 mod strong;
 mod telling;

@@ -3,11 +3,13 @@ ghost use Rattle.std.specs.Prelude.{◌≡◌, ◌<◌, ◌^◌, ℕ, List, map,
 ghost use Rattle.std.specs.Prelude.{IfSome};
 ghost use Rattle.std.specs.List.{AllByRecursion};
 ghost use Rattle.row_value.specs.Fit.{fit_of};
+ghost use Rattle.value_codec.specs.Spelling.{HasNameSpelling};
 ghost use Rattle.held_value.specs.declared.local_name.LocalName.{LocalName};
 ghost use Rattle.client_tables.specs.Change.{seen_in};
 ghost use Rattle.client_tables.specs.Shown.{shown_content};
 ghost use Rattle.client_journal.specs.Redone.{redone};
 ghost use Rattle.client_journal.specs.Standing.{devs as held_by, writes_of, AreUp, IsReady};
+ghost use Rattle.step_tables.specs.Chunks.{is_of_each, objects_of};
 ghost use Rattle.step_tables.specs.ClientMoves.{next_pull};
 ghost use Rattle.step_tables.specs.declared.message.Message.TheVariants.{PullResponse as ResponseMessage};
 ghost use Rattle.step_tables.specs.Travels.{pulled_of, send_of};
@@ -17,7 +19,7 @@ ghost use Rattle.held_contents.specs.Holding.{IsFit};
 ghost use Rattle.held_contents.specs.Reading.{AreThereIf, chunks_shown};
 ghost use Rattle.client_node.specs.Answers.{record_at, held_at, IsFault};
 ghost use Rattle.client_node.specs.Looks.{Looks};
-ghost use Rattle.client_node.specs.Placing.{IsOfPosition, HoldsRow};
+ghost use Rattle.client_node.specs.Placing.{IsOfPosition, HoldsRow, IsNext};
 ghost use Rattle.client_node.specs.Readied.{IsIdle, Readies};
 
 use crate::calls::pulling::request_from;
@@ -28,13 +30,14 @@ use crate::row_plan::{find_table, last_write, plan_of_row};
 use client_journal::{Journal, Plan};
 use client_tables::{plan_header, shown_content};
 use disk_trait::Disk;
-use held_contents::{HeldNew, hold, read_chunks};
+use held_contents::{HeldNew, hold_named, read_chunks};
 use held_value::{Shadow, Slots, Tell};
+use row_pieces::is_named;
 use row_value::{Cell, Content, fits};
 use slot_store::TableRecord;
-use stab_base::{ClientNo, Sequence, TableNo, Version, WriteNo};
+use stab_base::{ChunkName, ClientNo, Names, Sequence, TableNo, Version, WriteNo};
 use std::alloc::{AllocError, Global};
-use step_tables::{Addressed, PullResponse, RowHeader};
+use step_tables::{Addressed, ObjectNames, PullResponse, RowHeader};
 use table_model::{ClientFact, Fact, Yours};
 
 // The version of the row that the client has read.
@@ -178,36 +181,82 @@ fn know_words(content: &Content)
     }
 }
 
-// Whether a row is one that comes next, and fits the table.
-fn comes_next(opened: &TableRecord, from: Version, content: &Content) -> bool
+// A name of a chunk whose numbers are known to have 64 and 32 bits.
+fn know_name(name: &ChunkName)
+    ensures { HasNameSpelling name.now }
+{
+    let _version: u64 = name.version;
+    let _ordinal: u32 = name.ordinal;
+}
+
+fn know_object(names: &[ChunkName])
+    ensures { AllByRecursion HasNameSpelling names.now }
+{
+    for name in names {
+        know_name(name);
+    }
+}
+
+// The names of each object, whose numbers are known so.
+fn know_names(names: &[Names])
+    ensures { AllByRecursion (AllByRecursion HasNameSpelling) names.now }
+{
+    for object in names {
+        know_object(object.as_slice());
+    }
+}
+
+// Whether a row comes next and fits the table.
+fn fits_next(opened: &TableRecord, from: Version, content: &Content) -> bool
     ensures next { result ≡ true → (from ≡ opened.now.position) × (fit_of opened.now.schema content.now ≡ Ok tt) }
     ensures other { result ≡ false → from ≡ opened.now.position → fit_of opened.now.schema content.now ≡ Ok tt → ⊥ }
 {
     from == opened.position && fits(&opened.schema, content).is_ok()
 }
 
-// What holds the content of a row, against what the client shows of it.
+// Whether a row is one that comes next, fits the table, and is named chunk by chunk.
+fn comes_next(
+    alloc: Global,
+    opened: &TableRecord,
+    from: Version,
+    header: &RowHeader,
+) -> Result<bool, AllocError>
+    requires size { 0 < opened.now.schema.chunk }
+    ensures next { IfOk result (λ next. next ≡ true → IsNext opened.now from header.now) }
+    ensures other { IfOk result (λ next. next ≡ false → IsNext opened.now from header.now → ⊥) }
+{
+    if !fits_next(opened, from, &header.content) {
+        return Ok(false);
+    }
+    is_named(alloc, opened.schema.chunk, &header.content, &header.names)
+}
+
+// What holds the content of a row, against what the client shows of it, with the Store's names of its chunks.
 fn hold_row<D: Disk + Drop>(
     alloc: Global,
     devs: &mut Journal<D>,
     size: u32,
     slots: &Slots,
     content: &Content,
+    names: &ObjectNames,
 ) -> Result<HeldNew, CallFault>
     requires up { AreUp devs.old }
     requires ready { IsReady D.state devs.old (writes_of devs.old) }
     requires size { 0 < size }
     requires fit { IsFit size content.now }
+    requires named { is_of_each size names.now (objects_of content.now) ≡ true }
     ensures looks { Looks D.state D.images devs.old devs.new result }
     ensures holds { IfOk result (λ made. (meaning : LocalName → List ℕ)
         → AreThereIf meaning (held_by D.state devs.old) (shown_content slots.now)
-        → HoldsRow size (chunks_shown meaning (shown_content slots.now)) content.now made) }
+        → HoldsRow size (chunks_shown meaning (shown_content slots.now)) content.now names.now made) }
     ensures words { OnOk result (HaveWords content.now) }
+    ensures spelled { OnOk result (AllByRecursion (AllByRecursion HasNameSpelling) names.now) }
     ensures refused { IfErr result IsFault }
 {
     know_words(content);
+    know_names(names.as_slice());
     let shown = read_chunks(alloc, devs, shown_content(slots))?;
-    let held = hold(alloc, size, &shown, content)?;
+    let held = hold_named(alloc, size, &shown, content, names)?;
     Ok(held)
 }
 
@@ -227,15 +276,15 @@ fn put_row<D: Disk + Drop>(
     requires opened { record_at (held_by D.state devs.old) pulled.now.table ≡ Some opened.now }
     requires held { slots.now ≡ held_at (held_by D.state devs.old) pulled.now.table header.now.row }
     requires header { pulled.now.header ≡ Some header.now }
-    requires next { (pulled.now.from ≡ opened.now.position)
-        × (fit_of opened.now.schema header.now.content ≡ Ok tt) }
+    requires next { IsNext opened.now pulled.now.from header.now }
     requires newer { nat_le header.now.version (seen_in slots.now.conflict slots.now.shadow) ≡ false }
     ensures looks { Looks D.state D.images devs.old devs.new result }
     ensures readies { IfOk result (Readies (held_by D.state devs.old) client (ResponseMessage pulled.now)) }
     ensures refused { IfErr result IsFault }
 {
     let last = last_write(devs)?;
-    let held = hold_row(alloc, devs, opened.schema.chunk, slots, &header.content)?;
+    let size = opened.schema.chunk;
+    let held = hold_row(alloc, devs, size, slots, &header.content, &header.names)?;
     let version = of_64_bits(header.version);
     let row = Shadow {
         version,
@@ -272,8 +321,7 @@ fn place_row<D: Disk + Drop>(
     requires idle { IsIdle (held_by D.state devs.old) client }
     requires opened { record_at (held_by D.state devs.old) pulled.now.table ≡ Some opened.now }
     requires header { pulled.now.header ≡ Some header.now }
-    requires next { (pulled.now.from ≡ opened.now.position)
-        × (fit_of opened.now.schema header.now.content ≡ Ok tt) }
+    requires next { IsNext opened.now pulled.now.from header.now }
     ensures looks { Looks D.state D.images devs.old devs.new result }
     ensures readies { IfOk result (Readies (held_by D.state devs.old) client (ResponseMessage pulled.now)) }
     ensures refused { IfErr result IsFault }
@@ -285,7 +333,7 @@ fn place_row<D: Disk + Drop>(
     put_row(alloc, client, devs, opened, &slots, pulled, header)
 }
 
-// The plan of a row for an opened table, where it comes next and fits.
+// The plan of a row for an opened table, where it comes next, fits and is named.
 fn place_next<D: Disk + Drop>(
     alloc: Global,
     client: ClientNo,
@@ -303,7 +351,8 @@ fn place_next<D: Disk + Drop>(
     ensures readies { IfOk result (Readies (held_by D.state devs.old) client (ResponseMessage pulled.now)) }
     ensures refused { IfErr result IsFault }
 {
-    if !comes_next(opened, pulled.from, &header.content) {
+    let is_next = comes_next(alloc, opened, pulled.from, header)?;
+    if !is_next {
         return Ok(None);
     }
     place_row(alloc, client, devs, opened, pulled, header)

@@ -7,8 +7,9 @@ ghost use Rattle.std.specs.List.Sorted.{IsStrictlySortedBy};
 ghost use Rattle.held_value.specs.declared.local_name.LocalName.{LocalName};
 ghost use Rattle.client_journal.specs.NamedSlots.{NamedSlots};
 ghost use Rattle.client_journal.specs.Standing.{devs as held_by, writes_of, AreUp, IsReady};
+ghost use Rattle.step_tables.specs.ClientMoves.{request_for};
 ghost use Rattle.step_tables.specs.Travels.{send_of};
-ghost use Rattle.journal_laws.specs.Whole.{whole};
+ghost use Rattle.journal_laws.specs.Whole.{whole_out};
 ghost use Rattle.held_contents.specs.Reading.{AreThere};
 ghost use Rattle.slot_store.specs.Data.{key_cmp};
 ghost use Rattle.client_node.specs.Answers.{IsFault};
@@ -23,34 +24,27 @@ use crate::noted::first_key;
 use client_journal::Journal;
 use client_tables::can_send;
 use disk_trait::Disk;
-use held_contents::read_whole;
-use held_value::{HeldContent, Out, Slots};
+use held_contents::{pieces_by_object, read_whole};
+use held_value::{Out, Slots};
+use row_value::Content;
 use slot_store::RowKey;
 use stab_base::{ClientNo, RowId, TableNo, Version, WriteNo};
 use std::alloc::Global;
 use std::collections::BTreeSet;
-use step_tables::{Addressed, Message, SyncRequest};
+use step_tables::{Addressed, Message, ObjectPieces, SyncRequest};
 
-/// The request of a write of a row, its content whole.
-pub(crate) fn request_of<D: Disk + Drop>(
-    alloc: Global,
+/// A request of a write of a row, its content whole, with the pieces that spell the chunks of each of its objects.
+pub(crate) fn request_with(
     client: ClientNo,
-    devs: &mut Journal<D>,
     table: TableNo,
     row: &RowId,
     number: WriteNo,
     base: Version,
-    content: &HeldContent,
-) -> Result<Addressed, CallFault>
-    requires up { AreUp devs.old }
-    requires ready { IsReady D.state devs.old (writes_of devs.old) }
-    ensures looks { Looks D.state D.images devs.old devs.new result }
-    ensures request { IfOk result (λ sent. (meaning : LocalName → List ℕ)
-        → AreThere meaning (held_by D.state devs.old) content.now
-        → send_of sent ≡ request_with client table row.now number base (whole meaning content.now)) }
-    ensures refused { IfErr result IsFault }
+    content: Content,
+    pieces: ObjectPieces,
+) -> Addressed
+    ensures { send_of result ≡ request_with client table row.now number base content pieces }
 {
-    let content = read_whole(alloc, devs, content)?;
     let request = SyncRequest {
         client,
         token: 0,
@@ -59,8 +53,31 @@ pub(crate) fn request_of<D: Disk + Drop>(
         number,
         base,
         content,
+        pieces,
     };
-    Ok((None, Message::SyncRequest(request)))
+    (None, Message::SyncRequest(request))
+}
+
+/// The request of a write of a row that waits for its answer.
+pub(crate) fn request_of<D: Disk + Drop>(
+    alloc: Global,
+    client: ClientNo,
+    devs: &mut Journal<D>,
+    table: TableNo,
+    row: &RowId,
+    out: &Out,
+) -> Result<Addressed, CallFault>
+    requires up { AreUp devs.old }
+    requires ready { IsReady D.state devs.old (writes_of devs.old) }
+    ensures looks { Looks D.state D.images devs.old devs.new result }
+    ensures request { IfOk result (λ sent. (meaning : LocalName → List ℕ)
+        → AreThere meaning (held_by D.state devs.old) out.now.content
+        → send_of sent ≡ request_for client table row.now (whole_out meaning out.now)) }
+    ensures refused { IfErr result IsFault }
+{
+    let content = read_whole(alloc, devs, &out.content)?;
+    let pieces = pieces_by_object(alloc, &out.content, &out.pieces)?;
+    Ok(request_with(client, table, row, out.number, out.base, content, pieces))
 }
 
 // Adds the request of a write that waits for its answer.
@@ -79,19 +96,10 @@ fn ask_again<D: Disk + Drop>(
     ensures adds { OnOk result ((meaning : LocalName → List ℕ)
         → AreThere meaning (held_by D.state devs.old) out.now.content
         → map send_of sends.new.items ≡ map send_of sends.old.items
-        ++ request_with client table row.now out.now.number out.now.base (whole meaning out.now.content) ∷ []) }
+        ++ request_for client table row.now (whole_out meaning out.now) ∷ []) }
     ensures refused { IfErr result IsFault }
 {
-    let request = request_of(
-        alloc,
-        client,
-        devs,
-        table,
-        row,
-        out.number,
-        out.base,
-        &out.content,
-    )?;
+    let request = request_of(alloc, client, devs, table, row, out)?;
     sends.push(request)?;
     Ok(())
 }

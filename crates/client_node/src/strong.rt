@@ -7,6 +7,7 @@ ghost use Rattle.client_tables.specs.Transitions.{written_strong};
 ghost use Rattle.client_journal.specs.Standing.{devs as held_by, writes_of, AreUp, IsReady};
 ghost use Rattle.step_tables.specs.Travels.{send_of};
 ghost use Rattle.journal_laws.specs.Moves.{IsNewTo};
+ghost use Rattle.journal_laws.specs.Whole.{pieces_by};
 ghost use Rattle.client_node.specs.Answers.{IsFault};
 ghost use Rattle.client_node.specs.Looks.{Looks};
 ghost use Rattle.client_node.specs.Preparing.{IsOpenedRow, MakesChange, wrote, IsStrongWrite, IsSpent, IsUnsent};
@@ -21,17 +22,19 @@ use crate::planning::Planned;
 use crate::preparing::{
     OpenedRow, Prepared, hold_new, know_words, next_write, plan_for, tell_write, write_over,
 };
+use crate::requesting::request_with;
+use crate::spelling::spell_content;
 use client_journal::Journal;
 use client_tables::plan_write_strong;
 use disk_trait::Disk;
-use held_contents::{HeldNew, pieces_of};
+use held_contents::{HeldNew, pieces_by_object};
 use held_value::{Main, Slots};
 use row_value::{Content, Pieces};
 use slot_store::RowKey;
 use stab_base::{ClientNo, RowId, TableNo, WriteNo};
 use std::alloc::{AllocError, Global};
 use std::collections::BTreeSet;
-use step_tables::{Addressed, Message, SyncRequest};
+use step_tables::{Addressed, ObjectPieces};
 use table_model::Write;
 
 // ---- the write that waits for its answer
@@ -129,21 +132,26 @@ fn check_unused(main: &Option<Main>, number: WriteNo) -> Result<(), CallFault>
     }
 }
 
-// The request of a write over what it had read.
-fn request_for(alloc: Global, write: &Write) -> Result<Vec<Addressed>, AllocError>
+// The request of a write over what it had read, the chunks of whose objects these pieces spell.
+fn request_for(
+    alloc: Global,
+    write: &Write,
+    pieces: ObjectPieces,
+) -> Result<Vec<Addressed>, AllocError>
     ensures { IfOk result (λ sends. map send_of sends.items ≡ request_with write.now.client write.now.table
-        write.now.row write.now.number write.now.read write.now.content ∷ []) }
+        write.now.row write.now.number write.now.read write.now.content pieces ∷ []) }
 {
-    let request = SyncRequest {
-        client: write.client,
-        token: 0,
-        table: write.table,
-        row: write.row,
-        number: write.number,
-        base: write.read,
-        content: write.content.copy()?,
-    };
-    Ok(vec![in alloc; (None, Message::SyncRequest(request))]?)
+    let content = write.content.copy()?;
+    let request = request_with(
+        write.client,
+        write.table,
+        &write.row,
+        write.number,
+        write.read,
+        content,
+        pieces,
+    );
+    Ok(vec![in alloc; request]?)
 }
 
 // The plan of a write over these slots, which sends it.
@@ -158,12 +166,13 @@ fn plan_strong(
         new.brought write.table write.number write.row) }
     ensures facts { IfOk result (λ planned. planned.facts.items ≡ wrote write ∷ []) }
     ensures messages { IfOk result (λ planned. map send_of planned.messages.items ≡ request_with write.client
-        write.table write.row write.number write.read write.content ∷ []) }
+        write.table write.row write.number write.read write.content (pieces_by new.content pieces) ∷ []) }
 {
     let HeldNew { content, brought } = new;
+    let parted = pieces_by_object(alloc, &content, &pieces)?;
     let made = plan_write_strong(alloc, slots, write.number, content, pieces, brought)?;
     let plan = plan_for(write.table, write.number, write.row, made);
-    let messages = request_for(alloc, &write)?;
+    let messages = request_for(alloc, &write, parted)?;
     Ok(Planned {
         plan,
         facts: tell_write(alloc, write)?,
@@ -191,9 +200,10 @@ fn prepare_sent<D: Disk + Drop>(
 {
     let number = next_write(devs)?;
     check_unused(&at.slots.main, number)?;
-    let new = hold_new(alloc, devs, at.opened.schema.chunk, &at.slots, &content)?;
+    let size = at.opened.schema.chunk;
+    let new = hold_new(alloc, devs, size, &at.slots, &content)?;
     know_words(&content);
-    let pieces = pieces_of(alloc, &new.content)?;
+    let pieces = spell_content(alloc, devs, size, &at.slots.shadow, &content)?;
     let write = write_over(client, number, at, content);
     let planned = plan_strong(alloc, &at.slots, write, new, pieces)?;
     Ok(Prepared { number, planned })

@@ -1,5 +1,7 @@
-pub mod Fits
 pub mod Bytes
-pub mod Pieces
+pub mod Fits
 pub mod Objects
+pub mod Pieces
 pub mod Readings
+pub mod Spellings
+pub mod HeldCuts

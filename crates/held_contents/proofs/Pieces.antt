@@ -5,15 +5,17 @@ use Rattle.std.specs.Str.{bytes_eq}
 use Rattle.std.specs.List.{flat_map, AllByRecursion, Contains}
 use Rattle.std.proofs.lemmas.Bool.{cases_eq, cases_lt}
 use Rattle.std.proofs.lemmas.List.Elements.{All-from_recursion, recursion_from_All, All-contains, All-contains_itself}
+use Rattle.stab_base.specs.declared.chunk_name.ChunkName.{ChunkName}
 use Rattle.held_value.specs.declared.local_name.LocalName.{LocalName}
 use Rattle.held_value.specs.declared.content.HeldPiece.{HeldPiece}
 use Rattle.held_value.specs.declared.content.HeldObject.{HeldObject}
-use Rattle.client_tables.specs.Held.{kept_in, piece_for, next_behind, brought_for, held_pieces, brought}
+use Rattle.client_tables.specs.Held.{kept_in, or_name, piece_for, next_behind, brought_for, held_pieces, brought}
+use Rattle.client_tables.specs.Plan.{IsBrought}
 use Rattle.client_journal.specs.Names.{is_among, Has, names_of_pieces, names_of_objects}
 use Rattle.client_journal.specs.There.{repeats}
 use Rattle.client_journal.proofs.Lookups.{has_cases, has_head, has_tail}
 use Rattle.client_journal.proofs.Wholes.{has_left, has_right, has_either, not_has}
-use Rattle.held_contents.specs.Holding.{unnamed, first_shown, brought_of, held_objects, pieces_shown, names_shown, IsBroughtPiece, brought_name}
+use Rattle.held_contents.specs.Holding.{first_shown, brought_of, held_objects, pieces_shown, names_shown, brought_name}
 
 -- ---- each once
 
@@ -67,33 +69,38 @@ module _ (P : HeldPiece → Type 0) where
   less_shown [] h = tt
   less_shown (first ∷ shown) h = h.1
 
-  module _ (count : ℕ) where
-    abbrev IsEither : HeldPiece → Type 0
-    IsEither piece = P piece ⊎ IsBroughtPiece count piece
+  -- and of the names that are given: what holds of both of a kept piece and its name holds of what becomes of it
+  module _ (N : Option ChunkName → Type 0) (Q : HeldPiece → Type 0) (mixed : (kept : HeldPiece) (name : Option ChunkName) → P kept → N name → Q (record { local = kept.local; name = or_name name kept.name })) (count : ℕ) where
+    abbrev pub IsEither : HeldPiece → Type 0
+    IsEither piece = Q piece ⊎ (IsBrought count piece.local × N piece.name)
+
+    abbrev AllGiven : List (Option ChunkName × List ℕ) → Type 0
+    AllGiven chunks = AllByRecursion (λ (chunk : Option ChunkName × List ℕ). N chunk.0) chunks
 
     both_all : (xs ys : List HeldPiece) → AllByRecursion IsEither xs → AllByRecursion IsEither ys → AllByRecursion IsEither (xs ++ ys)
     both_all [] ys a b = b
     both_all (x ∷ xs) ys a b = (a.0, both_all xs ys a.1 b)
 
-    object_pieces : (shown : List (HeldPiece × List ℕ)) (chunks : List (List ℕ)) (next : ℕ) → AllShown shown → next + length (brought shown (unnamed chunks)) ≤ count
-        → AllByRecursion IsEither (held_pieces shown (unnamed chunks) next)
-    object_pieces shown [] next h le = tt
-    object_pieces shown (chunk ∷ chunks) next h le = pick (kept_in shown chunk) (kept_from shown chunk h) (omega (arith, le, length-append (brought_for chunk (kept_in shown chunk)) (brought (drop 1 shown) (unnamed chunks))))
-        (λ n few. object_pieces (drop 1 shown) chunks n (less_shown shown h) few)
+    object_pieces : (shown : List (HeldPiece × List ℕ)) (chunks : List (Option ChunkName × List ℕ)) (next : ℕ) → AllShown shown → AllGiven chunks → next + length (brought shown chunks) ≤ count
+        → AllByRecursion IsEither (held_pieces shown chunks next)
+    object_pieces shown [] next h given le = tt
+    object_pieces shown (chunk ∷ chunks) next h given le = pick (kept_in shown chunk.1) (kept_from shown chunk.1 h) (omega (arith, le, length-append (brought_for chunk.1 (kept_in shown chunk.1)) (brought (drop 1 shown) chunks)))
+        (λ n few. object_pieces (drop 1 shown) chunks n (less_shown shown h) given.1 few)
       where
-        pick : (k : Option HeldPiece) → IfSome k P → next + (length (brought_for chunk k) + length (brought (drop 1 shown) (unnamed chunks))) ≤ count
-            → ((n : ℕ) → n + length (brought (drop 1 shown) (unnamed chunks)) ≤ count → AllByRecursion IsEither (held_pieces (drop 1 shown) (unnamed chunks) n))
-            → AllByRecursion IsEither (piece_for next None k ∷ held_pieces (drop 1 shown) (unnamed chunks) (next_behind next k))
-        pick None p few more = (inr (record { plan = refl; ordinal = omega (arith, few); name = refl }), more (next + 1) (omega (arith, few)))
-        pick (Some kept) p few more = (inl p, more next (omega (arith, few)))
+        pick : (k : Option HeldPiece) → IfSome k P → next + (length (brought_for chunk.1 k) + length (brought (drop 1 shown) chunks)) ≤ count
+            → ((n : ℕ) → n + length (brought (drop 1 shown) chunks) ≤ count → AllByRecursion IsEither (held_pieces (drop 1 shown) chunks n))
+            → AllByRecursion IsEither (piece_for next chunk.0 k ∷ held_pieces (drop 1 shown) chunks (next_behind next k))
+        pick None p few more = (inr ((refl, omega (arith, few)), given.0), more (next + 1) (omega (arith, few)))
+        pick (Some kept) p few more = (inl (mixed kept chunk.0 p given.0), more next (omega (arith, few)))
 
-    pub objects_pieces : (shown : List (List (HeldPiece × List ℕ))) (cuts : List (List (List ℕ))) (next : ℕ) → AllByRecursion AllShown shown → next + length (brought_of shown cuts) ≤ count
+    pub objects_pieces : (shown : List (List (HeldPiece × List ℕ))) (cuts : List (List (Option ChunkName × List ℕ))) (next : ℕ) → AllByRecursion AllShown shown → AllByRecursion AllGiven cuts
+        → next + length (brought_of shown cuts) ≤ count
         → AllByRecursion IsEither (flat_map (λ (object : HeldObject). object.pieces) (held_objects shown cuts next))
-    objects_pieces shown [] next h le = tt
-    objects_pieces shown (chunks ∷ cuts) next h le =
-        let sum = length-append (brought (first_shown shown) (unnamed chunks)) (brought_of (drop 1 shown) cuts) in
-        both_all (held_pieces (first_shown shown) (unnamed chunks) next) _ (object_pieces (first_shown shown) chunks next (first_all shown h) (omega (arith, le, sum)))
-        (objects_pieces (drop 1 shown) cuts (next + length (brought (first_shown shown) (unnamed chunks))) (rest_all shown h) (omega (arith, le, sum)))
+    objects_pieces shown [] next h given le = tt
+    objects_pieces shown (chunks ∷ cuts) next h given le =
+        let sum = length-append (brought (first_shown shown) chunks) (brought_of (drop 1 shown) cuts) in
+        both_all (held_pieces (first_shown shown) chunks next) _ (object_pieces (first_shown shown) chunks next (first_all shown h) given.0 (omega (arith, le, sum)))
+        (objects_pieces (drop 1 shown) cuts (next + length (brought (first_shown shown) chunks)) (rest_all shown h) given.1 (omega (arith, le, sum)))
       where
         first_all : (shown : List (List (HeldPiece × List ℕ))) → AllByRecursion AllShown shown → AllShown (first_shown shown)
         first_all [] h = tt
@@ -147,30 +154,30 @@ contained_has pieces piece there = each_contained (λ p. Has (names_of_pieces pi
 
 -- ---- each brought chunk is named
 
-object_brings : (shown : List (HeldPiece × List ℕ)) (chunks : List (List ℕ)) (next ordinal : ℕ) → next ≤ ordinal → ordinal < next + length (brought shown (unnamed chunks))
-    → Has (names_of_pieces (held_pieces shown (unnamed chunks) next)) (brought_name ordinal)
+object_brings : (shown : List (HeldPiece × List ℕ)) (chunks : List (Option ChunkName × List ℕ)) (next ordinal : ℕ) → next ≤ ordinal → ordinal < next + length (brought shown chunks)
+    → Has (names_of_pieces (held_pieces shown chunks next)) (brought_name ordinal)
 object_brings shown [] next ordinal le lt = absurd (omega arith)
 object_brings shown (chunk ∷ chunks) next ordinal le lt =
-    pick (kept_in shown chunk) (omega (arith, lt, length-append (brought_for chunk (kept_in shown chunk)) (brought (drop 1 shown) (unnamed chunks)))) (λ n low high. object_brings (drop 1 shown) chunks n ordinal low high)
+    pick (kept_in shown chunk.1) (omega (arith, lt, length-append (brought_for chunk.1 (kept_in shown chunk.1)) (brought (drop 1 shown) chunks))) (λ n low high. object_brings (drop 1 shown) chunks n ordinal low high)
   where
-    pick : (k : Option HeldPiece) → ordinal < next + (length (brought_for chunk k) + length (brought (drop 1 shown) (unnamed chunks)))
-        → ((n : ℕ) → n ≤ ordinal → ordinal < n + length (brought (drop 1 shown) (unnamed chunks)) → Has (names_of_pieces (held_pieces (drop 1 shown) (unnamed chunks) n)) (brought_name ordinal))
-        → Has (names_of_pieces (piece_for next None k ∷ held_pieces (drop 1 shown) (unnamed chunks) (next_behind next k))) (brought_name ordinal)
+    pick : (k : Option HeldPiece) → ordinal < next + (length (brought_for chunk.1 k) + length (brought (drop 1 shown) chunks))
+        → ((n : ℕ) → n ≤ ordinal → ordinal < n + length (brought (drop 1 shown) chunks) → Has (names_of_pieces (held_pieces (drop 1 shown) chunks n)) (brought_name ordinal))
+        → Has (names_of_pieces (piece_for next chunk.0 k ∷ held_pieces (drop 1 shown) chunks (next_behind next k))) (brought_name ordinal)
     pick None few more = elim (cases_eq ordinal next) [
-      | inl same ↦ has_head (brought_name next) (brought_name ordinal) (names_of_pieces (held_pieces (drop 1 shown) (unnamed chunks) (next + 1))) (ap brought_name same)
-      | inr other ↦ has_tail (brought_name next) (brought_name ordinal) (names_of_pieces (held_pieces (drop 1 shown) (unnamed chunks) (next + 1))) (more (next + 1) (omega arith) (omega (arith, few)))
+      | inl same ↦ has_head (brought_name next) (brought_name ordinal) (names_of_pieces (held_pieces (drop 1 shown) chunks (next + 1))) (ap brought_name same)
+      | inr other ↦ has_tail (brought_name next) (brought_name ordinal) (names_of_pieces (held_pieces (drop 1 shown) chunks (next + 1))) (more (next + 1) (omega arith) (omega (arith, few)))
     ]
-    pick (Some kept) few more = has_tail kept.local (brought_name ordinal) (names_of_pieces (held_pieces (drop 1 shown) (unnamed chunks) next)) (more next le (omega (arith, few)))
+    pick (Some kept) few more = has_tail kept.local (brought_name ordinal) (names_of_pieces (held_pieces (drop 1 shown) chunks next)) (more next le (omega (arith, few)))
 
-pub objects_bring : (shown : List (List (HeldPiece × List ℕ))) (cuts : List (List (List ℕ))) (next ordinal : ℕ) → next ≤ ordinal → ordinal < next + length (brought_of shown cuts)
+pub objects_bring : (shown : List (List (HeldPiece × List ℕ))) (cuts : List (List (Option ChunkName × List ℕ))) (next ordinal : ℕ) → next ≤ ordinal → ordinal < next + length (brought_of shown cuts)
     → Has (names_of_objects (held_objects shown cuts next)) (brought_name ordinal)
 objects_bring shown [] next ordinal le lt = absurd (omega arith)
 objects_bring shown (chunks ∷ cuts) next ordinal le lt =
-    let sum = length-append (brought (first_shown shown) (unnamed chunks)) (brought_of (drop 1 shown) cuts) in
-    elim (cases_lt ordinal (next + length (brought (first_shown shown) (unnamed chunks)))) [
-      | inr later ↦ has_right (names_of_pieces (held_pieces (first_shown shown) (unnamed chunks) next)) _ (brought_name ordinal)
-          (objects_bring (drop 1 shown) cuts (next + length (brought (first_shown shown) (unnamed chunks))) ordinal later (omega (arith, lt, sum)))
-      | inl here ↦ has_left (names_of_pieces (held_pieces (first_shown shown) (unnamed chunks) next)) _ (brought_name ordinal) (object_brings (first_shown shown) chunks next ordinal le (omega arith))
+    let sum = length-append (brought (first_shown shown) chunks) (brought_of (drop 1 shown) cuts) in
+    elim (cases_lt ordinal (next + length (brought (first_shown shown) chunks))) [
+      | inr later ↦ has_right (names_of_pieces (held_pieces (first_shown shown) chunks next)) _ (brought_name ordinal)
+          (objects_bring (drop 1 shown) cuts (next + length (brought (first_shown shown) chunks)) ordinal later (omega (arith, lt, sum)))
+      | inl here ↦ has_left (names_of_pieces (held_pieces (first_shown shown) chunks next)) _ (brought_name ordinal) (object_brings (first_shown shown) chunks next ordinal le (omega arith))
     ]
 
 -- ---- no name stands twice
@@ -219,40 +226,40 @@ kept_name first bytes kept true is = some_same first.0 kept is
     some_same a b e = cc
 kept_name first bytes kept false is = absurd cc
 
-object_known : (shown : List (HeldPiece × List ℕ)) (chunks : List (List ℕ)) (next : ℕ) (name : LocalName) → Has (names_of_pieces (held_pieces shown (unnamed chunks) next)) name
-    → Has (names_in_object shown) name ⊎ IsNewIn next (next + length (brought shown (unnamed chunks))) name
+object_known : (shown : List (HeldPiece × List ℕ)) (chunks : List (Option ChunkName × List ℕ)) (next : ℕ) (name : LocalName) → Has (names_of_pieces (held_pieces shown chunks next)) name
+    → Has (names_in_object shown) name ⊎ IsNewIn next (next + length (brought shown chunks)) name
 object_known shown [] next name has = absurd cc
-object_known shown (chunk ∷ chunks) next name has = pick (kept_in shown chunk) refl has (λ n there. object_known (drop 1 shown) chunks n name there)
+object_known shown (chunk ∷ chunks) next name has = pick (kept_in shown chunk.1) refl has (λ n there. object_known (drop 1 shown) chunks n name there)
   where
-    sum : length (brought shown (unnamed (chunk ∷ chunks))) ≡ length (brought_for chunk (kept_in shown chunk)) + length (brought (drop 1 shown) (unnamed chunks))
-    sum = length-append (brought_for chunk (kept_in shown chunk)) (brought (drop 1 shown) (unnamed chunks))
+    sum : length (brought shown (chunk ∷ chunks)) ≡ length (brought_for chunk.1 (kept_in shown chunk.1)) + length (brought (drop 1 shown) chunks)
+    sum = length-append (brought_for chunk.1 (kept_in shown chunk.1)) (brought (drop 1 shown) chunks)
 
     older : (shown : List (HeldPiece × List ℕ)) → Has (names_in_object (drop 1 shown)) name → Has (names_in_object shown) name
     older [] h = h
     older (first ∷ more) h = has_tail first.0.local name (names_in_object more) h
 
-    held : (shown : List (HeldPiece × List ℕ)) (kept : HeldPiece) → kept_in shown chunk ≡ Some kept → name ≡ kept.local → Has (names_in_object shown) name
+    held : (shown : List (HeldPiece × List ℕ)) (kept : HeldPiece) → kept_in shown chunk.1 ≡ Some kept → name ≡ kept.local → Has (names_in_object shown) name
     held [] kept is same = absurd cc
-    held (first ∷ more) kept is same = has_head first.0.local name (names_in_object more) (same ∙ sym (ap (λ (p : HeldPiece). p.local) (kept_name first chunk kept (bytes_eq first.1 chunk) is)))
+    held (first ∷ more) kept is same = has_head first.0.local name (names_in_object more) (same ∙ sym (ap (λ (p : HeldPiece). p.local) (kept_name first chunk.1 kept (bytes_eq first.1 chunk.1) is)))
 
-    pick : (k : Option HeldPiece) → kept_in shown chunk ≡ k → Has (names_of_pieces (piece_for next None k ∷ held_pieces (drop 1 shown) (unnamed chunks) (next_behind next k))) name
-        → ((n : ℕ) → Has (names_of_pieces (held_pieces (drop 1 shown) (unnamed chunks) n)) name → Has (names_in_object (drop 1 shown)) name ⊎ IsNewIn n (n + length (brought (drop 1 shown) (unnamed chunks))) name)
-        → Has (names_in_object shown) name ⊎ IsNewIn next (next + length (brought shown (unnamed (chunk ∷ chunks)))) name
+    pick : (k : Option HeldPiece) → kept_in shown chunk.1 ≡ k → Has (names_of_pieces (piece_for next chunk.0 k ∷ held_pieces (drop 1 shown) chunks (next_behind next k))) name
+        → ((n : ℕ) → Has (names_of_pieces (held_pieces (drop 1 shown) chunks n)) name → Has (names_in_object (drop 1 shown)) name ⊎ IsNewIn n (n + length (brought (drop 1 shown) chunks)) name)
+        → Has (names_in_object shown) name ⊎ IsNewIn next (next + length (brought shown (chunk ∷ chunks))) name
     pick None is has known =
-        let count : length (brought shown (unnamed (chunk ∷ chunks))) ≡ 1 + length (brought (drop 1 shown) (unnamed chunks)) = sum ∙ ap (λ (k : Option HeldPiece). length (brought_for chunk k) + length (brought (drop 1 shown) (unnamed chunks))) is in
+        let count : length (brought shown (chunk ∷ chunks)) ≡ 1 + length (brought (drop 1 shown) chunks) = sum ∙ ap (λ (k : Option HeldPiece). length (brought_for chunk.1 k) + length (brought (drop 1 shown) chunks)) is in
         ⊎_elim (λ same. inr (record { plan = ap (λ (n : LocalName). n.plan) same; above = omega (arith, ap (λ (n : LocalName). n.ordinal) same); below = omega (arith, count, ap (λ (n : LocalName). n.ordinal) same) }))
         (λ more. ⊎_elim (λ old. inl (older shown old)) (λ new. inr (record { plan = new.plan; above = omega (arith, new.above); below = omega (arith, new.below, count) })) (known (next + 1) more))
-        (has_cases (brought_name next) name (names_of_pieces (held_pieces (drop 1 shown) (unnamed chunks) (next + 1))) has)
+        (has_cases (brought_name next) name (names_of_pieces (held_pieces (drop 1 shown) chunks (next + 1))) has)
     pick (Some kept) is has known =
-        let count : length (brought shown (unnamed (chunk ∷ chunks))) ≡ length (brought (drop 1 shown) (unnamed chunks)) = sum ∙ (ap (λ (k : Option HeldPiece). length (brought_for chunk k) + length (brought (drop 1 shown) (unnamed chunks))) is ∙ omega arith) in
+        let count : length (brought shown (chunk ∷ chunks)) ≡ length (brought (drop 1 shown) chunks) = sum ∙ (ap (λ (k : Option HeldPiece). length (brought_for chunk.1 k) + length (brought (drop 1 shown) chunks)) is ∙ omega arith) in
         ⊎_elim (λ same. inl (held shown kept is same))
         (λ more. ⊎_elim (λ old. inl (older shown old)) (λ new. inr (record { plan = new.plan; above = new.above; below = omega (arith, new.below, count) })) (known next more))
-        (has_cases kept.local name (names_of_pieces (held_pieces (drop 1 shown) (unnamed chunks) next)) has)
+        (has_cases kept.local name (names_of_pieces (held_pieces (drop 1 shown) chunks next)) has)
 
-object_once : (shown : List (HeldPiece × List ℕ)) (chunks : List (List ℕ)) (next : ℕ) → AreOnce (names_in_object shown) → AreNumbered (names_in_object shown)
-    → AreOnce (names_of_pieces (held_pieces shown (unnamed chunks) next))
+object_once : (shown : List (HeldPiece × List ℕ)) (chunks : List (Option ChunkName × List ℕ)) (next : ℕ) → AreOnce (names_in_object shown) → AreNumbered (names_in_object shown)
+    → AreOnce (names_of_pieces (held_pieces shown chunks next))
 object_once shown [] next once numbered = tt
-object_once shown (chunk ∷ chunks) next once numbered = pick (kept_in shown chunk) refl (λ n. object_once (drop 1 shown) chunks n (once_rest shown once) (numbered_rest shown numbered))
+object_once shown (chunk ∷ chunks) next once numbered = pick (kept_in shown chunk.1) refl (λ n. object_once (drop 1 shown) chunks n (once_rest shown once) (numbered_rest shown numbered))
   where
     once_rest : (shown : List (HeldPiece × List ℕ)) → AreOnce (names_in_object shown) → AreOnce (names_in_object (drop 1 shown))
     once_rest [] h = tt
@@ -262,16 +269,16 @@ object_once shown (chunk ∷ chunks) next once numbered = pick (kept_in shown ch
     numbered_rest [] h = h
     numbered_rest (first ∷ more) h = λ q has. h q (has_tail first.0.local q (names_in_object more) has)
 
-    not_again : (shown : List (HeldPiece × List ℕ)) (kept : HeldPiece) → AreOnce (names_in_object shown) → AreNumbered (names_in_object shown) → kept_in shown chunk ≡ Some kept
+    not_again : (shown : List (HeldPiece × List ℕ)) (kept : HeldPiece) → AreOnce (names_in_object shown) → AreNumbered (names_in_object shown) → kept_in shown chunk.1 ≡ Some kept
         → (Has (names_in_object (drop 1 shown)) kept.local → ⊥) × (kept.local.plan ≡ 0 → ⊥)
     not_again [] kept o n is = absurd cc
     not_again (first ∷ more) kept o n is =
-        let same : first.0.local ≡ kept.local = ap (λ (p : HeldPiece). p.local) (kept_name first chunk kept (bytes_eq first.1 chunk) is) in (
+        let same : first.0.local ≡ kept.local = ap (λ (p : HeldPiece). p.local) (kept_name first chunk.1 kept (bytes_eq first.1 chunk.1) is) in (
           λ has. o.0 (subst (λ (q : LocalName). Has (names_in_object more) q) (sym same) has),
           n kept.local (has_head first.0.local kept.local (names_in_object more) (sym same)),
         )
 
-    pick : (k : Option HeldPiece) → kept_in shown chunk ≡ k → ((n : ℕ) → AreOnce (names_of_pieces (held_pieces (drop 1 shown) (unnamed chunks) n))) → AreOnce (names_of_pieces (piece_for next None k ∷ held_pieces (drop 1 shown) (unnamed chunks) (next_behind next k)))
+    pick : (k : Option HeldPiece) → kept_in shown chunk.1 ≡ k → ((n : ℕ) → AreOnce (names_of_pieces (held_pieces (drop 1 shown) chunks n))) → AreOnce (names_of_pieces (piece_for next chunk.0 k ∷ held_pieces (drop 1 shown) chunks (next_behind next k)))
     pick None is rest_once = (
       λ has. ⊎_elim (λ old. numbered_rest shown numbered (brought_name next) old refl) (λ new. absurd (omega (arith, new.above))) (object_known (drop 1 shown) chunks (next + 1) (brought_name next) has),
       rest_once (next + 1),
@@ -288,27 +295,27 @@ first_part : (shown : List (List (HeldPiece × List ℕ))) → names_shown shown
 first_part [] = refl
 first_part (object ∷ shown) = names_first object shown
 
-objects_known : (shown : List (List (HeldPiece × List ℕ))) (cuts : List (List (List ℕ))) (next : ℕ) (name : LocalName) → Has (names_of_objects (held_objects shown cuts next)) name
+objects_known : (shown : List (List (HeldPiece × List ℕ))) (cuts : List (List (Option ChunkName × List ℕ))) (next : ℕ) (name : LocalName) → Has (names_of_objects (held_objects shown cuts next)) name
     → Has (names_shown shown) name ⊎ IsNewIn next (next + length (brought_of shown cuts)) name
 objects_known shown [] next name has = absurd cc
 objects_known shown (chunks ∷ cuts) next name has =
-    let sum = length-append (brought (first_shown shown) (unnamed chunks)) (brought_of (drop 1 shown) cuts) in
+    let sum = length-append (brought (first_shown shown) chunks) (brought_of (drop 1 shown) cuts) in
     let shown_is = first_part shown in
     ⊎_elim
     (λ here. ⊎_elim (λ old. inl (subst (λ (l : List LocalName). Has l name) (sym shown_is) (has_left (names_in_object (first_shown shown)) (names_shown (drop 1 shown)) name old)))
     (λ new. inr (record { plan = new.plan; above = new.above; below = omega (arith, new.below, sum) })) (object_known (first_shown shown) chunks next name here))
     (λ more. ⊎_elim (λ old. inl (subst (λ (l : List LocalName). Has l name) (sym shown_is) (has_right (names_in_object (first_shown shown)) (names_shown (drop 1 shown)) name old)))
     (λ new. inr (record { plan = new.plan; above = omega (arith, new.above); below = omega (arith, new.below, sum) }))
-    (objects_known (drop 1 shown) cuts (next + length (brought (first_shown shown) (unnamed chunks))) name more))
-    (has_either (names_of_pieces (held_pieces (first_shown shown) (unnamed chunks) next)) _ name has)
+    (objects_known (drop 1 shown) cuts (next + length (brought (first_shown shown) chunks)) name more))
+    (has_either (names_of_pieces (held_pieces (first_shown shown) chunks next)) _ name has)
 
-pub objects_once : (shown : List (List (HeldPiece × List ℕ))) (cuts : List (List (List ℕ))) (next : ℕ) → AreOnce (names_shown shown) → ((name : LocalName) → Has (names_shown shown) name → name.plan ≡ 0 → ⊥)
+pub objects_once : (shown : List (List (HeldPiece × List ℕ))) (cuts : List (List (Option ChunkName × List ℕ))) (next : ℕ) → AreOnce (names_shown shown) → ((name : LocalName) → Has (names_shown shown) name → name.plan ≡ 0 → ⊥)
     → AreOnce (names_of_objects (held_objects shown cuts next))
 objects_once shown [] next once numbered = tt
 objects_once shown (chunks ∷ cuts) next once numbered =
-    once_both (names_of_pieces (held_pieces (first_shown shown) (unnamed chunks) next)) (names_of_objects (held_objects (drop 1 shown) cuts (next + length (brought (first_shown shown) (unnamed chunks)))))
+    once_both (names_of_pieces (held_pieces (first_shown shown) chunks next)) (names_of_objects (held_objects (drop 1 shown) cuts (next + length (brought (first_shown shown) chunks))))
     (object_once (first_shown shown) chunks next (once_left (names_in_object (first_shown shown)) (names_shown (drop 1 shown)) split) front_numbered)
-    (objects_once (drop 1 shown) cuts (next + length (brought (first_shown shown) (unnamed chunks))) (once_right (names_in_object (first_shown shown)) (names_shown (drop 1 shown)) split) behind_numbered)
+    (objects_once (drop 1 shown) cuts (next + length (brought (first_shown shown) chunks)) (once_right (names_in_object (first_shown shown)) (names_shown (drop 1 shown)) split) behind_numbered)
     apart
   where
     split : AreOnce ((names_in_object (first_shown shown)) ++ (names_shown (drop 1 shown)))
@@ -320,10 +327,10 @@ objects_once shown (chunks ∷ cuts) next once numbered =
     behind_numbered : AreNumbered (names_shown (drop 1 shown))
     behind_numbered name has = numbered name (subst (λ (l : List LocalName). Has l name) (sym (first_part shown)) (has_right (names_in_object (first_shown shown)) (names_shown (drop 1 shown)) name has))
 
-    apart : (name : LocalName) → Has (names_of_pieces (held_pieces (first_shown shown) (unnamed chunks) next)) name
-        → Has (names_of_objects (held_objects (drop 1 shown) cuts (next + length (brought (first_shown shown) (unnamed chunks))))) name → ⊥
+    apart : (name : LocalName) → Has (names_of_pieces (held_pieces (first_shown shown) chunks next)) name
+        → Has (names_of_objects (held_objects (drop 1 shown) cuts (next + length (brought (first_shown shown) chunks)))) name → ⊥
     apart name a b =
         ⊎_elim
-        (λ old. ⊎_elim (λ older. once_apart (names_in_object (first_shown shown)) (names_shown (drop 1 shown)) split name old older) (λ new. front_numbered name old new.plan) (objects_known (drop 1 shown) cuts (next + length (brought (first_shown shown) (unnamed chunks))) name b))
-        (λ new. ⊎_elim (λ older. behind_numbered name older new.plan) (λ other. omega (arith, new.below, other.above)) (objects_known (drop 1 shown) cuts (next + length (brought (first_shown shown) (unnamed chunks))) name b))
+        (λ old. ⊎_elim (λ older. once_apart (names_in_object (first_shown shown)) (names_shown (drop 1 shown)) split name old older) (λ new. front_numbered name old new.plan) (objects_known (drop 1 shown) cuts (next + length (brought (first_shown shown) chunks)) name b))
+        (λ new. ⊎_elim (λ older. behind_numbered name older new.plan) (λ other. omega (arith, new.below, other.above)) (objects_known (drop 1 shown) cuts (next + length (brought (first_shown shown) chunks)) name b))
         (object_known (first_shown shown) chunks next name a)

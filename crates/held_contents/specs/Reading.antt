@@ -6,6 +6,7 @@ use Rattle.held_value.specs.declared.content.HeldPiece.{HeldPiece}
 use Rattle.held_value.specs.declared.content.HeldObject.{HeldObject}
 use Rattle.held_value.specs.declared.content.HeldContent.{HeldContent}
 use Rattle.held_value.specs.declared.content.HeldContent.TheVariants.{Gone, Row}
+use Rattle.held_value.specs.declared.slots.Shadow.{Shadow}
 use Rattle.client_journal.specs.Names.{Has, names_of}
 use Rattle.client_journal.specs.Devs.{ClientDevs, local_in}
 
@@ -38,3 +39,8 @@ chunks_in meaning (Row some objects) = objects_with_bytes meaning objects
 abbrev pub chunks_shown : (LocalName → List ℕ) → Option HeldContent → List (List (HeldPiece × List ℕ))
 chunks_shown meaning None = []
 chunks_shown meaning (Some held) = chunks_in meaning held
+
+-- the content that was read last
+abbrev pub content_read : Option Shadow → Option HeldContent
+content_read None = None
+content_read (Some shadow) = Some shadow.content

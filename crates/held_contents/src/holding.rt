@@ -10,9 +10,12 @@ ghost use Rattle.client_tables.specs.Held.{held_pieces, brought};
 ghost use Rattle.client_tables.specs.Plan.{IsBrought};
 ghost use Rattle.client_journal.specs.Names.{Has, names_of};
 ghost use Rattle.client_journal.specs.There.{all_lens, repeats};
-ghost use Rattle.journal_laws.specs.Whole.{whole, HaveLens};
+ghost use Rattle.step_tables.specs.Chunks.{first_of, is_of_each, objects_of};
+ghost use Rattle.step_tables.specs.ClientMoves.{known};
+ghost use Rattle.journal_laws.specs.Whole.{whole, HaveLens, names_known};
 ghost use Rattle.journal_laws.specs.Moves.{plan_meaning};
-ghost use Rattle.held_contents.specs.Holding.{IsFit, IsHeldAgainst, HoldsObjects, HoldsOne, first_shown, unnamed, AreShown};
+ghost use Rattle.held_contents.specs.Holding.{IsFit, IsHeldAgainst, IsNamedAgainst, HoldsObjects, HoldsOne, first_shown};
+ghost use Rattle.held_contents.specs.Holding.{with_names, AreShown};
 ghost use Rattle.held_contents.specs.Holding.{pieces_shown, names_shown, pieces_held, IsBroughtPiece, brought_name};
 
 use crate::copied::copy_cells;
@@ -20,8 +23,9 @@ use chunker::{Chunks, cut};
 use client_tables::{BroughtChunks, HeldChunks, NewChunks, ShownChunks, held_against};
 use held_value::{HeldContent, HeldObject, HeldObjects};
 use row_value::Content;
-use stab_base::{Bytes, ChunkName, Sequence, SharedBytes};
+use stab_base::{Bytes, ChunkName, Names, Sequence, SharedBytes};
 use std::alloc::{AllocError, Global};
+use step_tables::ObjectNames;
 
 /// What holds a new content, and the chunks that it brings: a local name of plan 0 stands for the one of its ordinal.
 #[derive(Debug, Drop)]
@@ -30,26 +34,53 @@ pub struct HeldNew {
     pub brought: BroughtChunks,
 }
 
-fn without_names(
+// Chunks with their names, as far as there are any.
+fn with_names(
     alloc: Global,
     chunks: Chunks,
+    names: &[ChunkName],
 ) -> Result<Vec<(Option<ChunkName>, Bytes)>, AllocError>
-    ensures { IfOk result (λ made. made.items ≡ unnamed chunks) }
+    ensures { IfOk result (λ made. made.items ≡ with_names names.now chunks) }
 {
-    chunks
-        .into_vec()
-        .into_iter()
-        .map(|bytes| (None, bytes))
-        .collect(alloc)
+    let mut made = Vec::new(alloc);
+    let mut left = names;
+    for bytes in chunks.into_vec() {
+        made.push((left.first().copied(), bytes))?;
+        left = behind(left);
+    }
+    Ok(made)
 }
 
-// The chunks of an object, of none of which the Store's name is known.
-fn new_chunks(alloc: Global, size: u32, object: &[u8]) -> Result<NewChunks, AllocError>
+// The chunks of an object, of the first of which the Store's names are known.
+fn named_chunks(
+    alloc: Global,
+    size: u32,
+    object: &[u8],
+    names: &[ChunkName],
+) -> Result<NewChunks, AllocError>
     requires { 0 < size }
-    ensures { IfOk result (λ made. (chunks : List (List ℕ)) × IsCut size object.now chunks × (made ≡ unnamed chunks)) }
+    ensures { IfOk result (λ made. (chunks : List (List ℕ)) × IsCut size object.now chunks
+        × (made ≡ with_names names.now chunks)) }
 {
     let chunks = cut(alloc, object, size)?;
-    Ok(NewChunks::from_vec(without_names(alloc, chunks)?))
+    Ok(NewChunks::from_vec(with_names(alloc, chunks, names)?))
+}
+
+// The same by the names of the first object.
+fn new_chunks(
+    alloc: Global,
+    size: u32,
+    object: &[u8],
+    names: &[Names],
+) -> Result<NewChunks, AllocError>
+    requires { 0 < size }
+    ensures { IfOk result (λ made. (chunks : List (List ℕ)) × IsCut size object.now chunks
+        × (made ≡ with_names (first_of names.now) chunks)) }
+{
+    match names.first() {
+        None => named_chunks(alloc, size, object, &[]),
+        Some(first) => named_chunks(alloc, size, object, first.as_slice()),
+    }
 }
 
 // The chunks of a new object against those of the first object that is shown.
@@ -84,6 +115,7 @@ fn hold_one(
     alloc: Global,
     size: u32,
     shown: &[ShownChunks],
+    names: &[Names],
     object: &SharedBytes,
     held: &mut HeldObjects,
     brought: &mut BroughtChunks,
@@ -91,9 +123,9 @@ fn hold_one(
     requires size { 0 < size }
     requires len { length object.now < 2 ^ 32 }
     requires few { length brought.old + chunk_count size object.now < 2 ^ 32 }
-    ensures { OnOk result (HoldsOne size shown.now object.now held.old held.new brought.old brought.new) }
+    ensures { OnOk result (HoldsOne size shown.now names.now object.now held.old held.new brought.old brought.new) }
 {
-    let new = new_chunks(alloc, size, object.as_slice())?;
+    let new = new_chunks(alloc, size, object.as_slice(), names)?;
     let made = against_first(alloc, shown, new, brought.len() as u32)?;
     held.push(HeldObject {
         len: object.len() as u32,
@@ -102,11 +134,11 @@ fn hold_one(
     add_all(brought, made.brought)
 }
 
-fn behind(shown: &[ShownChunks]) -> &[ShownChunks]
-    ensures { result.now ≡ drop 1 shown.now }
+pub(crate) fn behind<T>(items: &[T]) -> &[T]
+    ensures { result.now ≡ drop 1 items.now }
 {
-    match shown.split_first() {
-        None => shown,
+    match items.split_first() {
+        None => items,
         Some((_first, rest)) => rest,
     }
 }
@@ -116,19 +148,22 @@ fn hold_objects(
     alloc: Global,
     size: u32,
     shown: &[ShownChunks],
+    names: &[Names],
     objects: &[SharedBytes],
 ) -> Result<(HeldObjects, BroughtChunks), AllocError>
     requires size { 0 < size }
     requires lens { AllByRecursion (λ object. length object < 2 ^ 32) objects.now }
     requires few { chunks_of size objects.now < 2 ^ 32 }
-    ensures { IfOk result (λ made. HoldsObjects size shown.now objects.now made.0 made.1) }
+    ensures { IfOk result (λ made. HoldsObjects size shown.now names.now objects.now made.0 made.1) }
 {
     let mut held = HeldObjects::new(alloc);
     let mut brought = BroughtChunks::new(alloc);
     let mut left = shown;
+    let mut named = names;
     for object in objects {
-        hold_one(alloc, size, left, object, &mut held, &mut brought)?;
+        hold_one(alloc, size, left, named, object, &mut held, &mut brought)?;
         left = behind(left);
+        named = behind(named);
     }
     Ok((held, brought))
 }
@@ -137,11 +172,13 @@ fn held_new(
     alloc: Global,
     size: u32,
     shown: &[ShownChunks],
+    names: &[Names],
     content: &Content,
 ) -> Result<HeldNew, AllocError>
     requires size { 0 < size }
     requires fit { IsFit size content.now }
-    ensures { IfOk result (λ made. IsHeldAgainst size shown.now content.now made.content made.brought) }
+    ensures { IfOk result (λ made.
+        IsNamedAgainst size shown.now names.now content.now made.content made.brought) }
 {
     match content {
         Content::Gone => Ok(HeldNew {
@@ -150,7 +187,7 @@ fn held_new(
         }),
         Content::Row { cells, objects } => {
             let cells = copy_cells(cells)?;
-            let (objects, brought) = hold_objects(alloc, size, shown, objects.as_slice())?;
+            let (objects, brought) = hold_objects(alloc, size, shown, names, objects.as_slice())?;
             Ok(HeldNew {
                 content: HeldContent::Row { cells, objects },
                 brought,
@@ -190,5 +227,39 @@ pub fn hold(
         → repeats [] (names_of made.content) ≡ false) }
     ensures small { IfOk result (λ made. AllByRecursion (λ bytes. length bytes ≤ size) made.brought) }
 {
-    held_new(alloc, size, shown.as_slice(), content)
+    held_new(alloc, size, shown.as_slice(), &[], content)
+}
+
+/// What holds a row from the Store, in chunks of a size, as `hold` has it, with the Store's name of each chunk.
+pub fn hold_named(
+    alloc: Global,
+    size: u32,
+    shown: &Sequence<ShownChunks>,
+    content: &Content,
+    names: &ObjectNames,
+) -> Result<HeldNew, AllocError>
+    requires size { 0 < size }
+    requires fit { IsFit size content.now }
+    requires named { is_of_each size names.now (objects_of content.now) ≡ true }
+    ensures held { IfOk result (λ made.
+        IsNamedAgainst size shown.now names.now content.now made.content made.brought) }
+    ensures known { IfOk result (λ made. names_known made.content ≡ known names.now) }
+    ensures whole { IfOk result (λ made. (meaning : LocalName → List ℕ) (number : ℕ)
+        → AreShown meaning number shown.now
+        → whole (plan_meaning meaning number made.brought) made.content ≡ content.now) }
+    ensures lens { IfOk result (λ made. (meaning : LocalName → List ℕ) (number : ℕ)
+        → AreShown meaning number shown.now → HaveLens (plan_meaning meaning number made.brought) made.content) }
+    ensures places { IfOk result (λ made. (meaning : LocalName → List ℕ) (number : ℕ)
+        → AreShown meaning number shown.now
+        → all_lens (λ name. Some (plan_meaning meaning number made.brought name)) size made.content ≡ true) }
+    ensures names { IfOk result (λ made. (name : LocalName) → Has (names_of made.content) name
+        → Has (names_shown shown.now) name ⊎ IsBrought (length made.brought) name) }
+    ensures all_brought { IfOk result (λ made. (ordinal : ℕ) → ordinal < length made.brought
+        → Has (names_of made.content) (brought_name ordinal)) }
+    ensures once { IfOk result (λ made. (meaning : LocalName → List ℕ) (number : ℕ)
+        → AreShown meaning number shown.now → repeats [] (names_shown shown.now) ≡ false
+        → repeats [] (names_of made.content) ≡ false) }
+    ensures small { IfOk result (λ made. AllByRecursion (λ bytes. length bytes ≤ size) made.brought) }
+{
+    held_new(alloc, size, shown.as_slice(), names.as_slice(), content)
 }

@@ -4,13 +4,16 @@
 
 mod copied;
 mod holding;
+mod laws;
 mod reading;
 mod request;
 
 pub use client_tables::{BroughtChunks, ShownChunks};
-pub use holding::{HeldNew, hold};
+pub use holding::{HeldNew, hold, hold_named};
+pub use laws::{chunks_are_cuts, contents_are_spelled};
 pub use reading::{read_chunks, read_whole};
-pub use request::pieces_of;
+pub use request::{cut_content, pieces_by_object, spell};
+pub use step_tables::{ObjectNames, ObjectPieces};
 
 #[cfg(test)]
 mod tests;

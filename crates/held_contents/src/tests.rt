@@ -1,12 +1,15 @@
-ghost use Rattle.std.specs.Prelude.{◌<◌};
+ghost use Rattle.std.specs.Prelude.{◌≡◌, ◌<◌, IfSome, length};
+ghost use Rattle.step_tables.specs.Chunks.{flat};
+ghost use Rattle.held_contents.specs.Request.{bytes_in};
 
 use super::*;
 use chunker::cut;
 use held_value::{HeldContent, HeldObject, HeldPiece, LocalName};
+use row_pieces::is_named;
 use row_value::{
-    Cells, Column, ColumnKind, Columns, Content, Objects, Schema, Scheme, SharedBytes, fits,
+    Cells, Column, ColumnKind, Columns, Content, Objects, Piece, Schema, Scheme, SharedBytes, fits,
 };
-use stab_base::{Bytes, ChunkName, Sequence};
+use stab_base::{Bytes, ChunkName, Names, Sequence};
 use std::alloc::{AllocError, Global};
 use std::test::Fail;
 
@@ -121,7 +124,7 @@ fn spell_object(object: &HeldObject, spelled: &mut Bytes) -> Result<(), AllocErr
     Ok(())
 }
 
-fn spell(alloc: Global, content: &HeldContent) -> Result<Bytes, AllocError> {
+fn spell_held(alloc: Global, content: &HeldContent) -> Result<Bytes, AllocError> {
     let mut spelled = Bytes::new(alloc);
     if let HeldContent::Row { objects, .. } = content {
         for object in objects.as_slice() {
@@ -139,7 +142,7 @@ fn held_of(
 ) -> Result<(Bytes, usize), AllocError> {
     match hold_fit(alloc, schema, shown, content)? {
         None => Ok((Bytes::new(alloc), 0)),
-        Some(made) => Ok((spell(alloc, &made.content)?, made.brought.len())),
+        Some(made) => Ok((spell_held(alloc, &made.content)?, made.brought.len())),
     }
 }
 
@@ -152,6 +155,177 @@ fn chunks_are_kept_and_brought_by_their_places(rt: HostRuntime) -> Result<(), Fa
         let (held, count) = held_of(rt.alloc(), &schema, &shown, &content)?;
         assert!(rt; held.as_slice() == spelled);
         assert_eq!(rt; count, brought);
+    }
+    Ok(())
+}
+
+// How many chunks there are, where they are few.
+fn count_in(now: &[ShownChunks]) -> Option<u32>
+    ensures { IfSome result (λ count. length (flat (bytes_in now.now)) ≡ count) }
+{
+    let mut count: u32 = 0;
+    for object in now {
+        if object.len() > 1000 {
+            return None;
+        }
+        count = count.checked_add(object.len() as u32)?;
+    }
+    Some(count)
+}
+
+fn piece_letter(piece: &Piece) -> u8 {
+    match piece {
+        Piece::Keep(name) => b'A'.wrapping_add((name.ordinal % 10) as u8),
+        Piece::Fresh(ordinal) => b'0'.wrapping_add((*ordinal % 10) as u8),
+    }
+}
+
+fn pieces_in(alloc: Global, objects: &ObjectPieces) -> Result<Bytes, AllocError> {
+    let mut spelled = Bytes::new(alloc);
+    for object in objects.as_slice() {
+        for piece in object.as_slice() {
+            spelled.push(piece_letter(piece))?;
+        }
+        spelled.push(b'|')?;
+    }
+    Ok(spelled)
+}
+
+// The pieces of a content against what is shown, split by what holds it.
+fn pieces_of(
+    alloc: Global,
+    shown: &Sequence<ShownChunks>,
+    content: &Content,
+    held: &HeldContent,
+) -> Result<Bytes, AllocError> {
+    let now = cut_content(alloc, 2, content)?;
+    match count_in(now.as_slice()) {
+        None => Ok(Bytes::new(alloc)),
+        Some(_) => {
+            let pieces = spell(alloc, shown, &now)?;
+            pieces_in(alloc, &pieces_by_object(alloc, held, &pieces)?)
+        }
+    }
+}
+
+fn spelled_of(
+    alloc: Global,
+    schema: &Schema,
+    shown: &Sequence<ShownChunks>,
+    content: &Content,
+) -> Result<Bytes, AllocError> {
+    match hold_fit(alloc, schema, shown, content)? {
+        None => Ok(Bytes::new(alloc)),
+        Some(made) => pieces_of(alloc, shown, content, &made.content),
+    }
+}
+
+#[test]
+fn chunks_that_were_read_are_kept_by_their_names(rt: HostRuntime) -> Result<(), Fail> {
+    let schema = two_objects(rt.alloc())?;
+    for (read, next, new, last, spelled, _brought) in CASES {
+        let read = shown_of(rt.alloc(), read, next)?;
+        let content = content_of(rt.alloc(), new, last)?;
+        let pieces = spelled_of(rt.alloc(), &schema, &read, &content)?;
+        assert!(rt; pieces.as_slice() == spelled);
+    }
+    Ok(())
+}
+
+fn add_names(alloc: Global, object: &[u8], first: u32) -> Result<Names, AllocError> {
+    let mut names = Names::new(alloc);
+    let mut ordinal = first;
+    for _bytes in cut(alloc, object, 2)?.into_vec() {
+        names.push(ChunkName {
+            version: 9,
+            ordinal,
+        })?;
+        ordinal = ordinal.wrapping_add(1);
+    }
+    Ok(names)
+}
+
+fn names_of(alloc: Global, first: &[u8], second: &[u8]) -> Result<ObjectNames, AllocError> {
+    let mut names = ObjectNames::new(alloc);
+    let object = add_names(alloc, first, 0)?;
+    let count = (object.len() % 1000) as u32;
+    names.push(object)?;
+    names.push(add_names(alloc, second, count)?)?;
+    Ok(names)
+}
+
+fn hold_row(
+    alloc: Global,
+    schema: &Schema,
+    shown: &Sequence<ShownChunks>,
+    content: &Content,
+    names: &ObjectNames,
+) -> Result<Option<HeldNew>, AllocError> {
+    if schema.chunk == 0 {
+        return Ok(None);
+    }
+    if !is_named(alloc, schema.chunk, content, names)? {
+        return Ok(None);
+    }
+    match fits(schema, content) {
+        Ok(()) => Ok(Some(hold_named(alloc, schema.chunk, shown, content, names)?)),
+        Err(_) => Ok(None),
+    }
+}
+
+fn local_letter(piece: &HeldPiece) -> u8 {
+    let from = match piece.local.plan {
+        0 => b'0',
+        _ => b'A',
+    };
+    from.wrapping_add((piece.local.ordinal % 10) as u8)
+}
+
+fn name_letter(piece: &HeldPiece) -> u8 {
+    match piece.name {
+        Some(name) if name.version == 9 => b'a'.wrapping_add((name.ordinal % 10) as u8),
+        _ => b'?',
+    }
+}
+
+fn spell_named(alloc: Global, content: &HeldContent) -> Result<(Bytes, Bytes), AllocError> {
+    let mut locals = Bytes::new(alloc);
+    let mut names = Bytes::new(alloc);
+    if let HeldContent::Row { objects, .. } = content {
+        for object in objects.as_slice() {
+            for piece in object.pieces.as_slice() {
+                locals.push(local_letter(piece))?;
+                names.push(name_letter(piece))?;
+            }
+            locals.push(b'|')?;
+        }
+    }
+    Ok((locals, names))
+}
+
+fn named_of(
+    alloc: Global,
+    schema: &Schema,
+    shown: &Sequence<ShownChunks>,
+    content: &Content,
+    names: &ObjectNames,
+) -> Result<(Bytes, Bytes), AllocError> {
+    match hold_row(alloc, schema, shown, content, names)? {
+        None => Ok((Bytes::new(alloc), Bytes::new(alloc))),
+        Some(made) => spell_named(alloc, &made.content),
+    }
+}
+
+#[test]
+fn a_row_from_the_store_has_its_names(rt: HostRuntime) -> Result<(), Fail> {
+    let schema = two_objects(rt.alloc())?;
+    for (read, next, new, last, spelled, _brought) in CASES {
+        let shown = shown_of(rt.alloc(), read, next)?;
+        let content = content_of(rt.alloc(), new, last)?;
+        let names = names_of(rt.alloc(), new, last)?;
+        let (locals, named) = named_of(rt.alloc(), &schema, &shown, &content, &names)?;
+        assert!(rt; locals.as_slice() == spelled);
+        assert!(rt; named.as_slice() == b"abc".as_slice());
     }
     Ok(())
 }

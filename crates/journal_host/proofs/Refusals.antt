@@ -1,6 +1,6 @@
 -- Where a client refuses what it is asked for, it does nothing else.
 use Rattle.std.proofs.Common.{◌≡◌, ℕ, Bool, true, false, List, [], ◌∷◌, Option, Some, None, Result, Ok, Err, refl, ap, ◌∙◌}
-use Rattle.std.specs.Prelude.{◌≢◌, ◌==◌, ◌&&◌, ◌||◌, not, nat_le, if◌then◌else◌}
+use Rattle.std.specs.Prelude.{◌≢◌, ◌==◌, ◌&&◌, ◌||◌, not, nat_le, option_map, if◌then◌else◌}
 use Rattle.row_value.specs.declared.content.Content.{Content}
 use Rattle.row_value.specs.declared.content.Content.TheVariants.{Gone, Row}
 use Rattle.row_value.specs.declared.fit.FitFault.{FitFault}
@@ -13,15 +13,15 @@ use Rattle.conflicts.specs.declared.pair.Choice.{Choice}
 use Rattle.conflicts.specs.declared.pair.Choice.TheVariants.{Mine, Theirs, New}
 use Rattle.conflicts.specs.declared.stored.Stored.{Stored}
 use Rattle.row_value.specs.declared.schema.Schema.{Schema}
-use Rattle.step_tables.specs.declared.slots.InFlight.{InFlight}
-use Rattle.step_tables.specs.declared.slots.Main.{Main}
-use Rattle.step_tables.specs.declared.slots.Shadow.{Shadow}
+use Rattle.step_tables.specs.Slots.{InFlight}
+use Rattle.step_tables.specs.Slots.{Main}
+use Rattle.step_tables.specs.Slots.{Shadow}
 use Rattle.step_tables.specs.Facts.{Answer, Refusal, Shown, ShownSum}
 use Rattle.step_tables.specs.Facts as facts
 use Rattle.step_tables.specs.Messages.{Header, Message, Outcome, Pulled, Response, Send, SyncRequest, SyncResponse, PullRequest, PullResponse}
 use Rattle.step_tables.specs.Messages as messages
 use Rattle.step_tables.specs.Sums.{by_digests, or_whole, sum_of}
-use Rattle.step_tables.specs.ClientMoves.{Slots, TableDisk, ClientDisk, ClientTask, ClientStep, Shape, RowOut, quiet, table_at, seen, slots_at, shown_in, show_answer, show_in, content_of, first_out, first_to_send, resent, top}
+use Rattle.step_tables.specs.ClientMoves.{Slots, TableDisk, ClientDisk, ClientTask, ClientStep, Shape, RowOut, quiet, table_at, seen, slots_at, shown_in, show_answer, show_in, content_of, first_out, row_out, first_to_send, resent, top}
 use Rattle.step_tables.specs.ClientMoves.{ClientMove, is_before_write, is_before_phase, kept_out, phase_in, conflicts_in, choose, over_fitting, resolve_over, resolve_in, all_in, all_fitting, all_idle, can_resolve}
 use Rattle.step_tables.specs.ClientMoves.{write_strong, write_by, write_free, write_idle, write_fitting, write_to, edit_made, edit_over, edit_in, sync_first, sync_in, next_in, outcome_taken, response_taken, response_in, row_taken, pulled_taken, pulled_in, take_step}
 use Rattle.step_tables.specs.ClientMoves as moves
@@ -43,7 +43,7 @@ write_by_only : (g : Scheme) (c : ℕ) (shape : Shape) (d : ClientDisk) (table :
     → RefusesOnly d [] (write_by g c shape d table row opened slots content)
 write_by_only Strong c shape d table row opened slots content = strong (first_out opened.rows)
   where
-    strong : (o : Option InFlight) → RefusesOnly d [] (write_strong c shape d table row slots content o)
+    strong : (o : Option InFlight) → RefusesOnly d [] (write_strong opened.schema.chunk c shape d table row slots content o)
     strong None = λ r is. absurd cc
     strong (Some out) = only_answers d [] (facts.Refuses (facts.Outstanding out.number)) (λ bad. absurd cc)
 write_by_only Causal c shape d table row opened slots content = λ r is. absurd cc
@@ -121,7 +121,7 @@ sum_only d tasks row o = only_answers d tasks (by_digests (show_in row o)) (dige
 pub sync_only : (c : ℕ) (shape : Shape) (d : ClientDisk) (tasks : List ClientTask) (table : ℕ) (o : Option TableDisk) → RefusesOnly d tasks (sync_in c shape d tasks table o)
 sync_only c shape d tasks table None = only_answers d tasks (facts.Refuses facts.NoTable) (λ bad. absurd cc)
 sync_only c shape d (task ∷ more) table (Some opened) = only_answers d (task ∷ more) (facts.Refuses (facts.Busy shape.plan)) (λ bad. absurd cc)
-sync_only c shape d [] table (Some opened) = first (resent c table opened.rows) (first_to_send opened.rows)
+sync_only c shape d [] table (Some opened) = first (resent c table opened.rows) (option_map (row_out opened.schema.chunk) (first_to_send opened.rows))
   where
     first : (again : List Send) (o : Option RowOut) → RefusesOnly d [] (sync_first c shape d table again o)
     first again None = λ r is. absurd cc
@@ -209,12 +209,19 @@ response_done : (c : ℕ) (shape : Shape) (d : ClientDisk) (response : Response)
 response_done c shape d response None = refl
 response_done c shape d response (Some opened) = waits (slots_at opened response.row).out
   where
+    again : (out : InFlight) (b : Bool)
+        → (if b then moves.ignored d
+        else moves.begun shape d facts.Done (moves.whole_plan d response.table response.row (slots_at opened response.row) out) (moves.request_for c response.table response.row (moves.whole_out out) ∷ [])).answer ≡ facts.Done
+    again out true = refl
+    again out false = refl
+
     outcome : (out : InFlight) (x : Outcome) → (outcome_taken c shape d response.table response.row opened (slots_at opened response.row) out x).answer ≡ facts.Done
     outcome out (messages.Accepted version) = refl
     outcome out (messages.Again version) = refl
     outcome out (messages.Late last) = refl
     outcome out (messages.Stale latest) = refl
     outcome out (messages.Conflict latest) = refl
+    outcome out messages.NeedWhole = again out out.whole
 
     either : (out : InFlight) (b : Bool)
         → (if b then outcome_taken c shape d response.table response.row opened (slots_at opened response.row) out response.outcome else moves.ignored d).answer ≡ facts.Done
@@ -240,7 +247,7 @@ pulled_done c shape d pulled (Some opened) = brings pulled.header
 
     brings : (o : Option Header) → (pulled_taken c shape d pulled opened o).answer ≡ facts.Done
     brings None = refl
-    brings (Some header) = either (pulled.from == opened.position)
+    brings (Some header) = either (moves.comes_next pulled opened header)
       where
         either : (b : Bool) → (if b then row_taken c shape d pulled opened header (slots_at opened header.row) else moves.ignored d).answer ≡ facts.Done
         either true = row header

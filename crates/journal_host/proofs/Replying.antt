@@ -8,8 +8,8 @@ use Rattle.row_value.specs.Fit.{fit_of}
 use Rattle.table_model.specs.declared.line.Answer.{Answer}
 use Rattle.table_model.specs.declared.line.Answer.TheVariants as answers
 use Rattle.table_model.specs.declared.line.RowPair.{RowPair}
-use Rattle.step_tables.specs.declared.slots.Main.{Main}
-use Rattle.step_tables.specs.declared.slots.Shadow.{Shadow}
+use Rattle.step_tables.specs.Slots.{Main}
+use Rattle.step_tables.specs.Slots.{Shadow}
 use Rattle.step_tables.specs.Facts as facts
 use Rattle.step_tables.specs.Lines.{answer_of}
 use Rattle.step_tables.specs.Messages.{Header, Message, SyncRequest, SyncResponse, PullRequest, PullResponse}

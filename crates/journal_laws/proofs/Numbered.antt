@@ -1,9 +1,11 @@
 -- Slots under a plan's number are whole as they were before they got it.
-use Rattle.std.proofs.Common.{◌≡◌, ℕ, List, [], ◌∷◌, length, map, Option, Some, None, refl, sym, ◌∙◌, ap, arith}
+use Rattle.std.proofs.Common.{◌≡◌, ℕ, List, [], ◌∷◌, length, map, take, drop, Option, Some, None, refl, sym, ◌∙◌, ap, arith}
 use Rattle.std.specs.Prelude.{option_map, IfSome}
 use Rattle.std.specs.List.{concat, AllByRecursion}
 use Rattle.std.proofs.lemmas.List.{length-map}
+use Rattle.stab_base.specs.declared.chunk_name.ChunkName.{ChunkName}
 use Rattle.row_value.specs.declared.content.Content.TheVariants as contents
+use Rattle.row_value.specs.declared.pieces.Piece.{Piece}
 use Rattle.held_value.specs.declared.local_name.LocalName.{LocalName}
 use Rattle.held_value.specs.declared.content.HeldPiece.{HeldPiece}
 use Rattle.held_value.specs.declared.content.HeldObject.{HeldObject}
@@ -16,7 +18,7 @@ use Rattle.held_value.specs.declared.slots.Slots.{Slots as HeldSlots}
 use Rattle.client_journal.specs.Names.{names_of_objects, names_of}
 use Rattle.client_journal.specs.Plan.{numbered_name, numbered_piece, numbered_object, numbered_content, numbered_main, numbered_shadow, numbered_out, numbered_slots}
 use Rattle.journal_laws.proofs.Transitions.{names_count}
-use Rattle.journal_laws.specs.Whole.{whole_object, whole, whole_main, whole_shadow, whole_out, whole_slots, HasLen, HaveLens, SpellsAll, AreHeld}
+use Rattle.journal_laws.specs.Whole.{whole_object, whole, names_in_objects, names_known, split_by, pieces_by, whole_main, whole_shadow, whole_out, whole_slots, HasLen, HaveLens, SpellsAll, AreHeld}
 
 module _ (means : LocalName → List ℕ) (number : ℕ) where
   -- what a name stands for that gets its number
@@ -38,17 +40,41 @@ module _ (means : LocalName → List ℕ) (number : ℕ) where
   content_same Gone = refl
   content_same (Row some objects) = ap (λ (l : List (List ℕ)). contents.Row some l) (objects_same objects)
 
+  piece_names_same : (ps : List HeldPiece) → map (λ (piece : HeldPiece). piece.name) (map (numbered_piece number) ps) ≡ map (λ (piece : HeldPiece). piece.name) ps
+  piece_names_same [] = refl
+  piece_names_same (p ∷ ps) = ap (λ (l : List (Option ChunkName)). p.name ∷ l) (piece_names_same ps)
+
+  object_names_same : (os : List HeldObject) → names_in_objects (map (numbered_object number) os) ≡ names_in_objects os
+  object_names_same [] = refl
+  object_names_same (o ∷ os) =
+      ap (λ (l : List (Option ChunkName)). l ∷ names_in_objects (map (numbered_object number) os)) (piece_names_same o.pieces)
+      ∙ ap (λ (l : List (List (Option ChunkName))). map (λ (piece : HeldPiece). piece.name) o.pieces ∷ l) (object_names_same os)
+
+  pub names_same : (c : HeldContent) → names_known (numbered_content number c) ≡ names_known c
+  names_same Gone = refl
+  names_same (Row some objects) = object_names_same objects
+
+  split_same : (os : List HeldObject) (pieces : List Piece) → split_by (map (numbered_object number) os) pieces ≡ split_by os pieces
+  split_same [] pieces = refl
+  split_same (o ∷ os) pieces =
+      ap (λ (n : ℕ). take n pieces ∷ split_by (map (numbered_object number) os) (drop n pieces)) (length-map o.pieces (numbered_piece number))
+      ∙ ap (λ (l : List (List Piece)). take (length o.pieces) pieces ∷ l) (split_same os (drop (length o.pieces) pieces))
+
+  pub pieces_by_same : (c : HeldContent) (pieces : List Piece) → pieces_by (numbered_content number c) pieces ≡ pieces_by c pieces
+  pieces_by_same Gone pieces = refl
+  pieces_by_same (Row some objects) pieces = split_same objects pieces
+
   main_same : (o : Option HeldMain) → option_map (whole_main means) (option_map (numbered_main number) o) ≡ option_map (whole_main before) o
   main_same None = refl
   main_same (Some main) = rw (content_same main.content) refl
 
   shadow_same : (o : Option HeldShadow) → option_map (whole_shadow means) (option_map (numbered_shadow number) o) ≡ option_map (whole_shadow before) o
   shadow_same None = refl
-  shadow_same (Some shadow) = rw (content_same shadow.content) refl
+  shadow_same (Some shadow) = rw (content_same shadow.content, names_same shadow.content) refl
 
   out_same : (o : Option HeldOut) → option_map (whole_out means) (option_map (numbered_out number) o) ≡ option_map (whole_out before) o
   out_same None = refl
-  out_same (Some out) = rw (content_same out.content) refl
+  out_same (Some out) = rw (content_same out.content, pieces_by_same out.content out.pieces) refl
 
   pub slots_same : (s : HeldSlots) → whole_slots means (numbered_slots number s) ≡ whole_slots before s
   slots_same s = rw (main_same s.main, shadow_same s.shadow, out_same s.out, shadow_same s.conflict) refl

@@ -2,6 +2,7 @@
 use Rattle.std.proofs.Common.{◌≡◌, ℕ, Bool, true, false, List, [], ◌∷◌, ◌++◌, map, Option, Some, None, refl, sym, ◌∙◌, ap, subst}
 use Rattle.std.specs.Prelude.{◌==◌, nat_le, if◌then◌else◌, option_map}
 use Rattle.std.proofs.lemmas.List.{map-append}
+use Rattle.stab_base.specs.declared.chunk_name.ChunkName.{ChunkName}
 use Rattle.row_value.specs.declared.schema.Scheme.{Scheme}
 use Rattle.row_value.specs.declared.schema.Scheme.TheVariants.{Strong, Causal, Eventual}
 use Rattle.table_model.specs.declared.message.Yours.{Yours}
@@ -15,13 +16,14 @@ use Rattle.held_value.specs.declared.tell.Tell.TheVariants as tell
 use Rattle.client_tables.specs.declared.change.Change.{Change}
 use Rattle.client_tables.specs.declared.change.Sending.TheVariants as send
 use Rattle.client_tables.specs.Change.{after, unchanged, seen_in}
-use Rattle.client_tables.specs.Transitions.{without as held_without, acknowledged, is_eventual, read_row, in_conflict, placed as held_placed, taken}
-use Rattle.step_tables.specs.declared.slots.Main.{Main}
+use Rattle.client_tables.specs.Transitions.{without as held_without, acknowledged, read_row, in_conflict, placed as held_placed, taken}
+use Rattle.step_tables.specs.Slots.{Main}
+use Rattle.step_tables.specs.Slots.{Shadow}
 use Rattle.step_tables.specs.Facts.{ClientFact}
 use Rattle.step_tables.specs.Facts as facts
 use Rattle.step_tables.specs.Messages.{Header}
-use Rattle.step_tables.specs.ClientMoves.{Slots, RowPut, ClientDisk, Placed, without, read_new, read_conflict, placed, row_placed, row_plan}
-use Rattle.journal_laws.specs.Whole.{whole_main, whole_shadow, whole_slots}
+use Rattle.step_tables.specs.ClientMoves.{Slots, RowPut, ClientDisk, Placed, without, read_new, read_conflict, placed, row_placed, row_plan, known, shadow_of}
+use Rattle.journal_laws.specs.Whole.{whole, whole_main, whole_shadow, whole_slots, names_known}
 use Rattle.journal_laws.specs.Holds.{fact_in, Say}
 use Rattle.journal_laws.specs.Moves.{Plans, IsStill, header_of}
 use Rattle.journal_laws.proofs.Transitions.{without_whole}
@@ -34,9 +36,15 @@ say_more c table put told some t f says one =
     ∙ (ap (λ (l : List (Option ClientFact)). l ++ fact_in c table put t ∷ []) says
     ∙ (ap (λ (o : Option ClientFact). map (λ (fact : ClientFact). Some fact) some ++ o ∷ []) one ∙ sym (map-append (λ (fact : ClientFact). Some fact) some (f ∷ []))))
 
-module _ (c : ℕ) (meaning : LocalName → List ℕ) (d : ClientDisk) (table : ℕ) (row : List ℕ) (scheme : Scheme) (yours : Yours) (x : HeldShadow) where
+pub old_still : (scheme : Scheme) (yours : Yours) (x : HeldShadow) (slots : HeldSlots) → nat_le x.version (seen_in slots.conflict slots.shadow) ≡ true → IsStill (taken scheme slots yours x)
+old_still scheme yours x slots old = subst (λ (b : Bool). IsStill (if b then unchanged send.Nothing else held_placed scheme slots (acknowledged yours slots) yours x)) (sym old) (record { slots = refl; tells = refl })
+
+module _ (c : ℕ) (meaning : LocalName → List ℕ) (d : ClientDisk) (table : ℕ) (row : List ℕ) (scheme : Scheme) (yours : Yours) (x : HeldShadow) (names : List (List ChunkName)) (named : names_known x.content ≡ known names) where
   abbrev header : Header
-  header = header_of meaning row yours x
+  header = header_of meaning row yours x names
+
+  shadow_is : whole_shadow meaning x ≡ shadow_of header
+  shadow_is = ap (λ (l : List (List (Option ChunkName))). record { version = x.version; content = whole meaning x.content; names = l }) named
 
   abbrev put_of : Slots → Option RowPut
   put_of s = Some (record { row = row; slots = s })
@@ -57,7 +65,7 @@ module _ (c : ℕ) (meaning : LocalName → List ℕ) (d : ClientDisk) (table : 
 
     reads : (k : Option HeldShadow) → Takes (held_of m0 s o0 k) (read_row (held_of m0 s o0 k) (record { main = m; out = o; tells = told }) x) (read_new c table header (whole_acked k) before)
     reads k = record {
-      behind = refl;
+      behind = ap (λ (y : Shadow). record (whole_acked k) { shadow = Some y }) shadow_is;
       tells = λ q. say_more c table (put_of q) told before (tell.New x.version) (facts.New c table row x.version) (says q) refl;
     }
 
@@ -69,7 +77,7 @@ module _ (c : ℕ) (meaning : LocalName → List ℕ) (d : ClientDisk) (table : 
         → Takes (held_of m0 s o0 k) (in_conflict (held_of m0 s o0 k) (record { main = Some main; out = o; tells = told }) x)
         (read_conflict c table header (some_whole k) before (whole_main meaning main))
     conflicts k = record {
-      behind = refl;
+      behind = ap (λ (y : Shadow). record (some_whole k) { conflict = Some y; out = None }) shadow_is;
       tells = λ q. say_more c table (put_of q) told before (tell.Conflict main.number x.version) (facts.Conflict c main.number table row x.version) (says q) refl;
     }
 
@@ -134,6 +142,3 @@ module _ (c : ℕ) (meaning : LocalName → List ℕ) (d : ClientDisk) (table : 
           put = ap (λ (q : Slots). Some (record { row = row; slots = q })) (sym t.behind);
           tells = say_more c table (put_of made.slots) change.tells made.facts (tell.Position position) (facts.Position c table position) (t.tells made.slots) refl;
         })
-
-    pub old_still : nat_le x.version (seen_in slots.conflict slots.shadow) ≡ true → IsStill (taken scheme slots yours x)
-    old_still old = subst (λ (b : Bool). IsStill (if b then unchanged send.Nothing else held_placed scheme slots (acknowledged yours slots) yours x)) (sym old) (record { slots = refl; tells = refl })

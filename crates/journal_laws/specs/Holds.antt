@@ -19,8 +19,8 @@ use Rattle.plan_log.specs.Journal.{AtWork, Idle, Intended, Committed}
 use Rattle.client_journal.specs.Devs.{ClientDevs, Write, changed_by}
 use Rattle.client_journal.specs.Devs as writes
 use Rattle.client_journal.specs.NamedSlots.{NamedSlots}
-use Rattle.step_tables.specs.declared.slots.Main.{Main}
-use Rattle.step_tables.specs.declared.slots.InFlight.{InFlight}
+use Rattle.step_tables.specs.Slots.{Main}
+use Rattle.step_tables.specs.Slots.{InFlight}
 use Rattle.step_tables.specs.Facts.{ClientFact}
 use Rattle.step_tables.specs.Facts as facts
 use Rattle.step_tables.specs.ClientMoves.{Slots, TableDisk, RowPut, Plan, ClientDisk, ClientChange, ClientTask}

@@ -1,14 +1,16 @@
 -- What the laws speak of: the tasks of a move, their names, a change of slots as a plan, and what is shown.
-use Rattle.std.specs.Prelude.{◌≡◌, ℕ, ◌<◌, List, [], ◌∷◌, length, map, Option, Some, None, IfSome}
+use Rattle.std.specs.Prelude.{◌≡◌, ℕ, ◌<◌, List, [], ◌∷◌, length, map, Option, Some, None, IfSome, option_map}
 use Rattle.std.specs.List.{concat, AllByRecursion}
 use Rattle.stab_base.specs.declared.chunk_name.ChunkName.{ChunkName}
 use Rattle.stab_base.specs.declared.step.Step.{Step}
 use Rattle.stab_base.specs.declared.step.Step.TheVariants as steps
 use Rattle.row_value.specs.declared.content.Content.{Content}
+use Rattle.row_value.specs.declared.pieces.Piece.{Piece}
 use Rattle.row_value.specs.declared.schema.Schema.{Schema}
 use Rattle.table_model.specs.declared.message.Yours.{Yours}
 use Rattle.held_value.specs.declared.local_name.LocalName.{LocalName}
 use Rattle.held_value.specs.declared.content.HeldPiece.{HeldPiece}
+use Rattle.held_value.specs.declared.content.HeldContent.{HeldContent}
 use Rattle.held_value.specs.declared.slots.Main.{Main as HeldMain}
 use Rattle.held_value.specs.declared.slots.Shadow.{Shadow as HeldShadow}
 use Rattle.held_value.specs.declared.slots.Slots.{Slots as HeldSlots}
@@ -24,11 +26,12 @@ use Rattle.client_tables.specs.Kept.{SlotEvent, Write, WriteStrong, Send, Answer
 use Rattle.client_journal.specs.Names.{names_of}
 use Rattle.client_journal.specs.Agenda.{meaning_with}
 use Rattle.client_journal.specs.Plan.{numbered_name}
+use Rattle.step_tables.specs.Chunks.{all_against, objects_of, cut}
 use Rattle.step_tables.specs.Facts.{Shown}
 use Rattle.step_tables.specs.Facts as facts
 use Rattle.step_tables.specs.Messages.{Header}
-use Rattle.step_tables.specs.ClientMoves.{TableDisk, Plan, ClientDisk, ClientTask, ClientStep, Shape}
-use Rattle.journal_laws.specs.Whole.{whole, whole_slots, HaveLens}
+use Rattle.step_tables.specs.ClientMoves.{TableDisk, Plan, ClientDisk, ClientTask, ClientStep, Shape, chunks_read}
+use Rattle.journal_laws.specs.Whole.{whole, whole_shadow, whole_slots, pieces_by, HaveLens}
 use Rattle.journal_laws.specs.Holds.{Say}
 
 -- ---- a table that is declared
@@ -99,14 +102,22 @@ abbrev pub IsNewTo : Option HeldMain → ℕ → Type 0
 IsNewTo None number = Unit {0}
 IsNewTo (Some main) number = main.number ≡ number → ⊥
 
--- a row from the Store, whole
-abbrev pub header_of : (LocalName → List ℕ) → List ℕ → Yours → HeldShadow → Header
-header_of meaning row yours shadow = record {
+-- a row from the Store, whole, with the Store's names of its chunks
+abbrev pub header_of : (LocalName → List ℕ) → List ℕ → Yours → HeldShadow → List (List ChunkName) → Header
+header_of meaning row yours shadow names = record {
   row = row;
   version = shadow.version;
   yours = record { number = yours.number; version = yours.version };
   content = whole meaning shadow.content;
+  names = names;
 }
+
+-- The pieces spell the chunks of a content, each of this size, against what was read last.
+abbrev pub Spells : (LocalName → List ℕ) → ℕ → Option HeldShadow → HeldContent → List Piece → Type 0
+Spells meaning size shadow content pieces =
+    pieces_by content pieces
+    ≡ all_against 0 (chunks_read size (option_map (whole_shadow meaning) shadow))
+    (map (cut size) (objects_of (whole meaning content)))
 
 -- ---- whole contents
 

@@ -3,7 +3,7 @@
 #![tactic(auto)]
 
 ghost use Rattle.std.specs.Prelude.{◌≡◌, ◌⊎◌, ℕ, ◌+◌, ◌<◌, nat_le, true, false, is_some, List, [], ◌∷◌, ◌++◌};
-ghost use Rattle.std.specs.Prelude.{length, Option, Some, None, option_map};
+ghost use Rattle.std.specs.Prelude.{length, Option, Some, None, option_map, IfSome};
 ghost use Rattle.std.specs.BTreeMap.{insert_entry};
 ghost use Rattle.std.specs.Ordering.{nat_cmp};
 ghost use Rattle.stab_base.specs.declared.chunk_name.ChunkName.{ChunkName};
@@ -39,19 +39,19 @@ ghost use Rattle.client_journal.specs.Recover.{AreRecoveryWrites};
 ghost use Rattle.client_journal.specs.Redone.{redone};
 ghost use Rattle.client_journal.specs.Small.{small_schema};
 ghost use Rattle.client_journal.specs.Standing.{nothing};
-ghost use Rattle.step_tables.specs.declared.slots.InFlight.{InFlight};
+ghost use Rattle.step_tables.specs.Slots.{InFlight};
 ghost use Rattle.step_tables.specs.Facts.{Answer};
 ghost use Rattle.step_tables.specs.Messages.{Send};
 ghost use Rattle.step_tables.specs.ClientMoves.{Plan, Shape, ClientDisk, ClientTask, changed, begun, resumed, shown_in};
 ghost use Rattle.step_tables.specs.ClientMoves.{slots_in, table_at, write_plan, strong_plan, to_send, send_plan};
 ghost use Rattle.step_tables.specs.ClientMoves.{ack_plan, lost_plan, row_placed, row_plan, top, over_plan};
-ghost use Rattle.step_tables.specs.ClientMoves.{theirs_plan, seen};
+ghost use Rattle.step_tables.specs.ClientMoves.{theirs_plan, seen, row_out, whole_plan, known};
 ghost use Rattle.journal_laws.specs.Whole.{whole, whole_object, whole_main, whole_shadow, whole_out, whole_slots};
-ghost use Rattle.journal_laws.specs.Whole.{SpellsAll, AreHeld};
+ghost use Rattle.journal_laws.specs.Whole.{SpellsAll, AreHeld, names_known};
 ghost use Rattle.journal_laws.specs.Holds.{IsPlanOf, IsPlanAt, Say, Stands, Follows, HoldsTables, slots_or_empty};
 ghost use Rattle.journal_laws.specs.Moves.{shown_with, tasks_of, IsPlanShape, IsStartShape, Plans, PlansChange};
 ghost use Rattle.journal_laws.specs.Moves.{IsStill, IsNewTo, header_of, plan_meaning, AreShownChunks, object_of};
-ghost use Rattle.journal_laws.specs.Moves.{HoldsEvent, opened_table, opened_record, nothing_there};
+ghost use Rattle.journal_laws.specs.Moves.{HoldsEvent, Spells, opened_table, opened_record, nothing_there};
 ghost use Rattle.journal_laws.specs.Worked.{no_row, no_row_disk, nothing_meant, two_chunks, row_id, first_writes};
 ghost use Rattle.journal_laws.specs.Worked.{first_tasks, all_changed, names_of_writes, names_of_tasks};
 
@@ -176,26 +176,28 @@ pub fn an_object_is_held_whole()
 {}
 
 /// What a change of a row's slots makes of them is what the step table makes of the whole slots, and its tells are the
-/// table's facts. The names at the Store that an accepted write's chunks get are not seen. (Does nothing: its clauses
-/// are laws.)
+/// table's facts. The pieces of what is sent are the table's, and so are the Store's names of an accepted write's
+/// chunks. (Does nothing: its clauses are laws.)
 pub fn transitions_agree()
     ensures write { (c : ℕ) (meaning : LocalName → List ℕ) (d : ClientDisk) (table : ℕ) (row : List ℕ)
         (slots : HeldSlots) (content : HeldContent)
         → PlansChange meaning c row slots (written slots (d.last + 1) content)
         (write_plan c d table row (whole_slots meaning slots) (whole meaning content)) }
     ensures strong { (c : ℕ) (meaning : LocalName → List ℕ) (d : ClientDisk) (table : ℕ) (row : List ℕ)
-        (slots : HeldSlots) (content : HeldContent) (pieces : List Piece) → IsNewTo slots.main (d.last + 1)
+        (slots : HeldSlots) (size : ℕ) (content : HeldContent) (pieces : List Piece) → IsNewTo slots.main (d.last + 1)
+        → Spells meaning size slots.shadow content pieces
         → PlansChange meaning c row slots (written_strong slots (d.last + 1) content pieces)
-        (strong_plan c d table row (whole_slots meaning slots) (whole meaning content)) }
+        (strong_plan size c d table row (whole_slots meaning slots) (whole meaning content)) }
     ensures may_send { (meaning : LocalName → List ℕ) (slots : HeldSlots)
         → let w = whole_slots meaning slots in
         can_send slots ≡ is_some (to_send w w.out w.main w.conflict) }
     ensures sends { (c : ℕ) (meaning : LocalName → List ℕ) (d : ClientDisk) (table : ℕ) (row : List ℕ)
-        (slots : HeldSlots) (pieces : List Piece) (out : InFlight)
+        (slots : HeldSlots) (size : ℕ) (pieces : List Piece) (out : InFlight)
         → let w = whole_slots meaning slots in
         to_send w w.out w.main w.conflict ≡ Some out
+        → IfSome slots.main (λ main. Spells meaning size slots.shadow main.content pieces)
         → PlansChange meaning c row slots (sent slots pieces)
-        (send_plan d table (record { row = row; slots = w; out = out })) }
+        (send_plan d table (row_out size (record { row = row; slots = w; out = out }))) }
     ensures accepted { (c : ℕ) (meaning : LocalName → List ℕ) (d : ClientDisk) (table : ℕ) (row : List ℕ)
         (slots : HeldSlots) (out : HeldOut) (version : ℕ) → slots.out ≡ Some out → SpellsAll out
         → PlansChange meaning c row slots (answered slots out.number (outcomes.Accepted version))
@@ -208,14 +210,18 @@ pub fn transitions_agree()
         (slots : HeldSlots) (out : HeldOut) (latest : ℕ) → slots.out ≡ Some out
         → PlansChange meaning c row slots (answered slots out.number (outcomes.Stale latest))
         (lost_plan c d table row (whole_slots meaning slots) (whole_out meaning out) latest) }
+    ensures whole { (c : ℕ) (meaning : LocalName → List ℕ) (d : ClientDisk) (table : ℕ) (row : List ℕ)
+        (slots : HeldSlots) (out : HeldOut) → slots.out ≡ Some out → SpellsAll out → out.whole ≡ false
+        → PlansChange meaning c row slots (answered slots out.number outcomes.NeedWhole)
+        (whole_plan d table row (whole_slots meaning slots) (whole_out meaning out)) }
     ensures row { (c : ℕ) (meaning : LocalName → List ℕ) (d : ClientDisk) (table : ℕ) (row : List ℕ) (scheme : Scheme)
-        (yours : Yours) (x : HeldShadow) (slots : HeldSlots) (position : ℕ)
-        → nat_le x.version (seen_in slots.conflict slots.shadow) ≡ false
+        (yours : Yours) (x : HeldShadow) (names : List (List ChunkName)) (slots : HeldSlots) (position : ℕ)
+        → nat_le x.version (seen_in slots.conflict slots.shadow) ≡ false → names_known x.content ≡ known names
         → let w = whole_slots meaning slots in
         Plans meaning c row (after slots (taken scheme slots yours x))
         ((taken scheme slots yours x).tells ++ tell.Position position ∷ [])
         (row_plan c d table row position
-        (row_placed scheme c table (header_of meaning row yours x) w w.out)) }
+        (row_placed scheme c table (header_of meaning row yours x names) w w.out)) }
     ensures mine { (c : ℕ) (meaning : LocalName → List ℕ) (d : ClientDisk) (table : ℕ) (row : List ℕ)
         (slots : HeldSlots) (main : HeldMain) (x : HeldShadow) → slots.main ≡ Some main → slots.conflict ≡ Some x
         → PlansChange meaning c row slots (resolved slots (d.last + 1) choices.Mine)
@@ -242,8 +248,8 @@ pub fn slots_stay_held()
 {}
 
 /// What changes no slot where the step table plans no row: an answer to another write than the one that waits, one that
-/// is late or tells of a conflict, a row that isn't newer than what was seen, and a resolution where nothing is in
-/// conflict. (Does nothing: its clauses are laws.)
+/// is late or tells of a conflict, one that asks for all chunks again, a row that isn't newer than what was seen, and a
+/// resolution where nothing is in conflict. (Does nothing: its clauses are laws.)
 pub fn what_changes_nothing()
     ensures none_waits { (slots : HeldSlots) (number : ℕ) (outcome : Outcome) → slots.out ≡ None
         → IsStill (answered slots number outcome) }
@@ -253,6 +259,8 @@ pub fn what_changes_nothing()
         → IsStill (answered slots out.number (outcomes.Late last)) }
     ensures conflict { (slots : HeldSlots) (out : HeldOut) (latest : ℕ) → slots.out ≡ Some out
         → IsStill (answered slots out.number (outcomes.Conflict latest)) }
+    ensures whole { (slots : HeldSlots) (out : HeldOut) → slots.out ≡ Some out → out.whole ≡ true
+        → IsStill (answered slots out.number outcomes.NeedWhole) }
     ensures old_row { (scheme : Scheme) (slots : HeldSlots) (yours : Yours) (x : HeldShadow)
         → nat_le x.version (seen_in slots.conflict slots.shadow) ≡ true → IsStill (taken scheme slots yours x) }
     ensures seen { (meaning : LocalName → List ℕ) (slots : HeldSlots)

@@ -6,11 +6,13 @@ ghost use Rattle.std.specs.Prelude.{◌≡◌, ◌⊎◌, ℕ, ◌≤◌, ◌+�
 ghost use Rattle.std.specs.Map.{keys_of};
 ghost use Rattle.std.specs.List.{AllByRecursion};
 ghost use Rattle.std.specs.List.Sorted.{IsStrictlySortedBy};
+ghost use Rattle.stab_base.specs.declared.chunk_name.ChunkName.{ChunkName};
 ghost use Rattle.row_value.specs.declared.content.Cell.{Cell};
 ghost use Rattle.row_value.specs.declared.content.Content.{Content};
 ghost use Rattle.row_value.specs.declared.schema.Schema.{Schema};
 ghost use Rattle.row_value.specs.declared.schema.Scheme.{Scheme};
 ghost use Rattle.row_value.specs.Fit.{fit_of};
+ghost use Rattle.value_codec.specs.Spelling.{HasNameSpelling};
 ghost use Rattle.value_codec.specs.SchemaSpelling.{HasSchemaSpelling, IsChunkSize};
 ghost use Rattle.held_value.specs.declared.local_name.LocalName.{LocalName};
 ghost use Rattle.held_value.specs.declared.content.HeldPiece.{HeldPiece};
@@ -33,7 +35,7 @@ ghost use Rattle.journal_laws.specs.Whole.{whole, HaveLens};
 ghost use Rattle.journal_laws.specs.Holds.{empty};
 ghost use Rattle.journal_laws.specs.Moves.{plan_meaning};
 ghost use Rattle.held_contents.specs.Reading.{chunks_in};
-ghost use Rattle.held_contents.specs.Holding.{IsHeldAgainst, AreShown, pieces_shown, names_shown};
+ghost use Rattle.held_contents.specs.Holding.{IsHeldAgainst, IsNamedAgainst, AreShown, pieces_shown, names_shown};
 ghost use Rattle.plan_limits.specs.Fit.{IsFitContent, IsFitRow, AreFitRows, IsFitEvent, HaveWords, AreOlder, AreOlderOrNew};
 ghost use Rattle.plan_limits.specs.Fit.{AreOlderRows, IsFitChange};
 ghost use Rattle.plan_limits.specs.Short.{IsRowPlan, IsRowless, IsShort};
@@ -68,6 +70,20 @@ pub fn new_contents_are_fit()
         → AreShown meaning number shown → AllByRecursion HasHeldPiece (pieces_shown shown)
         → repeats [] (names_shown shown) ≡ false
         → IsHeldAgainst table.schema.chunk shown content held brought
+        → IsFitContent (plan_meaning meaning number brought) (Some table) held }
+{}
+
+/// The same of what holds a row from the Store, where the names of its chunks have spellings. (Does nothing: its clause
+/// is a law.)
+pub fn named_contents_are_fit()
+    ensures { (meaning : LocalName → List ℕ) (number : ℕ) (table : TableRecord) (content : Content)
+        (names : List (List ChunkName)) (shown : List (List (HeldPiece × List ℕ))) (held : HeldContent)
+        (brought : List (List ℕ))
+        → HasSchemaSpelling table.schema → fit_of table.schema content ≡ Ok tt → HaveWords content
+        → AllByRecursion (AllByRecursion HasNameSpelling) names
+        → AreShown meaning number shown → AllByRecursion HasHeldPiece (pieces_shown shown)
+        → repeats [] (names_shown shown) ≡ false
+        → IsNamedAgainst table.schema.chunk shown names content held brought
         → IsFitContent (plan_meaning meaning number brought) (Some table) held }
 {}
 

@@ -1,5 +1,5 @@
 //! How a client sends its writes.
-ghost use Rattle.std.specs.Prelude.{◌≡◌, ◌+◌, ◌<◌, ◌^◌, true, [], Some, IfOk, IfErr, OnOk, IsSome};
+ghost use Rattle.std.specs.Prelude.{◌≡◌, ◌+◌, ◌<◌, ◌^◌, true, [], Some, IfOk, IfErr, OnOk};
 ghost use Rattle.client_tables.specs.Transitions.{can_send};
 ghost use Rattle.client_tables.specs.Change.{version_in};
 ghost use Rattle.client_journal.specs.Standing.{devs as held_by, writes_of, AreUp, IsReady};
@@ -20,15 +20,16 @@ use crate::looking::{check_idle, open_table};
 use crate::node::ClientNode;
 use crate::noted::rows_in;
 use crate::planning::Planned;
-use crate::requesting::{first_ready, request_of, requests};
+use crate::requesting::{first_ready, request_with, requests};
 use crate::row_plan::{last_write, plan_of_row};
+use crate::spelling::{Spelled, spell_held};
 use crate::waiting::{Stale, Waiting};
 use client_journal::Journal;
 use client_tables::plan_send;
 use disk_trait::Disk;
-use held_contents::pieces_of;
+use held_contents::pieces_by_object;
 use held_value::{Main, Shadow, Slots};
-use slot_store::RowKey;
+use slot_store::{RowKey, TableRecord};
 use stab_base::{ClientNo, RowId, TableNo, Version};
 use std::alloc::Global;
 use std::collections::BTreeSet;
@@ -57,6 +58,7 @@ fn plan_of_main<D: Disk + Drop>(
     alloc: Global,
     client: ClientNo,
     devs: &mut Journal<D>,
+    opened: &TableRecord,
     table: TableNo,
     row: &RowId,
     slots: &Slots,
@@ -68,25 +70,19 @@ fn plan_of_main<D: Disk + Drop>(
     requires sends { can_send slots.now ≡ true }
     requires held { slots.now ≡ held_at (held_by D.state devs.old) table row.now }
     requires main { slots.now.main ≡ Some main.now }
-    requires opened { IsSome (record_at (held_by D.state devs.old) table) }
+    requires opened { record_at (held_by D.state devs.old) table ≡ Some opened.now }
     ensures looks { Looks D.state D.images devs.old devs.new result }
     ensures plan { IfOk result (IsSendOf (held_by D.state devs.old) client table row.now) }
     ensures refused { IfErr result IsFault }
 {
     let last = last_write(devs)?;
-    let base = version_in(&slots.shadow);
-    let request = request_of(
-        alloc,
-        client,
-        devs,
-        table,
-        row,
-        main.number,
-        base,
-        &main.content,
-    )?;
-    let pieces = pieces_of(alloc, &main.content)?;
+    let size = opened.schema.chunk;
+    let spelled = spell_held(alloc, devs, size, &slots.shadow, &main.content)?;
+    let Spelled { content, pieces } = spelled;
+    let parted = pieces_by_object(alloc, &main.content, &pieces)?;
     let made = plan_send(alloc, slots, pieces)?;
+    let base = version_in(&slots.shadow);
+    let request = request_with(client, table, row, main.number, base, content, parted);
     let messages = vec![in alloc; request]?;
     let found = plan_of_row(alloc, client, table, row, last, None, made, messages)?;
     Ok(found)
@@ -97,6 +93,7 @@ fn plan_of_send<D: Disk + Drop>(
     alloc: Global,
     client: ClientNo,
     devs: &mut Journal<D>,
+    opened: &TableRecord,
     table: TableNo,
     row: &RowId,
     slots: &Slots,
@@ -106,14 +103,14 @@ fn plan_of_send<D: Disk + Drop>(
     requires idle { IsIdle (held_by D.state devs.old) client }
     requires sends { can_send slots.now ≡ true }
     requires held { slots.now ≡ held_at (held_by D.state devs.old) table row.now }
-    requires opened { IsSome (record_at (held_by D.state devs.old) table) }
+    requires opened { record_at (held_by D.state devs.old) table ≡ Some opened.now }
     ensures looks { Looks D.state D.images devs.old devs.new result }
     ensures plan { IfOk result (IsSendOf (held_by D.state devs.old) client table row.now) }
     ensures refused { IfErr result IsFault }
 {
     match &slots.main {
         None => Ok(None),
-        Some(main) => plan_of_main(alloc, client, devs, table, row, slots, main),
+        Some(main) => plan_of_main(alloc, client, devs, opened, table, row, slots, main),
     }
 }
 
@@ -123,6 +120,7 @@ fn next_plan<D: Disk + Drop>(
     alloc: Global,
     client: ClientNo,
     devs: &mut Journal<D>,
+    opened: &TableRecord,
     table: TableNo,
     set: &BTreeSet<RowKey>,
     stale: &mut Vec<RowId>,
@@ -130,7 +128,7 @@ fn next_plan<D: Disk + Drop>(
     requires up { AreUp devs.old }
     requires ready { IsReady D.state devs.old (writes_of devs.old) }
     requires idle { IsIdle (held_by D.state devs.old) client }
-    requires opened { IsSome (record_at (held_by D.state devs.old) table) }
+    requires opened { record_at (held_by D.state devs.old) table ≡ Some opened.now }
     requires small { table + 1 < 2 ^ 32 }
     ensures looks { Looks D.state D.images devs.old devs.new result }
     ensures next { IfOk result (IsNextIn (held_by D.state devs.old) client table set.now) }
@@ -141,7 +139,7 @@ fn next_plan<D: Disk + Drop>(
     let first = first_ready(devs, table, set, stale)?;
     match &first {
         None => Ok(None),
-        Some((row, slots)) => plan_of_send(alloc, client, devs, table, row, slots),
+        Some((row, slots)) => plan_of_send(alloc, client, devs, opened, table, row, slots),
     }
 }
 
@@ -150,13 +148,14 @@ fn sync_opened<D: Disk + Drop>(
     alloc: Global,
     client: ClientNo,
     devs: &mut Journal<D>,
+    opened: &TableRecord,
     waiting: &Waiting,
     table: TableNo,
 ) -> Result<Synced, CallFault>
     requires up { AreUp devs.old }
     requires ready { IsReady D.state devs.old (writes_of devs.old) }
     requires idle { IsIdle (held_by D.state devs.old) client }
-    requires opened { IsSome (record_at (held_by D.state devs.old) table) }
+    requires opened { record_at (held_by D.state devs.old) table ≡ Some opened.now }
     ensures looks { Looks D.state D.images devs.old devs.new result }
     ensures syncs { IfOk result (Syncs (held_by D.state devs.old) client table waiting.now) }
     ensures stale { IfOk result (λ synced. AreStale (held_by D.state devs.old) table synced.stale) }
@@ -166,7 +165,15 @@ fn sync_opened<D: Disk + Drop>(
     let mut outs = Vec::new(alloc);
     let again = requests(alloc, client, devs, table, rows.as_slice(), &mut outs)?;
     let mut ready = Vec::new(alloc);
-    let next = next_plan(alloc, client, devs, table, &waiting.ready, &mut ready)?;
+    let next = next_plan(
+        alloc,
+        client,
+        devs,
+        opened,
+        table,
+        &waiting.ready,
+        &mut ready,
+    )?;
     Ok(Synced {
         again,
         next,
@@ -190,10 +197,10 @@ fn sync<D: Disk + Drop>(
     ensures sends { SendsAgain D.state devs.old is_linked client table waiting.now result }
     ensures idle { OnOk result (writes_of devs.old ≡ []) }
 {
-    let _opened = open_table(devs, table)?;
+    let opened = open_table(devs, table)?;
     check_idle(devs)?;
     check_link(is_linked)?;
-    sync_opened(alloc, client, devs, waiting, table)
+    sync_opened(alloc, client, devs, &opened, waiting, table)
 }
 
 impl<D: Disk + Drop> ClientNode<D> {

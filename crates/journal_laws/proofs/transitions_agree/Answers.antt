@@ -1,5 +1,5 @@
 use Rattle.std.proofs.Common.{[], None}
-use Rattle.journal_laws.proofs.Transitions.{write_plans, strong_plans, sends_alike, send_plans, accept_plans, again_plans, lost_plans, mine_plans, new_plans, theirs_plans}
+use Rattle.journal_laws.proofs.Transitions.{write_plans, strong_plans, sends_alike, send_plans, accept_plans, again_plans, lost_plans, whole_plans, mine_plans, new_plans, theirs_plans}
 use Rattle.journal_laws.proofs.Takes.{row_plans}
 use Rattle.journal_laws.proofs.transitions_agree.Goals as goal
 
@@ -13,7 +13,7 @@ pub returns-clause-may_send : goal.returns-clause-may_send
 returns-clause-may_send k = λ meaning slots. sends_alike 0 meaning (record { last = 0; tables = []; plan = None }) 0 [] slots.main slots.shadow slots.out slots.conflict
 
 pub returns-clause-sends : goal.returns-clause-sends
-returns-clause-sends k = λ c meaning d table row slots pieces out is. send_plans c meaning d table row slots.main slots.shadow slots.out slots.conflict pieces out is
+returns-clause-sends k = λ c meaning d table row slots size pieces out is spells. send_plans c meaning d table row size slots.main slots.shadow slots.out slots.conflict pieces out is spells
 
 pub returns-clause-accepted : goal.returns-clause-accepted
 returns-clause-accepted k = λ c meaning d table row slots out version waits all. accept_plans c meaning d table row slots out waits version all
@@ -24,8 +24,11 @@ returns-clause-again k = λ c meaning d table row slots out version waits all. a
 pub returns-clause-refused : goal.returns-clause-refused
 returns-clause-refused k = λ c meaning d table row slots out latest waits. lost_plans c meaning d table row slots out waits latest
 
+pub returns-clause-whole : goal.returns-clause-whole
+returns-clause-whole k = λ c meaning d table row slots out waits all part. whole_plans c meaning d table row slots out waits all part
+
 pub returns-clause-row : goal.returns-clause-row
-returns-clause-row k = λ c meaning d table row scheme yours x slots position newer. row_plans c meaning d table row scheme yours x slots position newer
+returns-clause-row k = λ c meaning d table row scheme yours x names slots position newer named. row_plans c meaning d table row scheme yours x names named slots position newer
 
 pub returns-clause-mine : goal.returns-clause-mine
 returns-clause-mine k = mine_plans

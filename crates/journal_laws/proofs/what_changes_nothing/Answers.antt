@@ -1,6 +1,6 @@
 use Rattle.std.proofs.Common.{[], None}
 use Rattle.step_tables.specs.ClientMoves.{ClientDisk}
-use Rattle.journal_laws.proofs.Transitions.{seen_whole, none_still, other_still, late_still, conflict_still, unresolved_still}
+use Rattle.journal_laws.proofs.Transitions.{seen_whole, none_still, other_still, late_still, conflict_still, whole_still, unresolved_still}
 use Rattle.journal_laws.proofs.Takes.{old_still}
 use Rattle.journal_laws.proofs.what_changes_nothing.Goals as goal
 
@@ -19,8 +19,11 @@ returns-clause-late k = λ slots out last waits. late_still 0 (λ name. []) no_d
 pub returns-clause-conflict : goal.returns-clause-conflict
 returns-clause-conflict k = λ slots out latest waits. conflict_still 0 (λ name. []) no_disk 0 [] slots out waits latest
 
+pub returns-clause-whole : goal.returns-clause-whole
+returns-clause-whole k = λ slots out waits full. whole_still 0 (λ name. []) no_disk 0 [] slots out waits full
+
 pub returns-clause-old_row : goal.returns-clause-old_row
-returns-clause-old_row k = λ scheme slots yours x old. old_still 0 (λ name. []) no_disk 0 [] scheme yours x slots old
+returns-clause-old_row k = λ scheme slots yours x old. old_still scheme yours x slots old
 
 pub returns-clause-seen : goal.returns-clause-seen
 returns-clause-seen k = λ meaning slots. seen_whole 0 meaning no_disk 0 [] slots.conflict slots.shadow

@@ -32,6 +32,6 @@ returns-clause-holds g c meaning there =
     let h = c.in_ok-held.ensures in
     let made = c.in_ok-held.held in
     let shown = c.in_ok-shown.ensures.chunks meaning (subst (λ (o : Option HeldContent). AreThereIf meaning (devs g.D.Disk.state c.args.devs.now) o) (sym c.shown_content.ensures) there) in
-    let here : HoldsRow c.args.size c.in_ok-shown.shown c.args.content.now made = record { against = h.held; whole_is = h.whole; lens = h.lens; names = h.names; all_brought = h.all_brought; small = h.small } in
-    subst (λ (o : Option HeldContent). HoldsRow c.args.size (chunks_shown meaning o) c.args.content.now made) c.shown_content.ensures
-    (subst (λ (l : List (List (HeldPiece × List ℕ))). HoldsRow c.args.size l c.args.content.now made) shown here)
+    let here : HoldsRow c.args.size c.in_ok-shown.shown c.args.content.now c.args.names.now made = record { against = h.held; named = h.known; whole_is = h.whole; lens = h.lens; names = h.names; all_brought = h.all_brought; small = h.small } in
+    subst (λ (o : Option HeldContent). HoldsRow c.args.size (chunks_shown meaning o) c.args.content.now c.args.names.now made) c.shown_content.ensures
+    (subst (λ (l : List (List (HeldPiece × List ℕ))). HoldsRow c.args.size l c.args.content.now c.args.names.now made) shown here)

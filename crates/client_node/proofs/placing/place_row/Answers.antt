@@ -32,7 +32,7 @@ returns-then-is_old-clause-readies g c =
     let d = devs g.D.Disk.state c.args.devs.now in
     let same = c.in_ok-slots.ensures.looks.serves.same (λ is. cc) in
     let k = c.move_position.ensures in
-    moved_result d c.args.client c.args.pulled.now c.args.opened.now c.requires.opened c.args.header.now c.requires.header c.requires.next.0 c.requires.next.1 c.in_ok-slots.slots c.in_ok-slots.ensures.slots (sym c.is_old.ensures ∙ c.if-is_old.true) (redone (devs g.D.Disk.state c.row_slots.new.devs)).last (ap (λ (x : ClientDevs). (redone x).last) same)
+    moved_result d c.args.client c.args.pulled.now c.args.opened.now c.requires.opened c.args.header.now c.requires.header c.requires.next c.in_ok-slots.slots c.in_ok-slots.ensures.slots (sym c.is_old.ensures ∙ c.if-is_old.true) (redone (devs g.D.Disk.state c.row_slots.new.devs)).last (ap (λ (x : ClientDevs). (redone x).last) same)
     c.move_position.result k.few k.some k.moves
 
 pub put_row-requires-clause-up : goal.put_row-requires-clause-up

@@ -12,7 +12,7 @@ use Rattle.client_node.specs.declared.fault.CallFault.TheVariants as call
 use Rattle.client_node.specs.Answers.{record_at, held_at}
 use Rattle.client_node.specs.Readied.{IsIdle, Readies}
 use Rattle.client_node.proofs.Serving.{looks_err, looks_ok, looks_fault, looks_none, looks_other, looks_then}
-use Rattle.client_node.proofs.Pulled.{chunk_some, placed_found}
+use Rattle.client_node.proofs.Pulled.{chunk_some, of_each, placed_found}
 use Rattle.client_node.proofs.placing.put_row.Goals as goal
 
 pub returns-in_err-last-clause-looks : goal.returns-in_err-last-clause-looks
@@ -30,7 +30,10 @@ pub hold_row-requires-clause-size : goal.hold_row-requires-clause-size
 hold_row-requires-clause-size g c = chunk_some (devs g.D.Disk.state c.args.devs.now) c.args.client c.requires.idle c.args.pulled.now.table c.args.opened.now c.requires.opened
 
 pub hold_row-requires-clause-fit : goal.hold_row-requires-clause-fit
-hold_row-requires-clause-fit g c = record { schema = c.args.opened.now.schema; chunk = refl; fit = c.requires.next.1 }
+hold_row-requires-clause-fit g c = record { schema = c.args.opened.now.schema; chunk = refl; fit = c.requires.next.fits }
+
+pub hold_row-requires-clause-named : goal.hold_row-requires-clause-named
+hold_row-requires-clause-named g c = of_each c.args.opened.now.schema.chunk c.args.header.now.content c.args.header.now.names c.requires.next.named
 
 pub returns-in_err-held-clause-looks : goal.returns-in_err-held-clause-looks
 returns-in_err-held-clause-looks g c =
@@ -74,6 +77,6 @@ returns-clause-readies g c =
     let s = g.D.Disk.state in
     let d = devs s c.args.devs.now in
     let same = c.in_ok-last.ensures.looks.serves.same (λ is. cc) in
-    placed_found d c.args.client c.args.pulled.now c.args.opened.now c.requires.opened c.args.header.now c.requires.header c.requires.next.0 c.requires.next.1 c.args.slots.now c.requires.held c.requires.newer c.in_ok-last.last c.in_ok-last.ensures.last c.in_ok-held.held
-    (λ meaning there. c.in_ok-held.ensures.holds meaning (subst (λ (x : ClientDevs). AreThereIf meaning x (shown_content c.args.slots.now)) (sym same) there)) c.in_ok-held.ensures.words c.of_64_bits-version.result c.of_64_bits-version.ensures.same c.of_64_bits-version.ensures.few c.yours_in-yours.result c.yours_in-yours.ensures.same c.yours_in-yours.ensures.few
+    placed_found d c.args.client c.args.pulled.now c.args.opened.now c.requires.opened c.args.header.now c.requires.header c.requires.next c.args.slots.now c.requires.held c.requires.newer c.in_ok-last.last c.in_ok-last.ensures.last c.in_ok-held.held
+    (λ meaning there. c.in_ok-held.ensures.holds meaning (subst (λ (x : ClientDevs). AreThereIf meaning x (shown_content c.args.slots.now)) (sym same) there)) c.in_ok-held.ensures.words c.in_ok-held.ensures.spelled c.of_64_bits-version.result c.of_64_bits-version.ensures.same c.of_64_bits-version.ensures.few c.yours_in-yours.result c.yours_in-yours.ensures.same c.yours_in-yours.ensures.few
     c.in_ok-made.made c.in_ok-made.ensures c.in_ok-found.ensures.len c.of_64_bits-position.result c.of_64_bits-position.ensures.same c.of_64_bits-position.ensures.few c.in_ok-found.ensures.known (map send_of c.in_ok-next.next.items) c.in_ok-next.ensures c.in_ok-found.found c.in_ok-found.ensures.none c.in_ok-found.ensures.some

@@ -24,7 +24,7 @@ returns-in_err-check_link-clause-refused g c =
     rw (p.1, p.2) (inl (b.1, b.0))
 
 pub check_none_waits-requires-clause-small : goal.check_none_waits-requires-clause-small
-check_none_waits-requires-clause-small g c = table_small (devs g.D.Disk.state c.args.devs.now) c.args.client c.args.at.now.table c.requires.idle (ap is_some c.requires.opened.opened)
+check_none_waits-requires-clause-small g c = table_small (devs g.D.Disk.state c.args.devs.now) c.args.client c.args.at.now.table c.requires.idle c.args.at.now.opened c.requires.opened.opened
 
 pub returns-in_err-check_none_waits-clause-looks : goal.returns-in_err-check_none_waits-clause-looks
 returns-in_err-check_none_waits-clause-looks g c =

@@ -39,7 +39,7 @@ pub plan_of_send-requires-clause-idle : goal.plan_of_send-requires-clause-idle
 plan_of_send-requires-clause-idle g c = subst (λ (d : ClientDevs). IsIdle d c.args.client) (sym (c.in_ok-first.ensures.looks.serves.same (λ is. cc))) c.requires.idle
 
 pub plan_of_send-requires-clause-opened : goal.plan_of_send-requires-clause-opened
-plan_of_send-requires-clause-opened g c = subst (λ (d : ClientDevs). IsSome (record_at d c.args.table)) (sym (c.in_ok-first.ensures.looks.serves.same (λ is. cc))) c.requires.opened
+plan_of_send-requires-clause-opened g c = ap (λ (d : ClientDevs). record_at d c.args.table) (c.in_ok-first.ensures.looks.serves.same (λ is. cc)) ∙ c.requires.opened
 
 pub plan_of_send-requires-clause-sends : goal.plan_of_send-requires-clause-sends
 plan_of_send-requires-clause-sends g c = (first_held (devs g.D.Disk.state c.args.devs.now) c.args.table c.in_ok-first.ensures.found.rows (c.in-Some.row, c.in-Some.slots) (sym c.in_ok-first.ensures.found.is ∙ c.in-Some.is)).1

@@ -15,30 +15,30 @@ use Rattle.client_node.specs.Syncing.{SendsAgain}
 use Rattle.client_node.proofs.Syncs.{sync_fault, sync_closed, sync_busy, sync_offline, sync_done, on_ok}
 use Rattle.client_node.proofs.calls.sending.sync.Goals as goal
 
-pub returns-in_err-_opened-clause-looks : goal.returns-in_err-_opened-clause-looks
-returns-in_err-_opened-clause-looks g c =
+pub returns-in_err-opened-clause-looks : goal.returns-in_err-opened-clause-looks
+returns-in_err-opened-clause-looks g c =
     let p = err_from_is_err_and c.from_residual.result c.from_residual.ensures.1 in
-    rw (p.1, p.2) (looks_err g.D.Disk.state g.D.Disk.images c.args.devs.now c.open_table.new.devs c.requires.up c.requires.ready c.in_err-_opened.field-0.0 c.in_err-_opened.ensures.looks)
+    rw (p.1, p.2) (looks_err g.D.Disk.state g.D.Disk.images c.args.devs.now c.open_table.new.devs c.requires.up c.requires.ready c.in_err-opened.field-0.0 c.in_err-opened.ensures.looks)
 
-pub returns-in_err-_opened-clause-sends : goal.returns-in_err-_opened-clause-sends
-returns-in_err-_opened-clause-sends g c =
+pub returns-in_err-opened-clause-sends : goal.returns-in_err-opened-clause-sends
+returns-in_err-opened-clause-sends g c =
     let p = err_from_is_err_and c.from_residual.result c.from_residual.ensures.1 in
     rw (p.1, p.2) (⊎_elim
-    (λ none. sync_closed g.D.Disk.state c.args.devs.now c.args.is_linked c.args.client c.args.table c.args.waiting.now c.in_err-_opened.field-0.0 none.0 none.1)
-    (λ fault. sync_fault g.D.Disk.state c.args.devs.now c.args.is_linked c.args.client c.args.table c.args.waiting.now c.in_err-_opened.field-0.0 fault)
-    c.in_err-_opened.ensures.refused)
+    (λ none. sync_closed g.D.Disk.state c.args.devs.now c.args.is_linked c.args.client c.args.table c.args.waiting.now c.in_err-opened.field-0.0 none.0 none.1)
+    (λ fault. sync_fault g.D.Disk.state c.args.devs.now c.args.is_linked c.args.client c.args.table c.args.waiting.now c.in_err-opened.field-0.0 fault)
+    c.in_err-opened.ensures.refused)
 
 pub check_idle-requires-clause-up : goal.check_idle-requires-clause-up
-check_idle-requires-clause-up g c = c.in_ok-_opened.ensures.looks.serves.up (λ is. cc)
+check_idle-requires-clause-up g c = c.in_ok-opened.ensures.looks.serves.up (λ is. cc)
 
 pub check_idle-requires-clause-ready : goal.check_idle-requires-clause-ready
-check_idle-requires-clause-ready g c = c.in_ok-_opened.ensures.looks.serves.ready (λ is. cc)
+check_idle-requires-clause-ready g c = c.in_ok-opened.ensures.looks.serves.ready (λ is. cc)
 
 pub returns-in_err-check_idle-clause-looks : goal.returns-in_err-check_idle-clause-looks
 returns-in_err-check_idle-clause-looks g c =
     let p = err_from_is_err_and c.from_residual-in_err-check_idle.result c.from_residual-in_err-check_idle.ensures.1 in
     let is = c.in_err-check_idle.ensures.busy.1 in
-    rw (p.1, p.2, is) (looks_other g.D.Disk.state g.D.Disk.images c.args.devs.now c.open_table.new.devs c.requires.up c.requires.ready c.in_ok-_opened._opened _ c.in_ok-_opened.ensures.looks (λ no. cc))
+    rw (p.1, p.2, is) (looks_other g.D.Disk.state g.D.Disk.images c.args.devs.now c.open_table.new.devs c.requires.up c.requires.ready c.in_ok-opened.opened _ c.in_ok-opened.ensures.looks (λ no. cc))
 
 pub returns-in_err-check_idle-clause-sends : goal.returns-in_err-check_idle-clause-sends
 returns-in_err-check_idle-clause-sends g c =
@@ -46,43 +46,42 @@ returns-in_err-check_idle-clause-sends g c =
     let old = c.args.devs.now in
     let mid = c.open_table.new.devs in
     let p = err_from_is_err_and c.from_residual-in_err-check_idle.result c.from_residual-in_err-check_idle.ensures.1 in
-    let l = c.in_ok-_opened.ensures.looks in
+    let l = c.in_ok-opened.ensures.looks in
     let b = c.in_err-check_idle.ensures.busy in
     let same : plan_at_work (devs s mid) (writes_of mid) ≡ plan_at_work (devs s old) (writes_of old) = ap (λ (d : ClientDevs). plan_at_work d (writes_of mid)) (l.serves.same (λ is. cc)) ∙ ap (λ (ws : List Write). plan_at_work (devs s old) ws) l.agenda in
-    rw (p.1, p.2) (sync_busy s old c.args.is_linked c.args.client c.args.table c.args.waiting.now c.in_ok-_opened._opened c.in_ok-_opened.ensures.opened c.in_err-check_idle.field-0.0 (λ none. b.0 (l.agenda ∙ none)) (b.1 ∙ ap (λ (n : ℕ). call.Busy n) same))
+    rw (p.1, p.2) (sync_busy s old c.args.is_linked c.args.client c.args.table c.args.waiting.now c.in_ok-opened.opened c.in_ok-opened.ensures.opened c.in_err-check_idle.field-0.0 (λ none. b.0 (l.agenda ∙ none)) (b.1 ∙ ap (λ (n : ℕ). call.Busy n) same))
 
 pub returns-in_err-check_link-clause-looks : goal.returns-in_err-check_link-clause-looks
 returns-in_err-check_link-clause-looks g c =
     let p = err_from_is_err_and c.from_residual-in_err-check_link.result c.from_residual-in_err-check_link.ensures.1 in
     let is = c.in_err-check_link.ensures.down.1 in
-    rw (p.1, p.2, is) (looks_other g.D.Disk.state g.D.Disk.images c.args.devs.now c.open_table.new.devs c.requires.up c.requires.ready c.in_ok-_opened._opened _ c.in_ok-_opened.ensures.looks (λ no. cc))
+    rw (p.1, p.2, is) (looks_other g.D.Disk.state g.D.Disk.images c.args.devs.now c.open_table.new.devs c.requires.up c.requires.ready c.in_ok-opened.opened _ c.in_ok-opened.ensures.looks (λ no. cc))
 
 pub returns-in_err-check_link-clause-sends : goal.returns-in_err-check_link-clause-sends
 returns-in_err-check_link-clause-sends g c =
     let p = err_from_is_err_and c.from_residual-in_err-check_link.result c.from_residual-in_err-check_link.ensures.1 in
     let b = c.in_err-check_link.ensures.down in
-    rw (p.1, p.2) (sync_offline g.D.Disk.state c.args.devs.now c.args.is_linked c.args.client c.args.table c.args.waiting.now c.in_ok-_opened._opened c.in_ok-_opened.ensures.opened c.in_err-check_link.field-0.0 (sym c.in_ok-_opened.ensures.looks.agenda ∙ c.in_ok-check_idle.ensures.idle) b.0 b.1)
+    rw (p.1, p.2) (sync_offline g.D.Disk.state c.args.devs.now c.args.is_linked c.args.client c.args.table c.args.waiting.now c.in_ok-opened.opened c.in_ok-opened.ensures.opened c.in_err-check_link.field-0.0 (sym c.in_ok-opened.ensures.looks.agenda ∙ c.in_ok-check_idle.ensures.idle) b.0 b.1)
 
 pub sync_opened-requires-clause-up : goal.sync_opened-requires-clause-up
-sync_opened-requires-clause-up g c = c.in_ok-_opened.ensures.looks.serves.up (λ is. cc)
+sync_opened-requires-clause-up g c = c.in_ok-opened.ensures.looks.serves.up (λ is. cc)
 
 pub sync_opened-requires-clause-ready : goal.sync_opened-requires-clause-ready
-sync_opened-requires-clause-ready g c = c.in_ok-_opened.ensures.looks.serves.ready (λ is. cc)
+sync_opened-requires-clause-ready g c = c.in_ok-opened.ensures.looks.serves.ready (λ is. cc)
 
 pub sync_opened-requires-clause-idle : goal.sync_opened-requires-clause-idle
-sync_opened-requires-clause-idle g c = subst (λ (d : ClientDevs). IsIdle d c.args.client) (sym (c.in_ok-_opened.ensures.looks.serves.same (λ is. cc))) (c.requires.idle (sym c.in_ok-_opened.ensures.looks.agenda ∙ c.in_ok-check_idle.ensures.idle))
+sync_opened-requires-clause-idle g c = subst (λ (d : ClientDevs). IsIdle d c.args.client) (sym (c.in_ok-opened.ensures.looks.serves.same (λ is. cc))) (c.requires.idle (sym c.in_ok-opened.ensures.looks.agenda ∙ c.in_ok-check_idle.ensures.idle))
 
 pub sync_opened-requires-clause-opened : goal.sync_opened-requires-clause-opened
 sync_opened-requires-clause-opened g c =
-    let same = c.in_ok-_opened.ensures.looks.serves.same (λ is. cc) in
-    subst (λ (o : Option TableRecord). IsSome o) (sym (ap (λ (d : ClientDevs). record_at d c.args.table) same ∙ c.in_ok-_opened.ensures.opened)) refl
+    ap (λ (d : ClientDevs). record_at d c.args.table) (c.in_ok-opened.ensures.looks.serves.same (λ is. cc)) ∙ c.in_ok-opened.ensures.opened
 
 pub returns-clause-looks : goal.returns-clause-looks
-returns-clause-looks g c = looks_then g.D.Disk.state g.D.Disk.images c.args.devs.now c.sync_opened.new.devs c.requires.up c.requires.ready c.open_table.new.devs c.in_ok-_opened._opened c.sync_opened.result c.in_ok-_opened.ensures.looks c.sync_opened.ensures.looks
+returns-clause-looks g c = looks_then g.D.Disk.state g.D.Disk.images c.args.devs.now c.sync_opened.new.devs c.requires.up c.requires.ready c.open_table.new.devs c.in_ok-opened.opened c.sync_opened.result c.in_ok-opened.ensures.looks c.sync_opened.ensures.looks
 
 pub returns-clause-sends : goal.returns-clause-sends
 returns-clause-sends g c =
-    sync_done g.D.Disk.state c.args.devs.now c.args.is_linked c.args.client c.args.table c.args.waiting.now c.open_table.new.devs (c.in_ok-_opened.ensures.looks.serves.same (λ is. cc)) c.in_ok-check_link.ensures.up c.sync_opened.result c.sync_opened.ensures.syncs c.sync_opened.ensures.stale c.sync_opened.ensures.refused
+    sync_done g.D.Disk.state c.args.devs.now c.args.is_linked c.args.client c.args.table c.args.waiting.now c.open_table.new.devs (c.in_ok-opened.ensures.looks.serves.same (λ is. cc)) c.in_ok-check_link.ensures.up c.sync_opened.result c.sync_opened.ensures.syncs c.sync_opened.ensures.stale c.sync_opened.ensures.refused
 
 pub returns-clause-idle : goal.returns-clause-idle
-returns-clause-idle g c = on_ok c.sync_opened.result (sym c.in_ok-_opened.ensures.looks.agenda ∙ c.in_ok-check_idle.ensures.idle)
+returns-clause-idle g c = on_ok c.sync_opened.result (sym c.in_ok-opened.ensures.looks.agenda ∙ c.in_ok-check_idle.ensures.idle)

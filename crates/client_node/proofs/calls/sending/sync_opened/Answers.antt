@@ -18,7 +18,7 @@ use Rattle.client_node.proofs.Syncs.{table_small, syncs_of}
 use Rattle.client_node.proofs.calls.sending.sync_opened.Goals as goal
 
 pub rows_in-requires : goal.rows_in-requires
-rows_in-requires g c = table_small (devs g.D.Disk.state c.args.devs.now) c.args.client c.args.table c.requires.idle c.requires.opened
+rows_in-requires g c = table_small (devs g.D.Disk.state c.args.devs.now) c.args.client c.args.table c.requires.idle c.args.opened.now c.requires.opened
 
 pub returns-in_err-rows-clause-looks : goal.returns-in_err-rows-clause-looks
 returns-in_err-rows-clause-looks g c =
@@ -40,10 +40,10 @@ pub next_plan-requires-clause-idle : goal.next_plan-requires-clause-idle
 next_plan-requires-clause-idle g c = subst (λ (d : ClientDevs). IsIdle d c.args.client) (sym (c.in_ok-again.ensures.looks.serves.same (λ is. cc))) c.requires.idle
 
 pub next_plan-requires-clause-opened : goal.next_plan-requires-clause-opened
-next_plan-requires-clause-opened g c = subst (λ (d : ClientDevs). IsSome (record_at d c.args.table)) (sym (c.in_ok-again.ensures.looks.serves.same (λ is. cc))) c.requires.opened
+next_plan-requires-clause-opened g c = ap (λ (d : ClientDevs). record_at d c.args.table) (c.in_ok-again.ensures.looks.serves.same (λ is. cc)) ∙ c.requires.opened
 
 pub next_plan-requires-clause-small : goal.next_plan-requires-clause-small
-next_plan-requires-clause-small g c = table_small (devs g.D.Disk.state c.args.devs.now) c.args.client c.args.table c.requires.idle c.requires.opened
+next_plan-requires-clause-small g c = table_small (devs g.D.Disk.state c.args.devs.now) c.args.client c.args.table c.requires.idle c.args.opened.now c.requires.opened
 
 pub returns-in_err-next-clause-looks : goal.returns-in_err-next-clause-looks
 returns-in_err-next-clause-looks g c =
@@ -67,7 +67,7 @@ returns-clause-syncs g c =
     let same = c.in_ok-again.ensures.looks.serves.same (λ is. cc) in
     let n = c.in_ok-next.ensures.next in
     let next = subst (λ (d : ClientDevs). IsNextOf d c.args.client c.args.table (first_ready d c.args.table n.rows) c.in_ok-next.next) same n.is in
-    syncs_of s c.args.devs.now c.args.client c.args.table c.requires.opened c.args.waiting.now c.in_ok-rows.rows.items n.rows c.in_ok-rows.ensures n.noted
+    syncs_of s c.args.devs.now c.args.client c.args.table c.args.opened.now c.requires.opened c.args.waiting.now c.in_ok-rows.rows.items n.rows c.in_ok-rows.ensures n.noted
     (record { again = c.in_ok-again.again; next = c.in_ok-next.next; stale = record { outs = c.requests.new.stale; ready = c.next_plan.new.stale } })
     (λ meaning named. c.in_ok-again.ensures.sends meaning named ∙ ap (all_asked_again meaning c.args.client (devs s c.args.devs.now) c.args.table) c.as_slice.ensures.value) next
 

@@ -45,7 +45,7 @@ some_same a b e = cc
 
 -- rows speak of a disk's items alone
 pub only_items : (schema : Schema) (held : TableData) (disk : StoreDisk) → HasRows schema held disk → HasRows schema held (disk_with disk.items)
-only_items schema held disk h = record { table = h.table; numbered = h.numbered; rows = h.rows }
+only_items schema held disk h = record { table = h.table; numbered = h.numbered; made = h.made; rows = h.rows }
 
 -- ---- tables behind a call of the world
 

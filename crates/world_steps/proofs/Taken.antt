@@ -1,6 +1,6 @@
 -- What a message for one of its tables, or a look at a row, comes to at the Store.
 use Rattle.std.proofs.Common.{◌≡◌, ℕ, Bool, true, false, cond, List, [], ◌∷◌, ◌++◌, Option, Some, None, Result, Ok, Err, refl, sym, ◌∙◌, ap, subst, append-nil, append_assoc}
-use Rattle.std.specs.Prelude.{if◌then◌else◌, ◌||◌, ◌==◌, nat_lt, option_map, IfOk, IfErr, is_some}
+use Rattle.std.specs.Prelude.{if◌then◌else◌, ◌||◌, ◌&&◌, ◌==◌, nat_lt, option_map, IfOk, IfErr, is_some}
 use Rattle.std.specs.Ordering.{nat_cmp}
 use Rattle.std.specs.Cmp.{nat_cmp_total}
 use Rattle.std.specs.BTreeMap.{is_at, insert_entry}
@@ -21,7 +21,8 @@ use Rattle.step_tables.specs.Lines.{answer_of}
 use Rattle.step_tables.specs.Messages.{Luck, Request, Pair, table_of}
 use Rattle.step_tables.specs.Messages as messages
 use Rattle.step_tables.specs.Store.{Stored, current_of}
-use Rattle.step_tables.specs.StoreMoves.{StoreDisk, StoreTask, Take, taken, decided, judged, takes, version_of, version_at, yours_in}
+use Rattle.step_tables.specs.Chunks.{is_spelled}
+use Rattle.step_tables.specs.StoreMoves.{StoreDisk, StoreTask, Take, taken, asked, decided, judged, takes, keeps_there, version_of, version_at, yours_in}
 use Rattle.step_tables.specs.StoreMoves as store
 use Rattle.step_tables.specs.Travels.{message_of}
 use Rattle.step_tables.proofs.Lists.{lookup-insert}
@@ -46,10 +47,10 @@ use Rattle.world_steps.proofs.Going.{still_goes, then_goes, failing_goes, table_
 -- ---- what an idle table answers
 
 judged_done : (g : Scheme) (size table : ℕ) (d : StoreDisk) (from : Node) (q : Request) (current : ℕ) → (judged g size table d from q current).answer ≡ facts.Done
-judged_done g size table d from q current = go (takes g q.base current)
+judged_done g size table d from q current = go (takes g q.base current && keeps_there size d.items q)
   where
     go : (b : Bool) → (if b then store.quiet d (Some (store.accepting size table d.items from q (store.item_for d.items q))) facts.Done
-        else store.sending d (store.responded from q (store.outdated g current) ∷ [])).answer ≡ facts.Done
+        else store.sending d (store.responded from q (store.unaccepted g q.base current) ∷ [])).answer ≡ facts.Done
     go true = refl
     go false = refl
 
@@ -68,8 +69,15 @@ decided_done g size table d from q yours = first (yours.number == q.number)
     first true = refl
     first false = second (nat_lt q.number yours.number)
 
+asked_done : (g : Scheme) (size table : ℕ) (d : StoreDisk) (from : Node) (q : Request) → (asked g size table d from q).answer ≡ facts.Done
+asked_done g size table d from q = go (is_spelled size q.content q.pieces)
+  where
+    go : (b : Bool) → (if b then decided g size table d from q (yours_in d.items q.client q.row) else store.quiet d (Some []) facts.Done).answer ≡ facts.Done
+    go true = decided_done g size table d from q (yours_in d.items q.client q.row)
+    go false = refl
+
 taken_done : (g : Scheme) (size table : ℕ) (d : StoreDisk) (from : Node) (m : messages.Message) → (taken g size table d (Some []) from m).answer ≡ facts.Done
-taken_done g size table d from (messages.SyncRequest q) = decided_done g size table d from q (yours_in d.items q.client q.row)
+taken_done g size table d from (messages.SyncRequest q) = asked_done g size table d from q
 taken_done g size table d from (messages.PullRequest q) = refl
 taken_done g size table d from (messages.SyncResponse r) = refl
 taken_done g size table d from (messages.PullResponse q) = refl
@@ -264,7 +272,7 @@ fits w from (kinds.PullResponse q) f = tt
 
 -- no version is left for the write that it asks for
 pub full_at : (w : World) (message : Message) → IsSpentIn w message → IsFull w
-full_at w (kinds.SyncRequest q) k = record { table = q.table; hosted = k.0; at = k.1; full = k.3.1 }
+full_at w (kinds.SyncRequest q) k = record { table = q.table; hosted = k.0; at = k.1; full = k.3.2 }
 full_at w (kinds.PullRequest q) k = absurd k.3
 full_at w (kinds.SyncResponse r) k = absurd k.3
 full_at w (kinds.PullResponse q) k = absurd k.3

@@ -4,7 +4,9 @@ ghost use Rattle.world_steps.specs.declared.fault.WorldFault.TheVariants.{Memory
 
 use crate::fault::WorldFault;
 use row_value::Content;
-use step_tables::{Message, PullRequest, PullResponse, RowHeader, SyncRequest};
+use step_tables::{
+    Message, ObjectNames, ObjectPieces, PullRequest, PullResponse, RowHeader, SyncRequest,
+};
 
 fn copied_content(content: &Content) -> Result<Content, WorldFault>
     ensures same { IfOk result (λ made. made ≡ content.now) }
@@ -13,16 +15,32 @@ fn copied_content(content: &Content) -> Result<Content, WorldFault>
     Ok(content.copy()?)
 }
 
+fn copied_names(names: &ObjectNames) -> Result<ObjectNames, WorldFault>
+    ensures same { IfOk result (λ made. made ≡ names.now) }
+    ensures memory { IfErr result (λ e. e ≡ Memory) }
+{
+    Ok(names.clone()?)
+}
+
+fn copied_pieces(pieces: &ObjectPieces) -> Result<ObjectPieces, WorldFault>
+    ensures same { IfOk result (λ made. made ≡ pieces.now) }
+    ensures memory { IfErr result (λ e. e ≡ Memory) }
+{
+    Ok(pieces.clone()?)
+}
+
 fn copied_header(header: &RowHeader) -> Result<RowHeader, WorldFault>
     ensures same { IfOk result (λ made. made ≡ header.now) }
     ensures memory { IfErr result (λ e. e ≡ Memory) }
 {
     let content = copied_content(&header.content)?;
+    let names = copied_names(&header.names)?;
     Ok(RowHeader {
         row: header.row,
         version: header.version,
         yours: header.yours,
         content,
+        names,
     })
 }
 
@@ -56,6 +74,7 @@ fn copied_request(request: &SyncRequest) -> Result<SyncRequest, WorldFault>
     ensures memory { IfErr result (λ e. e ≡ Memory) }
 {
     let content = copied_content(&request.content)?;
+    let pieces = copied_pieces(&request.pieces)?;
     Ok(SyncRequest {
         client: request.client,
         token: request.token,
@@ -64,6 +83,7 @@ fn copied_request(request: &SyncRequest) -> Result<SyncRequest, WorldFault>
         number: request.number,
         base: request.base,
         content,
+        pieces,
     })
 }
 

@@ -13,9 +13,9 @@ use Rattle.row_edits.specs.Edit.{edited_to}
 use Rattle.conflicts.specs.declared.pair.Choice.{Choice}
 use Rattle.conflicts.specs.declared.pair.Choice.TheVariants as choices
 use Rattle.conflicts.specs.declared.stored.Stored as resolvers
-use Rattle.step_tables.specs.declared.slots.Main.{Main}
-use Rattle.step_tables.specs.declared.slots.InFlight.{InFlight}
-use Rattle.step_tables.specs.declared.slots.Shadow.{Shadow}
+use Rattle.step_tables.specs.Slots.{Main}
+use Rattle.step_tables.specs.Slots.{InFlight}
+use Rattle.step_tables.specs.Slots.{Shadow}
 use Rattle.step_tables.specs.Facts.{ClientFact, Fact, Answer}
 use Rattle.step_tables.specs.Facts.{Shown, ShownSum}
 use Rattle.step_tables.specs.Facts as facts
@@ -96,12 +96,12 @@ sum_no_fault row (Some opened) = go (client.shown_in (slots_at opened row).main 
 -- ---- calls and messages that resolve nothing
 
 module _ (c : ℕ) (shape : Shape) (Q : List ClientTask → Type 0) (none : Q []) (calm : (p : Plan) (sends : List Send) → AreCalm c p.facts → Q (client.planning shape p sends)) (d : ClientDisk) where
-  strong_fine : (table : ℕ) (row : List ℕ) (slots : Slots) (x : Content) (o : Option InFlight) → Begins Q d false (client.write_strong c shape d table row slots x o)
-  strong_fine table row slots x (Some out) = (refl, refl, refl, refl, none)
-  strong_fine table row slots x None = begins Q shape d _ _ (calm _ _ (tt, tt))
+  strong_fine : (size table : ℕ) (row : List ℕ) (slots : Slots) (x : Content) (o : Option InFlight) → Begins Q d false (client.write_strong size c shape d table row slots x o)
+  strong_fine size table row slots x (Some out) = (refl, refl, refl, refl, none)
+  strong_fine size table row slots x None = begins Q shape d _ _ (calm _ _ (tt, tt))
 
   by_fine : (g : Scheme) (table : ℕ) (row : List ℕ) (opened : TableDisk) (slots : Slots) (x : Content) → Begins Q d false (client.write_by g c shape d table row opened slots x)
-  by_fine Strong table row opened slots x = strong_fine table row slots x (client.first_out opened.rows)
+  by_fine Strong table row opened slots x = strong_fine opened.schema.chunk table row slots x (client.first_out opened.rows)
   by_fine Causal table row opened slots x = begins Q shape d _ _ (calm _ _ (tt, tt))
   by_fine Eventual table row opened slots x = begins Q shape d _ _ (calm _ _ (tt, tt))
 
@@ -117,6 +117,14 @@ module _ (c : ℕ) (shape : Shape) (Q : List ClientTask → Type 0) (none : Q []
   outcome_fine table row opened slots out (messages.Late last) = (refl, refl, refl, refl, none)
   outcome_fine table row opened slots out (messages.Stale latest) = begins Q shape d _ _ (calm _ _ (tt, tt))
   outcome_fine table row opened slots out (messages.Conflict latest) = (refl, refl, refl, refl, none)
+  outcome_fine table row opened slots out messages.NeedWhole = by_whole out.whole
+    where
+      by_whole : (b : Bool) → Begins Q d false (if b then client.ignored d
+          else client.begun shape d facts.Done (client.whole_plan d table row slots out) (client.request_for c table row (client.whole_out out) ∷ []))
+      by_whole true = (refl, refl, refl, refl, none)
+      by_whole false =
+          let sends : List Send = client.request_for c table row (client.whole_out out) ∷ [] in
+          begins Q shape d (client.whole_plan d table row slots out) sends (calm (client.whole_plan d table row slots out) sends tt)
 
   response_fine : (r : Response) (o : Option TableDisk) → Begins Q d false (client.response_in c shape d r o)
   response_fine r None = (refl, refl, refl, refl, none)
@@ -149,7 +157,7 @@ module _ (c : ℕ) (shape : Shape) (Q : List ClientTask → Type 0) (none : Q []
     where
       taken : (o : Option Header) → Begins Q d false (client.pulled_taken c shape d q opened o)
       taken None = (refl, refl, refl, refl, none)
-      taken (Some header) = go (q.from == opened.position)
+      taken (Some header) = go (client.comes_next q opened header)
         where
           go : (b : Bool) → Begins Q d false (if b then client.row_taken c shape d q opened header (slots_at opened header.row) else client.ignored d)
           go true = row_fine q opened header (slots_at opened header.row)
@@ -206,7 +214,7 @@ module _ (c : ℕ) (shape : Shape) (Q : List ClientTask → Type 0) (none : Q []
   sync_in_fine : (agenda : List ClientTask) → Q agenda → (table : ℕ) (o : Option TableDisk) → Begins Q d false (client.sync_in c shape d agenda table o)
   sync_in_fine agenda tasks table None = (refl, refl, refl, refl, tasks)
   sync_in_fine (task ∷ more) tasks table (Some opened) = (refl, refl, refl, refl, tasks)
-  sync_in_fine [] tasks table (Some opened) = first_fine table (client.resent c table opened.rows) (client.first_to_send opened.rows)
+  sync_in_fine [] tasks table (Some opened) = first_fine table (client.resent c table opened.rows) (option_map (client.row_out opened.schema.chunk) (client.first_to_send opened.rows))
 
   pub sync_fine : (agenda : Option (List ClientTask)) → Q (tasks_in agenda) → (table : ℕ) → Begins Q d (has_none agenda) (client.sync_step c shape d agenda table)
   sync_fine None tasks table = (refl, refl, refl, refl, none)

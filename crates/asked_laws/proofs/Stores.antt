@@ -1,6 +1,6 @@
 -- What the Store tells speaks of no client's conflicts.
 use Rattle.std.proofs.Common.{ℕ, Bool, true, false, List, [], ◌∷◌, ◌++◌, Option, Some, None}
-use Rattle.std.specs.Prelude.{if◌then◌else◌, ◌==◌, nat_lt}
+use Rattle.std.specs.Prelude.{if◌then◌else◌, ◌==◌, ◌&&◌, nat_lt}
 use Rattle.stab_base.specs.declared.node.Node.{Node}
 use Rattle.stab_base.specs.declared.chunk_name.ChunkName.{ChunkName}
 use Rattle.row_value.specs.declared.schema.Scheme.{Scheme}
@@ -10,7 +10,7 @@ use Rattle.step_tables.specs.Messages as messages
 use Rattle.step_tables.specs.Store.{Stored, current_of}
 use Rattle.step_tables.specs.StoreMoves as store
 use Rattle.step_tables.specs.StoreMoves.{StoreDisk, StoreTask, TableStore, StoreMove, StoreStep, store_step}
-use Rattle.step_tables.specs.Chunks.{rising, new_names, old_names}
+use Rattle.step_tables.specs.Chunks.{rising, new_names, old_names, is_spelled}
 use Rattle.world_tables.specs.World.{tasks_in}
 use Rattle.asked_laws.proofs.Fine.{ArePlainFacts}
 
@@ -31,14 +31,14 @@ drops_plain (n ∷ names) more p = (tt, drops_plain names more p)
 
 module _ (g : Scheme) (size table : ℕ) (d : StoreDisk) (from : Node) where
   judged_plain : (q : Request) (current : ℕ) → IsPlainStep (store.judged g size table d from q current)
-  judged_plain q current = go (store.takes g q.base current)
+  judged_plain q current = go (store.takes g q.base current && store.keeps_there size d.items q)
     where
       item : Stored
       item = store.item_for d.items q
 
       go : (b : Bool) → IsPlainStep (if b then store.quiet d (Some (store.accepting size table d.items from q item)) facts.Done
-          else store.sending d (store.responded from q (store.outdated g current) ∷ []))
-      go true = (tt, (tt, puts_plain (new_names size d.items item) _ ((tt, tt), drops_plain (old_names size d.items item) _ (tt, tt))))
+          else store.sending d (store.responded from q (store.unaccepted g q.base current) ∷ []))
+      go true = (tt, (tt, puts_plain (new_names size item) _ ((tt, tt), drops_plain (old_names size d.items item) _ (tt, tt))))
       go false = (tt, tt)
 
   decided_plain : (q : Request) (yours : Pair) → IsPlainStep (store.decided g size table d from q yours)
@@ -51,10 +51,17 @@ module _ (g : Scheme) (size table : ℕ) (d : StoreDisk) (from : Node) where
       go false true = (tt, tt)
       go false false = judged_plain q (store.version_of (current_of d.items q.row))
 
+  asked_plain : (q : Request) → IsPlainStep (store.asked g size table d from q)
+  asked_plain q = go (is_spelled size q.content q.pieces)
+    where
+      go : (b : Bool) → IsPlainStep (if b then store.decided g size table d from q (store.yours_in d.items q.client q.row) else store.quiet d (Some []) facts.Done)
+      go true = decided_plain q (store.yours_in d.items q.client q.row)
+      go false = (tt, tt)
+
   taken_plain : (agenda : Option (List StoreTask)) (m : Message) → ArePlainWrites (tasks_in agenda) → IsPlainStep (store.taken g size table d agenda from m)
   taken_plain None m p = (tt, tt)
   taken_plain (Some (task ∷ more)) m p = (tt, p)
-  taken_plain (Some []) (SyncRequest q) p = decided_plain q (store.yours_in d.items q.client q.row)
+  taken_plain (Some []) (SyncRequest q) p = asked_plain q
   taken_plain (Some []) (PullRequest q) p = (tt, tt)
   taken_plain (Some []) (SyncResponse q) p = (tt, tt)
   taken_plain (Some []) (PullResponse q) p = (tt, tt)

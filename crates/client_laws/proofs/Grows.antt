@@ -1,5 +1,5 @@
 -- A client's part stays under one more item of a table.
-use Rattle.std.proofs.Common.{◌≢◌, ◌≡◌, ◌⊎◌, ℕ, ◌+◌, ◌<◌, ◌≤◌, Bool, true, false, cond, length, List, [], ◌∷◌, ◌++◌, Option, Some, None, refl, sym, ap, subst, ◌∙◌, ⊎_elim, inl, inr, append-nil, arith}
+use Rattle.std.proofs.Common.{◌≢◌, ◌≡◌, ◌⊎◌, ℕ, ◌+◌, ◌≤◌, Bool, true, false, cond, length, List, [], ◌∷◌, ◌++◌, Option, Some, None, refl, sym, ap, subst, ◌∙◌, inl, inr, append-nil, arith}
 use Rattle.std.specs.Prelude.{if◌then◌else◌, ◌==◌, nat_lt}
 use Rattle.std.proofs.lemmas.Bool.Decides.{nat_tests}
 use Rattle.std.proofs.lemmas.List.{length_push}
@@ -7,9 +7,8 @@ use Rattle.row_value.specs.declared.schema.Scheme.{Scheme}
 use Rattle.row_value.specs.declared.schema.Scheme.TheVariants.{Strong, Causal, Eventual}
 use Rattle.table_model.specs.declared.line.Write.{Write}
 use Rattle.table_model.specs.History.{same_row}
-use Rattle.step_tables.specs.declared.slots.Main.{Main}
-use Rattle.step_tables.specs.declared.slots.InFlight.{InFlight}
-use Rattle.step_tables.specs.declared.slots.Shadow.{Shadow}
+use Rattle.step_tables.specs.Slots.{InFlight}
+use Rattle.step_tables.specs.Slots.{Shadow}
 use Rattle.step_tables.specs.Store.{Stored, current_of, is_of_row}
 use Rattle.step_tables.specs.StoreMoves.{version_of}
 use Rattle.step_tables.specs.Client.{version_in}
@@ -20,10 +19,10 @@ use Rattle.step_tables.specs.Sayings.{row_wrote, write_of, Saying, SaysNothing, 
 use Rattle.step_tables.specs.Sayings.{Heard, own, own_all}
 use Rattle.step_tables.specs.ClientMoves.{Slots, Plan, ClientDisk, ClientTask, Client, seen, applied, changed, told as told_by, retold, slots_of, position_of, top}
 use Rattle.step_tables.specs.Items.{latest, IsItemOf, IsItemAt, IsBase}
-use Rattle.step_tables.proofs.Lists.{among_left, among_cases, among_last, last_where-push, same_row_tells, find_left}
+use Rattle.step_tables.proofs.Lists.{among_left, among_cases, last_where-push, same_row_tells, find_left}
 use Rattle.world_tables.specs.Again.{may_repeat}
-use Rattle.client_laws.specs.Part.{Items, Sending, sendings, IsContent, Spans, IsAbove, IsOut, IsConflict, Fit, RowTied, TableTied, Tied, IsLapsed, Fits, IsPassed, IsOwn, AreOwn, IsSending, IsRequest}
-use Rattle.client_laws.specs.Part.{Requests, IsPlan, RestsOn, Rests, Runs, IsAt, ClientPart}
+use Rattle.client_laws.specs.Part.{Items, Sending, sendings, IsContent, Spans, IsAbove, IsOut, IsConflict, Fit, RowTied, TableTied, Tied, IsLapsed, Fits, IsPassed, IsOwn, AreOwn, IsRequest}
+use Rattle.client_laws.specs.Part.{Requests, RestsOn, Runs, IsAt, ClientPart}
 
 -- ---- the version of a row's last item
 

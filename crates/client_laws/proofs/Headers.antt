@@ -1,34 +1,34 @@
 -- The plans of a row from the Store: it is read, or stands against Main, behind an acknowledgement or without one; and of a
 -- position alone.
-use Rattle.std.proofs.Common.{◌≡◌, ◌≢◌, ◌⊎◌, ℕ, Bool, true, false, ◌+◌, ◌≤◌, ◌<◌, List, [], ◌∷◌, ◌++◌, length, Option, Some, None, refl, sym, ap, subst, ◌∙◌, arith, inl, inr, append-nil}
+use Rattle.std.proofs.Common.{◌≡◌, ◌≢◌, ◌⊎◌, ℕ, Bool, true, false, ◌≤◌, ◌<◌, List, [], ◌∷◌, length, Option, Some, None, refl, sym, ap, subst, ◌∙◌, arith, inl, inr, append-nil}
 use Rattle.std.specs.Prelude.{◌==◌, nat_lt, nat_le, max, map, option_map, if◌then◌else◌}
 use Rattle.std.proofs.lemmas.Bool.Decides.{nat_tests}
 use Rattle.row_value.specs.declared.schema.Scheme.{Scheme}
 use Rattle.row_value.specs.declared.schema.Scheme.TheVariants.{Strong, Causal, Eventual}
 use Rattle.table_model.specs.declared.line.Write.{Write}
 use Rattle.table_model.specs.History.{same_row}
-use Rattle.step_tables.specs.declared.slots.Main.{Main}
-use Rattle.step_tables.specs.declared.slots.InFlight.{InFlight}
-use Rattle.step_tables.specs.declared.slots.Shadow.{Shadow}
+use Rattle.step_tables.specs.Slots.{Main}
+use Rattle.step_tables.specs.Slots.{InFlight}
+use Rattle.step_tables.specs.Slots.{Shadow}
 use Rattle.step_tables.specs.Store.{Stored}
 use Rattle.step_tables.specs.Client.{version_in}
 use Rattle.step_tables.specs.Facts.{ClientFact, Fact}
 use Rattle.step_tables.specs.Facts as facts
 use Rattle.step_tables.specs.Members.{Among, put, put_at}
-use Rattle.step_tables.specs.Messages.{Header, Pair}
-use Rattle.step_tables.specs.Sayings.{Saying, SaysAck, SaysRead, SaysConflict, SaysPosition, RowHeard, Heard, saying, write_of, row_acked, row_met, row_saw, at_row, own, own_all, open_of, open_in}
-use Rattle.step_tables.specs.ClientMoves.{Slots, TableDisk, Plan, ClientDisk, slots_at, slots_in, slots_of, table_at, position_in, position_of, applied, top, slots_plan, freed, without, shadow_of}
+use Rattle.step_tables.specs.Messages.{Header}
+use Rattle.step_tables.specs.Sayings.{SaysPosition, RowHeard, Heard, saying, write_of, row_acked, row_met, row_saw, at_row, own, own_all, open_of, open_in}
+use Rattle.step_tables.specs.ClientMoves.{Slots, TableDisk, Plan, ClientDisk, slots_at, table_at, position_in, applied, top, slots_plan, freed, without, shadow_of}
 use Rattle.step_tables.specs.ClientMoves.{reads_over, is_weak, Placed, placed, row_placed, row_plan, position_plan, read_new, read_conflict}
-use Rattle.step_tables.specs.Items.{latest, IsItemOf, IsItemAt, IsYours, IsChange}
+use Rattle.step_tables.specs.Items.{latest, IsItemOf, IsChange}
 use Rattle.step_tables.proofs.Lists.{same_row_tells}
-use Rattle.step_tables.proofs.Maps.{place_here, place_twice, put_twice}
+use Rattle.step_tables.proofs.Maps.{place_here, place_twice}
 use Rattle.world_tables.specs.Again.{may_repeat, IsUp}
-use Rattle.client_laws.specs.Part.{Items, Sending, OfTable, Ours, IsContent, IsAbove, write_for, main_for, Fit, RowTied, TableTied, Tied, IsLapsed, IsPassed, IsOwn, AreOwn, IsNewPlan}
+use Rattle.client_laws.specs.Part.{Items, Sending, OfTable, Ours, IsContent, IsAbove, write_for, main_for, Fit, RowTied, TableTied, Tied, IsPassed, IsOwn, AreOwn, IsNewPlan}
 use Rattle.client_laws.proofs.Grows.{some_is}
-use Rattle.client_laws.proofs.RowFits.{without_is, unsent_none, own_only, freed_fit, raise_fit, conflict_fit, heard_fit}
+use Rattle.client_laws.proofs.RowFits.{unsent_none, own_only, freed_fit, raise_fit, conflict_fit, heard_fit}
 use Rattle.client_laws.proofs.PlanRuns.{own-redone, new_plan}
-use Rattle.client_laws.proofs.Ties.{Elsewhere, read_latest, tied_row_at, tied_position}
-use Rattle.client_laws.proofs.Plans.{at_row_twice, place_apart, open_behind, closed_acked, row_tied, requests_here, exact_causal}
+use Rattle.client_laws.proofs.Ties.{read_latest, tied_row_at, tied_position}
+use Rattle.client_laws.proofs.Plans.{at_row_twice, place_apart, open_behind, closed_acked, row_tied, requests_here}
 
 -- what may be said again where it changes nothing
 abbrev Still : (ℕ → Scheme) → ℕ → Items → List Sending → Heard → List Fact → Type 0

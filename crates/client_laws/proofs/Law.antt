@@ -1,6 +1,6 @@
 -- Each move of a client keeps its part.
 use Rattle.std.proofs.Common.{◌≡◌, ◌≢◌, ◌⊎◌, ℕ, Bool, true, false, ◌+◌, ◌≤◌, ◌<◌, List, [], ◌∷◌, ◌++◌, length, Option, Some, None, refl, sym, ap, subst, ◌∙◌, arith, inl, inr, append-nil}
-use Rattle.std.specs.Prelude.{◌==◌, nat_lt, nat_le, option_map, Result, Ok, Err, if◌then◌else◌}
+use Rattle.std.specs.Prelude.{◌==◌, ◌&&◌, nat_lt, nat_le, option_map, Result, Ok, Err, if◌then◌else◌}
 use Rattle.std.proofs.lemmas.Bool.Decides.{nat_tests}
 use Rattle.row_value.specs.declared.content.Content.{Content}
 use Rattle.row_value.specs.declared.content.Content.TheVariants.{Gone, Row}
@@ -10,9 +10,9 @@ use Rattle.row_value.specs.declared.fit.FitFault.{FitFault}
 use Rattle.row_value.specs.Fit.{fit_of}
 use Rattle.row_value.specs.declared.schema.Scheme.{Scheme}
 use Rattle.row_value.specs.declared.schema.Scheme.TheVariants.{Strong, Causal, Eventual}
-use Rattle.step_tables.specs.declared.slots.Main.{Main}
-use Rattle.step_tables.specs.declared.slots.InFlight.{InFlight}
-use Rattle.step_tables.specs.declared.slots.Shadow.{Shadow}
+use Rattle.step_tables.specs.Slots.{Main}
+use Rattle.step_tables.specs.Slots.{InFlight}
+use Rattle.step_tables.specs.Slots.{Shadow}
 use Rattle.step_tables.specs.Store.{Stored}
 use Rattle.step_tables.specs.Client.{version_in}
 use Rattle.step_tables.specs.Facts.{ClientFact, Fact, Answer, Refusal, Shown}
@@ -28,10 +28,10 @@ use Rattle.step_tables.specs.ClientMoves.{Slots, TableDisk, Plan, ClientDisk, Cl
 use Rattle.step_tables.specs.ClientMoves.{Write, Change, Show, Sum, Sync, Next, BeginCr, Conflicts, EndCr, Resolve, ResolveAll, Take, Work}
 use Rattle.step_tables.specs.ClientMoves.{phase_in, phase_step, conflicts_in, conflicts_step, can_resolve, all_idle, all_fitting, all_in, all_step}
 use Rattle.step_tables.specs.ClientMoves.{Crash, Start, quiet, refused, ignored, seen, planned_in, slots_at, slots_in, slots_of, table_at, put_row, changed, applied, done, crashed}
-use Rattle.step_tables.specs.ClientMoves.{worked, told, Shape, keeps, rest_of, ending, opening, told_at_start, told_without, begun, slots_plan, resumed, started, request_for, pull_from, main_of, out_of}
-use Rattle.step_tables.specs.ClientMoves.{write_plan, strong_plan, first_out, write_strong}
+use Rattle.step_tables.specs.ClientMoves.{worked, told, Shape, keeps, rest_of, ending, opening, told_at_start, told_without, begun, slots_plan, resumed, started, request_for, pull_from}
+use Rattle.step_tables.specs.ClientMoves.{write_plan, strong_out, strong_plan, first_out, write_strong}
 use Rattle.step_tables.specs.ClientMoves.{write_by, write_free, write_idle, write_fitting, write_to, write_step, content_of, edit_made, edit_over, edit_in, edit_step, shown_in, show_answer, show_in, show_step, sum_step, resent, RowOut, first_to_send}
-use Rattle.step_tables.specs.ClientMoves.{send_plan}
+use Rattle.step_tables.specs.ClientMoves.{row_out, send_plan, whole_out, whole_plan, comes_next}
 use Rattle.step_tables.specs.ClientMoves.{sync_first, sync_in, sync_step, next_in, next_step, choose, over_fitting, over_plan, theirs_plan, resolve_over, resolve_in, resolve_step, ack_plan, lost_plan}
 use Rattle.step_tables.specs.ClientMoves.{outcome_taken, response_taken, response_in, row_placed, next_pull, row_plan, position_plan, top, row_taken, pulled_taken, pulled_in, take_step, client_step}
 use Rattle.step_tables.specs.Items.{IsItemOf, IsChange}
@@ -39,9 +39,14 @@ use Rattle.client_laws.specs.Part.{Items, Sending, sendings, Ours, RowTied, Tied
 use Rattle.client_laws.specs.Part.{IsHeader, IsMessage, IsFair, IsShown, IsAnswer, ClientLaw}
 use Rattle.client_laws.proofs.Disks.{opened_by, applied_at, applied_last, put_row_slots}
 use Rattle.client_laws.proofs.PlanRuns.{own-retold, shown_of, rested_of, keeps_run, also_own, own-also, ending_runs, rest_runs, plan_runs, told_plan}
-use Rattle.client_laws.proofs.Plans.{write_is_plan, strong_is_plan, send_is_plan, ack_is_plan, lost_is_plan, over_is_plan, theirs_is_plan}
+use Rattle.client_laws.proofs.RowFits.{out_with}
+use Rattle.client_laws.proofs.Plans.{write_is_plan, strong_is_plan, send_is_plan, whole_is_plan, ack_is_plan, lost_is_plan, over_is_plan, theirs_is_plan}
 use Rattle.client_laws.proofs.Headers.{position_is_plan, row_plan_is}
 use Rattle.client_laws.proofs.Sends.{request_is, sent_tied, IsSent, all_resent, rows_found, first_is}
+
+and_left : (a b : Bool) → (a && b) ≡ true → a ≡ true
+and_left true b e = refl
+and_left false b e = e
 
 module _ (g : ℕ → Scheme) (c : ℕ) (h : Items) (sent : List Sending) (t : Heard) (ours : Ours g c h sent t) (shape : Shape) where
   -- what is quiet sends nothing
@@ -182,14 +187,14 @@ module _ (g : ℕ → Scheme) (c : ℕ) (h : Items) (sent : List Sending) (t : H
     -- ---- write
 
     strong_law : (table : ℕ) (row : List ℕ) (o : TableDisk) (content : Content) → table_at d table ≡ Some o → g table ≡ Strong
-        → (w : Option InFlight) → ClientLaw g c h sent t (Write table row content) (write_strong c shape d table row (slots_at o row) content w)
+        → (w : Option InFlight) → ClientLaw g c h sent t (Write table row content) (write_strong o.schema.chunk c shape d table row (slots_at o row) content w)
     strong_law table row o content is strong (Some w) = quiet_law (Write table row content) d (Some []) _ tt idle
     strong_law table row o content is strong None =
-        let read : ℕ = version_in (slots_at o row).shadow in
-        let out : InFlight = out_of (main_of (d.last + 1) read content) read in
-        let p : Plan = strong_plan c d table row (slots_at o row) content in
+        let size : ℕ = o.schema.chunk in
+        let out : InFlight = strong_out size (d.last + 1) (slots_at o row) content in
+        let p : Plan = strong_plan size c d table row (slots_at o row) content in
         let u : Heard = own_all t (told p) in
-        let plan = strong_is_plan g c h sent t ours d tied table row o is strong content in
+        let plan = strong_is_plan g c h sent t ours d tied table row o is strong size content in
         let waits : (slots_of (applied p d) table row).out ≡ Some out = ap (λ (s : Slots). s.out) (slots_after table o is (d.last + 1) row (record (slots_at o row) { out = Some out }) p.facts) in
         let number : d.last + 1 ≡ length u.writes = sym (applied_last p d) ∙ plan.plan.tied.last in
         begun_law (Write table row content) d _ p (request_for c table row out ∷ []) tt idle plan
@@ -215,9 +220,9 @@ module _ (g : ℕ → Scheme) (c : ℕ) (h : Items) (sent : List Sending) (t : H
 
     -- ---- sync
 
-    sync_first_law : (table : ℕ) (o : TableDisk) → table_at d table ≡ Some o → (first : Option RowOut) → first_to_send o.rows ≡ first
-        → ClientLaw g c h sent t (Sync table) (sync_first c shape d table (resent c table o.rows) first)
-    sync_first_law table o is first at = by_first first at
+    sync_first_law : (table : ℕ) (o : TableDisk) → table_at d table ≡ Some o → (size : ℕ) (first : Option RowOut) → first_to_send o.rows ≡ first
+        → ClientLaw g c h sent t (Sync table) (sync_first c shape d table (resent c table o.rows) (option_map (row_out size) first))
+    sync_first_law table o is size first at = by_first first at
       where
         found : (x : List ℕ × Slots) → Among o.rows x → slots_of d table x.0 ≡ x.1
         found x a = ap (λ (m : Option TableDisk). slots_in m x.0) is ∙ rows_found o x (tied.opened table o is).rising a
@@ -225,19 +230,21 @@ module _ (g : ℕ → Scheme) (c : ℕ) (h : Items) (sent : List Sending) (t : H
         again : IsSent g c h d t table (sent ++ sendings (resent c table o.rows)) × Requests g c h t (resent c table o.rows)
         again = all_resent g c h d t table o.rows found sent (record { ours = ours; tied = tied })
 
-        by_first : (first : Option RowOut) → first_to_send o.rows ≡ first → ClientLaw g c h sent t (Sync table) (sync_first c shape d table (resent c table o.rows) first)
+        by_first : (first : Option RowOut) → first_to_send o.rows ≡ first
+            → ClientLaw g c h sent t (Sync table) (sync_first c shape d table (resent c table o.rows) (option_map (row_out size) first))
         by_first None none = record { answer = tt; facts = tt; sends = again.1; part = (again.0.tied, idle.1) }
-        by_first (Some x) first_at =
+        by_first (Some plain) first_at =
             let more : List Sending = sent ++ sendings (resent c table o.rows) in
-            let k = first_is o.rows x first_at in
+            let k = first_is o.rows plain first_at in
+            let x : RowOut = row_out size plain in
             let same : slots_at o x.row ≡ x.slots = rows_found o (x.row, x.slots) (tied.opened table o is).rising k.stands in
-            let s : Slots = record (slots_at o x.row) { out = Some (out_of k.main (version_in (slots_at o x.row).shadow)) } in
+            let s : Slots = record (slots_at o x.row) { out = Some (out_with k.main (version_in (slots_at o x.row).shadow) x.out.pieces) } in
             let slots_same : s ≡ record x.slots { out = Some x.out } =
-            ap (λ (z : Slots). record z { out = Some (out_of k.main (version_in z.shadow)) }) same
-            ∙ ap (λ (q : InFlight). record x.slots { out = Some q }) (sym k.sends) in
+            ap (λ (z : Slots). record z { out = Some (out_with k.main (version_in z.shadow) x.out.pieces) }) same
+            ∙ ap (λ (q : InFlight). record x.slots { out = Some (record q { pieces = x.out.pieces }) }) (sym k.sends) in
             let plan : IsNewPlan g c h more d t (send_plan d table x) =
             subst (λ (z : Slots). IsNewPlan g c h more d t (slots_plan d table x.row z [])) slots_same
-            (send_is_plan g c h more t again.0.ours d again.0.tied table x.row o is k.main (ap (λ (z : Slots). z.main) same ∙ k.main_is) (ap (λ (z : Slots). z.out) same ∙ k.out_is)
+            (send_is_plan g c h more t again.0.ours d again.0.tied table x.row o is k.main x.out.pieces (ap (λ (z : Slots). z.main) same ∙ k.main_is) (ap (λ (z : Slots). z.out) same ∙ k.out_is)
             (ap (λ (z : Slots). z.conflict) same ∙ k.free)) in
             let waits : (slots_of (applied (send_plan d table x) d) table x.row).out ≡ Some x.out =
             ap (λ (z : Slots). z.out) (slots_after table o is d.last x.row (record x.slots { out = Some x.out }) []) in
@@ -314,6 +321,22 @@ module _ (g : ℕ → Scheme) (c : ℕ) (h : Items) (sent : List Sending) (t : H
         (pull_request (own_all t (told p)) r.table o.position) refl
     outcome_law r o is out waits same (messages.Conflict latest) f =
         record { answer = tt; facts = tt; sends = pull_request t r.table o.position; part = unsent_part d (Some []) idle }
+    outcome_law r o is out waits same messages.NeedWhole f = by_whole out.whole
+      where
+        by_whole : (b : Bool) → ClientLaw g c h sent t (Take (SyncResponse r))
+            (if b then ignored d else begun shape d facts.Done (whole_plan d r.table r.row (slots_at o r.row) out) (request_for c r.table r.row (whole_out out) ∷ []))
+        by_whole true = quiet_law (Take (SyncResponse r)) d (Some []) facts.Done tt idle
+        by_whole false =
+            let p : Plan = whole_plan d r.table r.row (slots_at o r.row) out in
+            let now : InFlight = whole_out out in
+            let plan = whole_is_plan g c h sent t ours d tied r.table r.row o is out waits in
+            let there : (slots_of (applied p d) r.table r.row).out ≡ Some now =
+            ap (λ (s : Slots). s.out) (slots_after r.table o is d.last r.row (record (slots_at o r.row) { out = Some now }) p.facts) in
+            let written = ((plan.plan.tied.rows r.table r.row).fit.out now there).written in
+            let numbered : now.number ≤ length t.writes = (ours.numbered now.number _ written).3 in
+            begun_law (Take (SyncResponse r)) d facts.Done p (request_for c r.table r.row now ∷ []) tt idle plan
+            (request_is g c h sent (applied p d) t plan.plan.tied r.table r.row now there, tt)
+            (sent_tied g c h sent (applied p d) t plan.plan.tied r.table r.row now there numbered)
 
     response_law : (r : Response) (o : TableDisk) → table_at d r.table ≡ Some o → IsOutcome g c h sent r r.outcome
         → (out : Option InFlight) → (slots_at o r.row).out ≡ out → ClientLaw g c h sent t (Take (SyncResponse r)) (response_taken c shape d r o out)
@@ -366,12 +389,13 @@ module _ (g : ℕ → Scheme) (c : ℕ) (h : Items) (sent : List Sending) (t : H
     pulled_law : (pulled : Pulled) (o : TableDisk) → table_at d pulled.table ≡ Some o → (header : Option Header) → IsHeader c h pulled header
         → ClientLaw g c h sent t (Take (PullResponse pulled)) (pulled_taken c shape d pulled o header)
     pulled_law pulled o is None f = quiet_law (Take (PullResponse pulled)) d (Some []) facts.Done tt idle
-    pulled_law pulled o is (Some header) f = by_test (pulled.from == o.position) refl
+    pulled_law pulled o is (Some header) f = by_test (comes_next pulled o header) refl
       where
-        by_test : (b : Bool) → (pulled.from == o.position) ≡ b
+        by_test : (b : Bool) → comes_next pulled o header ≡ b
             → ClientLaw g c h sent t (Take (PullResponse pulled)) (if b then row_taken c shape d pulled o header (slots_at o header.row) else ignored d)
         by_test true e =
-            let same : pulled.from ≡ o.position = grind (arith, nat_tests, e) in
+            let comes : (pulled.from == o.position) ≡ true = and_left (pulled.from == o.position) _ e in
+            let same : pulled.from ≡ o.position = grind (arith, nat_tests, comes) in
             row_law pulled o is header (subst (λ (n : ℕ). IsChange c (h pulled.table) n pulled.to header) same f.0) (subst (λ (n : ℕ). n < pulled.to) same f.1)
         by_test false e = quiet_law (Take (PullResponse pulled)) d (Some []) facts.Done tt idle
 
@@ -450,7 +474,7 @@ module _ (g : ℕ → Scheme) (c : ℕ) (h : Items) (sent : List Sending) (t : H
           → ClientLaw g c h sent t (Sync table) (sync_in c shape d agenda table m)
       by_table agenda p None is = quiet_law (Sync table) d (Some agenda) _ tt p
       by_table (task ∷ more) p (Some o) is = quiet_law (Sync table) d (Some (task ∷ more)) _ tt p
-      by_table [] p (Some o) is = sync_first_law d p table o (in_disk d p table (Some o) is) (first_to_send o.rows) refl
+      by_table [] p (Some o) is = sync_first_law d p table o (in_disk d p table (Some o) is) o.schema.chunk (first_to_send o.rows) refl
 
   next_law : (d : ClientDisk) (agenda : Option (List ClientTask)) (table : ℕ) → IsAt g c h sent d t agenda → ClientLaw g c h sent t (Next table) (next_step c shape d agenda table)
   next_law d None table p = quiet_law (Next table) d None _ tt p

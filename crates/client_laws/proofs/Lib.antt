@@ -8,3 +8,4 @@ pub mod Headers
 pub mod Sends
 pub mod Law
 pub mod Start
+pub mod Spelling

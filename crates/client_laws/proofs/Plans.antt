@@ -1,30 +1,30 @@
 -- The plans of writes, of what is sent, and of its answers.
 use Rattle.std.proofs.Common.{◌≡◌, ◌≢◌, ◌⊎◌, ℕ, Bool, true, false, ◌+◌, ◌≤◌, ◌<◌, List, [], ◌∷◌, ◌++◌, length, Option, Some, None, refl, sym, ap, subst, ◌∙◌, arith, inl, inr, append-nil}
-use Rattle.std.specs.Prelude.{◌==◌, ◌||◌, nat_lt, max, map, option_map, if◌then◌else◌}
+use Rattle.std.specs.Prelude.{◌==◌, ◌||◌, map, option_map, if◌then◌else◌}
 use Rattle.std.proofs.lemmas.Bool.Decides.{nat_tests}
 use Rattle.std.proofs.lemmas.List.{length_push}
 use Rattle.row_value.specs.declared.content.Content.{Content}
 use Rattle.row_value.specs.declared.schema.Scheme.{Scheme}
 use Rattle.row_value.specs.declared.schema.Scheme.TheVariants.{Strong, Causal, Eventual}
+use Rattle.row_value.specs.declared.pieces.Piece.{Piece}
 use Rattle.table_model.specs.declared.line.Write.{Write}
-use Rattle.step_tables.specs.declared.slots.Main.{Main}
-use Rattle.step_tables.specs.declared.slots.InFlight.{InFlight}
-use Rattle.step_tables.specs.declared.slots.Shadow.{Shadow}
+use Rattle.step_tables.specs.Slots.{Main}
+use Rattle.step_tables.specs.Slots.{InFlight}
+use Rattle.step_tables.specs.Slots.{Shadow}
 use Rattle.step_tables.specs.Store.{Stored}
 use Rattle.step_tables.specs.Client.{version_in}
 use Rattle.step_tables.specs.Facts.{ClientFact, Fact}
 use Rattle.step_tables.specs.Facts as facts
-use Rattle.step_tables.specs.Members.{Among, put, put_at}
-use Rattle.step_tables.specs.Messages.{Send}
-use Rattle.step_tables.specs.Sayings.{RowHeard, Heard, write_of, row_wrote, row_acked, row_lost, row_met, row_resolved, row_saw, at_row, wrote, own, own_all, if_open, open_of, open_in}
-use Rattle.step_tables.specs.ClientMoves.{Slots, TableDisk, Plan, ClientDisk, slots_at, slots_in, slots_of, table_at, applied, top, told, main_of, out_of, slots_plan, write_plan, strong_plan}
-use Rattle.step_tables.specs.ClientMoves.{send_plan, ack_plan, lost_plan, over_plan, theirs_plan, RowOut, freed, without, request_for}
-use Rattle.step_tables.specs.Items.{latest, IsItemOf, IsItemAt, IsBase}
-use Rattle.step_tables.proofs.Maps.{place_here, place_cases, place_twice, put_twice}
-use Rattle.client_laws.specs.Part.{Items, Sending, sendings, IsFresh, OfTable, Ours, IsContent, Spans, IsAbove, write_for, main_for, IsOut, Fit, RowTied, Tied, IsLapsed, IsPassed, IsOwn, AreOwn}
-use Rattle.client_laws.specs.Part.{IsSending, Requests, IsNewPlan, IsRefused}
+use Rattle.step_tables.specs.Members.{Among, put_at}
+use Rattle.step_tables.specs.Sayings.{RowHeard, Heard, write_of, row_wrote, row_acked, row_lost, row_resolved, at_row, wrote, own_all, if_open, open_of, open_in}
+use Rattle.step_tables.specs.ClientMoves.{Slots, TableDisk, Plan, ClientDisk, slots_at, slots_in, table_at, applied, top, main_of, slots_plan, write_plan, strong_out, strong_plan}
+use Rattle.step_tables.specs.ClientMoves.{shadow_at, ack_plan, lost_plan, whole_out, whole_plan, over_plan, theirs_plan, freed, without}
+use Rattle.step_tables.specs.Items.{latest, IsItemOf}
+use Rattle.step_tables.proofs.Maps.{place_here, place_cases, place_twice}
+use Rattle.client_laws.specs.Part.{Items, Sending, IsFresh, OfTable, Ours, IsContent, Spans, write_for, main_for, RowTied, Tied, IsPassed, AreOwn}
+use Rattle.client_laws.specs.Part.{IsNewPlan, IsRefused}
 use Rattle.client_laws.proofs.Grows.{some_is, added}
-use Rattle.client_laws.proofs.RowFits.{write_of-push, without_is, own_only, freed_fit, raise_fit, write_fit, strong_fit, send_fit, lost_fit, settled_fit, heard_fit, sent_fit, sent_apart_fit}
+use Rattle.client_laws.proofs.RowFits.{write_of-push, own_only, freed_fit, raise_fit, write_fit, strong_fit, out_with, send_fit, respelled_fit, lost_fit, settled_fit, heard_fit}
 use Rattle.client_laws.proofs.PlanRuns.{new_plan}
 use Rattle.client_laws.proofs.Ties.{Elsewhere, tied_row}
 
@@ -218,15 +218,16 @@ module _ (g : ℕ → Scheme) (c : ℕ) (h : Items) (sent : List Sending) (t : H
       by_slot None at = refl
       by_slot (Some z) at = absurd (let q = (row_tied.fit.conflict z at).in_main in cc)
 
-  pub strong_is_plan : g table ≡ Strong → (content : Content) → IsNewPlan g c h sent d t (strong_plan c d table row slots content)
-  strong_is_plan strong content =
+  pub strong_is_plan : g table ≡ Strong → (size : ℕ) (content : Content) → IsNewPlan g c h sent d t (strong_plan size c d table row slots content)
+  strong_is_plan strong size content =
       let r = row_tied in
       let m : Main = main_of (d.last + 1) (version_in slots.shadow) content in
       let w : Write = write_for c table row m in
       let no_main = open_strong (g table) slots.main (open_of x) strong r.main in
       let none = no_conflict no_main in
-      write_plan_is (record slots { out = Some (out_of m m.read) }) m refl (r.level none) (record {
-        fit = strong_fit (g table) c (h table) table row t.writes x sent (d.last + 1) (ap (λ (n : ℕ). n + 1) k.last) n_free n_fresh written_low strong slots content r.fit of no_main none;
+      let o : InFlight = strong_out size m.number slots content in
+      write_plan_is (record slots { out = Some o }) m refl (r.level none) (record {
+        fit = strong_fit (g table) c (h table) table row t.writes x sent (d.last + 1) (ap (λ (n : ℕ). n + 1) k.last) n_free n_fresh written_low strong slots content o.pieces r.fit of no_main none;
         main = no_main ∙ sym (ap (λ (s : Scheme). option_map main_for (open_in s (open_of (row_wrote w x)))) strong);
         read = r.read;
         level = r.level;
@@ -250,22 +251,39 @@ module _ (g : ℕ → Scheme) (c : ℕ) (h : Items) (sent : List Sending) (t : H
 
   -- ---- what is sent
 
-  pub send_is_plan : (m : Main) → slots.main ≡ Some m → slots.out ≡ None → slots.conflict ≡ None
-      → IsNewPlan g c h sent d t (slots_plan d table row (record slots { out = Some (out_of m (version_in slots.shadow)) }) [])
-  send_is_plan m at none idle =
+  -- a plan that tells nothing
+  unheard_is_plan : (s : Slots) → RowTied_ s t.writes x → IsNewPlan g c h sent d t (slots_plan d table row s [])
+  unheard_is_plan s here =
+      new_plan g c h sent d t (slots_plan d table row s []) tt tt refl
+      (tied_row g c h sent d t k table o is d.last row s t
+      (record { more = []; writes = sym (append-nil t.writes); at = λ q y apart. refl; position = λ q apart. refl }) k.last here [] of.last (omega arith) refl)
+
+  pub send_is_plan : (m : Main) (pieces : List (List Piece)) → slots.main ≡ Some m → slots.out ≡ None → slots.conflict ≡ None
+      → IsNewPlan g c h sent d t (slots_plan d table row (record slots { out = Some (out_with m (version_in slots.shadow) pieces) }) [])
+  send_is_plan m pieces at none idle =
       let r = row_tied in
-      let s : Slots = record slots { out = Some (out_of m (version_in slots.shadow)) } in
-      let here : RowTied_ s t.writes x = record {
-        fit = send_fit (g table) c (h table) table row (r.fit.weak m at) slots m t.writes x sent of r.fit at none idle (main_unacked m at);
+      unheard_is_plan (record slots { out = Some (out_with m (version_in slots.shadow) pieces) }) (record {
+        fit = send_fit (g table) c (h table) table row (r.fit.weak m at) slots m pieces t.writes x sent of r.fit at none idle (main_unacked m at);
         main = r.main;
         read = r.read;
         level = r.level;
         under = r.under;
         based = r.based;
-      } in
-      new_plan g c h sent d t (slots_plan d table row s []) tt tt refl
-      (tied_row g c h sent d t k table o is d.last row s t
-      (record { more = []; writes = sym (append-nil t.writes); at = λ q y apart. refl; position = λ q apart. refl }) k.last here [] of.last (omega arith) refl)
+      })
+
+  -- and sent again with all its chunks
+  pub whole_is_plan : (out : InFlight) → slots.out ≡ Some out → IsNewPlan g c h sent d t (whole_plan d table row slots out)
+  whole_is_plan out at =
+      let r = row_tied in
+      let now : InFlight = whole_out out in
+      unheard_is_plan (record slots { out = Some now }) (record {
+        fit = respelled_fit (g table) c (h table) table row slots out now.pieces true t.writes x sent r.fit at;
+        main = r.main;
+        read = r.read;
+        level = r.level;
+        under = r.under;
+        based = r.based;
+      })
 
   -- ---- what is heard behind one fact of the row
 
@@ -299,7 +317,7 @@ module _ (g : ℕ → Scheme) (c : ℕ) (h : Items) (sent : List Sending) (t : H
       let r = row_tied in
       let u = r.fit.out out at in
       let f : RowHeard → RowHeard = row_acked out.number version in
-      let y : Shadow = record { version = version; content = out.content } in
+      let y : Shadow = shadow_at version out in
       let none = u.free in
       let after = u.later i item.stands item.client_is item.row_is item.number_is in
       let v = item.version_is in

@@ -1,23 +1,22 @@
 -- The slots of a row behind each change, beside the items and what was written, told and sent.
-use Rattle.std.proofs.Common.{Bool, true, false, ◌≡◌, ◌≢◌, ◌⊎◌, ℕ, ◌+◌, ◌≤◌, ◌<◌, List, [], ◌∷◌, ◌++◌, length, length-append, Option, Some, None, refl, sym, ap, ◌∙◌, subst, arith, inl, inr}
+use Rattle.std.proofs.Common.{Bool, true, false, ◌≡◌, ◌≢◌, ℕ, ◌+◌, ◌≤◌, ◌<◌, List, [], ◌∷◌, ◌++◌, length, length-append, Option, Some, None, refl, sym, ap, ◌∙◌, subst, arith, inl, inr}
 use Rattle.std.specs.Prelude.{◌==◌, nat_lt, if◌then◌else◌}
-use Rattle.std.specs.List.{find}
 use Rattle.std.proofs.lemmas.Bool.Decides.{nat_tests}
-use Rattle.std.proofs.lemmas.List.{length_push}
 use Rattle.row_value.specs.declared.content.Content.{Content}
 use Rattle.row_value.specs.declared.schema.Scheme.{Scheme}
 use Rattle.row_value.specs.declared.schema.Scheme.TheVariants.{Strong, Causal, Eventual}
+use Rattle.row_value.specs.declared.pieces.Piece.{Piece}
 use Rattle.table_model.specs.declared.line.Write.{Write}
-use Rattle.step_tables.specs.declared.slots.Main.{Main}
-use Rattle.step_tables.specs.declared.slots.InFlight.{InFlight}
-use Rattle.step_tables.specs.declared.slots.Shadow.{Shadow}
+use Rattle.step_tables.specs.Slots.{Main}
+use Rattle.step_tables.specs.Slots.{InFlight}
+use Rattle.step_tables.specs.Slots.{Shadow}
 use Rattle.step_tables.specs.Store.{Stored}
 use Rattle.step_tables.specs.Client.{version_in}
-use Rattle.step_tables.specs.Members.{Among, put}
-use Rattle.step_tables.specs.Sayings.{RowHeard, write_of, row_wrote, row_acked, row_lost, row_met, row_resolved, row_saw}
-use Rattle.step_tables.specs.ClientMoves.{Slots, main_of, out_of, without, freed, top}
-use Rattle.step_tables.specs.Items.{latest, IsItemAt, IsBase}
-use Rattle.step_tables.proofs.Lists.{among_cases, among_left, find_right}
+use Rattle.step_tables.specs.Members.{Among}
+use Rattle.step_tables.specs.Sayings.{RowHeard, write_of, row_wrote, row_lost, row_met, row_resolved}
+use Rattle.step_tables.specs.ClientMoves.{Slots, main_of, out_of, without, freed}
+use Rattle.step_tables.specs.Items.{IsBase}
+use Rattle.step_tables.proofs.Lists.{among_cases, find_right}
 use Rattle.client_laws.specs.Part.{Sending, IsFresh, OfTable, IsContent, Spans, IsAbove, write_for, IsOut, IsConflict, Fit}
 use Rattle.client_laws.proofs.Grows.{some_is, write_of-left}
 
@@ -36,6 +35,14 @@ spans_by : (x : Scheme) (c n : ℕ) (h : List Stored) (row : List ℕ) (read bas
 spans_by Causal c n h row read base f k = k refl
 spans_by Strong c n h row read base f k = absurd (f refl)
 spans_by Eventual c n h row read base f k = tt
+
+-- a write over a base, spelled by pieces
+abbrev pub out_with : Main → ℕ → List (List Piece) → InFlight
+out_with m base pieces = record (out_of m base) { pieces = pieces }
+
+-- a write that waits, spelled by others
+abbrev pub spelled_by : InFlight → List (List Piece) → Bool → InFlight
+spelled_by o pieces whole = record o { pieces = pieces; whole = whole }
 
 module _ (g : Scheme) (c : ℕ) (h : List Stored) (table : ℕ) (row : List ℕ) where
   abbrev Fits_ : Slots → List Write → RowHeard → List Sending → Type 0
@@ -350,13 +357,14 @@ module _ (g : Scheme) (c : ℕ) (h : List Stored) (table : ℕ) (row : List ℕ)
         }
 
     -- a strong write waits at once
-    pub strong_fit : g ≡ Strong → (slots : Slots) (content : Content) → Fits_ slots writes x sent → OfTable g c h table writes sent → slots.main ≡ None → slots.conflict ≡ None
+    pub strong_fit : g ≡ Strong → (slots : Slots) (content : Content) (pieces : List (List Piece)) → Fits_ slots writes x sent → OfTable g c h table writes sent
+        → slots.main ≡ None → slots.conflict ≡ None
         → let m : Main = main_of n (version_in slots.shadow) content in let w : Write = write_for c table row m in
-        Fits_ (record slots { out = Some (out_of m (version_in slots.shadow)) }) (writes ++ w ∷ []) (row_wrote w x) sent
-    strong_fit strong slots content k of no_main none =
+        Fits_ (record slots { out = Some (out_with m (version_in slots.shadow) pieces) }) (writes ++ w ∷ []) (row_wrote w x) sent
+    strong_fit strong slots content pieces k of no_main none =
         let m : Main = main_of n (version_in slots.shadow) content in
         let w : Write = write_for c table row m in
-        let o : InFlight = out_of m (version_in slots.shadow) in
+        let o : InFlight = out_with m (version_in slots.shadow) pieces in
         let all = written_fit slots writes (w ∷ []) x sent k in
         let waits : IsOut g c h table row (record slots { out = Some o }) (writes ++ w ∷ []) (row_wrote w x) o = record {
           written = write_of-push n writes w new refl;
@@ -388,11 +396,11 @@ module _ (g : Scheme) (c : ℕ) (h : List Stored) (table : ℕ) (row : List ℕ)
         }
 
   -- Main waits, over Shadow
-  pub send_fit : g ≢ Strong → (slots : Slots) (m : Main) (writes : List Write) (x : RowHeard) (sent : List Sending) → OfTable g c h table writes sent
+  pub send_fit : g ≢ Strong → (slots : Slots) (m : Main) (pieces : List (List Piece)) (writes : List Write) (x : RowHeard) (sent : List Sending) → OfTable g c h table writes sent
       → Fits_ slots writes x sent → slots.main ≡ Some m → slots.out ≡ None → slots.conflict ≡ None → x.acked m.number ≡ false
-      → Fits_ (record slots { out = Some (out_of m (version_in slots.shadow)) }) writes x sent
-  send_fit weak slots m writes x sent of k is none idle unacked =
-      let o : InFlight = out_of m (version_in slots.shadow) in
+      → Fits_ (record slots { out = Some (out_with m (version_in slots.shadow) pieces) }) writes x sent
+  send_fit weak slots m pieces writes x sent of k is none idle unacked =
+      let o : InFlight = out_with m (version_in slots.shadow) pieces in
       let spans : g ≡ Causal → Spans Causal c m.number h row m.read (version_in slots.shadow) = λ causal i a here less up.
       let client : i.entry.client ≡ c = k.own causal m is idle i a here less up in
       (client, k.unsent m (record { table = table; row = i.entry.row; number = i.entry.number; base = i.entry.base }) none idle is (of.sends i a client) refl here) in
@@ -421,5 +429,38 @@ module _ (g : Scheme) (c : ℕ) (h : List Stored) (table : ℕ) (row : List ℕ)
         sent_out = λ y r at a in_table here.
             (let less = k.unsent m r none idle is a in_table here in let e = ap (λ (z : InFlight). z.number) (some_is o y at) in
             (omega (arith, less, e), λ same. absurd (omega (arith, less, e, same))));
+        unsent = λ y r at. absurd cc;
+      }
+
+  -- what waits goes on waiting, spelled by other pieces
+  pub respelled_fit : (slots : Slots) (o : InFlight) (pieces : List (List Piece)) (whole : Bool) (writes : List Write) (x : RowHeard) (sent : List Sending)
+      → Fits_ slots writes x sent → slots.out ≡ Some o → Fits_ (record slots { out = Some (spelled_by o pieces whole) }) writes x sent
+  respelled_fit slots o pieces whole writes x sent k is =
+      let now : InFlight = spelled_by o pieces whole in
+      let u = k.out o is in
+      let waits : IsOut g c h table row (record slots { out = Some now }) writes x now = record {
+        written = u.written;
+        low = u.low;
+        base = u.base;
+        spans = u.spans;
+        later = u.later;
+        clear = u.clear;
+        unlost = u.unlost;
+        unacked = u.unacked;
+        free = u.free;
+        order = u.order;
+      } in
+      record {
+        mine = k.mine;
+        clear = k.clear;
+        weak = k.weak;
+        shadow = k.shadow;
+        low = k.low;
+        out = λ y at. subst (λ (z : InFlight). IsOut g c h table row (record slots { out = Some now }) writes x z) (some_is now y at) waits;
+        conflict = λ y at. absurd (let free = u.free in cc);
+        own = k.own;
+        lower = k.lower;
+        sent_out = λ y r at a in_table here.
+            subst (λ (z : InFlight). (r.number ≤ z.number) × (r.number ≡ z.number → r.base ≡ z.base)) (some_is now y at) (k.sent_out o r is a in_table here);
         unsent = λ y r at. absurd cc;
       }

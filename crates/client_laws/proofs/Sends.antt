@@ -1,28 +1,25 @@
 -- What a client sends is so, and its devices show what its lines say once it is sent.
-use Rattle.std.proofs.Common.{◌≡◌, ◌≢◌, ◌⊎◌, ℕ, Bool, true, false, ◌+◌, ◌≤◌, ◌<◌, List, [], ◌∷◌, ◌++◌, length, Option, Some, None, refl, sym, ap, subst, ◌∙◌, arith, inl, inr, append-nil, append_assoc}
+use Rattle.std.proofs.Common.{◌≡◌, ◌≢◌, ◌⊎◌, ℕ, Bool, true, false, ◌≤◌, List, [], ◌∷◌, ◌++◌, length, Option, Some, None, refl, sym, ap, subst, ◌∙◌, arith, inl, inr, append-nil, append_assoc}
 use Rattle.std.specs.Prelude.{◌==◌, option_map, option_to_list, if◌then◌else◌}
 use Rattle.std.proofs.lemmas.Bool.Decides.{nat_tests}
 use Rattle.std.proofs.lemmas.Cmp.{tied_itself, nat_list_cmp_total}
-use Rattle.std.specs.declared.cmp.Ordering.TheVariants.{Less}
 use Rattle.std.specs.Ordering.{is_eq, ordering_reverse}
 use Rattle.std.specs.Map.{lookup}
 use Rattle.std.specs.BTreeMap.{is_at}
 use Rattle.row_value.specs.declared.schema.Scheme.{Scheme}
-use Rattle.row_value.specs.declared.schema.Scheme.TheVariants.{Strong, Causal, Eventual}
 use Rattle.table_model.specs.declared.line.Write.{Write}
 use Rattle.table_model.specs.History.{same_row}
-use Rattle.step_tables.specs.declared.slots.Main.{Main}
-use Rattle.step_tables.specs.declared.slots.InFlight.{InFlight}
-use Rattle.step_tables.specs.declared.slots.Shadow.{Shadow}
-use Rattle.step_tables.specs.Store.{Stored}
+use Rattle.step_tables.specs.Slots.{Main}
+use Rattle.step_tables.specs.Slots.{InFlight}
+use Rattle.step_tables.specs.Slots.{Shadow}
 use Rattle.step_tables.specs.Client.{row_cmp, version_in}
 use Rattle.step_tables.specs.Members.{Among}
-use Rattle.step_tables.specs.Messages.{Send, Message, SyncRequest}
-use Rattle.step_tables.specs.Sayings.{RowHeard, Heard, write_of}
-use Rattle.step_tables.specs.ClientMoves.{Slots, TableDisk, Plan, ClientDisk, RowOut, slots_at, slots_in, slots_of, table_at, or_none, main_of, out_of, request_for, resent, to_send, or_later}
+use Rattle.step_tables.specs.Messages.{Send}
+use Rattle.step_tables.specs.Sayings.{Heard, write_of}
+use Rattle.step_tables.specs.ClientMoves.{Slots, TableDisk, ClientDisk, RowOut, slots_at, slots_of, or_none, out_of, request_for, resent, to_send, or_later}
 use Rattle.step_tables.specs.ClientMoves.{first_to_send}
-use Rattle.step_tables.proofs.Lists.{among_left, among_here, among_next, among_cons, among_cases, same_row_tells}
-use Rattle.client_laws.specs.Part.{Items, Sending, sendings, sending_in, OfTable, Ours, write_for, IsOut, Fit, RowTied, Tied, Rising, IsSending, IsRequest, Requests}
+use Rattle.step_tables.proofs.Lists.{among_left, among_here, among_next, among_cases, same_row_tells}
+use Rattle.client_laws.specs.Part.{Items, Sending, sendings, sending_in, Ours, write_for, Fit, RowTied, Tied, Rising, IsRequest, Requests}
 use Rattle.client_laws.proofs.RowFits.{sent_fit, sent_apart_fit}
 
 -- ---- lists

@@ -1,20 +1,19 @@
 -- A client's devices behind a plan show what its lines say, where the row of the plan does.
-use Rattle.std.proofs.Common.{◌≡◌, ◌≢◌, ◌⊎◌, ℕ, Bool, true, false, ◌+◌, ◌≤◌, ◌<◌, List, [], ◌∷◌, ◌++◌, length, Option, Some, None, refl, sym, ap, subst, ◌∙◌, arith, inl, inr, append-nil}
+use Rattle.std.proofs.Common.{◌≡◌, ◌≢◌, ◌⊎◌, ℕ, Bool, true, false, ◌≤◌, List, [], ◌++◌, length, Option, Some, None, refl, sym, ap, subst, ◌∙◌, arith, inl, inr, append-nil}
 use Rattle.std.specs.Prelude.{◌==◌, option_map, if◌then◌else◌}
 use Rattle.std.proofs.lemmas.Bool.Decides.{nat_tests}
 use Rattle.row_value.specs.declared.schema.Scheme.{Scheme}
 use Rattle.table_model.specs.declared.line.Write.{Write}
-use Rattle.table_model.specs.History.{same_row}
-use Rattle.step_tables.specs.declared.slots.Shadow.{Shadow}
+use Rattle.step_tables.specs.Slots.{Shadow}
 use Rattle.step_tables.specs.Store.{Stored}
 use Rattle.step_tables.specs.Client.{version_in}
-use Rattle.step_tables.specs.Members.{Among, put, put_at}
+use Rattle.step_tables.specs.Members.{Among}
 use Rattle.step_tables.specs.Sayings.{RowHeard, Heard}
-use Rattle.step_tables.specs.ClientMoves.{Slots, TableDisk, RowPut, Plan, ClientDisk, slots_at, slots_in, slots_of, table_at, position_in, position_of, put_row, put_position, applied, top}
+use Rattle.step_tables.specs.ClientMoves.{Slots, TableDisk, RowPut, Plan, ClientDisk, slots_at, slots_in, slots_of, table_at, position_in, position_of, put_row, applied, top}
 use Rattle.step_tables.specs.Facts.{ClientFact}
-use Rattle.step_tables.specs.Items.{latest, IsItemAt}
+use Rattle.step_tables.specs.Items.{latest}
 use Rattle.step_tables.proofs.Lists.{same_row_tells}
-use Rattle.client_laws.specs.Part.{Items, Sending, OfTable, IsContent, Fit, RowTied, TableTied, IsOpened, Tied, Rising}
+use Rattle.client_laws.specs.Part.{Items, Sending, IsContent, RowTied, TableTied, IsOpened, Tied}
 use Rattle.client_laws.proofs.RowFits.{written_fit}
 use Rattle.client_laws.proofs.Disks.{opened_by, applied_at, applied_last, put_row_slots, rising-insert}
 

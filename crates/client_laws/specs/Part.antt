@@ -1,16 +1,14 @@
 -- What holds of a client c beside the items `h` of each table, what it has sent, and what its own lines say, `t`. `g`
 -- is the scheme of each table.
-use Rattle.std.specs.Prelude.{◌≡◌, ◌≢◌, ◌⊎◌, ℕ, Bool, true, false, ◌+◌, ◌≤◌, ◌<◌, List, [], ◌∷◌, ◌++◌, length, map}
+use Rattle.std.specs.Prelude.{◌≡◌, ◌≢◌, ◌⊎◌, ℕ, Bool, true, false, ◌+◌, ◌≤◌, ◌<◌, List, [], ◌∷◌, ◌++◌, length}
 use Rattle.std.specs.Prelude.{Option, Some, None, option_map}
-use Rattle.std.specs.declared.cmp.Ordering.{Ordering}
 use Rattle.std.specs.declared.cmp.Ordering.TheVariants.{Less}
-use Rattle.row_value.specs.declared.content.Content.{Content}
 use Rattle.row_value.specs.declared.schema.Scheme.{Scheme}
 use Rattle.row_value.specs.declared.schema.Scheme.TheVariants.{Strong, Causal, Eventual}
 use Rattle.table_model.specs.declared.line.Write.{Write}
-use Rattle.step_tables.specs.declared.slots.Main.{Main}
-use Rattle.step_tables.specs.declared.slots.InFlight.{InFlight}
-use Rattle.step_tables.specs.declared.slots.Shadow.{Shadow}
+use Rattle.step_tables.specs.Slots.{Main}
+use Rattle.step_tables.specs.Slots.{InFlight}
+use Rattle.step_tables.specs.Slots.{Shadow}
 use Rattle.step_tables.specs.Store.{Stored}
 use Rattle.step_tables.specs.Client.{row_cmp, version_in}
 use Rattle.step_tables.specs.Facts.{Fact, Answer, Shown}
@@ -23,7 +21,7 @@ use Rattle.step_tables.specs.Sayings.{Saying, SaysNothing, SaysWrite, SaysEntry,
 use Rattle.step_tables.specs.Sayings.{SaysConflict, SaysResolved, SaysRead, SaysPosition, saying, RowHeard, Heard, own}
 use Rattle.step_tables.specs.Sayings.{own_all, write_of, open_of, open_in}
 use Rattle.step_tables.specs.ClientMoves.{Slots, TableDisk, Plan, ClientDisk, ClientTask, Client, ClientStep}
-use Rattle.step_tables.specs.ClientMoves.{ClientMove, Take, Show, seen, applied, changed, told, retold, slots_at}
+use Rattle.step_tables.specs.ClientMoves.{ClientMove, Take, Show, seen, applied, changed, told, retold}
 use Rattle.step_tables.specs.ClientMoves.{slots_of, table_at, position_of, top, shown_in}
 use Rattle.step_tables.specs.Items.{latest, IsItemOf, IsItemAt, IsBase, IsChange}
 use Rattle.world_tables.specs.Again.{may_repeat, IsUp}
@@ -354,6 +352,7 @@ IsOutcome g c h sent r (messages.Again version) = (i : Stored) × IsItemOf (h r.
 IsOutcome g c h sent r (messages.Late last) = Unit {0}
 IsOutcome g c h sent r (messages.Stale last) = (g r.table ≡ Strong) × IsRefused c h sent r.number r.table r.row last
 IsOutcome g c h sent r (messages.Conflict last) = Unit {0}
+IsOutcome g c h sent r messages.NeedWhole = Unit {0}
 
 abbrev pub IsHeader : ℕ → Items → Pulled → Option Header → Type 0
 IsHeader c h pulled None = Unit {0}

@@ -21,9 +21,9 @@ use Rattle.row_value.specs.declared.schema.Schema.{Schema}
 use Rattle.row_value.specs.declared.schema.Scheme.{Scheme}
 use Rattle.row_value.specs.declared.schema.Scheme.TheVariants.{Strong, Causal, Eventual}
 use Rattle.row_value.specs.Fit.{fit_of}
-use Rattle.step_tables.specs.declared.slots.Main.{Main}
-use Rattle.step_tables.specs.declared.slots.InFlight.{InFlight}
-use Rattle.step_tables.specs.declared.slots.Shadow.{Shadow}
+use Rattle.step_tables.specs.Slots.{Main}
+use Rattle.step_tables.specs.Slots.{InFlight}
+use Rattle.step_tables.specs.Slots.{Shadow}
 use Rattle.step_tables.specs.Client.{row_cmp, version_in}
 use Rattle.step_tables.specs.Facts.{Fact, ClientFact, Answer}
 use Rattle.step_tables.specs.Facts as facts
@@ -31,9 +31,9 @@ use Rattle.step_tables.specs.Messages.{Response, Pulled, Header, Outcome, Messag
 use Rattle.step_tables.specs.Messages as messages
 use Rattle.step_tables.specs.ClientMoves.{Slots, TableDisk, RowPut, Plan, ClientDisk, ClientChange, ClientTask, Client, ClientMove, ClientStep, Shape, Placed, RowOut, Commit, PutRow, PutTable, Finish, Keep}
 use Rattle.step_tables.specs.ClientMoves.{no_slots, or_none, slots_at, table_at, with_table, put_row, put_position, row_put, table_put, planned_in, seen, changed, quiet, done, crashed, failed, worked, only, row_task, table_task, keeps, rest_of, planning, begun, slots_plan}
-use Rattle.step_tables.specs.ClientMoves.{ending, opening, resumed, started, request_for, pull_from, main_of, write_plan, out_of, strong_plan, first_out, write_strong, write_by, write_free, write_idle, write_fitting, write_to, write_step, edit_made, edit_over, edit_in, content_of, shown_in, edit_step}
-use Rattle.step_tables.specs.ClientMoves.{resent, to_send, or_later, first_to_send, send_plan, sync_first, sync_in, sync_step, next_in, next_step, over_plan, theirs_plan, over_fitting, choose, resolve_over, resolve_in, resolve_step, without, freed, ack_plan, lost_plan, outcome_taken, response_taken, response_in}
-use Rattle.step_tables.specs.ClientMoves.{conflicts_in, phase_in, can_resolve, all_idle, all_fitting, all_in, pairs_of, read_new, read_conflict, reads_over, is_weak, placed, row_placed, next_pull, row_plan, position_plan, row_taken, top, pulled_taken, pulled_in, take_step, client_step}
+use Rattle.step_tables.specs.ClientMoves.{ending, opening, resumed, started, request_for, pull_from, main_of, write_plan, out_of, strong_out, strong_plan, first_out, write_strong, write_by, write_free, write_idle, write_fitting, write_to, write_step, edit_made, edit_over, edit_in, content_of, shown_in, edit_step}
+use Rattle.step_tables.specs.ClientMoves.{resent, to_send, or_later, first_to_send, row_out, send_plan, sync_first, sync_in, sync_step, next_in, next_step, over_plan, theirs_plan, over_fitting, choose, resolve_over, resolve_in, resolve_step, without, freed, shadow_at, ack_plan, lost_plan, whole_out, whole_plan, outcome_taken, response_taken, response_in}
+use Rattle.step_tables.specs.ClientMoves.{conflicts_in, phase_in, can_resolve, all_idle, all_fitting, all_in, pairs_of, read_new, read_conflict, reads_over, is_weak, placed, row_placed, next_pull, row_plan, position_plan, row_taken, top, comes_next, pulled_taken, pulled_in, take_step, client_step}
 use Rattle.step_tables.specs.ClientMoves as client
 use Rattle.step_tables.proofs.Lists.{lookup-insert}
 use Rattle.std.proofs.lemmas.Bool.{eqb-true}
@@ -211,17 +211,12 @@ module _ (known : ℕ → Option Schema) (c : ℕ) where
       request_fair : (o : InFlight) → IsFitContent t.schema o.content → IsFairRequest known c (request_for c table row o).message
       request_fair o fits = (refl, t.schema, h.schema, fits)
 
-      strong_fair : (content : Content) → IsFitContent t.schema content → (o : Option InFlight) → IsFairStep known c (write_strong c shape d table row here content o)
-      strong_fair content fits (Some o) = idle_fair (facts.Refuses (facts.Outstanding o.number))
-      strong_fair content fits None =
-          let m : Main = main_of (d.last + 1) (version_in here.shadow) content in
-          begun_fair shape d (facts.Number (d.last + 1)) (strong_plan c d table row here content) (request_for c table row (out_of m m.read) ∷ []) k (
-            t.schema,
-            h.schema,
-            content_out here
-                (out_of m m.read) slots_here fits,
-          )
-          (request_fair (out_of m m.read) fits, tt)
+      strong_fair : (size : ℕ) (content : Content) → IsFitContent t.schema content → (o : Option InFlight) → IsFairStep known c (write_strong size c shape d table row here content o)
+      strong_fair size content fits (Some o) = idle_fair (facts.Refuses (facts.Outstanding o.number))
+      strong_fair size content fits None =
+          let out : InFlight = strong_out size (d.last + 1) here content in
+          begun_fair shape d (facts.Number (d.last + 1)) (strong_plan size c d table row here content) (request_for c table row out ∷ []) k
+          (t.schema, h.schema, content_out here out slots_here fits) (request_fair out fits, tt)
 
       plain_fair : (content : Content) → IsFitContent t.schema content → IsFairStep known c (begun shape d (facts.Number (d.last + 1)) (write_plan c d table row here content) [])
       plain_fair content fits =
@@ -233,7 +228,7 @@ module _ (known : ℕ → Option Schema) (c : ℕ) where
           ) tt
 
       by_fair : (g : Scheme) (content : Content) → IsFitContent t.schema content → IsFairStep known c (write_by g c shape d table row t here content)
-      by_fair Strong content fits = strong_fair content fits (first_out t.rows)
+      by_fair Strong content fits = strong_fair t.schema.chunk content fits (first_out t.rows)
       by_fair Causal content fits = plain_fair content fits
       by_fair Eventual content fits = plain_fair content fits
 
@@ -320,16 +315,24 @@ module _ (known : ℕ → Option Schema) (c : ℕ) where
       ack_fair : (out : InFlight) (version : ℕ) → IsFairStep known c (begun shape d facts.Done (ack_plan c d table row here out version) [])
       ack_fair out version =
           begun_fair shape d facts.Done (ack_plan c d table row here out version) [] k
-          (t.schema, h.schema, shadow_fair (freed here out.number) (Some (record { version = version; content = out.content })) (freed_fair here out.number slots_here)) tt
+          (t.schema, h.schema, shadow_fair (freed here out.number) (Some (shadow_at version out)) (freed_fair here out.number slots_here)) tt
 
-      outcome_fair : (out : InFlight) (outcome : Outcome) → IsFairStep known c (outcome_taken c shape d table row t here out outcome)
-      outcome_fair out (messages.Accepted version) = ack_fair out version
-      outcome_fair out (messages.Again version) = ack_fair out version
-      outcome_fair out (messages.Late last) = idle_fair facts.Done
-      outcome_fair out (messages.Stale latest) =
+      outcome_fair : (out : InFlight) → IsFitContent t.schema out.content → (outcome : Outcome) → IsFairStep known c (outcome_taken c shape d table row t here out outcome)
+      outcome_fair out fits (messages.Accepted version) = ack_fair out version
+      outcome_fair out fits (messages.Again version) = ack_fair out version
+      outcome_fair out fits (messages.Late last) = idle_fair facts.Done
+      outcome_fair out fits (messages.Stale latest) =
           begun_fair shape d facts.Done (lost_plan c d table row here out latest) (pull_from c table t.position ∷ []) k
           (t.schema, h.schema, record { main = slots_here.main; out = λ o e. absurd cc }) (pull_fair table t.position)
-      outcome_fair out (messages.Conflict latest) = sends_fair facts.Done (pull_from c table t.position ∷ []) (pull_fair table t.position)
+      outcome_fair out fits (messages.Conflict latest) = sends_fair facts.Done (pull_from c table t.position ∷ []) (pull_fair table t.position)
+      outcome_fair out fits messages.NeedWhole = by_whole out.whole
+        where
+          by_whole : (b : Bool) → IsFairStep known c (if b then quiet d (Some []) facts.Done
+              else begun shape d facts.Done (whole_plan d table row here out) (request_for c table row (whole_out out) ∷ []))
+          by_whole true = idle_fair facts.Done
+          by_whole false =
+              begun_fair shape d facts.Done (whole_plan d table row here out) (request_for c table row (whole_out out) ∷ []) k
+              (t.schema, h.schema, content_out here (whole_out out) slots_here fits) (request_fair (whole_out out) fits, tt)
 
       -- ---- a row from the Store
 
@@ -397,11 +400,12 @@ module _ (known : ℕ → Option Schema) (c : ℕ) where
             let same : first ≡ x = cc in
             subst (λ (y : RowOut). IsFairSlots schema y.slots × IsFitContent schema y.out.content) same (a.0, f main refl)
 
-    sync_first_fair : (table : ℕ) (t : TableDisk) → IsFairTable known table t → (again : List Send) → AreFairSends known c again → (o : Option RowOut) → first_to_send t.rows ≡ o
-        → IsFairStep known c (sync_first c shape d table again o)
-    sync_first_fair table t h again s None e = sends_fair (facts.Number (length again)) again s
-    sync_first_fair table t h again s (Some x) e =
-        let f = first_fair t.schema t.rows h.rows x e in
+    sync_first_fair : (table : ℕ) (t : TableDisk) → IsFairTable known table t → (again : List Send) → AreFairSends known c again
+        → (size : ℕ) (o : Option RowOut) → first_to_send t.rows ≡ o → IsFairStep known c (sync_first c shape d table again (option_map (row_out size) o))
+    sync_first_fair table t h again s size None e = sends_fair (facts.Number (length again)) again s
+    sync_first_fair table t h again s size (Some plain) e =
+        let x : RowOut = row_out size plain in
+        let f = first_fair t.schema t.rows h.rows plain e in
         let b = begun_fair shape d (facts.Number (length again + 1)) (send_plan d table x) (request_for c table x.row x.out ∷ []) k
         (t.schema, h.schema, record { main = f.0.main; out = λ n g. let same : x.out ≡ n = cc in subst (λ (y : InFlight). IsFitContent t.schema y.content) same f.1 })
         ((refl, t.schema, h.schema, f.1), tt) in
@@ -431,7 +435,7 @@ module _ (known : ℕ → Option Schema) (c : ℕ) where
     sync_in_fair (task ∷ more) a table (Some t) f = quiet_fair d (Some (task ∷ more)) (facts.Refuses (facts.Busy shape.plan)) k a
     sync_in_fair [] a table (Some t) f =
         let h = f t refl in
-        sync_first_fair table t h (resent c table t.rows) (resent_fair table t.schema h.schema t.rows h.rows) (first_to_send t.rows) refl
+        sync_first_fair table t h (resent c table t.rows) (resent_fair table t.schema h.schema t.rows h.rows) t.schema.chunk (first_to_send t.rows) refl
 
     next_in_fair : (agenda : List ClientTask) → AreFairTasks agenda → (table : ℕ) (o : Option TableDisk) → IsFairStep known c (next_in c shape d agenda table o)
     next_in_fair agenda a table None = quiet_fair d (Some agenda) (facts.Refuses facts.NoTable) k a
@@ -467,14 +471,14 @@ module _ (known : ℕ → Option Schema) (c : ℕ) where
 
     response_fair : (response : Response) (o : Option TableDisk) → ((t : TableDisk) → o ≡ Some t → IsFairTable known response.table t) → IsFairStep known c (response_in c shape d response o)
     response_fair response None f = idle_fair facts.Done
-    response_fair response (Some t) f = taken (slots_at t response.row).out
+    response_fair response (Some t) f = taken (slots_at t response.row).out (slots_fair response.table t (f t refl) response.row).out
       where
-        taken : (out : Option InFlight) → IsFairStep known c (response_taken c shape d response t out)
-        taken None = idle_fair facts.Done
-        taken (Some out) = go (out.number == response.number)
+        taken : (out : Option InFlight) → ((o : InFlight) → out ≡ Some o → IsFitContent t.schema o.content) → IsFairStep known c (response_taken c shape d response t out)
+        taken None fits = idle_fair facts.Done
+        taken (Some out) fits = go (out.number == response.number)
           where
             go : (b : Bool) → IsFairStep known c (if b then outcome_taken c shape d response.table response.row t (slots_at t response.row) out response.outcome else quiet d (Some []) facts.Done)
-            go true = outcome_fair response.table t response.row (f t refl) out response.outcome
+            go true = outcome_fair response.table t response.row (f t refl) out (fits out refl) response.outcome
             go false = idle_fair facts.Done
 
     row_taken_fair : (pulled : Pulled) (t : TableDisk) → IsFairTable known pulled.table t → (header : Header) → IsFairStep known c (row_taken c shape d pulled t header (slots_at t header.row))
@@ -495,7 +499,7 @@ module _ (known : ℕ → Option Schema) (c : ℕ) where
       where
         taken : (o : Option Header) → IsFairStep known c (pulled_taken c shape d pulled t o)
         taken None = idle_fair facts.Done
-        taken (Some header) = go (pulled.from == t.position)
+        taken (Some header) = go (comes_next pulled t header)
           where
             go : (b : Bool) → IsFairStep known c (if b then row_taken c shape d pulled t header (slots_at t header.row) else quiet d (Some []) facts.Done)
             go true = row_taken_fair pulled t (f t refl) header

@@ -8,13 +8,13 @@ use Rattle.row_value.specs.declared.content.Content.{Content}
 use Rattle.row_value.specs.declared.schema.Schema.{Schema}
 use Rattle.row_value.specs.declared.schema.Scheme.{Scheme}
 use Rattle.step_tables.specs.Store.{Stored, current_of, next_changed, is_of_row}
-use Rattle.step_tables.specs.Chunks.{rising, new_names, old_names}
+use Rattle.step_tables.specs.Chunks.{rising, new_names, old_names, is_spelled}
 use Rattle.step_tables.specs.Facts.{Answer}
 use Rattle.step_tables.specs.Facts as facts
 use Rattle.step_tables.specs.Messages.{Request, Pull, Pair, Header, Pulled, Message, Send, Luck, SyncRequest, SyncResponse, PullRequest, PullResponse}
 use Rattle.step_tables.specs.Messages as messages
 use Rattle.step_tables.specs.StoreMoves.{StoreDisk, StoreChange, StoreTask, TableStore, StoreMove, StoreStep, store_step, changed, done, crashed, worked, failed, recovering, reopening, recover}
-use Rattle.step_tables.specs.StoreMoves.{started, recovered, item_at, takes, judged, decided, pulled_for, header_for, taken, accepting, item_for, puts, drops, only, version_of, yours_in, outdated}
+use Rattle.step_tables.specs.StoreMoves.{started, recovered, item_at, takes, keeps_there, judged, decided, asked, pulled_for, header_for, taken, accepting, item_for, puts, drops, only, version_of, yours_in, unaccepted}
 use Rattle.step_tables.specs.StoreMoves as store
 use Rattle.world_tables.specs.World.{tasks_in, declared_late}
 use Rattle.fair_laws.specs.Worlds.{IsRowOf, IsFairHeader, IsFromStore, IsFairItem, PutsFair, AreStoreSends, AreFairTasks, IsFairStore}
@@ -135,7 +135,7 @@ module _ (known : ℕ → Option Schema) (table : ℕ) where
         let item = item_for d.items q in
         let one : IsFairItem (known table) item = record { version = omega arith; content = fits } in (
           (tt, tt),
-          tasks_join (puts (new_names size d.items item)) _ (puts_fair (new_names size d.items item))
+          tasks_join (puts (new_names size item)) _ (puts_fair (new_names size item))
               ((one, tt), tasks_join (drops (old_names size d.items item)) _ (drops_fair (old_names size d.items item)) ((tt, (tt, tt)), tt)),
         )
 
@@ -143,12 +143,12 @@ module _ (known : ℕ → Option Schema) (table : ℕ) where
     answers send is = record { store = record { items = f; tasks = tt }; sends = (is, tt) }
 
     judged_fair : (q : Request) → IsRowOf (known table) q.content → (current : ℕ) → IsFairStep known table (judged g size table d from q current)
-    judged_fair q fits current = go (takes g q.base current)
+    judged_fair q fits current = go (takes g q.base current && keeps_there size d.items q)
       where
         go : (b : Bool) → IsFairStep known table (if b then store.quiet d (Some (accepting size table d.items from q (item_for d.items q))) facts.Done else store.sending d
-            (store.responded from q (outdated g current) ∷ []))
+            (store.responded from q (unaccepted g q.base current) ∷ []))
         go true = quiet_fair d (Some (accepting size table d.items from q (item_for d.items q))) _ f (accepting_fair q fits)
-        go false = answers (store.responded from q (outdated g current)) tt
+        go false = answers (store.responded from q (unaccepted g q.base current)) tt
 
     decided_fair : (q : Request) → IsRowOf (known table) q.content → (yours : Pair) → IsFairStep known table (decided g size table d from q yours)
     decided_fair q fits yours = first (yours.number == q.number)
@@ -164,6 +164,13 @@ module _ (known : ℕ → Option Schema) (table : ℕ) where
         first true = answers (store.responded from q (messages.Again yours.version)) tt
         first false = second (nat_lt q.number yours.number)
 
+    asked_fair : (q : Request) → IsRowOf (known table) q.content → IsFairStep known table (asked g size table d from q)
+    asked_fair q fits = go (is_spelled size q.content q.pieces)
+      where
+        go : (b : Bool) → IsFairStep known table (if b then decided g size table d from q (yours_in d.items q.client q.row) else store.quiet d (Some []) facts.Done)
+        go true = decided_fair q fits (yours_in d.items q.client q.row)
+        go false = quiet_fair d (Some []) _ f tt
+
     pull_fair : (pull : Pull) → pull.table ≡ table → IsFairStep known table (store.answered d from pull)
     pull_fair pull is = answers (record { to = Some from; message = PullResponse (pulled_for d.items pull (next_changed pull.position d.items)) })
         (λ header e. subst (λ (t : ℕ). (1 ≤ header.version) × IsRowOf (known t) header.content) (sym is)
@@ -172,7 +179,7 @@ module _ (known : ℕ → Option Schema) (table : ℕ) where
     taken_fair : (agenda : Option (List StoreTask)) (message : Message) → TakesFair known table message → AreTasks (tasks_in agenda) → IsFairStep known table (taken g size table d agenda from message)
     taken_fair None message t p = quiet_fair d None _ f tt
     taken_fair (Some (task ∷ more)) message t p = quiet_fair d (Some (task ∷ more)) _ f p
-    taken_fair (Some []) (SyncRequest q) t p = decided_fair q t (yours_in d.items q.client q.row)
+    taken_fair (Some []) (SyncRequest q) t p = asked_fair q t
     taken_fair (Some []) (PullRequest pull) t p = pull_fair pull t
     taken_fair (Some []) (SyncResponse r) t p = quiet_fair d (Some []) _ f tt
     taken_fair (Some []) (PullResponse q) t p = quiet_fair d (Some []) _ f tt

@@ -4,8 +4,8 @@ use Rattle.std.specs.List.{AllByRecursion}
 use Rattle.row_value.specs.declared.content.Content.{Content}
 use Rattle.row_value.specs.declared.schema.Schema.{Schema}
 use Rattle.row_value.specs.Fit.{fit_of}
-use Rattle.step_tables.specs.declared.slots.Main.{Main}
-use Rattle.step_tables.specs.declared.slots.InFlight.{InFlight}
+use Rattle.step_tables.specs.Slots.{Main}
+use Rattle.step_tables.specs.Slots.{InFlight}
 use Rattle.step_tables.specs.Messages.{Message, Send, SyncRequest, SyncResponse, PullRequest, PullResponse}
 use Rattle.step_tables.specs.ClientMoves.{Slots, TableDisk, RowPut, Plan, ClientDisk, ClientChange, ClientTask, Client}
 use Rattle.step_tables.specs.ClientMoves.{ClientMove, ClientStep, Shape, Commit, PutRow, PutTable, Finish, Keep}

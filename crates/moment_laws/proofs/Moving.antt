@@ -1,11 +1,11 @@
 -- Each move of a table but a message keeps what it keeps, near the same history.
 use Rattle.std.proofs.Common.{◌≡◌, inl, inr, ⊎_elim, ℕ, zero, suc, ◌<◌, Bool, true, false, List, [], ◌∷◌, ◌++◌, length, Option, Some, None, refl, sym, ◌∙◌, ap, subst, arith, true≢false}
-use Rattle.std.specs.Prelude.{nat_lt, ◌==◌, if◌then◌else◌}
+use Rattle.std.specs.Prelude.{nat_lt, ◌==◌, ◌&&◌, if◌then◌else◌}
 use Rattle.stab_base.specs.declared.chunk_name.ChunkName.{ChunkName}
 use Rattle.table_model.specs.declared.entry.Entry.{Entry}
 use Rattle.row_value.specs.declared.schema.Scheme.{Scheme}
 use Rattle.stab_base.specs.declared.node.Node.{Node}
-use Rattle.step_tables.specs.Chunks.{rising, new_names, old_names}
+use Rattle.step_tables.specs.Chunks.{rising, new_names, old_names, is_spelled}
 use Rattle.step_tables.specs.Facts.{Fact, Answer}
 use Rattle.step_tables.specs.Facts as facts
 use Rattle.step_tables.specs.Messages.{Luck, Send, Request, Pair, Message, SyncRequest, SyncResponse, PullRequest, PullResponse}
@@ -239,7 +239,7 @@ module _ (g : Scheme) (size table : ℕ) (h : List Entry) (d : StoreDisk) (made 
   accepting_lands : (from : Node) (request : Request) → Lands d (store.accepting size table d.items from request (store.item_for d.items request)) (Some (store.item_for d.items request))
   accepting_lands from request = (
     (λ h. refl),
-    quiet_put (new_names size d.items item) (record d { pending = Some item }) _ (Some item)
+    quiet_put (new_names size item) (record d { pending = Some item }) _ (Some item)
         (λ left. (refl, refl, refl, (table, refl), quiet_drop (old_names size d.items item) _ _ None (λ more. ((λ h. refl), refl)))),
   )
     where
@@ -263,10 +263,10 @@ module _ (g : Scheme) (size table : ℕ) (h : List Entry) (d : StoreDisk) (made 
       still (suc j) = refl
 
   judged : (from : Node) (request : Request) (current : ℕ) → IsKept h d (Some []) made → Takes h d (Some []) made (store.judged g size table d from request current)
-  judged from request current k = go (store.takes g request.base current)
+  judged from request current k = go (store.takes g request.base current && store.keeps_there size d.items request)
     where
       go : (b : Bool) → Takes h d (Some []) made (if b then store.quiet d (Some (store.accepting size table d.items from request (store.item_for d.items request))) facts.Done
-          else store.sending d (store.responded from request (store.outdated g current) ∷ []))
+          else store.sending d (store.responded from request (store.unaccepted g request.base current) ∷ []))
       go true = accepts from request k
       go false = sends _ k
 
@@ -280,10 +280,17 @@ module _ (g : Scheme) (size table : ℕ) (h : List Entry) (d : StoreDisk) (made 
       go false true = sends _ k
       go false false = judged from request (store.version_of (current_of d.items request.row)) k
 
+  asked : (from : Node) (request : Request) → IsKept h d (Some []) made → Takes h d (Some []) made (store.asked g size table d from request)
+  asked from request k = go (is_spelled size request.content request.pieces)
+    where
+      go : (b : Bool) → Takes h d (Some []) made (if b then store.decided g size table d from request (store.yours_in d.items request.client request.row) else store.quiet d (Some []) facts.Done)
+      go true = decided from request (store.yours_in d.items request.client request.row) k
+      go false = stays (Some []) facts.Done k
+
   pub taken : (a : Option (List StoreTask)) (from : Node) (m : Message) → IsKept h d a made → Takes h d a made (store.taken g size table d a from m)
   taken None from m k = stays None (facts.Refuses facts.Down) k
   taken (Some (task ∷ more)) from m k = stays (Some (task ∷ more)) (facts.Refuses (facts.Busy (store.version_at d task.change))) k
-  taken (Some []) from (SyncRequest request) k = decided from request (store.yours_in d.items request.client request.row) k
+  taken (Some []) from (SyncRequest request) k = asked from request k
   taken (Some []) from (PullRequest pull) k = sends _ k
   taken (Some []) from (SyncResponse response) k = stays (Some []) facts.Done k
   taken (Some []) from (PullResponse pulled) k = stays (Some []) facts.Done k

@@ -1,17 +1,16 @@
--- How many chunks a row has: as many as its content has.
-use Rattle.std.proofs.Common.{◌≡◌, ℕ, zero, suc, ◌+◌, ◌<◌, ◌≤◌, Bool, true, false, List, [], ◌∷◌, length, drop, refl, ◌∙◌, ap, arith, length-append}
-use Rattle.std.specs.Prelude.{◌==◌, ◌*◌, ◌-◌, if◌then◌else◌}
+-- How many names a content has where each of its chunks has one.
+use Rattle.std.proofs.Common.{◌≡◌, ℕ, zero, suc, ◌+◌, ◌<◌, ◌≤◌, true, false, List, [], ◌∷◌, length, drop, refl, ◌∙◌, ap, arith, length-append}
+use Rattle.std.specs.Prelude.{◌==◌, ◌*◌, ◌-◌}
 use Rattle.std.specs.Int.{div_ceil}
-use Rattle.std.specs.Str.{bytes_eq}
 use Rattle.std.proofs.lemmas.Grind.{div_ceil_times}
-use Rattle.std.proofs.lemmas.List.{length-drop, length-map}
+use Rattle.std.proofs.lemmas.Bool.{and_parts, eqb-true}
+use Rattle.std.proofs.lemmas.List.{length-drop}
 use Rattle.std.proofs.lemmas.List.Sums.{sum_by-cons}
 use Rattle.std.proofs.lemmas.Bool.Decides.{nat_tests}
 use Rattle.std.proofs.Math.Nat.{lt_of_mul-lt-mul_right}
 use Rattle.row_value.specs.Fit.{chunk_count}
 use Rattle.row_value.specs.Fit as fit
-use Rattle.step_tables.specs.Chunks.{Named, cut_up_to, cut, name_of_new, renamed, first_object, other_objects, count_new, all_renamed, names_of}
-use Rattle.name_laws.proofs.Rows.{flat}
+use Rattle.step_tables.specs.Chunks.{cut_up_to, cut, flat, is_of_each}
 
 module _ (size : ℕ) (some : 0 < size) where
   -- so many chunks hold the object, and one less doesn't
@@ -63,24 +62,13 @@ module _ (size : ℕ) (some : 0 < size) where
       let sized : (size == 0) ≡ false = grind (arith, nat_tests) in
       rw sized is
 
-  renamed_count : (version next : ℕ) (old : List Named) (pieces : List (List ℕ)) → length (renamed version next old pieces) ≡ length pieces
-  renamed_count version next old [] = refl
-  renamed_count version next [] (piece ∷ pieces) = ap suc (renamed_count version (next + 1) [] pieces)
-  renamed_count version next (held ∷ old) (piece ∷ pieces) = pick (bytes_eq held.1 piece) (renamed_count version next old pieces) (renamed_count version (next + 1) old pieces)
-    where
-      pick : (b : Bool) → length (renamed version next old pieces) ≡ length pieces → length (renamed version (next + 1) old pieces) ≡ length pieces
-          → length (if b then held ∷ renamed version next old pieces else (name_of_new version next, piece) ∷ renamed version (next + 1) old pieces) ≡ suc (length pieces)
-      pick true kept new = ap suc kept
-      pick false kept new = ap suc new
-
-  all_count : (version next : ℕ) (old : List (List Named)) (objects : List (List ℕ)) → length (flat (all_renamed size version next old objects)) ≡ fit.chunks_of size objects
-  all_count version next old [] = refl
-  all_count version next old (object ∷ objects) =
-      let now : List Named = renamed version next (first_object old) (cut size object) in
-      let first : length now ≡ chunk_count size object = renamed_count version next (first_object old) (cut size object) ∙ cut_count object in
-      let rest = all_count version (next + count_new version now) (other_objects old) objects in
+  pub said_count : {X : Type 0} (said : List (List X)) (objects : List (List ℕ)) → is_of_each size said objects ≡ true → length (flat said) ≡ fit.chunks_of size objects
+  said_count [] [] is = refl
+  said_count [] (object ∷ objects) is = absurd cc
+  said_count (here ∷ said) [] is = absurd cc
+  said_count (here ∷ said) (object ∷ objects) is =
+      let both = and_parts (length here == length (cut size object)) (is_of_each size said objects) is in
+      let first : length here ≡ chunk_count size object = eqb-true (length here) (length (cut size object)) both.0 ∙ cut_count object in
+      let rest = said_count said objects both.1 in
       let sum : fit.chunks_of size (object ∷ objects) ≡ chunk_count size object + fit.chunks_of size objects = sum_by-cons (chunk_count size) object objects in
-      omega (arith, length-append now (flat (all_renamed size version (next + count_new version now) (other_objects old) objects)), first, rest, sum)
-
-  pub names_count : (version : ℕ) (old : List (List Named)) (objects : List (List ℕ)) → length (names_of (all_renamed size version 0 old objects)) ≡ fit.chunks_of size objects
-  names_count version old objects = length-map (flat (all_renamed size version 0 old objects)) (λ (held : Named). held.0) ∙ all_count version 0 old objects
+      omega (arith, length-append here (flat said), first, rest, sum)

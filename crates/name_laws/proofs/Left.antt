@@ -1,6 +1,6 @@
 -- What a table leaves over: behind all that it has begun no chunk is there that no row names.
 use Rattle.std.proofs.Common.{◌≡◌, ◌⊎◌, inl, inr, ⊎_elim, ℕ, Bool, true, false, List, [], ◌∷◌, ◌++◌, Option, Some, None, refl, sym, ◌∙◌, subst}
-use Rattle.std.specs.Prelude.{◌==◌, nat_lt, if◌then◌else◌}
+use Rattle.std.specs.Prelude.{◌==◌, ◌&&◌, nat_lt, if◌then◌else◌}
 use Rattle.stab_base.specs.declared.node.Node.{Node}
 use Rattle.stab_base.specs.declared.chunk_name.ChunkName.{ChunkName}
 use Rattle.row_value.specs.declared.schema.Scheme.{Scheme}
@@ -9,11 +9,11 @@ use Rattle.step_tables.specs.Facts.{Fact}
 use Rattle.step_tables.specs.Facts as facts
 use Rattle.step_tables.specs.Messages.{Request, Pair, Message, Send, Luck, SyncRequest, SyncResponse, PullRequest, PullResponse}
 use Rattle.step_tables.specs.Messages as messages
-use Rattle.step_tables.specs.Chunks.{is_of_version, without_names, rising, names_with, new_names, old_names}
+use Rattle.step_tables.specs.Chunks.{is_of_version, without_names, rising, names_with, new_names, old_names, is_spelled}
 use Rattle.step_tables.specs.StoreMoves.{StoreDisk, StoreTask, TableStore, StoreMove, Take, Work, Crash, Start, Open, PutChunk, Put, DropChunk, Close, changed, store_step}
-use Rattle.step_tables.specs.StoreMoves.{quiet, worked, crashed, item_at, ends_with, drops, recovering, recovered, recover, started, takes, outdated, responded, sending, item_for, puts}
+use Rattle.step_tables.specs.StoreMoves.{quiet, worked, crashed, item_at, ends_with, drops, recovering, recovered, recover, started, takes, unaccepted, responded, sending, item_for, puts}
 use Rattle.step_tables.specs.StoreMoves.{accepting, version_of}
-use Rattle.step_tables.specs.StoreMoves.{judged, decided, taken, yours_in}
+use Rattle.step_tables.specs.StoreMoves.{keeps_there, judged, decided, asked, taken, yours_in}
 use Rattle.name_laws.proofs.Names.{Among, among_filter, either_among, among_without, without_all, rising_among, none_among}
 
 -- nothing is left over where no entry is pending
@@ -69,7 +69,7 @@ puts_clear (n ∷ names) d i more is then_ = (
 accepting_clears : (size table : ℕ) (d : StoreDisk) (from : Node) (request : Request) (item : Stored) → d.left ≡ [] → Clears d (accepting size table d.items from request item)
 accepting_clears size table d from request item none = (
   (λ open_. none),
-  puts_clear (new_names size d.items item) opened item _ refl
+  puts_clear (new_names size item) opened item _ refl
       (λ left from_. (pending_tidy (record opened { left = left }) item refl, drops_clear (old_names size d.items item) (placed left) item last refl refl (all left from_))),
 )
   where
@@ -80,15 +80,15 @@ accepting_clears size table d from request item none = (
     opened = changed d (Open item)
 
     placed : List ChunkName → StoreDisk
-    placed left = changed (record opened { left = left }) (Put item (names_with size d.items item) (old_names size d.items item))
+    placed left = changed (record opened { left = left }) (Put item (names_with size item) (old_names size d.items item))
 
     -- the new names are named
-    gone : (left : List ChunkName) → ((name : ChunkName) → Among name left → Among name opened.left ⊎ Among name (new_names size d.items item)) → without_names (names_with size d.items item) left ≡ []
-    gone left from_ = without_all (names_with size d.items item) left
+    gone : (left : List ChunkName) → ((name : ChunkName) → Among name left → Among name opened.left ⊎ Among name (new_names size item)) → without_names (names_with size item) left ≡ []
+    gone left from_ = without_all (names_with size item) left
         (λ name a. ⊎_elim (λ old. absurd (subst (λ (l : List ChunkName). Among name l) none old))
-        (λ new. (among_filter (is_of_version item.entry.version) name (names_with size d.items item) new).1) (from_ name a))
+        (λ new. (among_filter (is_of_version item.entry.version) name (names_with size item) new).1) (from_ name a))
 
-    all : (left : List ChunkName) → ((name : ChunkName) → Among name left → Among name opened.left ⊎ Among name (new_names size d.items item))
+    all : (left : List ChunkName) → ((name : ChunkName) → Among name left → Among name opened.left ⊎ Among name (new_names size item))
         → (name : ChunkName) → Among name (placed left).left → Among name (old_names size d.items item)
     all left from_ name a = subst (λ (l : List ChunkName). Among name (l ++ old_names size d.items item)) (gone left from_) a
 
@@ -131,10 +131,10 @@ start_clean store table d None c = go d.pending refl
 
 module _ (g : Scheme) (size table : ℕ) (d : StoreDisk) (none : d.left ≡ []) where
   judged_clean : (from : Node) (q : Request) (current : ℕ) → IsClean (judged g size table d from q current).store.disk (judged g size table d from q current).store.agenda
-  judged_clean from q current = go (takes g q.base current)
+  judged_clean from q current = go (takes g q.base current && keeps_there size d.items q)
     where
-      go : (b : Bool) → IsClean (if b then quiet d (Some (accepting size table d.items from q (item_for d.items q))) facts.Done else sending d (responded from q (outdated g current) ∷ [])).store.disk
-          (if b then quiet d (Some (accepting size table d.items from q (item_for d.items q))) facts.Done else sending d (responded from q (outdated g current) ∷ [])).store.agenda
+      go : (b : Bool) → IsClean (if b then quiet d (Some (accepting size table d.items from q (item_for d.items q))) facts.Done else sending d (responded from q (unaccepted g q.base current) ∷ [])).store.disk
+          (if b then quiet d (Some (accepting size table d.items from q (item_for d.items q))) facts.Done else sending d (responded from q (unaccepted g q.base current) ∷ [])).store.agenda
       go true = accepting_clears size table d from q (item_for d.items q) none
       go false = none
 
@@ -156,11 +156,22 @@ module _ (g : Scheme) (size table : ℕ) (d : StoreDisk) (none : d.left ≡ []) 
       go false true = none
       go false false = judged_clean from q current
 
+  asked_clean : (from : Node) (q : Request) → IsClean (asked g size table d from q).store.disk (asked g size table d from q).store.agenda
+  asked_clean from q = go (is_spelled size q.content q.pieces)
+    where
+      yours : Pair
+      yours = yours_in d.items q.client q.row
+
+      go : (b : Bool) → IsClean (if b then decided g size table d from q yours else quiet d (Some []) facts.Done).store.disk
+          (if b then decided g size table d from q yours else quiet d (Some []) facts.Done).store.agenda
+      go true = decided_clean from q yours
+      go false = none
+
 take_clean : (g : Scheme) (size table : ℕ) (d : StoreDisk) (agenda : Option (List StoreTask)) (from : Node) (m : Message) → IsClean d agenda
     → IsClean (taken g size table d agenda from m).store.disk (taken g size table d agenda from m).store.agenda
 take_clean g size table d None from m c = c
 take_clean g size table d (Some (task ∷ more)) from m c = c
-take_clean g size table d (Some []) from (SyncRequest q) c = decided_clean g size table d c from q (yours_in d.items q.client q.row)
+take_clean g size table d (Some []) from (SyncRequest q) c = asked_clean g size table d c from q
 take_clean g size table d (Some []) from (PullRequest q) c = c
 take_clean g size table d (Some []) from (SyncResponse q) c = c
 take_clean g size table d (Some []) from (PullResponse q) c = c

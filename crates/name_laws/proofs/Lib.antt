@@ -1,6 +1,8 @@
 pub mod Names
 pub mod Left
 pub mod Rows
+pub mod Spelled
+pub mod Keeps
 pub mod Cuts
 pub mod Listed
 pub mod Plain

@@ -1,7 +1,7 @@
 -- What is on a table's devices, where nothing is left over: the names that its rows name.
-use Rattle.std.proofs.Common.{◌≡◌, inl, inr, ⊎_elim, ℕ, ◌<◌, Bool, true, false, List, [], ◌∷◌, ◌++◌, length, Option, Some, None, refl, sym, ◌∙◌, ap, subst, arith, append-nil}
-use Rattle.std.specs.Prelude.{◌==◌, ◌&&◌, ◌||◌, not, filter}
-use Rattle.std.specs.List.{flat_map, list_any}
+use Rattle.std.proofs.Common.{◌≡◌, inl, inr, ⊎_elim, ℕ, ◌<◌, Bool, true, List, [], ◌∷◌, ◌++◌, length, Option, Some, None, refl, sym, ◌∙◌, ap, subst, arith, append-nil}
+use Rattle.std.specs.Prelude.{◌==◌, ◌&&◌, not, filter}
+use Rattle.std.specs.List.{flat_map}
 use Rattle.std.proofs.lemmas.Bool.Decides.{nat_tests}
 use Rattle.stab_base.specs.declared.chunk_name.ChunkName.{ChunkName}
 use Rattle.row_value.specs.declared.content.Content.{Content}
@@ -15,7 +15,8 @@ use Rattle.step_tables.specs.Items.{IsItemAt}
 use Rattle.step_tables.specs.Members as members
 use Rattle.step_tables.specs.Sayings.{Said}
 use Rattle.step_tables.specs.StoreMoves.{StoreDisk}
-use Rattle.step_tables.specs.Chunks.{Named, rising, names_of, chunks_of, objects_of}
+use Rattle.step_tables.specs.Chunks.{rising, names_of, chunks_of, objects_of}
+use Rattle.step_tables.specs.Chunks as step
 use Rattle.step_tables.proofs.Lists.{among_none, among_cons, among_here, among_next, among_map, same_row_tells}
 use Rattle.store_laws.specs.Part.{Counts}
 use Rattle.store_laws.proofs.Items.{one_version}
@@ -25,12 +26,12 @@ use Rattle.world_tables.specs.Chunks.{has_version, chunks_in, AreChunks}
 use Rattle.world_tables.specs.Chunks as chunks
 use Rattle.world_laws.proofs.Kept.{Kept}
 use Rattle.world_laws.proofs.Showings.{no_content, row_stored}
-use Rattle.name_laws.proofs.Names.{Among, among_mapped, among_filter, filter_among, left_among, right_among, either_among, different_filter, as_long, among_rising, rising_among, rising_rises}
+use Rattle.name_laws.proofs.Names.{Among, among_mapped, among_filter, filter_among, any_true, true_any, left_among, right_among, either_among, different_filter, as_long, among_rising, rising_among, rising_rises}
 use Rattle.name_laws.proofs.Names.{different_rising}
-use Rattle.name_laws.proofs.Rows.{ComesFrom, row_sound, chunk_comes_from, no_chunks, last_chunks}
-use Rattle.name_laws.proofs.Cuts.{names_count}
+use Rattle.name_laws.proofs.Rows.{AreWellNamed, is_current, row_names, row_different, row_known}
+use Rattle.name_laws.proofs.Cuts.{said_count}
 
--- ---- lists of lists, and tests of lists
+-- ---- lists of lists
 
 among_flat : {X Y : Type 0} (f : X → List Y) (y : Y) (xs : List X) → Among y (flat_map f xs) → (x : X) × Among x xs × Among y (f x)
 among_flat f y [] a = absurd a
@@ -49,27 +50,6 @@ as_member x (y ∷ xs) (inr more) = among_next y xs x (as_member x xs more)
 member_is : {X : Type 0} (x : X) (xs : List X) → members.Among xs x → Among x xs
 member_is x [] a = absurd (among_none x a)
 member_is x (y ∷ xs) a = ⊎_elim (λ same. inl (sym same)) (λ more. inr (member_is x xs more)) (among_cons y xs x a)
-
-any_true : {X : Type 0} (p : X → Bool) (x : X) (xs : List X) → Among x xs → p x ≡ true → list_any p xs ≡ true
-any_true p x [] a is = absurd a
-any_true p x (y ∷ xs) (inl same) is = or_left (p y) (list_any p xs) (ap p (sym same) ∙ is)
-  where
-    or_left : (a b : Bool) → a ≡ true → (a || b) ≡ true
-    or_left true b e = refl
-    or_left false b e = absurd cc
-any_true p x (y ∷ xs) (inr more) is = or_right (p y) (list_any p xs) (any_true p x xs more is)
-  where
-    or_right : (a b : Bool) → b ≡ true → (a || b) ≡ true
-    or_right true b e = refl
-    or_right false b e = e
-
-true_any : {X : Type 0} (p : X → Bool) (xs : List X) → list_any p xs ≡ true → (x : X) × Among x xs × (p x ≡ true)
-true_any p [] is = absurd cc
-true_any {X} p (y ∷ xs) is = pick (λ more. true_any p xs more) (p y) refl is
-  where
-    pick : (list_any p xs ≡ true → (x : X) × Among x xs × (p x ≡ true)) → (b : Bool) → p y ≡ b → (b || list_any p xs) ≡ true → (x : X) × Among x (y ∷ xs) × (p x ≡ true)
-    pick rest true here e = (y, inl refl, here)
-    pick rest false here e = let r = rest e in (r.0, inr r.1, r.2)
 
 -- ---- the rows of items
 
@@ -107,17 +87,12 @@ there_version items row v is =
 
 -- ---- the names that items name
 
-module _ (size : ℕ) (items : List Stored) (numbered : Counts 0 items) where
+module _ (size : ℕ) (items : List Stored) (numbered : Counts 0 items) (named : AreWellNamed size items) where
   abbrev pub names_at : List ℕ → List ChunkName
   names_at row = names_of (chunks_of size items row)
 
   abbrev pub all_names : List ChunkName
   all_names = flat_map (λ row. names_of (chunks_of size items row)) (rows_in items)
-
-  pub comes : (row : List ℕ) (name : ChunkName) → Among name (names_at row) → ComesFrom items row name
-  comes row name a =
-      let x = among_mapped (λ (held : Named). held.0) name (flat_map (λ object. object) (chunks_of size items row)) a in
-      subst (λ (n : ChunkName). ComesFrom items row n) (sym x.2) (chunk_comes_from size items numbered row x.0 x.1)
 
   abbrev is_of : List ℕ → ChunkName → Bool
   is_of row name = has_version (entries_of items) row name.version
@@ -126,7 +101,7 @@ module _ (size : ℕ) (items : List Stored) (numbered : Counts 0 items) where
   of_row : (row : List ℕ) (name : ChunkName) → Among name all_names → is_of row name ≡ true → Among name (names_at row)
   of_row row name a is =
       let x = among_flat names_at name (rows_in items) a in
-      let from_ = comes x.0 name x.2 in
+      let from_ = row_known size items named x.0 name x.2 in
       let own = there_version items row name.version is in
       let same : from_.0 ≡ own.0 = one_version 0 items from_.0 own.0 numbered from_.1.stands own.1.stands (from_.1.version_is ∙ sym own.1.version_is) in
       let rows : x.0 ≡ row = sym from_.1.row_is ∙ (ap (λ (i : Stored). i.entry.row) same ∙ own.1.row_is) in
@@ -134,20 +109,20 @@ module _ (size : ℕ) (items : List Stored) (numbered : Counts 0 items) where
 
   row_of : (row : List ℕ) (name : ChunkName) → Among name (names_at row) → Among name all_names × (is_of row name ≡ true)
   row_of row name a =
-      let from_ = comes row name a in (
+      let from_ = row_known size items named row name a in (
         flat_among names_at name row (rows_in items) (subst (λ (r : List ℕ). Among r (rows_in items)) from_.1.row_is (rows_there items from_.0 (member_is from_.0 items from_.1.stands))) a,
         version_there items row name.version from_.0 from_.1,
       )
 
   pub row_length : (row : List ℕ) → length (filter (is_of row) (rising all_names)) ≡ length (names_at row)
   row_length row = as_long (filter (is_of row) (rising all_names)) (names_at row)
-      (different_filter (is_of row) (rising all_names) (different_rising all_names)) (row_sound size items numbered row).different
+      (different_filter (is_of row) (rising all_names) (different_rising all_names)) (row_different size items named row)
       (λ name a. let r = among_filter (is_of row) name (rising all_names) a in of_row row name (among_rising name all_names r.1) r.0)
       (λ name a. let r = row_of row name a in filter_among (is_of row) name (rising all_names) r.1 (rising_among name all_names r.0))
 
 -- ---- what is listed
 
-module _ (g : ℕ → Scheme) (w : World) (s : Said) (k : Kept g w s) (table size : ℕ) (some : 0 < size) where
+module _ (g : ℕ → Scheme) (w : World) (s : Said) (k : Kept g w s) (table size : ℕ) (some : 0 < size) (named : AreWellNamed size (k.items table)) where
   abbrev items : List Stored
   items = k.items table
 
@@ -160,34 +135,38 @@ module _ (g : ℕ → Scheme) (w : World) (s : Said) (k : Kept g w s) (table siz
 
   row_count : (row : List ℕ) (o : Option Stored) → current_of items row ≡ o → length (names_of (chunks_of size items row)) ≡ chunks_in size (content_at s table (current (s.history table) row))
   row_count row None at =
-      ap (λ x. length (names_of x)) (no_chunks size items numbered row at)
+      ap (λ (o : Option Stored). length (names_of (step.chunks_in size o))) at
       ∙ sym (ap (λ (v : ℕ). chunks_in size (content_at s table v)) (row_stored g w s k table row None at) ∙ ap (chunks_in size) (no_content g w s k table))
   row_count row (Some i) at =
-      let last = last_chunks size items numbered row i at in
       let stored = row_stored g w s k table row (Some i) at in
-      ap (λ x. length (names_of x)) last.is
-      ∙ (names_count size some i.entry.version last.before (objects_of i.content)
-      ∙ (chunks_are i.content ∙ sym (ap (λ (v : ℕ). chunks_in size (content_at s table v)) stored.1 ∙ ap (chunks_in size) stored.2)))
+      ap (λ (o : Option Stored). length (names_of (step.chunks_in size o))) at
+      ∙ (ap length (row_names size items named row i at)
+      ∙ (said_count size some i.names (objects_of i.content) (named.all i (is_current size items named row i at).0).each
+      ∙ (chunks_are i.content ∙ sym (ap (λ (v : ℕ). chunks_in size (content_at s table v)) stored.1 ∙ ap (chunks_in size) stored.2))))
 
-  names_are : AreChunks s table size (rising (all_names size items numbered))
+  names_are : AreChunks s table size (rising (all_names size items numbered named))
   names_are = record {
-    rise = rising_rises (all_names size items numbered);
+    rise = rising_rises (all_names size items numbered named);
     versions = λ name a.
         let x = among_flat (λ row. names_of (chunks_of size items row)) name (rows_in items)
-        (among_rising name (all_names size items numbered) (member_is name (rising (all_names size items numbered)) a)) in
-        let from_ = comes size items numbered x.0 name x.2 in (
+        (among_rising name (all_names size items numbered named) (member_is name (rising (all_names size items numbered named)) a)) in
+        let from_ = row_known size items named x.0 name x.2 in (
           from_.0.entry,
           subst (λ (es : List Entry). members.Among es from_.0.entry) (sym (k.history table)) (among_map (λ (i : Stored). i.entry) items from_.0 from_.1.stands),
           from_.1.version_is,
         );
     counted = λ row.
-        ap (λ (es : List Entry). length (chunks.names_of es row (rising (all_names size items numbered)))) (k.history table)
-        ∙ (row_length size items numbered row ∙ row_count row (current_of items row) refl);
+        ap (λ (es : List Entry). length (chunks.names_of es row (rising (all_names size items numbered named)))) (k.history table)
+        ∙ (row_length size items numbered named row ∙ row_count row (current_of items row) refl);
   }
 
-  -- a disk with these items and nothing left over
-  pub listed : (d : StoreDisk) → d.items ≡ items → d.left ≡ [] → AreChunks s table size (names_on size d)
-  listed d same none =
+-- a disk with these items and nothing left over
+module _ (g : ℕ → Scheme) (w : World) (s : Said) (k : Kept g w s) (table size : ℕ) (some : 0 < size) where
+  pub listed : (d : StoreDisk) → d.items ≡ k.items table → AreWellNamed size d.items → d.left ≡ [] → AreChunks s table size (names_on size d)
+  listed d same named none =
+      let items : List Stored = k.items table in
+      let here : AreWellNamed size items = subst (AreWellNamed size) same named in
       subst (λ (left : List ChunkName). AreChunks s table size (rising (flat_map (λ row. names_of (chunks_of size d.items row)) (rows_in d.items) ++ left))) (sym none)
       (subst (λ (xs : List Stored). AreChunks s table size (rising (flat_map (λ row. names_of (chunks_of size xs row)) (rows_in xs) ++ []))) (sym same)
-      (subst (λ (ns : List ChunkName). AreChunks s table size (rising ns)) (sym (append-nil (all_names size items numbered))) names_are))
+      (subst (λ (ns : List ChunkName). AreChunks s table size (rising ns)) (sym (append-nil (flat_map (λ row. names_of (chunks_of size items row)) (rows_in items))))
+      (names_are g w s k table size some here)))

@@ -22,17 +22,20 @@ use Rattle.world_tables.specs.World.{table_falls, tables_fall, with_down, withou
 use Rattle.world_tables.specs.World.{store_follows, table_follows}
 use Rattle.world_tables.specs.World.{declared_late, start_hosted, table_starts, tables_start, store_starts, crash_luck, table_crashes, store_crashes, gets_tasks, client_follows_from}
 use Rattle.world_laws.proofs.Looks.{look_cases}
+use Rattle.name_laws.proofs.Rows.{nothing_named}
+use Rattle.name_laws.proofs.Keeps.{IsNamedStore, move_keeps}
 use Rattle.name_laws.proofs.Left.{IsClean, move_clean}
 use Rattle.name_laws.proofs.Plain.{ArePlainFacts, IsPlace, ToPlaces, IsPlainAgenda, IsPlainStep, client_plain, HasPlainWrites, IsPlainMove, IsFrom, move_plain}
 use Rattle.name_laws.proofs.Keys.{AreRising, insert_keys_rise}
 
-pub record IsFineTable (s : TableStore) : Type 0 where
+pub record IsFineTable (size : ℕ) (s : TableStore) : Type 0 where
+  pub named : IsNamedStore size s
   pub clean : IsClean s.disk s.agenda
   pub writes : HasPlainWrites s.agenda
 
 pub record IsFine (w : World) : Type 0 where
   pub keys : AreRising (keys_of w.tables)
-  pub tables : (table : ℕ) (hosted : Hosted) → hosted_at w table ≡ Some hosted → IsFineTable hosted.store
+  pub tables : (table : ℕ) (hosted : Hosted) → hosted_at w table ≡ Some hosted → IsFineTable (chunk_in (schema_at w table)) hosted.store
   pub clients : (c : ℕ) (node : Client) → client_at w c ≡ Some node → IsPlainAgenda node.agenda
   pub places : (p : Packet) → Among w.packets p → IsPlace p.from × IsPlace p.to
 
@@ -93,12 +96,14 @@ sent_places from [] f t p a = absurd (among_none p a)
 sent_places from (send ∷ sends) f t p a =
     ⊎_elim (λ e. subst (λ (x : Packet). IsPlace x.from × IsPlace x.to) e (f, t.0)) (λ b. sent_places from sends f t.1 p b) (among_cons _ (packets_from from sends) p a)
 
-pub after_went : (w : World) (table : ℕ) (hosted : Hosted) (s : StoreStep) → IsFine w → IsPlainMove s → IsClean s.store.disk s.store.agenda → Went w (after_table w table hosted s)
-after_went w table hosted s f p clean = record {
+pub after_went : (w : World) (table : ℕ) (hosted : Hosted) (s : StoreStep) → IsFine w → IsPlainMove s → IsNamedStore (chunk_in (schema_at w table)) s.store → IsClean s.store.disk s.store.agenda
+    → Went w (after_table w table hosted s)
+after_went w table hosted s f p named clean = record {
   fine = record {
     keys = insert_keys_rise w.tables table new f.keys;
     tables = λ q x at. ⊎_elim
-        (λ e. let both : Some new ≡ Some x = sym e.1 ∙ at in let same : new ≡ x = cc in subst (λ (y : Hosted). IsFineTable y.store) same (record { clean = clean; writes = p.agenda }))
+        (λ e. let both : Some new ≡ Some x = sym e.1 ∙ at in let same : new ≡ x = cc in subst (λ (n : ℕ). IsFineTable (chunk_in (schema_at w n)) x.store) (sym e.0)
+        (subst (λ (y : Hosted). IsFineTable (chunk_in (schema_at w table)) y.store) same (record { named = named; clean = clean; writes = p.agenda })))
         (λ e. f.tables q x (sym e.1 ∙ at)) (look_cases w.tables table new q);
     clients = f.clients;
     places = λ x a. ⊎_elim (λ b. f.places x b) (λ b. sent_places the_store s.sends refl p.sends x b) (among_either w.packets (packets_from the_store s.sends) x a);
@@ -121,6 +126,7 @@ table_went w table move from f = go (hosted_at w table) refl
         let x = f.tables table hosted at in
         after_went w table hosted (table_step w table hosted move) f
         (move_plain owner (scheme_in (schema_at w table)) (chunk_in (schema_at w table)) table hosted.store move from x.writes)
+        (move_keeps owner (scheme_in (schema_at w table)) (chunk_in (schema_at w table)) table hosted.store move x.named)
         (move_clean owner (scheme_in (schema_at w table)) (chunk_in (schema_at w table)) table hosted.store move x.clean)
 
 pub client_went : (w : World) (c : ℕ) (move : ClientMove) (shape : Shape) → IsFine w → Went w (move_client c move shape w)
@@ -244,7 +250,8 @@ start_went w table f = go (hosted_at w table)
   where
     made : (hosted : Hosted) (b : Bool) → Went w (if b then move_table table store.Start w else after_table w table (record hosted { made = true }) (declared_late table))
     made hosted true = table_went w table store.Start tt f
-    made hosted false = after_went w table (record hosted { made = true }) (declared_late table) f (record { facts = (tt, tt); sends = tt; agenda = tt }) refl
+    made hosted false = after_went w table (record hosted { made = true }) (declared_late table) f (record { facts = (tt, tt); sends = tt; agenda = tt })
+        (nothing_named (chunk_in (schema_at w table))) refl
 
     go : (o : Option Hosted) → Went w (start_hosted w table o)
     go None = still_went w f

@@ -1,12 +1,13 @@
 -- Names of chunks: members of lists, lists of names that lack some, and names in rising order.
 use Rattle.std.proofs.Common.{◌≡◌, ◌⊎◌, inl, inr, ⊎_elim, ℕ, suc, ◌≤◌, Bool, true, false, cond, List, [], ◌∷◌, ◌++◌, length, refl, sym, ◌∙◌, ap, subst, arith, true≢false}
 use Rattle.std.specs.Prelude.{◌||◌, not, filter, map}
-use Rattle.std.specs.List.{AllByRecursion, list_any}
+use Rattle.std.specs.List.{AllByRecursion, list_any, list_all}
 use Rattle.std.specs.declared.cmp.Ordering.{Ordering}
 use Rattle.std.specs.declared.cmp.Ordering.TheVariants.{Less, Equal, Greater}
 use Rattle.std.specs.Ordering.{nat_cmp, ordering_then, match_ordering}
 use Rattle.std.specs.BTreeMap.{insert_entry}
 use Rattle.std.specs.BTreeSet.{insert_key}
+use Rattle.std.proofs.lemmas.Bool.{and_parts}
 use Rattle.std.proofs.lemmas.Bool.Decides.{nat_tests}
 use Rattle.stab_base.specs.declared.chunk_name.ChunkName.{ChunkName}
 use Rattle.step_tables.specs.Chunks.{name_cmp, same_name, is_among, without_names, rising}
@@ -75,6 +76,34 @@ different_filter {X} p (x ∷ xs) d = pick (p x) (different_filter p xs d.1)
     pick true more = ((λ a. d.0 (among_filter p x xs a).1), more)
     pick false more = more
 
+-- ---- tests of lists
+
+pub any_true : {X : Type 0} (p : X → Bool) (x : X) (xs : List X) → Among x xs → p x ≡ true → list_any p xs ≡ true
+any_true p x [] a is = absurd a
+any_true p x (y ∷ xs) (inl same) is = or_left (p y) (list_any p xs) (ap p (sym same) ∙ is)
+  where
+    or_left : (a b : Bool) → a ≡ true → (a || b) ≡ true
+    or_left true b e = refl
+    or_left false b e = absurd cc
+any_true p x (y ∷ xs) (inr more) is = or_right (p y) (list_any p xs) (any_true p x xs more is)
+  where
+    or_right : (a b : Bool) → b ≡ true → (a || b) ≡ true
+    or_right true b e = refl
+    or_right false b e = e
+
+pub true_any : {X : Type 0} (p : X → Bool) (xs : List X) → list_any p xs ≡ true → (x : X) × Among x xs × (p x ≡ true)
+true_any p [] is = absurd cc
+true_any {X} p (y ∷ xs) is = pick (λ more. true_any p xs more) (p y) refl is
+  where
+    pick : (list_any p xs ≡ true → (x : X) × Among x xs × (p x ≡ true)) → (b : Bool) → p y ≡ b → (b || list_any p xs) ≡ true → (x : X) × Among x (y ∷ xs) × (p x ≡ true)
+    pick rest true here e = (y, inl refl, here)
+    pick rest false here e = let r = rest e in (r.0, inr r.1, r.2)
+
+pub all_true : {X : Type 0} (p : X → Bool) (x : X) (xs : List X) → Among x xs → list_all p xs ≡ true → p x ≡ true
+all_true p x [] a is = absurd a
+all_true p x (y ∷ xs) (inl same) is = ap p same ∙ (and_parts (p y) (list_all p xs) is).0
+all_true p x (y ∷ xs) (inr more) is = all_true p x xs more (and_parts (p y) (list_all p xs) is).1
+
 -- ---- lists of different members are as long as each other where they have the same ones
 
 -- a list with one member taken out
@@ -104,10 +133,10 @@ as_long xs ys d e to from = let a = no_longer xs ys d to in let b = no_longer ys
 
 -- ---- the test of a name
 
-same_is : (a b : ChunkName) → same_name a b ≡ true → a ≡ b
+pub same_is : (a b : ChunkName) → same_name a b ≡ true → a ≡ b
 same_is a b is = grind (arith, nat_tests, is)
 
-same_itself : (a : ChunkName) → same_name a a ≡ true
+pub same_itself : (a : ChunkName) → same_name a a ≡ true
 same_itself a = grind (arith, nat_tests)
 
 pub in_names : (name : ChunkName) (names : List ChunkName) → Among name names → is_among names name ≡ true

@@ -1,6 +1,6 @@
 -- No move tells that a packet was sent, and what moves send goes to clients, gateways and the one Store.
 use Rattle.std.proofs.Common.{◌≡◌, ℕ, Bool, true, false, List, [], ◌∷◌, ◌++◌, Option, Some, None, Result, Ok, Err, refl, sym, subst, append-nil}
-use Rattle.std.specs.Prelude.{map, if◌then◌else◌, ◌==◌, nat_le, nat_lt, option_map, option_to_list}
+use Rattle.std.specs.Prelude.{map, if◌then◌else◌, ◌==◌, ◌&&◌, nat_le, nat_lt, option_map, option_to_list}
 use Rattle.conflicts.specs.declared.pair.Choice.{Choice}
 use Rattle.conflicts.specs.declared.pair.Choice.TheVariants as choices
 use Rattle.conflicts.specs.declared.stored.Stored as resolvers
@@ -17,9 +17,7 @@ use Rattle.row_value.specs.declared.fit.FitFault.{FitFault}
 use Rattle.row_value.specs.Fit.{fit_of}
 use Rattle.row_edits.specs.declared.change.Edit.{Edit}
 use Rattle.row_edits.specs.Edit.{edited_to}
-use Rattle.step_tables.specs.declared.slots.Main.{Main}
-use Rattle.step_tables.specs.declared.slots.InFlight.{InFlight}
-use Rattle.step_tables.specs.declared.slots.Shadow.{Shadow}
+use Rattle.step_tables.specs.Slots.{Main, Shadow, InFlight}
 use Rattle.step_tables.specs.Facts.{Fact, ClientFact, Answer}
 use Rattle.step_tables.specs.Facts as facts
 use Rattle.step_tables.specs.Messages.{Request, Response, Pull, Pulled, Header, Pair, Outcome, Message, Send, Luck, SyncRequest, SyncResponse, PullRequest, PullResponse}
@@ -27,7 +25,7 @@ use Rattle.step_tables.specs.Messages as messages
 use Rattle.step_tables.specs.Store.{Stored, current_of}
 use Rattle.step_tables.specs.StoreMoves as store
 use Rattle.step_tables.specs.StoreMoves.{StoreDisk, StoreTask, TableStore, StoreMove, StoreStep, store_step}
-use Rattle.step_tables.specs.Chunks.{rising, new_names, old_names}
+use Rattle.step_tables.specs.Chunks.{rising, new_names, old_names, is_spelled}
 use Rattle.step_tables.specs.ClientMoves as client
 use Rattle.step_tables.specs.ClientMoves.{Slots, TableDisk, ClientDisk, ClientTask, Client, ClientMove, ClientStep, Plan, RowPut, RowOut, Shape, client_step}
 use Rattle.world_tables.specs.World.{owner, address}
@@ -101,12 +99,12 @@ module _ (c : ℕ) (shape : Shape) (d : ClientDisk) where
   idle_sends : (sends : List Send) → ToPlaces sends → IsPlainStep (record (client.ignored d) { sends = sends })
   idle_sends sends t = record { facts = tt; sends = t; agenda = tt }
 
-  strong_plain : (table : ℕ) (row : List ℕ) (slots : Slots) (x : Content) (o : Option InFlight) → IsPlainStep (client.write_strong c shape d table row slots x o)
-  strong_plain table row slots x None = begun_plain shape d _ _ _ (refl, tt)
-  strong_plain table row slots x (Some out) = quiet_plain d (Some []) _ tt
+  strong_plain : (size table : ℕ) (row : List ℕ) (slots : Slots) (x : Content) (o : Option InFlight) → IsPlainStep (client.write_strong size c shape d table row slots x o)
+  strong_plain size table row slots x None = begun_plain shape d _ _ _ (refl, tt)
+  strong_plain size table row slots x (Some out) = quiet_plain d (Some []) _ tt
 
   by_plain : (g : Scheme) (table : ℕ) (row : List ℕ) (opened : TableDisk) (slots : Slots) (x : Content) → IsPlainStep (client.write_by g c shape d table row opened slots x)
-  by_plain Strong table row opened slots x = strong_plain table row slots x (client.first_out opened.rows)
+  by_plain Strong table row opened slots x = strong_plain opened.schema.chunk table row slots x (client.first_out opened.rows)
   by_plain Causal table row opened slots x = begun_plain shape d _ _ [] tt
   by_plain Eventual table row opened slots x = begun_plain shape d _ _ [] tt
 
@@ -176,7 +174,8 @@ module _ (c : ℕ) (shape : Shape) (d : ClientDisk) where
   sync_in_plain : (agenda : List ClientTask) (table : ℕ) (o : Option TableDisk) → ArePlainTasks agenda → IsPlainStep (client.sync_in c shape d agenda table o)
   sync_in_plain agenda table None p = quiet_plain d (Some agenda) _ p
   sync_in_plain (task ∷ more) table (Some opened) p = quiet_plain d (Some (task ∷ more)) _ p
-  sync_in_plain [] table (Some opened) p = first_plain table (client.resent c table opened.rows) (client.first_to_send opened.rows) (resent_places table opened.rows)
+  sync_in_plain [] table (Some opened) p =
+      first_plain table (client.resent c table opened.rows) (option_map (client.row_out opened.schema.chunk) (client.first_to_send opened.rows)) (resent_places table opened.rows)
 
   sync_plain : (agenda : Option (List ClientTask)) (table : ℕ) → IsPlainAgenda agenda → IsPlainStep (client.sync_step c shape d agenda table)
   sync_plain None table p = quiet_plain d None _ tt
@@ -264,6 +263,12 @@ module _ (c : ℕ) (shape : Shape) (d : ClientDisk) where
   outcome_plain table row opened slots out (messages.Late v) = quiet_plain d (Some []) _ tt
   outcome_plain table row opened slots out (messages.Stale v) = begun_plain shape d _ _ _ (refl, tt)
   outcome_plain table row opened slots out (messages.Conflict v) = idle_sends _ (refl, tt)
+  outcome_plain table row opened slots out messages.NeedWhole = go out.whole
+    where
+      go : (b : Bool) → IsPlainStep (if b then client.ignored d
+          else client.begun shape d facts.Done (client.whole_plan d table row slots out) (client.request_for c table row (client.whole_out out) ∷ []))
+      go true = quiet_plain d (Some []) _ tt
+      go false = begun_plain shape d _ _ _ (refl, tt)
 
   response_plain : (r : Response) (opened : TableDisk) (o : Option InFlight) → IsPlainStep (client.response_taken c shape d r opened o)
   response_plain r opened None = quiet_plain d (Some []) _ tt
@@ -295,7 +300,7 @@ module _ (c : ℕ) (shape : Shape) (d : ClientDisk) where
 
   pulled_plain : (q : Pulled) (opened : TableDisk) (o : Option Header) → IsPlainStep (client.pulled_taken c shape d q opened o)
   pulled_plain q opened None = quiet_plain d (Some []) _ tt
-  pulled_plain q opened (Some hd) = go (q.from == opened.position)
+  pulled_plain q opened (Some hd) = go (client.comes_next q opened hd)
     where
       go : (b : Bool) → IsPlainStep (if b then client.row_taken c shape d q opened hd (client.slots_at opened hd.row) else client.ignored d)
       go true = row_plain q opened hd (client.slots_at opened hd.row)
@@ -406,15 +411,15 @@ sending_plain d sends t = record { facts = tt; sends = t; agenda = tt }
 
 module _ (g : Scheme) (size table : ℕ) (d : StoreDisk) (from : Node) (place : IsPlace from) where
   judged_plain : (q : Request) (current : ℕ) → IsPlainMove (store.judged g size table d from q current)
-  judged_plain q current = go (store.takes g q.base current)
+  judged_plain q current = go (store.takes g q.base current && store.keeps_there size d.items q)
     where
       item : Stored
       item = store.item_for d.items q
 
       go : (b : Bool) → IsPlainMove (if b then store.quiet d (Some (store.accepting size table d.items from q item)) facts.Done
-          else store.sending d (store.responded from q (store.outdated g current) ∷ []))
+          else store.sending d (store.responded from q (store.unaccepted g q.base current) ∷ []))
       go true = still_plain d (Some (store.accepting size table d.items from q item)) facts.Done
-          (tt, tt, puts_plain (new_names size d.items item) _ ((tt, tt), tt, drops_plain (old_names size d.items item) _ (tt, (place, tt), tt)))
+          (tt, tt, puts_plain (new_names size item) _ ((tt, tt), tt, drops_plain (old_names size d.items item) _ (tt, (place, tt), tt)))
       go false = sending_plain d _ (place, tt)
 
   decided_plain : (q : Request) (yours : Pair) → IsPlainMove (store.decided g size table d from q yours)
@@ -427,10 +432,17 @@ module _ (g : Scheme) (size table : ℕ) (d : StoreDisk) (from : Node) (place : 
       go false true = sending_plain d _ (place, tt)
       go false false = judged_plain q (store.version_of (current_of d.items q.row))
 
+  asked_plain : (q : Request) → IsPlainMove (store.asked g size table d from q)
+  asked_plain q = go (is_spelled size q.content q.pieces)
+    where
+      go : (b : Bool) → IsPlainMove (if b then store.decided g size table d from q (store.yours_in d.items q.client q.row) else store.quiet d (Some []) facts.Done)
+      go true = decided_plain q (store.yours_in d.items q.client q.row)
+      go false = still_plain d (Some []) _ tt
+
   taken_plain : (agenda : Option (List StoreTask)) (m : Message) → HasPlainWrites agenda → IsPlainMove (store.taken g size table d agenda from m)
   taken_plain None m p = still_plain d None _ tt
   taken_plain (Some (task ∷ more)) m p = still_plain d (Some (task ∷ more)) _ p
-  taken_plain (Some []) (SyncRequest q) p = decided_plain q (store.yours_in d.items q.client q.row)
+  taken_plain (Some []) (SyncRequest q) p = asked_plain q
   taken_plain (Some []) (PullRequest q) p = sending_plain d _ (place, tt)
   taken_plain (Some []) (SyncResponse q) p = still_plain d (Some []) _ tt
   taken_plain (Some []) (PullResponse q) p = still_plain d (Some []) _ tt

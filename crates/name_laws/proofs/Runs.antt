@@ -30,6 +30,8 @@ use Rattle.world_laws.proofs.Ups.{IsUp, start_up, step_up}
 use Rattle.world_laws.proofs.Runs.{step_sound, first_is, scheme_on, start_kept, events_are}
 use Rattle.world_laws.proofs.Runs as runs
 use Rattle.world_laws.proofs.Fresh.{fresh_part}
+use Rattle.name_laws.proofs.Rows.{AreWellNamed}
+use Rattle.name_laws.proofs.Keeps.{HasNames}
 use Rattle.name_laws.proofs.Left.{IsClean}
 use Rattle.name_laws.proofs.Listed.{listed}
 use Rattle.name_laws.proofs.Moves.{IsFine, store_falls_went}
@@ -58,7 +60,7 @@ declared_there w table schema luck (Some hosted) at none = absurd (let both : So
 declared_there w table schema luck None at none = new_there w table schema luck none
 
 -- a table that isn't there behind an event wasn't declared by it
-size_on : (w : World) (event : Event) (lucks : Lucks) (es : List Event) (table : ℕ) → hosted_at (step w event lucks).world table ≡ None → size_for (event ∷ es) table ≡ size_for es table
+pub size_on : (w : World) (event : Event) (lucks : Lucks) (es : List Event) (table : ℕ) → hosted_at (step w event lucks).world table ≡ None → size_for (event ∷ es) table ≡ size_for es table
 size_on w (events.Table number schema) lucks es table none = go (number == table) refl
   where
     go : (b : Bool) → (number == table) ≡ b → (if b then schema.chunk else size_for es table) ≡ size_for es table
@@ -127,9 +129,11 @@ module _ (g : ℕ → Scheme) (sizes : ℕ → ℕ) (w : World) (s : Said) (q : 
       let rests : hosted.store.agenda ≡ Some [] = agenda.1 ∙ ap (λ (tasks : List StoreTask). Some tasks) none in
       let state = subst (λ (o : Option (List StoreTask)). part.IsAt (g table) table (KnownIn s.heard k.sent table) (k.items table) hosted.store.disk o) rests (k.stores table hosted at).0.state in
       let clean = subst (λ (o : Option (List StoreTask)). IsClean hosted.store.disk o) rests (f.fine.tables table hosted at).clean in
+      let named = subst (λ (o : Option (List StoreTask)). HasNames (chunk_in (schema_at w table)) hosted.store.disk o) rests (f.fine.tables table hosted at).named in
       let schema = k.declared table hosted at in
       let size : sizes table ≡ chunk_in (schema_at w table) = sized table schema.0 schema.1 ∙ sym (ap chunk_in schema.1) in
-      subst (λ (n : ℕ). AreChunks s table (sizes table) (names_on n hosted.store.disk)) size (listed g w s k table (sizes table) some hosted.store.disk state.0.items clean)
+      subst (λ (n : ℕ). AreChunks s table (sizes table) (names_on n hosted.store.disk)) size
+      (listed g w s k table (sizes table) some hosted.store.disk state.0.items (subst (λ (n : ℕ). AreWellNamed n hosted.store.disk.items) (sym size) named) clean)
 
   chunks_listed : (table : ℕ) (o : Option Hosted) → hosted_at w table ≡ o → IsListed sizes s q (events.Chunks table) (chunk_names w table o).answer
   chunks_listed table None at = λ some quiet. tt

@@ -1,5 +1,5 @@
 -- What each event keeps of the tables, the packets and the nodes on hold.
-use Rattle.std.proofs.Common.{◌≡◌, ⊎_elim, ℕ, ◌+◌, Bool, true, false, List, [], ◌∷◌, ◌++◌, length, Option, Some, None, refl, sym, ◌∙◌, ap, subst, append-nil}
+use Rattle.std.proofs.Common.{◌≡◌, ◌≢◌, ⊎_elim, ℕ, ◌+◌, Bool, true, false, List, [], ◌∷◌, ◌++◌, length, Option, Some, None, refl, sym, ◌∙◌, ap, subst, append-nil}
 use Rattle.std.specs.Prelude.{map, ◌&&◌, not, drop, slice_get, option_to_list, if◌then◌else◌}
 use Rattle.conflicts.specs.declared.stored.Stored.{Stored}
 use Rattle.stab_base.specs.declared.node.Node.{Node}
@@ -35,6 +35,7 @@ use Rattle.step_tables.specs.Store.{current_of}
 use Rattle.world_tables.specs.World.{new_client, open_all, schema_at, chunk_in}
 use Rattle.world_laws.proofs.Looks.{look_cases}
 use Rattle.world_laws.proofs.StoreWorks.{AreSilent, store_falls_silent}
+use Rattle.name_laws.proofs.Rows.{nothing_named}
 use Rattle.name_laws.proofs.Keys.{insert_keys_rise}
 use Rattle.name_laws.proofs.Plain.{IsPlainFact, ArePlainFacts, IsPlace, IsPlainAgenda}
 use Rattle.name_laws.proofs.Moves.{IsFineTable, IsFine, packets_in, ArePlainOuts, Went, still_went, then_went, unless_went, failing_went, table_went, client_went, works_went, client_follows_went}
@@ -313,8 +314,9 @@ pub with_table_fine : (w : World) (table : ℕ) (schema : Schema) (made up : Boo
 with_table_fine w table schema made up f = record {
   keys = insert_keys_rise w.tables table new f.keys;
   tables = λ q x at. ⊎_elim
-      (λ e. let both : Some new ≡ Some x = sym e.1 ∙ at in let same : new ≡ x = cc in subst (λ (y : Hosted). IsFineTable y.store) same (new_fine up))
-      (λ e. f.tables q x (sym e.1 ∙ at)) (look_cases w.tables table new q);
+      (λ e. let both : Some new ≡ Some x = sym e.1 ∙ at in let same : new ≡ x = cc in
+      subst (λ (y : Hosted). IsFineTable (chunk_in (schema_at (with_table w table schema made up) q)) y.store) same (new_fine (chunk_in (schema_at (with_table w table schema made up) q)) up))
+      (λ e. subst (λ (o : Option Schema). IsFineTable (chunk_in o) x.store) (sym (others q e.0)) (f.tables q x (sym e.1 ∙ at))) (look_cases w.tables table new q);
   clients = f.clients;
   places = f.places;
 }
@@ -322,9 +324,12 @@ with_table_fine w table schema made up f = record {
     new : Hosted
     new = record { store = record { disk = record { items = []; pending = None; left = [] }; agenda = agenda_of up }; history = []; made = made }
 
-    new_fine : (b : Bool) → IsFineTable (record { disk = record { items = []; pending = None; left = [] }; agenda = agenda_of b })
-    new_fine true = record { clean = refl; writes = tt }
-    new_fine false = record { clean = λ none. refl; writes = tt }
+    others : (q : ℕ) → q ≢ table → schema_at (with_table w table schema made up) q ≡ schema_at w q
+    others q apart = ⊎_elim (λ e. absurd (apart e.0)) (λ e. e.1) (look_cases w.schemas table schema q)
+
+    new_fine : (size : ℕ) (b : Bool) → IsFineTable size (record { disk = record { items = []; pending = None; left = [] }; agenda = agenda_of b })
+    new_fine size true = record { named = nothing_named size; clean = refl; writes = tt }
+    new_fine size false = record { named = nothing_named size; clean = λ none. refl; writes = tt }
 
 no_packets : (outs : List Outbox) → AreSilent outs → packets_in outs ≡ []
 no_packets [] a = refl

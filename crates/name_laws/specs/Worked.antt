@@ -1,5 +1,6 @@
--- Worked scripts of an object in place of another, whose drop of a chunk crashes or fails, with what they write.
-use Rattle.std.specs.Prelude.{List, [], ◌∷◌, ◌++◌}
+-- Worked scripts of an object in place of another, whose drop of a chunk crashes or fails, or which keeps a chunk that is
+-- gone, with what they write.
+use Rattle.std.specs.Prelude.{List, [], ◌∷◌, ◌++◌, None}
 use Rattle.stab_base.specs.declared.chunk_name.ChunkName.{ChunkName}
 use Rattle.stab_base.specs.declared.node.Node.TheVariants as nodes
 use Rattle.stab_base.specs.declared.step.Step.TheVariants as steps
@@ -88,3 +89,67 @@ failed_drop_written listed =
     ∷ turn (events.Start the_store) (AnswerLine facts.Done ∷ forward 2 1 2 1 ∷ recovered ∷ [])
     ∷ turn (events.Chunks 1) (AnswerLine (facts.Names listed) ∷ [])
     ∷ []
+
+-- ---- a chunk that is kept and gone
+
+-- a second client has read the first object, and keeps the chunk that it has in common with its own; but the row has it
+-- no more
+abbrev pub keeps_what_is_gone : List Happening
+keeps_what_is_gone =
+    happens (events.Store 1)
+    ∷ happens (events.Table 1 pictures)
+    ∷ happens (events.Client 1 None (1 ∷ []))
+    ∷ happens (events.Client 2 None (1 ∷ []))
+    ∷ happens (events.Write 1 1 the_row (object 65))
+    ∷ happens (events.Sync 1 1)
+    ∷ happens (events.Deliver 0)
+    ∷ happens (events.Deliver 1)
+    ∷ happens (events.Pull 2 1)
+    ∷ happens (events.Deliver 2)
+    ∷ happens (events.Deliver 3)
+    ∷ happens (events.Write 1 1 the_row (object 1))
+    ∷ happens (events.Sync 1 1)
+    ∷ happens (events.Deliver 4)
+    ∷ happens (events.Write 2 1 the_row (object 130))
+    ∷ happens (events.Sync 2 1)
+    ∷ happens (events.Deliver 6)
+    ∷ happens (events.Deliver 7)
+    ∷ happens (events.Deliver 8)
+    ∷ happens (events.Chunks 1)
+    ∷ []
+
+-- the Store answers that it needs all chunks, and the client sends its write once more; these are listed at the end
+abbrev pub keeps_what_is_gone_written : List ChunkName → List Turn
+keeps_what_is_gone_written listed =
+    turn (events.Store 1) []
+    ∷ turn (events.Table 1 pictures) []
+    ∷ turn (events.Client 1 None (1 ∷ [])) []
+    ∷ turn (events.Client 2 None (1 ∷ [])) []
+    ∷ turn (events.Write 1 1 the_row (object 65)) (AnswerLine (facts.Number 1)
+    ∷ told (wrote_content 1 1 0 (object 65)) ∷ [])
+    ∷ turn (events.Sync 1 1) (AnswerLine (facts.Number 1) ∷ sent 0 (nodes.Client 1) the_store names.SyncRequest ∷ [])
+    ∷ turn (events.Deliver 0) (AnswerLine facts.Done ∷ accepted 1 1 1 0
+    ∷ sent 1 the_store (nodes.Client 1) names.SyncResponse ∷ [])
+    ∷ turn (events.Deliver 1) (AnswerLine facts.Done ∷ told (facts.Acked 1 1 1 the_row 1) ∷ [])
+    ∷ turn (events.Pull 2 1) (AnswerLine facts.Done ∷ sent 2 (nodes.Client 2) the_store names.PullRequest ∷ [])
+    ∷ turn (events.Deliver 2) (AnswerLine facts.Done ∷ sent 3 the_store (nodes.Client 2) names.PullResponse ∷ [])
+    ∷ turn (events.Deliver 3) (AnswerLine facts.Done ∷ told (facts.New 2 1 the_row 1) ∷ told (facts.Position 2 1 1)
+    ∷ [])
+    ∷ turn (events.Write 1 1 the_row (object 1)) (AnswerLine (facts.Number 2)
+    ∷ told (wrote_content 1 2 1 (object 1)) ∷ [])
+    ∷ turn (events.Sync 1 1) (AnswerLine (facts.Number 1) ∷ sent 4 (nodes.Client 1) the_store names.SyncRequest ∷ [])
+    ∷ turn (events.Deliver 4) (AnswerLine facts.Done ∷ accepted 2 1 2 1
+    ∷ sent 5 the_store (nodes.Client 1) names.SyncResponse ∷ [])
+    ∷ turn (events.Write 2 1 the_row (object 130)) (AnswerLine (facts.Number 1)
+    ∷ told (wrote_content 2 1 1 (object 130)) ∷ [])
+    ∷ turn (events.Sync 2 1) (AnswerLine (facts.Number 1) ∷ sent 6 (nodes.Client 2) the_store names.SyncRequest ∷ [])
+    ∷ turn (events.Deliver 6) (AnswerLine facts.Done ∷ sent 7 the_store (nodes.Client 2) names.SyncResponse ∷ [])
+    ∷ turn (events.Deliver 7) (AnswerLine facts.Done ∷ sent 8 (nodes.Client 2) the_store names.SyncRequest ∷ [])
+    ∷ turn (events.Deliver 8) (AnswerLine facts.Done ∷ accepted 3 2 1 1
+    ∷ sent 9 the_store (nodes.Client 2) names.SyncResponse ∷ [])
+    ∷ turn (events.Chunks 1) (AnswerLine (facts.Names listed) ∷ [])
+    ∷ []
+
+-- all three chunks of the last object are new
+abbrev pub whole_names : List ChunkName
+whole_names = named 3 0 ∷ named 3 1 ∷ named 3 2 ∷ []

@@ -6,6 +6,7 @@ ghost use Rattle.world_tables.specs.Quiet.{AreListed};
 ghost use Rattle.world_tables.specs.Turns.{Happening, turns};
 ghost use Rattle.world_laws.specs.Worked.{object_names, named};
 ghost use Rattle.name_laws.specs.Worked.{replaced, replaced_written, failed_drop, failed_drop_written};
+ghost use Rattle.name_laws.specs.Worked.{keeps_what_is_gone, keeps_what_is_gone_written, whole_names};
 
 /// In every run, wherever packets are lost or repeated, device calls fail and the Store crashes: where a table's chunks
 /// are listed and the Store is quiet, so that nothing came to it while it was on hold that it hasn't worked off since,
@@ -30,4 +31,12 @@ pub fn a_failed_drop_is_made_up_for()
     ensures run { turns failed_drop ≡ failed_drop_written object_names }
     ensures listed { AreListed (failed_drop_written object_names) }
     ensures left_over { AreListed (failed_drop_written (named 1 0 ∷ named 1 1 ∷ named 2 0 ∷ named 2 1 ∷ [])) → ⊥ }
+{}
+
+/// An object over one that its client had read, of which it keeps a chunk that another client's write has done away with
+/// since, computed: the Store takes it when it comes again with each chunk new.
+pub fn a_kept_chunk_that_is_gone_comes_again()
+    ensures run { turns keeps_what_is_gone ≡ keeps_what_is_gone_written whole_names }
+    ensures listed { AreListed (keeps_what_is_gone_written whole_names) }
+    ensures left_over { AreListed (keeps_what_is_gone_written (named 1 0 ∷ whole_names)) → ⊥ }
 {}

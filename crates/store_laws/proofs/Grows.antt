@@ -1,17 +1,15 @@
 -- A table's part stays where more writes are known, and what it tells only adds items.
-use Rattle.std.proofs.Common.{◌++◌, ◌≡◌, ◌⊎◌, ℕ, Bool, List, [], ◌∷◌, Option, Some, None, inl, inr}
+use Rattle.std.proofs.Common.{◌++◌, ℕ, Bool, List, [], ◌∷◌, Option, Some, None, inl, inr}
 use Rattle.row_value.specs.declared.content.Content.{Content}
 use Rattle.row_value.specs.declared.schema.Scheme.{Scheme}
 use Rattle.step_tables.specs.Store.{Stored}
 use Rattle.step_tables.specs.Facts.{Fact}
-use Rattle.step_tables.specs.Members.{Among}
 use Rattle.step_tables.specs.Messages.{Response, Outcome, Message, Send, SyncRequest, SyncResponse, PullRequest, PullResponse}
 use Rattle.step_tables.specs.Messages as messages
 use Rattle.step_tables.specs.Sayings.{Saying, SaysNothing, SaysEntry, SaysBack, saying}
 use Rattle.step_tables.specs.StoreMoves.{StoreDisk, StoreTask, TableStore, changed}
-use Rattle.step_tables.proofs.Lists.{among_left}
 use Rattle.world_tables.specs.Again.{may_repeat}
-use Rattle.store_laws.specs.Part.{Known, IsLawful, IsNext, Tells, TellsAll, IsLate, IsOutcome, IsAnswer, Answers, IsTold, IsUntold, IsResting, Runs, IsAt, StorePart}
+use Rattle.store_laws.specs.Part.{Known, IsLawful, IsNext, Tells, TellsAll, IsLate, IsOutcome, IsAnswer, Answers, IsResting, Runs, IsAt, StorePart}
 
 -- what survives one more item survives all that is told
 module _ (g : Scheme) (table : ℕ) (K : Known) (P : List Stored → Type 0) (step : (h : List Stored) (i : Stored) → IsNext g K h i → P h → P (h ++ i ∷ [])) where
@@ -74,6 +72,7 @@ module _ (g : Scheme) (table : ℕ) (K L : Known) (more : (c : ℕ) (row : List 
   outcome_knows h response (messages.Late last) k = k
   outcome_knows h response (messages.Stale last) k = (k.0, late_knows h response.client response.row response.number last k.1)
   outcome_knows h response (messages.Conflict last) k = (k.0, late_knows h response.client response.row response.number last k.1)
+  outcome_knows h response messages.NeedWhole k = k
 
   answers_know : (h : List Stored) (sends : List Send) → Answers g table K h sends → Answers g table L h sends
   answers_know h [] a = tt

@@ -1,12 +1,12 @@
 -- Each move of a table at the Store keeps its part.
 use Rattle.std.proofs.Common.{◌≤◌, ◌<◌, ◌≡◌, ◌≢◌, ◌⊎◌, ℕ, ◌+◌, Bool, true, false, List, [], ◌∷◌, ◌++◌, length, Option, Some, None, refl, sym, ap, ◌∙◌, subst, arith, inl, inr, ⊎_elim}
-use Rattle.std.specs.Prelude.{◌==◌, nat_lt, option_map, if◌then◌else◌}
+use Rattle.std.specs.Prelude.{◌==◌, ◌&&◌, nat_lt, option_map, if◌then◌else◌}
 use Rattle.std.proofs.lemmas.Bool.Decides.{nat_tests}
 use Rattle.stab_base.specs.declared.node.Node.{Node}
 use Rattle.row_value.specs.declared.schema.Scheme.{Scheme}
 use Rattle.row_value.specs.declared.schema.Scheme.TheVariants.{Strong, Causal, Eventual}
 use Rattle.table_model.specs.Last.{last_where}
-use Rattle.step_tables.specs.Store.{Stored, current_of, next_changed, version_or}
+use Rattle.step_tables.specs.Store.{Stored, current_of, next_changed}
 use Rattle.step_tables.specs.Facts.{Fact, Answer}
 use Rattle.step_tables.specs.Facts as facts
 use Rattle.step_tables.specs.Members.{Among}
@@ -14,17 +14,17 @@ use Rattle.step_tables.specs.Messages.{Request, Response, Pull, Pulled, Header, 
 use Rattle.step_tables.specs.Messages as messages
 use Rattle.step_tables.specs.Sayings.{Saying, SaysNothing, SaysEntry, SaysBack, saying}
 use Rattle.stab_base.specs.declared.chunk_name.ChunkName.{ChunkName}
-use Rattle.step_tables.specs.Chunks.{without_names, rising, new_names, names_with, old_names}
-use Rattle.step_tables.specs.StoreMoves.{StoreDisk, StoreTask, TableStore, StoreMove, StoreStep, Open, PutChunk, Put, DropChunk, Close, Take, Work, Crash, Start, quiet, down, changed, done, crashed}
+use Rattle.step_tables.specs.Chunks.{without_names, rising, new_names, names_with, old_names, is_spelled}
+use Rattle.step_tables.specs.StoreMoves.{StoreDisk, StoreTask, TableStore, StoreMove, Open, Put, Close, Take, Work, Crash, Start, quiet, changed, done, crashed}
 use Rattle.step_tables.specs.StoreMoves.{failed, worked, item_at, ends_with, drops, recovering, recovered, recover, started, takes, outdated, responded, sending, item_for, puts, accepting, version_of}
-use Rattle.step_tables.specs.StoreMoves.{judged, pair_of, is_by, yours_in}
-use Rattle.step_tables.specs.StoreMoves.{decided, header_for, pulled_for, answered, taken, store_step}
-use Rattle.step_tables.specs.Items.{latest, IsItemOf, IsItemAt, IsBase, IsYours, IsChange}
+use Rattle.step_tables.specs.StoreMoves.{unaccepted, keeps_there, judged, pair_of, is_by, yours_in}
+use Rattle.step_tables.specs.StoreMoves.{decided, header_for, pulled_for, answered, asked, taken, store_step}
+use Rattle.step_tables.specs.Items.{latest, IsBase, IsYours, IsChange}
 use Rattle.step_tables.proofs.Lists.{among_push, among_left, among_cases}
 use Rattle.world_tables.specs.Again.{may_repeat}
-use Rattle.store_laws.specs.Part.{Known, Knows, Counts, IsLawful, IsNext, Tells, TellsAll, IsWayTo, IsLate, IsOutcome, IsHeader, Answers, IsTold, IsUntold, IsResting, Runs, IsAt, StorePart, IsAsked}
+use Rattle.store_laws.specs.Part.{Known, IsLawful, IsNext, Tells, TellsAll, IsWayTo, IsLate, IsOutcome, IsHeader, Answers, IsTold, IsResting, Runs, IsAt, StorePart, IsAsked}
 use Rattle.store_laws.specs.Part.{IsFair, StoreLaw}
-use Rattle.store_laws.proofs.Items.{Counts-push, counted_up, one_version, item_at-is, item_at-none, pushed_at, current_is, latest_most, latest_item, base_low, own_is, own_none, own_last, next_is}
+use Rattle.store_laws.proofs.Items.{Counts-push, counted_up, one_version, item_at-is, item_at-none, pushed_at, latest_most, latest_item, base_low, own_is, own_none, own_last, next_is}
 use Rattle.store_laws.proofs.Items.{IsNextChange}
 
 module _ (g : Scheme) (table : ℕ) (K : Known) where
@@ -191,7 +191,7 @@ module _ (g : Scheme) (table : ℕ) (K : Known) where
 
       -- the whole agenda of the next item goes well
       accepts : (i : Stored) → IsNext g K h i → i.entry.client ≡ q.client → i.entry.number ≡ q.number → i.entry.row ≡ q.row → Runs g table K h d (accepting size table d.items from q i)
-      accepts i n client number row = (p.0, inl here, (h, refl, tt, puts_run h opened (new_names size d.items i) _ here placing))
+      accepts i n client number row = (p.0, inl here, (h, refl, tt, puts_run h opened (new_names size i) _ here placing))
         where
           later : List Stored
           later = h ++ i ∷ []
@@ -229,10 +229,10 @@ module _ (g : Scheme) (table : ℕ) (K : Known) where
               )
 
           placing : (left : List ChunkName) → Runs g table K h (record opened { left = left })
-              (ends_with (Put i (names_with size d.items i) (old_names size d.items i)) (facts.Accepted table i.entry) ∷ (drops (old_names size d.items i)
+              (ends_with (Put i (names_with size i) (old_names size d.items i)) (facts.Accepted table i.entry) ∷ (drops (old_names size d.items i)
               ++ record { change = Close; facts = []; sends = responded from q (messages.Accepted i.entry.version) ∷ [] } ∷ []))
           placing left =
-              let now : List ChunkName = without_names (names_with size d.items i) left ++ old_names size d.items i in (
+              let now : List ChunkName = without_names (names_with size i) left ++ old_names size d.items i in (
                 told_with h opened left here,
                 inr (record { item = i; pending = refl; items = put_items; next = n }),
                 (
@@ -279,10 +279,10 @@ module _ (g : Scheme) (table : ℕ) (K : Known) where
 
       judged_law : Above → StoreLaw g table K h (judged g size table d from q (version_of (current_of d.items q.row)))
       judged_law above =
-          subst (λ (xs : List Stored). StoreLaw g table K h (if takes g q.base (version_of (current_of xs q.row))
+          subst (λ (xs : List Stored). StoreLaw g table K h (if takes g q.base (version_of (current_of xs q.row)) && keeps_there size xs q
           then quiet d (Some (accepting size table xs from q (item_for xs q))) facts.Done
-          else sending d (responded from q (outdated g (version_of (current_of xs q.row))) ∷ [])))
-          (sym p.0.items) (go (takes g q.base (latest h q.row)) refl)
+          else sending d (responded from q (unaccepted g q.base (version_of (current_of xs q.row))) ∷ [])))
+          (sym p.0.items) (go (takes g q.base (latest h q.row)) refl (keeps_there size h q))
         where
           next : takes g q.base (latest h q.row) ≡ true → IsNext g K h (item_for h q)
           next is = record {
@@ -293,12 +293,13 @@ module _ (g : Scheme) (table : ℕ) (K : Known) where
             rises = above;
           }
 
-          go : (b : Bool) → takes g q.base (latest h q.row) ≡ b → StoreLaw g table K h (if b
+          go : (b : Bool) → takes g q.base (latest h q.row) ≡ b → (there : Bool) → StoreLaw g table K h (if b && there
               then quiet d (Some (accepting size table h from q (item_for h q))) facts.Done
-              else sending d (responded from q (outdated g (latest h q.row)) ∷ []))
-          go true is = still d (Some (accepting size table h from q (item_for h q))) facts.Done
+              else sending d (responded from q (if b then messages.NeedWhole else outdated g (latest h q.row)) ∷ []))
+          go true is true = still d (Some (accepting size table h from q (item_for h q))) facts.Done
               (subst (λ (xs : List Stored). Runs g table K h d (accepting size table xs from q (item_for h q))) p.0.items (accepts (item_for h q) (next is) refl refl refl))
-          go false is =
+          go true is false = responds messages.NeedWhole tt
+          go false is there =
               let k = takes_not g q.base (latest h q.row) is in
               responds (outdated g (latest h q.row)) (outdated_is g refl k.1 (late above k.0))
 
@@ -374,6 +375,16 @@ module _ (g : Scheme) (table : ℕ) (K : Known) where
         ((fair.0, fair.1, header_is pull (next_changed pull.position h) refl), tt) in
         sends_law d _ p (rw p.0.items answer)
 
+    -- a request is judged where it spells its chunks
+    asked_law : (size : ℕ) (d : StoreDisk) (from : Node) (q : Request) → IsAsked table K h from q → Runs g table K h d [] → StoreLaw g table K h (asked g size table d from q)
+    asked_law size d from q fair p = by_spelling (is_spelled size q.content q.pieces)
+      where
+        by_spelling : (b : Bool) → StoreLaw g table K h (if b then decided g size table d from q (yours_in d.items q.client q.row) else quiet d (Some []) facts.Done)
+        by_spelling true =
+            subst (λ (xs : List Stored). StoreLaw g table K h (decided g size table d from q (yours_in xs q.client q.row))) (sym p.0.items)
+            (decided_law size d p from q fair (last_where (is_by q.client q.row) h) refl)
+        by_spelling false = still d (Some []) facts.Done p
+
     take_law : (size : ℕ) (d : StoreDisk) (agenda : Option (List StoreTask)) (from : Node) (message : Message) → IsFair table K h (Take from message) → IsAt g table K h d agenda
         → StoreLaw g table K h (taken g size table d agenda from message)
     take_law size d None from message f p = still d None _ p
@@ -381,10 +392,7 @@ module _ (g : Scheme) (table : ℕ) (K : Known) where
     take_law size d (Some []) from (SyncResponse response) f p = still d (Some []) _ p
     take_law size d (Some []) from (PullResponse pulled) f p = still d (Some []) _ p
     take_law size d (Some []) from (PullRequest pull) f p = answered_law d from pull f p
-    take_law size d (Some []) from (SyncRequest request) f p =
-        let k : StoreLaw g table K h (decided g size table d from request (yours_in h request.client request.row)) =
-        decided_law size d p from request f (last_where (is_by request.client request.row) h) refl in
-        subst (λ (xs : List Stored). StoreLaw g table K h (decided g size table d from request (yours_in xs request.client request.row))) (sym p.0.items) k
+    take_law size d (Some []) from (SyncRequest request) f p = asked_law size d from request f p
 
   pub store_law : (store size : ℕ) (h : List Stored) (s : TableStore) (move : StoreMove) → IsFair table K h move → StorePart g table K h s → StoreLaw g table K h (store_step store g size table s move)
   store_law store size h s (Take from message) f p = take_law h p.lawful size s.disk s.agenda from message f p.state

@@ -14,9 +14,9 @@ use Rattle.step_tables.specs.Messages.{Request, Response, Pull, Pulled, Header, 
 use Rattle.step_tables.specs.Messages.{SyncResponse, PullRequest, PullResponse}
 use Rattle.step_tables.specs.Messages as messages
 use Rattle.step_tables.specs.Sayings.{Saying, SaysNothing, SaysEntry, SaysBack, saying}
-use Rattle.step_tables.specs.StoreMoves.{StoreDisk, StoreTask, TableStore, StoreStep, StoreMove, Take, Work, Crash}
-use Rattle.step_tables.specs.StoreMoves.{Start, changed}
-use Rattle.step_tables.specs.Items.{latest, IsItemOf, IsItemAt, IsBase, IsYours, IsChange}
+use Rattle.step_tables.specs.StoreMoves.{StoreDisk, StoreTask, TableStore, StoreStep, StoreMove, Take}
+use Rattle.step_tables.specs.StoreMoves.{changed}
+use Rattle.step_tables.specs.Items.{latest, IsItemOf, IsItemAt, IsBase, IsChange}
 use Rattle.world_tables.specs.Again.{may_repeat}
 
 -- what is known of a sent write: client, row, number, base, content
@@ -101,6 +101,7 @@ IsOutcome g K h response (messages.Stale last) =
     (g ≡ Strong) × IsLate K h response.client response.row response.number last
 IsOutcome g K h response (messages.Conflict last) =
     (g ≡ Causal) × IsLate K h response.client response.row response.number last
+IsOutcome g K h response messages.NeedWhole = Unit {0}
 
 abbrev pub IsHeader : List Stored → Pulled → Option Header → Type 0
 IsHeader h pulled None = Unit {0}

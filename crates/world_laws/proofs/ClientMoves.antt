@@ -1,33 +1,26 @@
 -- A move of a client keeps the world.
-use Rattle.std.proofs.Common.{◌≡◌, ◌≢◌, ◌⊎◌, ℕ, ◌+◌, ◌<◌, ◌≤◌, Bool, true, false, List, [], ◌∷◌, ◌++◌, length, Option, Some, None, refl, sym, ap, ◌∙◌, subst, arith, inl, inr, ⊎_elim, true≢false}
-use Rattle.std.specs.Prelude.{map}
-use Rattle.stab_base.specs.declared.node.Node.{Node}
+use Rattle.std.proofs.Common.{◌≡◌, ◌≢◌, ℕ, false, List, [], ◌∷◌, ◌++◌, Some, None, sym, ap, ◌∙◌, subst, arith, ⊎_elim, true≢false}
 use Rattle.stab_base.specs.declared.node.Node.TheVariants as nodes
 use Rattle.row_value.specs.declared.content.Content.{Content}
 use Rattle.row_value.specs.declared.schema.Scheme.{Scheme}
-use Rattle.row_value.specs.declared.schema.Scheme.TheVariants.{Strong, Causal, Eventual}
 use Rattle.table_model.specs.declared.entry.Entry.{Entry}
 use Rattle.table_model.specs.declared.line.Write.{Write}
-use Rattle.step_tables.specs.Store.{Stored, entries_of}
-use Rattle.step_tables.specs.Facts.{Fact}
 use Rattle.step_tables.specs.Members.{Among, put}
 use Rattle.step_tables.specs.Messages.{Request, Response, Outcome, Message, Send, SyncRequest, SyncResponse, PullRequest, PullResponse}
 use Rattle.step_tables.specs.Messages as messages
-use Rattle.step_tables.specs.Sayings.{Heard, nothing_heard, own_all, Said, hear_all, hear_lines, write_of}
+use Rattle.step_tables.specs.Sayings.{Heard, nothing_heard, own_all, Said, hear_all, write_of}
 use Rattle.step_tables.specs.ClientMoves.{Client, ClientMove, ClientStep}
-use Rattle.step_tables.proofs.Lists.{among_push, among_left, among_right, among_either, among_none, among_cons, among_here, among_next, among_map, among_mapped}
+use Rattle.step_tables.proofs.Lists.{among_left, among_right, among_either, among_none, among_cons, among_here}
 use Rattle.step_tables.proofs.Maps.{put_here, put_apart, put_cases}
-use Rattle.store_laws.specs.Part.{Known, IsLawful, StorePart, IsWayTo}
 use Rattle.store_laws.proofs.Items.{above, counted_up, one_version, latest_most}
 use Rattle.store_laws.proofs.Grows.{lawful_knows, store_knows}
 use Rattle.client_laws.specs.Part.{Items, Sending, sending_in, sendings, IsLapsed, Ours, OfTable, IsRequest, Requests, ClientPart, ClientLaw}
 use Rattle.client_laws.specs.Part as part
-use Rattle.world_tables.specs.World.{World, Packet, Hosted, Outbox, after_client, client_at, hosted_at, packets_from, address, lines_from}
-use Rattle.world_tables.specs.Sound.{AreSaid}
+use Rattle.world_tables.specs.World.{World, Packet, Outbox, after_client, client_at, packets_from, address}
 use Rattle.world_laws.proofs.Told.{SaidTold}
-use Rattle.world_laws.proofs.Kept.{KnownIn, IsGood, IsGone, IsLost, Lawful, IsFairMessage, IsFairPacket, Kept, MoveSound}
-use Rattle.world_laws.proofs.Lines.{FactsSaid, out_hear, out_said, all_told}
-use Rattle.world_laws.proofs.Changes.{own_writes, all_writes, SaysAll, all, good_all, good_sends, gone_facts}
+use Rattle.world_laws.proofs.Kept.{KnownIn, IsGood, IsGone, IsLost, IsFairMessage, IsFairPacket, Kept, MoveSound}
+use Rattle.world_laws.proofs.Lines.{out_hear, out_said, all_told}
+use Rattle.world_laws.proofs.Changes.{all_writes, SaysAll, all, good_all, good_sends, gone_facts}
 use Rattle.world_laws.proofs.Looks.{look_cases}
 
 module _ (g : ℕ → Scheme) where
@@ -67,6 +60,7 @@ module _ (g : ℕ → Scheme) where
     outcome_more r (messages.Again v) f = f
     outcome_more r (messages.Late v) f = f
     outcome_more r (messages.Conflict v) f = f
+    outcome_more r messages.NeedWhole f = f
     outcome_more r (messages.Stale v) f = (
       f.0,
       record {

@@ -2,7 +2,7 @@
 -- writes that these may begin.
 use Rattle.std.proofs.Common.{◌≡◌, ⊎_elim, ℕ, zero, suc, ◌+◌, ◌≤◌, Bool, true, false, List, [], ◌∷◌, ◌++◌, length, Option, Some, None, Result, Ok, Err, refl, sym, ◌∙◌, subst, arith, length-append}
 use Rattle.std.proofs.Common.{append-nil}
-use Rattle.std.specs.Prelude.{◌==◌, option_map, not, nat_le, nat_lt, drop, slice_get, if◌then◌else◌}
+use Rattle.std.specs.Prelude.{◌==◌, ◌&&◌, option_map, not, nat_le, nat_lt, drop, slice_get, if◌then◌else◌}
 use Rattle.std.specs.Ordering.{nat_cmp}
 use Rattle.std.specs.Map.{lookup}
 use Rattle.std.specs.BTreeMap.{is_at, insert_entry}
@@ -25,11 +25,11 @@ use Rattle.table_model.specs.declared.line.RowPair.{RowPair}
 use Rattle.conflicts.specs.declared.pair.Choice.{Choice}
 use Rattle.conflicts.specs.declared.pair.Choice.TheVariants as choices
 use Rattle.conflicts.specs.declared.stored.Stored as resolvers
-use Rattle.step_tables.specs.declared.slots.Main.{Main}
-use Rattle.step_tables.specs.declared.slots.InFlight.{InFlight}
-use Rattle.step_tables.specs.declared.slots.Shadow.{Shadow}
+use Rattle.step_tables.specs.Slots.{Main}
+use Rattle.step_tables.specs.Slots.{InFlight}
+use Rattle.step_tables.specs.Slots.{Shadow}
 use Rattle.step_tables.specs.Store.{Stored, current_of}
-use Rattle.step_tables.specs.Chunks.{rising, names_with, new_names, old_names}
+use Rattle.step_tables.specs.Chunks.{rising, names_with, new_names, old_names, is_spelled}
 use Rattle.step_tables.specs.Facts.{Fact, Answer}
 use Rattle.step_tables.specs.Facts as facts
 use Rattle.step_tables.specs.Messages.{Request, Response, Pulled, Header, Pair, Outcome, Message, Send, Luck, SyncRequest, SyncResponse, PullRequest, PullResponse, table_of}
@@ -81,10 +81,10 @@ puts_chunks (name ∷ names) = let rest = puts_chunks names in omega (arith, res
 accepting_puts : (size table : ℕ) (items : List Stored) (from : Node) (q : Request) (item : Stored) → puts_in (store.accepting size table items from q item) ≡ 1
 accepting_puts size table items from q item =
     let close : StoreTask = record { change = store.Close; facts = []; sends = store.responded from q (messages.Accepted item.entry.version) ∷ [] } in
-    let put : StoreTask = store.ends_with (store.Put item (names_with size items item) (old_names size items item)) (facts.Accepted table item.entry) in
-    let a = puts_join (store.puts (new_names size items item)) (put ∷ (store.drops (old_names size items item) ++ close ∷ [])) in
+    let put : StoreTask = store.ends_with (store.Put item (names_with size item) (old_names size items item)) (facts.Accepted table item.entry) in
+    let a = puts_join (store.puts (new_names size item)) (put ∷ (store.drops (old_names size items item) ++ close ∷ [])) in
     let b = puts_join (store.drops (old_names size items item)) (close ∷ []) in
-    let c = puts_chunks (new_names size items item) in
+    let c = puts_chunks (new_names size item) in
     let d = puts_drops (old_names size items item) in
     omega (arith, a, b, c, d)
 
@@ -130,10 +130,10 @@ started_few table d None = recover d.pending
 
 module _ (x : Scheme) (size table : ℕ) (d : StoreDisk) where
   judged_few : (from : Node) (q : Request) (current : ℕ) → versions_of (store.judged x size table d from q current).store ≤ length d.items + 1
-  judged_few from q current = go (store.takes x q.base current)
+  judged_few from q current = go (store.takes x q.base current && store.keeps_there size d.items q)
     where
       go : (b : Bool) → versions_of (if b then store.quiet d (Some (store.accepting size table d.items from q (store.item_for d.items q))) facts.Done
-          else store.sending d (store.responded from q (store.outdated x current) ∷ [])).store ≤ length d.items + 1
+          else store.sending d (store.responded from q (store.unaccepted x q.base current) ∷ [])).store ≤ length d.items + 1
       go true = let e = accepting_puts size table d.items from q (store.item_for d.items q) in omega (arith, e)
       go false = omega arith
 
@@ -147,10 +147,17 @@ module _ (x : Scheme) (size table : ℕ) (d : StoreDisk) where
       go false true = omega arith
       go false false = judged_few from q (store.version_of (current_of d.items q.row))
 
+  asked_few : (from : Node) (q : Request) → versions_of (store.asked x size table d from q).store ≤ length d.items + 1
+  asked_few from q = go (is_spelled size q.content q.pieces)
+    where
+      go : (b : Bool) → versions_of (if b then store.decided x size table d from q (store.yours_in d.items q.client q.row) else store.quiet d (Some []) facts.Done).store ≤ length d.items + 1
+      go true = decided_few from q (store.yours_in d.items q.client q.row)
+      go false = omega arith
+
   taken_few : (agenda : Option (List StoreTask)) (from : Node) (m : Message) → versions_of (store.taken x size table d agenda from m).store ≤ length d.items + puts_in (tasks_in agenda) + 1
   taken_few None from m = omega arith
   taken_few (Some (task ∷ more)) from m = omega arith
-  taken_few (Some []) from (SyncRequest q) = let e = decided_few from q (store.yours_in d.items q.client q.row) in omega (arith, e)
+  taken_few (Some []) from (SyncRequest q) = let e = asked_few from q in omega (arith, e)
   taken_few (Some []) from (PullRequest q) = omega arith
   taken_few (Some []) from (SyncResponse q) = omega arith
   taken_few (Some []) from (PullResponse q) = omega arith
@@ -286,12 +293,12 @@ module _ (n c : ℕ) (shape : Shape) (d : ClientDisk) (few : DiskUpTo n d) where
   same : d.last ≤ n + 1
   same = later.0
 
-  strong_up_to : (table : ℕ) (row : List ℕ) (slots : Slots) (x : Content) (o : Option InFlight) → IsUpTo (n + 1) (client.write_strong c shape d table row slots x o).client
-  strong_up_to table row slots x (Some out) = (later, tt)
-  strong_up_to table row slots x None = begun_up_to (n + 1) shape d facts.Done _ _ later next
+  strong_up_to : (size table : ℕ) (row : List ℕ) (slots : Slots) (x : Content) (o : Option InFlight) → IsUpTo (n + 1) (client.write_strong size c shape d table row slots x o).client
+  strong_up_to size table row slots x (Some out) = (later, tt)
+  strong_up_to size table row slots x None = begun_up_to (n + 1) shape d facts.Done _ _ later next
 
   by_up_to : (g : Scheme) (table : ℕ) (row : List ℕ) (opened : TableDisk) (slots : Slots) (x : Content) → IsUpTo (n + 1) (client.write_by g c shape d table row opened slots x).client
-  by_up_to Strong table row opened slots x = strong_up_to table row slots x (client.first_out opened.rows)
+  by_up_to Strong table row opened slots x = strong_up_to opened.schema.chunk table row slots x (client.first_out opened.rows)
   by_up_to Causal table row opened slots x = begun_up_to (n + 1) shape d facts.Done _ _ later next
   by_up_to Eventual table row opened slots x = begun_up_to (n + 1) shape d facts.Done _ _ later next
 
@@ -307,6 +314,12 @@ module _ (n c : ℕ) (shape : Shape) (d : ClientDisk) (few : DiskUpTo n d) where
   outcome_up_to table row opened slots out (messages.Late last) = (later, tt)
   outcome_up_to table row opened slots out (messages.Stale latest) = begun_up_to (n + 1) shape d facts.Done _ _ later same
   outcome_up_to table row opened slots out (messages.Conflict latest) = (later, tt)
+  outcome_up_to table row opened slots out messages.NeedWhole = by_whole out.whole
+    where
+      by_whole : (b : Bool) → IsUpTo (n + 1) (if b then client.ignored d
+          else client.begun shape d facts.Done (client.whole_plan d table row slots out) (client.request_for c table row (client.whole_out out) ∷ [])).client
+      by_whole true = (later, tt)
+      by_whole false = begun_up_to (n + 1) shape d facts.Done (client.whole_plan d table row slots out) (client.request_for c table row (client.whole_out out) ∷ []) later same
 
   response_up_to : (r : Response) (o : Option TableDisk) → IsUpTo (n + 1) (client.response_in c shape d r o).client
   response_up_to r None = (later, tt)
@@ -336,7 +349,7 @@ module _ (n c : ℕ) (shape : Shape) (d : ClientDisk) (few : DiskUpTo n d) where
     where
       taken : (o : Option Header) → IsUpTo (n + 1) (client.pulled_taken c shape d q opened o).client
       taken None = (later, tt)
-      taken (Some header) = go (q.from == opened.position)
+      taken (Some header) = go (client.comes_next q opened header)
         where
           go : (b : Bool) → IsUpTo (n + 1) (if b then client.row_taken c shape d q opened header (slots_at opened header.row) else client.ignored d).client
           go true = row_up_to q opened header (slots_at opened header.row)
@@ -392,7 +405,7 @@ module _ (n c : ℕ) (shape : Shape) (d : ClientDisk) (few : DiskUpTo n d) where
   sync_in_up_to : (agenda : List ClientTask) → TasksUpTo n agenda → (table : ℕ) (o : Option TableDisk) → IsUpTo (n + 1) (client.sync_in c shape d agenda table o).client
   sync_in_up_to agenda tasks table None = (later, later_tasks agenda tasks)
   sync_in_up_to (task ∷ more) tasks table (Some opened) = (later, later_tasks (task ∷ more) tasks)
-  sync_in_up_to [] tasks table (Some opened) = first_up_to table (client.resent c table opened.rows) (client.first_to_send opened.rows)
+  sync_in_up_to [] tasks table (Some opened) = first_up_to table (client.resent c table opened.rows) (option_map (client.row_out opened.schema.chunk) (client.first_to_send opened.rows))
 
   sync_up_to : (agenda : Option (List ClientTask)) → TasksUpTo n (tasks_in agenda) → (table : ℕ) → IsUpTo (n + 1) (client.sync_step c shape d agenda table).client
   sync_up_to None tasks table = (later, tt)

@@ -1,6 +1,6 @@
 -- Each move of a client answers in a form of its command.
 use Rattle.std.proofs.Common.{ℕ, Bool, true, false, List, [], ◌∷◌, Option, Some, None, Result, Ok, Err}
-use Rattle.std.specs.Prelude.{if◌then◌else◌, option_map, ◌==◌, nat_le, nat_lt}
+use Rattle.std.specs.Prelude.{if◌then◌else◌, option_map, ◌==◌, ◌&&◌, nat_le, nat_lt}
 use Rattle.row_value.specs.declared.content.Content.{Content}
 use Rattle.row_value.specs.declared.content.Content.TheVariants.{Gone, Row}
 use Rattle.row_value.specs.declared.schema.Scheme.{Scheme}
@@ -13,9 +13,9 @@ use Rattle.row_value.specs.declared.schema.Schema.{Schema}
 use Rattle.conflicts.specs.declared.pair.Choice.{Choice}
 use Rattle.conflicts.specs.declared.pair.Choice.TheVariants.{Mine, Theirs, New}
 use Rattle.conflicts.specs.declared.stored.Stored as resolvers
-use Rattle.step_tables.specs.declared.slots.Main.{Main}
-use Rattle.step_tables.specs.declared.slots.InFlight.{InFlight}
-use Rattle.step_tables.specs.declared.slots.Shadow.{Shadow}
+use Rattle.step_tables.specs.Slots.{Main}
+use Rattle.step_tables.specs.Slots.{InFlight}
+use Rattle.step_tables.specs.Slots.{Shadow}
 use Rattle.step_tables.specs.Facts.{Answer, Refusal, Shown, ShownSum}
 use Rattle.step_tables.specs.Facts as facts
 use Rattle.step_tables.specs.Sums.{by_digests, or_whole, sum_of}
@@ -23,12 +23,14 @@ use Rattle.step_tables.specs.Messages.{Request, Response, Pull, Pulled, Header, 
 use Rattle.step_tables.specs.Messages as messages
 use Rattle.stab_base.specs.declared.node.Node.{Node}
 use Rattle.step_tables.specs.Store.{current_of}
+use Rattle.step_tables.specs.Chunks.{is_spelled}
 use Rattle.step_tables.specs.StoreMoves as store
 use Rattle.step_tables.specs.StoreMoves.{StoreDisk, StoreTask}
 use Rattle.step_tables.specs.ClientMoves.{Slots, TableDisk, ClientDisk, ClientTask, Shape, RowOut, slots_at, table_at, seen, shown_in, show_answer, show_in, write_step, write_to}
 use Rattle.step_tables.specs.ClientMoves.{write_fitting, content_of, edit_made, edit_over, edit_in, edit_step}
 use Rattle.step_tables.specs.ClientMoves.{write_idle, write_free, write_by, write_strong, first_out, show_step, sync_step, sync_in, sync_first, resent, first_to_send, next_step, next_in, take_step}
 use Rattle.step_tables.specs.ClientMoves.{refused, phase_in, phase_step, choose, over_fitting, resolve_over, resolve_in, resolve_step, can_resolve, all_idle, all_fitting, all_in, all_step}
+use Rattle.step_tables.specs.ClientMoves.{row_out, request_for, whole_out, whole_plan, comes_next}
 use Rattle.step_tables.specs.ClientMoves.{response_in, response_taken, outcome_taken, pulled_in, pulled_taken, row_taken, top, begun, position_plan, row_plan, row_placed, next_pull}
 
 -- an answer with a number, or a refusal
@@ -82,12 +84,12 @@ by_done P done refuses (facts.Refuses r) f = refuses r
 by_done P done refuses other f = absurd f
 
 module _ (c : ℕ) (shape : Shape) (d : ClientDisk) where
-  strong_form : (table : ℕ) (row : List ℕ) (slots : Slots) (x : Content) (o : Option InFlight) → IsNumber (write_strong c shape d table row slots x o).answer
-  strong_form table row slots x None = tt
-  strong_form table row slots x (Some out) = tt
+  strong_form : (size table : ℕ) (row : List ℕ) (slots : Slots) (x : Content) (o : Option InFlight) → IsNumber (write_strong size c shape d table row slots x o).answer
+  strong_form size table row slots x None = tt
+  strong_form size table row slots x (Some out) = tt
 
   by_form : (g : Scheme) (table : ℕ) (row : List ℕ) (opened : TableDisk) (slots : Slots) (x : Content) → IsNumber (write_by g c shape d table row opened slots x).answer
-  by_form Strong table row opened slots x = strong_form table row slots x (first_out opened.rows)
+  by_form Strong table row opened slots x = strong_form opened.schema.chunk table row slots x (first_out opened.rows)
   by_form Causal table row opened slots x = tt
   by_form Eventual table row opened slots x = tt
 
@@ -152,7 +154,7 @@ module _ (c : ℕ) (shape : Shape) (d : ClientDisk) where
   sync_in_form : (agenda : List ClientTask) (table : ℕ) (o : Option TableDisk) → IsNumber (sync_in c shape d agenda table o).answer
   sync_in_form agenda table None = tt
   sync_in_form (task ∷ more) table (Some opened) = tt
-  sync_in_form [] table (Some opened) = first_form table (resent c table opened.rows) (first_to_send opened.rows)
+  sync_in_form [] table (Some opened) = first_form table (resent c table opened.rows) (option_map (row_out opened.schema.chunk) (first_to_send opened.rows))
 
   pub sync_form : (agenda : Option (List ClientTask)) (table : ℕ) → IsNumber (sync_step c shape d agenda table).answer
   sync_form None table = tt
@@ -233,6 +235,12 @@ module _ (c : ℕ) (shape : Shape) (d : ClientDisk) where
   outcome_form table row opened slots out (messages.Late v) = tt
   outcome_form table row opened slots out (messages.Stale v) = tt
   outcome_form table row opened slots out (messages.Conflict v) = tt
+  outcome_form table row opened slots out messages.NeedWhole = by_whole out.whole
+    where
+      by_whole : (b : Bool) → IsDone (if b then record { client = record { disk = d; agenda = Some [] }; answer = facts.Done; facts = []; sends = [] }
+          else begun shape d facts.Done (whole_plan d table row slots out) (request_for c table row (whole_out out) ∷ [])).answer
+      by_whole true = tt
+      by_whole false = tt
 
   response_form : (r : Response) (opened : TableDisk) (o : Option InFlight) → IsDone (response_taken c shape d r opened o).answer
   response_form r opened None = tt
@@ -258,7 +266,7 @@ module _ (c : ℕ) (shape : Shape) (d : ClientDisk) where
 
   pulled_form : (q : Pulled) (opened : TableDisk) (o : Option Header) → IsDone (pulled_taken c shape d q opened o).answer
   pulled_form q opened None = tt
-  pulled_form q opened (Some hd) = go (q.from == opened.position)
+  pulled_form q opened (Some hd) = go (comes_next q opened hd)
     where
       go : (b : Bool) → IsDone (if b then row_taken c shape d q opened hd (slots_at opened hd.row)
           else record { client = record { disk = d; agenda = Some [] }; answer = facts.Done; facts = []; sends = [] }).answer
@@ -281,11 +289,11 @@ module _ (c : ℕ) (shape : Shape) (d : ClientDisk) where
 
 module _ (g : Scheme) (size table : ℕ) (d : StoreDisk) (from : Node) where
   judged_form : (q : Request) (current : ℕ) → IsDone (store.judged g size table d from q current).answer
-  judged_form q current = go (store.takes g q.base current)
+  judged_form q current = go (store.takes g q.base current && store.keeps_there size d.items q)
     where
       go : (b : Bool) → IsDone (if b
           then store.quiet d (Some (store.accepting size table d.items from q (store.item_for d.items q))) facts.Done
-          else store.sending d (store.responded from q (store.outdated g current) ∷ [])).answer
+          else store.sending d (store.responded from q (store.unaccepted g q.base current) ∷ [])).answer
       go true = tt
       go false = tt
 
@@ -299,10 +307,17 @@ module _ (g : Scheme) (size table : ℕ) (d : StoreDisk) (from : Node) where
       go false true = tt
       go false false = judged_form q (store.version_of (current_of d.items q.row))
 
+  asked_form : (q : Request) → IsDone (store.asked g size table d from q).answer
+  asked_form q = go (is_spelled size q.content q.pieces)
+    where
+      go : (b : Bool) → IsDone (if b then store.decided g size table d from q (store.yours_in d.items q.client q.row) else store.quiet d (Some []) facts.Done).answer
+      go true = decided_form q (store.yours_in d.items q.client q.row)
+      go false = tt
+
 pub taken_form : (g : Scheme) (size table : ℕ) (d : StoreDisk) (agenda : Option (List StoreTask)) (from : Node) (m : Message) → IsDone (store.taken g size table d agenda from m).answer
 taken_form g size table d None from m = tt
 taken_form g size table d (Some (task ∷ more)) from m = tt
-taken_form g size table d (Some []) from (SyncRequest q) = decided_form g size table d from q (store.yours_in d.items q.client q.row)
+taken_form g size table d (Some []) from (SyncRequest q) = asked_form g size table d from q
 taken_form g size table d (Some []) from (PullRequest q) = tt
 taken_form g size table d (Some []) from (SyncResponse q) = tt
 taken_form g size table d (Some []) from (PullResponse q) = tt

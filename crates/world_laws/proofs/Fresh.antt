@@ -1,18 +1,17 @@
 -- A client that has nothing keeps its part.
-use Rattle.std.proofs.Common.{◌≡◌, ◌≢◌, ℕ, ◌+◌, ◌≤◌, List, [], ◌∷◌, length, Option, Some, None, refl, sym, ap, ◌∙◌, subst, arith}
+use Rattle.std.proofs.Common.{◌≡◌, ℕ, List, [], Option, Some, None, refl, sym, subst, arith}
 use Rattle.std.specs.Prelude.{option_map}
 use Rattle.std.specs.Ordering.{nat_cmp}
 use Rattle.std.specs.Map.{lookup}
 use Rattle.std.specs.BTreeMap.{is_at}
 use Rattle.row_value.specs.declared.schema.Scheme.{Scheme}
 use Rattle.row_value.specs.declared.schema.Scheme.TheVariants.{Strong, Causal, Eventual}
-use Rattle.step_tables.specs.declared.slots.Main.{Main}
 use Rattle.step_tables.specs.Store.{Stored}
 use Rattle.step_tables.specs.Messages as messages
 use Rattle.step_tables.specs.Sayings.{nothing_heard, no_row, open_in}
-use Rattle.step_tables.specs.ClientMoves.{Slots, TableDisk, no_slots, slots_of, slots_in, slots_at, position_in}
+use Rattle.step_tables.specs.ClientMoves.{Slots, TableDisk, no_slots, slots_in, position_in}
 use Rattle.step_tables.proofs.Lists.{among_none}
-use Rattle.client_laws.specs.Part.{Items, Rising, RowTied, TableTied, IsOpened, Tied, main_for, ClientPart}
+use Rattle.client_laws.specs.Part.{Items, Rising, RowTied, main_for, ClientPart}
 use Rattle.world_tables.specs.World.{new_client}
 use Rattle.world_laws.proofs.Runs.{AreFresh, FreshParts}
 

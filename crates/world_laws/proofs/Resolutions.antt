@@ -10,8 +10,8 @@ use Rattle.row_value.specs.declared.schema.Scheme.{Scheme}
 use Rattle.conflicts.specs.declared.stored.Stored.{Stored}
 use Rattle.table_model.specs.declared.line.RowPair.{RowPair}
 use Rattle.table_model.specs.History.{same_row}
-use Rattle.step_tables.specs.declared.slots.Main.{Main}
-use Rattle.step_tables.specs.declared.slots.Shadow.{Shadow}
+use Rattle.step_tables.specs.Slots.{Main}
+use Rattle.step_tables.specs.Slots.{Shadow}
 use Rattle.step_tables.specs.Client.{row_cmp}
 use Rattle.step_tables.specs.Facts.{Answer, Refusal}
 use Rattle.step_tables.specs.Facts as facts

@@ -11,8 +11,8 @@ use Rattle.conflicts.specs.declared.stored.Stored.TheVariants as resolvers
 use Rattle.conflicts.specs.Stored.{chosen, larger_side, int_at}
 use Rattle.table_model.specs.declared.line.RowPair.{RowPair}
 use Rattle.table_model.specs.History.{same_row}
-use Rattle.step_tables.specs.declared.slots.Main.{Main}
-use Rattle.step_tables.specs.declared.slots.Shadow.{Shadow}
+use Rattle.step_tables.specs.Slots.{Main}
+use Rattle.step_tables.specs.Slots.{Shadow}
 use Rattle.step_tables.specs.Facts.{ClientFact}
 use Rattle.step_tables.specs.Facts as facts
 use Rattle.step_tables.specs.Members.{Among}

@@ -1,28 +1,28 @@
 -- What a table tells and sends keeps the world.
-use Rattle.std.proofs.Common.{◌≡◌, ◌≢◌, ◌⊎◌, ℕ, ◌+◌, ◌<◌, ◌≤◌, Bool, false, List, [], ◌∷◌, ◌++◌, length, Option, Some, None, refl, sym, ap, ◌∙◌, subst, arith, inl, inr, ⊎_elim}
+use Rattle.std.proofs.Common.{◌≡◌, ◌≢◌, ℕ, Bool, false, List, [], ◌∷◌, Option, Some, None, sym, ap, ◌∙◌, subst, ⊎_elim}
 use Rattle.stab_base.specs.declared.node.Node.{Node}
 use Rattle.row_value.specs.declared.schema.Schema.{Schema}
 use Rattle.row_value.specs.declared.schema.Scheme.{Scheme}
-use Rattle.row_value.specs.declared.schema.Scheme.TheVariants.{Strong, Causal, Eventual}
+use Rattle.row_value.specs.declared.schema.Scheme.TheVariants.{Strong}
 use Rattle.table_model.specs.declared.entry.Entry.{Entry}
 use Rattle.table_model.specs.declared.line.Write.{Write}
 use Rattle.step_tables.specs.Store.{Stored, entries_of}
 use Rattle.step_tables.specs.Facts.{Fact}
-use Rattle.step_tables.specs.Members.{Among, put}
+use Rattle.step_tables.specs.Members.{Among}
 use Rattle.step_tables.specs.Messages.{Request, Response, Pulled, Header, Outcome, Message, Send, SyncRequest, SyncResponse, PullRequest, PullResponse}
 use Rattle.step_tables.specs.Messages as messages
-use Rattle.step_tables.specs.Sayings.{Saying, SaysNothing, SaysEntry, SaysBack, saying, Heard, Said, hear, hear_all, hear_lines, entered, write_of}
+use Rattle.step_tables.specs.Sayings.{Saying, SaysNothing, SaysEntry, SaysBack, saying, Heard, Said, hear, hear_all, entered, write_of}
 use Rattle.step_tables.specs.StoreMoves.{StoreStep}
 use Rattle.step_tables.specs.Items.{IsItemOf, IsItemAt}
 use Rattle.step_tables.proofs.Lists.{among_either, among_none, among_cons}
-use Rattle.step_tables.proofs.Maps.{put_here, put_apart}
+use Rattle.step_tables.proofs.Maps.{put_here}
 use Rattle.store_laws.specs.Part.{Known, Tells, TellsAll, Answers, IsAnswer, IsLate, StorePart, StoreLaw, IsWayTo, IsWayBy}
 use Rattle.store_laws.specs.Part as store
 use Rattle.client_laws.specs.Part.{Items, Sending, IsRefused}
 use Rattle.client_laws.specs.Part as part
 use Rattle.world_tables.specs.Again.{may_repeat}
-use Rattle.world_tables.specs.World.{World, Packet, Hosted, Outbox, the_store, hosted_at, client_at, schema_at, after_table, packets_from, address, goes_on, history_on, lines_from}
-use Rattle.world_laws.proofs.Kept.{KnownIn, Lawful, IsFairMessage, IsFairPacket, nothing_there, Kept, MoveSound}
+use Rattle.world_tables.specs.World.{World, Packet, Hosted, Outbox, the_store, hosted_at, schema_at, after_table, packets_from, address, goes_on, history_on}
+use Rattle.world_laws.proofs.Kept.{KnownIn, IsFairMessage, IsFairPacket, nothing_there, Kept, MoveSound}
 use Rattle.world_laws.proofs.Lines.{out_hear, out_said}
 use Rattle.world_laws.proofs.Changes.{stands}
 use Rattle.world_laws.proofs.Looks.{look_cases}
@@ -127,6 +127,7 @@ module _ (client_grows : ClientGrows) (lapsed_grows : LapsedGrows) (g : ℕ → 
       outcome_here r (messages.Again v) same f = item_here r.client r.number r.table r.row v same f
       outcome_here r (messages.Late v) same f = tt
       outcome_here r (messages.Conflict v) same f = tt
+      outcome_here r messages.NeedWhole same f = tt
       outcome_here r (messages.Stale v) same f =
           subst (λ (z : ℕ). (g z ≡ Strong) × IsRefused r.client items (k.sent r.client) r.number z r.row v) (sym same) (f.0, refused_here r.client r.number r.row v f.1)
 

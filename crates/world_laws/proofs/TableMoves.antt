@@ -1,9 +1,8 @@
 -- A move of a table at the Store keeps the world.
-use Rattle.std.proofs.Common.{◌≡◌, ◌≢◌, ◌⊎◌, ℕ, ◌+◌, ◌<◌, ◌≤◌, Bool, true, false, List, [], ◌∷◌, ◌++◌, length, Option, Some, None, refl, sym, ap, ◌∙◌, subst, arith, inl, inr, ⊎_elim, true≢false}
-use Rattle.std.specs.Prelude.{map, nat_lt, ◌==◌, if◌then◌else◌}
+use Rattle.std.proofs.Common.{◌≡◌, ◌≢◌, ℕ, ◌+◌, ◌<◌, ◌≤◌, Bool, true, false, List, [], ◌∷◌, ◌++◌, length, Option, Some, None, refl, sym, ap, ◌∙◌, subst, arith, inl, inr, ⊎_elim}
+use Rattle.std.specs.Prelude.{nat_lt, if◌then◌else◌}
 use Rattle.std.proofs.lemmas.Bool.Decides.{nat_tests}
 use Rattle.std.proofs.lemmas.List.{length_push}
-use Rattle.stab_base.specs.declared.node.Node.{Node}
 use Rattle.row_value.specs.declared.schema.Scheme.{Scheme}
 use Rattle.row_value.specs.declared.schema.Scheme.TheVariants.{Strong, Causal, Eventual}
 use Rattle.table_model.specs.declared.entry.Entry.{Entry}
@@ -14,21 +13,19 @@ use Rattle.step_tables.specs.Facts.{Fact}
 use Rattle.step_tables.specs.Members.{Among, put}
 use Rattle.step_tables.specs.Messages.{Request, Response, Pulled, Header, Pair, Outcome, Message, Send, SyncRequest, SyncResponse, PullRequest, PullResponse}
 use Rattle.step_tables.specs.Messages as messages
-use Rattle.step_tables.specs.Sayings.{Saying, SaysNothing, SaysEntry, SaysBack, saying, Heard, Said, hear, hear_all, hear_lines, entered, write_of}
-use Rattle.step_tables.specs.StoreMoves.{StoreStep}
+use Rattle.step_tables.specs.Sayings.{Saying, SaysNothing, SaysEntry, SaysBack, saying, Heard, Said, hear, hear_all, entered, write_of}
 use Rattle.step_tables.specs.ClientMoves.{Client}
-use Rattle.step_tables.specs.Items.{latest, IsItemOf, IsItemAt, IsBase, IsYours, IsChange}
-use Rattle.step_tables.proofs.Lists.{among_push, among_left, among_right, among_cases, among_either, among_none, among_cons, among_here, among_next, same_row-is, same_row-refl, same_row_tells}
+use Rattle.step_tables.specs.Items.{latest, IsItemOf, IsBase, IsYours, IsChange}
+use Rattle.step_tables.proofs.Lists.{among_left, among_cases}
 use Rattle.step_tables.proofs.Maps.{put_here, put_apart, put_cases}
-use Rattle.store_laws.specs.Part.{Known, Counts, IsLawful, IsNext, Tells, TellsAll, Answers, IsAnswer, IsLate, StorePart, StoreLaw, IsWayTo, IsWayBy}
-use Rattle.store_laws.specs.Part as store
-use Rattle.store_laws.proofs.Items.{counted_up, above, latest_most, latest_item, latest-push, base_low}
+use Rattle.store_laws.specs.Part.{Counts, IsLawful, IsNext, Tells, TellsAll}
+use Rattle.store_laws.proofs.Items.{counted_up, latest_most, latest_item, latest-push}
 use Rattle.store_laws.proofs.Law.{grown, base_grows}
 use Rattle.client_laws.specs.Part.{Items, Sending, Spans, IsLapsed, IsRefused, Fits, ClientPart}
 use Rattle.client_laws.specs.Part as part
 use Rattle.world_tables.specs.Again.{may_repeat}
 use Rattle.world_tables.specs.World.{World, Packet, client_at}
-use Rattle.world_tables.specs.Sound.{IsWrite, HasNoEntry, IsOver, IsNew, IsSaid}
+use Rattle.world_tables.specs.Sound.{HasNoEntry, IsOver, IsNew, IsSaid}
 use Rattle.world_laws.proofs.Told.{SaidTold, told_step}
 use Rattle.world_laws.proofs.Kept.{KnownIn, IsGood, IsGone, IsLost, Lawful, IsFairMessage, IsFairPacket}
 use Rattle.world_laws.proofs.Lines.{FactsSaid}
@@ -307,6 +304,7 @@ module _ (client_grows : ClientGrows) (lapsed_grows : LapsedGrows) (g : ℕ → 
     outcome_at r (messages.Again v) f = item_of_at r.client r.number r.table r.row v f
     outcome_at r (messages.Late v) f = f
     outcome_at r (messages.Conflict v) f = f
+    outcome_at r messages.NeedWhole f = f
     outcome_at r (messages.Stale v) f = (f.0, refused_at r.client r.number r.table r.row v f.0 f.1)
 
     packet_at : (p : Packet) → IsFairPacket g s.heard h sent p → IsFairPacket g s.heard Later sent p

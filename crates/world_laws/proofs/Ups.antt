@@ -1,6 +1,6 @@
 -- Where the Store isn't down, each of its tables is up.
 use Rattle.std.proofs.Common.{◌≡◌, ◌≢◌, ◌⊎◌, inl, inr, ℕ, zero, suc, Bool, true, false, List, [], ◌∷◌, length, Option, Some, None, refl, sym, ap, ◌∙◌, subst, arith, ⊎_elim, true≢false}
-use Rattle.std.specs.Prelude.{◌+◌, ◌==◌, ◌||◌, not, nat_lt, drop, slice_get, if◌then◌else◌}
+use Rattle.std.specs.Prelude.{◌+◌, ◌==◌, ◌&&◌, ◌||◌, not, nat_lt, drop, slice_get, if◌then◌else◌}
 use Rattle.std.specs.List.{find}
 use Rattle.std.proofs.lemmas.Bool.Decides.{nat_tests}
 use Rattle.std.specs.Ordering.{nat_cmp}
@@ -22,6 +22,7 @@ use Rattle.step_tables.specs.Facts as facts
 use Rattle.step_tables.specs.Members.{Among}
 use Rattle.step_tables.specs.Messages.{Request, Pair, Message, Luck, SyncRequest, SyncResponse, PullRequest, PullResponse, table_of}
 use Rattle.step_tables.specs.Messages as messages
+use Rattle.step_tables.specs.Chunks.{is_spelled}
 use Rattle.step_tables.specs.StoreMoves as store
 use Rattle.step_tables.specs.StoreMoves.{StoreDisk, StoreTask, StoreMove, StoreStep}
 use Rattle.step_tables.specs.ClientMoves as client
@@ -57,10 +58,10 @@ start_up up table hosted at = absurd cc
 
 module _ (x : Scheme) (size table : ℕ) (d : StoreDisk) where
   judged_up : (from : Node) (q : Request) (current : ℕ) → IsUpAt (store.judged x size table d from q current).store.agenda
-  judged_up from q current = go (store.takes x q.base current)
+  judged_up from q current = go (store.takes x q.base current && store.keeps_there size d.items q)
     where
       go : (b : Bool) → IsUpAt (if b then store.quiet d (Some (store.accepting size table d.items from q (store.item_for d.items q))) facts.Done
-          else store.sending d (store.responded from q (store.outdated x current) ∷ [])).store.agenda
+          else store.sending d (store.responded from q (store.unaccepted x q.base current) ∷ [])).store.agenda
       go true = (_, refl)
       go false = ([], refl)
 
@@ -74,9 +75,16 @@ module _ (x : Scheme) (size table : ℕ) (d : StoreDisk) where
       go false true = ([], refl)
       go false false = judged_up from q (store.version_of (current_of d.items q.row))
 
+  asked_up : (from : Node) (q : Request) → IsUpAt (store.asked x size table d from q).store.agenda
+  asked_up from q = go (is_spelled size q.content q.pieces)
+    where
+      go : (b : Bool) → IsUpAt (if b then store.decided x size table d from q (store.yours_in d.items q.client q.row) else store.quiet d (Some []) facts.Done).store.agenda
+      go true = decided_up from q (store.yours_in d.items q.client q.row)
+      go false = ([], refl)
+
   taken_up : (agenda : List StoreTask) (from : Node) (m : Message) → IsUpAt (store.taken x size table d (Some agenda) from m).store.agenda
   taken_up (task ∷ more) from m = (task ∷ more, refl)
-  taken_up [] from (SyncRequest q) = decided_up from q (store.yours_in d.items q.client q.row)
+  taken_up [] from (SyncRequest q) = asked_up from q
   taken_up [] from (PullRequest q) = ([], refl)
   taken_up [] from (SyncResponse q) = ([], refl)
   taken_up [] from (PullResponse q) = ([], refl)

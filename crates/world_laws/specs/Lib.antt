@@ -6,3 +6,4 @@ pub mod Begun
 pub mod Resolving
 pub mod WorkedEdits
 pub mod WorkedConflicts
+pub mod WorkedPieces

@@ -8,8 +8,8 @@ use Rattle.conflicts.specs.declared.stored.Stored.{Stored}
 use Rattle.conflicts.specs.Stored.{chosen}
 use Rattle.table_model.specs.declared.line.RowPair.{RowPair}
 use Rattle.table_model.specs.History.{same_row}
-use Rattle.step_tables.specs.declared.slots.Main.{Main}
-use Rattle.step_tables.specs.declared.slots.Shadow.{Shadow}
+use Rattle.step_tables.specs.Slots.{Main}
+use Rattle.step_tables.specs.Slots.{Shadow}
 use Rattle.step_tables.specs.Members.{Among}
 use Rattle.step_tables.specs.ClientMoves.{Slots, Client, no_slots, slots_of, seen}
 use Rattle.world_tables.specs.World.{World, client_at, client_pairs}

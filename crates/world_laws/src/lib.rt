@@ -48,6 +48,7 @@ ghost use Rattle.world_laws.specs.WorkedCrashes.{failed_declaration_written, cra
 ghost use Rattle.world_laws.specs.WorkedCrashes.{crash_between_chunks_written, crash_behind_chunks};
 ghost use Rattle.world_laws.specs.WorkedCrashes.{crash_behind_chunks_written, forward, two_tables};
 ghost use Rattle.world_laws.specs.WorkedCrashes.{two_tables_written, loud, nameless};
+ghost use Rattle.world_laws.specs.WorkedPieces.{sent_whole, sent_whole_written};
 
 /// What the fold of the lines has of a client is what the whole list of lines says: the versions read are the greatest
 /// that lines name, with conflicts and without, a position is the greatest, and a number's conflict is the last that
@@ -155,6 +156,12 @@ pub fn a_strong_refusal()
 pub fn an_object_in_place_of_another()
     ensures run { turns object_update ≡ object_update_written }
     ensures chunks { AreChunks (said_by object_update_written) 1 64 object_names }
+{}
+
+/// A write that keeps a chunk which another client's took away, computed: the Store asks for the whole, and where its
+/// answer comes twice the client sends that once. It is accepted, and the client's next write keeps a chunk of it.
+pub fn a_write_that_is_sent_whole()
+    ensures { turns sent_whole ≡ sent_whole_written }
 {}
 
 /// Other names aren't those of the chunks: where one is missing, where they stand in another order, and where one has a

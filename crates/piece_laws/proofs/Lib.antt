@@ -1,0 +1,13 @@
+pub mod Members
+pub mod Linked
+pub mod Gone
+pub mod Tables
+pub mod Outs
+pub mod Disks
+pub mod Rows
+pub mod Moves
+pub mod Worlds
+pub mod Along
+pub mod Ready
+pub mod Events
+pub mod Runs

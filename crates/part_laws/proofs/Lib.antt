@@ -1,0 +1,10 @@
+pub mod Lengths
+pub mod Answers
+pub mod Cuts
+pub mod Members
+pub mod Names
+pub mod Wholes
+pub mod Stores
+pub mod Clients
+pub mod Completed
+pub mod Arrived

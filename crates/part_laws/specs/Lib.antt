@@ -1,0 +1,5 @@
+pub mod Lengths
+pub mod Gathers
+pub mod Answers
+pub mod Completed
+pub mod Arrived

@@ -7,8 +7,7 @@ Its disks never fail but in a crash, and are those in memory: of the four calls 
 mark, so that a crash with K of 3 and more finds the write done, with K of 2 where a byte of the mark landed.
 
 Of an object only the chunks that have changed travel, each in a packet of its own. With the one word `--whole` contents
-travel whole: each chunk counts as changed and goes in the packet of its message, and the Store finds what it has
-already."""
+travel whole: chunks go in the packet of their message, and of an answer with a row each counts as changed."""
 import hashlib
 import itertools
 import sys
@@ -251,14 +250,6 @@ def same_data(old, chunk):
 
 def names_in(objects):
     return [chunk.name for chunks in objects for chunk in chunks]
-
-
-def renamed(before, objects, version):
-    """Where contents travel whole: a chunk that the row has at its place keeps that one's name; the others have new
-    names, by rising ordinal."""
-    ordinals = itertools.count()
-    return against(before, objects, lambda old, chunk: old if same_data(old, chunk) else
-                   Chunk(ChunkName(version, next(ordinals)), chunk.data))
 
 
 def joined(content, objects):
@@ -518,8 +509,6 @@ class StoreTable(Node):
         version = len(self.items) + 1
         objects = completed(assembly, self.kept_in(assembly),
                             lambda piece, data: Chunk(ChunkName(version, piece.ordinal), data))
-        if self.is_whole:
-            objects = renamed(self.chunks_of(q.row), objects, version)
         return Item(q.row, version, q.client, q.number, q.base, joined(q.content, objects), objects)
 
     def accept(self, item, answer):
@@ -781,8 +770,7 @@ class Client(Node):
     def out_of(self, main, base, shadow):
         """A write that is sent over a base, by its pieces against what was read last."""
         content, objects = main.held
-        pieces = all_fresh(content, objects) if self.is_whole else changed_in(content, shadow, objects)
-        return InFlight(main.number, main.read, base, main.held, pieces, False)
+        return InFlight(main.number, main.read, base, main.held, changed_in(content, shadow, objects), False)
 
     def request(self, table, row, out):
         """A request, and its fragments."""

@@ -36,7 +36,8 @@ use Rattle.step_tables.specs.Facts.{ClientFact, Fact, Answer, Refusal, Shown}
 use Rattle.step_tables.specs.Sums.{by_digests}
 use Rattle.step_tables.specs.Facts as facts
 use Rattle.step_tables.specs.Messages.{Response, Pulled, Header, Pair, Outcome, Message, Send, Luck, SyncRequest}
-use Rattle.step_tables.specs.Messages.{SyncResponse, PullRequest, PullResponse}
+use Rattle.step_tables.specs.Messages.{SyncResponse, PullRequest, PullResponse, TornPulled, TornRowRequest}
+use Rattle.step_tables.specs.Messages.{TornRowResponse}
 use Rattle.step_tables.specs.Messages as messages
 
 -- ---- state
@@ -112,7 +113,7 @@ pub data ClientMove : Type 0 where
   Show : (table : ℕ) → (row : List ℕ) → ClientMove
   Sum : (table : ℕ) → (row : List ℕ) → ClientMove
   Sync : (table : ℕ) → ClientMove
-  Next : (table : ℕ) → ClientMove
+  Next : (table : ℕ) → (tears asks : List (List ℕ)) → ClientMove
   BeginCr : (table : ℕ) → ClientMove
   Conflicts : (table : ℕ) → ClientMove
   EndCr : (table : ℕ) → ClientMove
@@ -581,17 +582,29 @@ abbrev pub sync_step : ℕ → Shape → ClientDisk → Option (List ClientTask)
 sync_step c shape d None table = down d
 sync_step c shape d (Some agenda) table = sync_in c shape d agenda table (table_at (seen d) table)
 
--- ---- the next change
+-- ---- the next change; or some rows are told as torn, and some are asked for whole in its place
 
-abbrev pub next_in : ℕ → Shape → ClientDisk → List ClientTask → ℕ → Option TableDisk → ClientStep
-next_in c shape d agenda table None = quiet d (Some agenda) (facts.Refuses facts.NoTable)
-next_in c shape d (task ∷ more) table (Some opened) =
+abbrev pub torn_from : ℕ → ℕ → List ℕ → Send
+torn_from c table row = to_owner (TornRowRequest (record { client = c; table = table; row = row }))
+
+abbrev pub next_from : ℕ → ℕ → ℕ → List (List ℕ) → List Send
+next_from c table position [] = pull_from c table position ∷ []
+next_from c table position (row ∷ rows) = map (torn_from c table) (row ∷ rows)
+
+abbrev pub next_in : ℕ → Shape → ClientDisk → List ClientTask → ℕ → List (List ℕ) → List (List ℕ) → Option TableDisk
+    → ClientStep
+next_in c shape d agenda table tears asks None = quiet d (Some agenda) (facts.Refuses facts.NoTable)
+next_in c shape d (task ∷ more) table tears asks (Some opened) =
     quiet d (Some (task ∷ more)) (facts.Refuses (facts.Busy shape.plan))
-next_in c shape d [] table (Some opened) = record (ignored d) { sends = pull_from c table opened.position ∷ [] }
+next_in c shape d [] table tears asks (Some opened) = record (ignored d) {
+  facts = map (facts.Torn c table) tears;
+  sends = next_from c table opened.position asks;
+}
 
-abbrev pub next_step : ℕ → Shape → ClientDisk → Option (List ClientTask) → ℕ → ClientStep
-next_step c shape d None table = down d
-next_step c shape d (Some agenda) table = next_in c shape d agenda table (table_at (seen d) table)
+abbrev pub next_step : ℕ → Shape → ClientDisk → Option (List ClientTask) → ℕ → List (List ℕ) → List (List ℕ)
+    → ClientStep
+next_step c shape d None table tears asks = down d
+next_step c shape d (Some agenda) table tears asks = next_in c shape d agenda table tears asks (table_at (seen d) table)
 
 -- ---- resolving: the row in conflict is read, and a new write stands over it, or none
 
@@ -870,6 +883,32 @@ abbrev pub pulled_in : ℕ → Shape → ClientDisk → Pulled → Option TableD
 pulled_in c shape d pulled None = ignored d
 pulled_in c shape d pulled (Some opened) = pulled_taken c shape d pulled opened pulled.header
 
+-- ---- a row that was asked for whole: behind it, the next change is asked for
+
+abbrev pub torn_plan : ClientDisk → ℕ → List ℕ → Placed → Plan
+torn_plan d table row x = slots_plan d table row x.slots x.facts
+
+-- a row that isn't newer than the one read changes no slot
+abbrev pub torn_row_taken : ℕ → Shape → ClientDisk → ℕ → TableDisk → Header → Slots → ClientStep
+torn_row_taken c shape d table opened header slots =
+    if nat_le header.version (top slots.conflict slots.shadow)
+    then record (ignored d) { sends = pull_from c table opened.position ∷ [] }
+    else begun shape d facts.Done
+    (torn_plan d table header.row (row_placed opened.schema.scheme c table header slots slots.out))
+    (pull_from c table opened.position ∷ [])
+
+-- one that doesn't name its chunks is dropped
+abbrev pub torn_taken : ℕ → Shape → ClientDisk → ℕ → TableDisk → Option Header → ClientStep
+torn_taken c shape d table opened None = record (ignored d) { sends = pull_from c table opened.position ∷ [] }
+torn_taken c shape d table opened (Some header) =
+    if is_named opened.schema.chunk header.content header.names
+    then torn_row_taken c shape d table opened header (slots_at opened header.row)
+    else ignored d
+
+abbrev pub torn_in : ℕ → Shape → ClientDisk → TornPulled → Option TableDisk → ClientStep
+torn_in c shape d answer None = ignored d
+torn_in c shape d answer (Some opened) = torn_taken c shape d answer.table opened answer.header
+
 -- a client at work doesn't take a message, and one that no rule takes is dropped
 abbrev pub take_step : ℕ → Shape → ClientDisk → Option (List ClientTask) → Message → ClientStep
 take_step c shape d None message = down d
@@ -879,6 +918,8 @@ take_step c shape d (Some []) (PullRequest pull) = ignored d
 take_step c shape d (Some []) (SyncResponse response) =
     response_in c shape d response (table_at (seen d) response.table)
 take_step c shape d (Some []) (PullResponse pulled) = pulled_in c shape d pulled (table_at (seen d) pulled.table)
+take_step c shape d (Some []) (TornRowRequest torn) = ignored d
+take_step c shape d (Some []) (TornRowResponse answer) = torn_in c shape d answer (table_at (seen d) answer.table)
 
 -- what a move makes of a client of this number, where its devices are written so beside
 abbrev pub client_step : ℕ → Shape → Client → ClientMove → ClientStep
@@ -887,7 +928,7 @@ client_step c shape s (Change table row edit) = edit_step c shape s.disk s.agend
 client_step c shape s (Show table row) = show_step s.disk s.agenda table row
 client_step c shape s (Sum table row) = sum_step s.disk s.agenda table row
 client_step c shape s (Sync table) = sync_step c shape s.disk s.agenda table
-client_step c shape s (Next table) = next_step c shape s.disk s.agenda table
+client_step c shape s (Next table tears asks) = next_step c shape s.disk s.agenda table tears asks
 client_step c shape s (BeginCr table) = phase_step s.disk s.agenda table
 client_step c shape s (Conflicts table) = conflicts_step s.disk s.agenda table
 client_step c shape s (EndCr table) = phase_step s.disk s.agenda table
@@ -931,7 +972,7 @@ abbrev pub needs_link : ClientDisk → ClientMove → Bool
 needs_link d (Write table row content) = is_strong_in (table_at (seen d) table)
 needs_link d (Change table row edit) = is_strong_in (table_at (seen d) table)
 needs_link d (Sync table) = true
-needs_link d (Next table) = true
+needs_link d (Next table tears asks) = true
 needs_link d (Take message) = true
 needs_link d other = false
 

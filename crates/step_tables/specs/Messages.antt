@@ -60,23 +60,41 @@ pub record Pulled : Type 0 where
   pub latest : ℕ
   pub header : Option Header
 
+-- a row that a client asks for whole, since it couldn't put it together from an answer to a pull
+pub record TornPull : Type 0 where
+  pub client : ℕ
+  pub table : ℕ
+  pub row : List ℕ
+
+pub record TornPulled : Type 0 where
+  pub client : ℕ
+  pub table : ℕ
+  pub row : List ℕ
+  pub header : Option Header
+
 pub data Message : Type 0 where
   SyncRequest : (request : Request) → Message
   SyncResponse : (response : Response) → Message
   PullRequest : (pull : Pull) → Message
   PullResponse : (pulled : Pulled) → Message
+  TornRowRequest : (torn : TornPull) → Message
+  TornRowResponse : (answer : TornPulled) → Message
 
 abbrev pub name_of : Message → MessageName
 name_of (SyncRequest request) = names.SyncRequest
 name_of (SyncResponse response) = names.SyncResponse
 name_of (PullRequest pull) = names.PullRequest
 name_of (PullResponse pulled) = names.PullResponse
+name_of (TornRowRequest torn) = names.TornRowRequest
+name_of (TornRowResponse answer) = names.TornRowResponse
 
 abbrev pub table_of : Message → ℕ
 table_of (SyncRequest request) = request.table
 table_of (SyncResponse response) = response.table
 table_of (PullRequest pull) = pull.table
 table_of (PullResponse pulled) = pulled.table
+table_of (TornRowRequest torn) = torn.table
+table_of (TornRowResponse answer) = answer.table
 
 -- a message with its address; none is the table's owner
 pub record Send : Type 0 where

@@ -9,3 +9,5 @@ name_of (messages.PullRequest request) = names.PullRequest
 name_of (messages.PullResponse response) = names.PullResponse
 name_of (messages.SyncRequest request) = names.SyncRequest
 name_of (messages.SyncResponse response) = names.SyncResponse
+name_of (messages.TornRowRequest request) = names.TornRowRequest
+name_of (messages.TornRowResponse response) = names.TornRowResponse

@@ -17,7 +17,8 @@ use Rattle.step_tables.specs.Chunks.{is_spelled, has_kept}
 use Rattle.step_tables.specs.Facts.{Fact, Answer}
 use Rattle.step_tables.specs.Facts as facts
 use Rattle.step_tables.specs.Messages.{Request, Response, Pull, Pair, Header, Pulled, Outcome, Message, Send, Luck}
-use Rattle.step_tables.specs.Messages.{SyncRequest, SyncResponse, PullRequest, PullResponse}
+use Rattle.step_tables.specs.Messages.{SyncRequest, SyncResponse, PullRequest, PullResponse, TornPull, TornPulled}
+use Rattle.step_tables.specs.Messages.{TornRowRequest, TornRowResponse}
 use Rattle.step_tables.specs.Messages as messages
 
 -- ---- state
@@ -294,6 +295,23 @@ answered d from pull =
       message = PullResponse (pulled_for d.items pull (next_changed pull.position d.items));
     } ∷ [])
 
+-- ---- a row that is asked for whole: the row as it is now, none where nothing was written to it
+
+abbrev pub torn_pulled_for : List Stored → TornPull → Option Stored → TornPulled
+torn_pulled_for items torn found = record {
+  client = torn.client;
+  table = torn.table;
+  row = torn.row;
+  header = option_map (header_for items torn.client) found;
+}
+
+abbrev pub torn_answered : StoreDisk → Node → TornPull → StoreStep
+torn_answered d from torn =
+    sending d (record {
+      to = Some from;
+      message = TornRowResponse (torn_pulled_for d.items torn (current_of d.items torn.row));
+    } ∷ [])
+
 -- ---- what is at work: an update, from its first write on, or the end of one that a start found; else 0
 
 -- where this is the next write
@@ -318,6 +336,8 @@ taken g size table d (Some []) from (SyncRequest request) = asked g size table d
 taken g size table d (Some []) from (PullRequest pull) = answered d from pull
 taken g size table d (Some []) from (SyncResponse response) = quiet d (Some []) facts.Done
 taken g size table d (Some []) from (PullResponse pulled) = quiet d (Some []) facts.Done
+taken g size table d (Some []) from (TornRowRequest torn) = torn_answered d from torn
+taken g size table d (Some []) from (TornRowResponse answer) = quiet d (Some []) facts.Done
 
 -- what a move makes of a table of this number, scheme and size of chunks, at a Store of this number
 abbrev pub store_step : ℕ → Scheme → ℕ → ℕ → TableStore → StoreMove → StoreStep

@@ -7,6 +7,8 @@ use Rattle.step_tables.specs.declared.message.Outcome.{Outcome}
 use Rattle.step_tables.specs.declared.message.Outcome.TheVariants as outcomes
 use Rattle.step_tables.specs.declared.message.PullResponse.{PullResponse}
 use Rattle.step_tables.specs.declared.message.RowHeader.{RowHeader}
+use Rattle.step_tables.specs.declared.message.TornRowRequest.{TornRowRequest}
+use Rattle.step_tables.specs.declared.message.TornRowResponse.{TornRowResponse}
 use Rattle.step_tables.specs.Messages.{Send}
 use Rattle.step_tables.specs.Messages as messages
 
@@ -37,6 +39,13 @@ pulled_of q = record {
   header = option_map header_of q.header;
 }
 
+abbrev pub torn_of : TornRowRequest → messages.TornPull
+torn_of q = record { client = q.client; table = q.table; row = q.row }
+
+abbrev pub torn_pulled_of : TornRowResponse → messages.TornPulled
+torn_pulled_of q =
+    record { client = q.client; table = q.table; row = q.row; header = option_map header_of q.header }
+
 abbrev pub message_of : Message → messages.Message
 message_of (kinds.SyncRequest q) = messages.SyncRequest (record {
   client = q.client;
@@ -57,6 +66,8 @@ message_of (kinds.SyncResponse r) = messages.SyncResponse (record {
 message_of (kinds.PullRequest q) =
     messages.PullRequest (record { client = q.client; table = q.table; position = q.position })
 message_of (kinds.PullResponse q) = messages.PullResponse (pulled_of q)
+message_of (kinds.TornRowRequest q) = messages.TornRowRequest (torn_of q)
+message_of (kinds.TornRowResponse q) = messages.TornRowResponse (torn_pulled_of q)
 
 abbrev pub send_of : Option Node × Message → Send
 send_of p = record { to = p.0; message = message_of p.1 }

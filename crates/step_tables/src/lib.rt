@@ -7,6 +7,6 @@ mod out;
 
 pub use message::{
     Message, ObjectNames, ObjectPieces, Outcome, PullRequest, PullResponse, RowHeader, SyncRequest,
-    SyncResponse, Yours,
+    SyncResponse, TornRowRequest, TornRowResponse, Yours,
 };
 pub use out::{Addressed, Out};

@@ -55,6 +55,25 @@ pub struct PullResponse {
     pub header: Option<RowHeader>,
 }
 
+/// A client asks for a row whole, since it couldn't put it together from an answer to a pull.
+#[derive(Debug, Drop)]
+pub struct TornRowRequest {
+    pub client: ClientNo,
+    /// 0 of a wired client.
+    pub token: u64,
+    pub table: TableNo,
+    pub row: RowId,
+}
+
+/// The Store's answer to a `TornRowRequest`: the row as it is now, if anything was written to it.
+#[derive(Debug, Drop)]
+pub struct TornRowResponse {
+    pub client: ClientNo,
+    pub table: TableNo,
+    pub row: RowId,
+    pub header: Option<RowHeader>,
+}
+
 /// A client asks the Store to accept a write.
 #[derive(Debug, Drop)]
 pub struct SyncRequest {
@@ -107,6 +126,8 @@ pub enum Message {
     PullResponse(PullResponse),
     SyncRequest(SyncRequest),
     SyncResponse(SyncResponse),
+    TornRowRequest(TornRowRequest),
+    TornRowResponse(TornRowResponse),
 }
 
 impl Message {
@@ -119,6 +140,8 @@ impl Message {
             Message::PullResponse(_) => MessageName::PullResponse,
             Message::SyncRequest(_) => MessageName::SyncRequest,
             Message::SyncResponse(_) => MessageName::SyncResponse,
+            Message::TornRowRequest(_) => MessageName::TornRowRequest,
+            Message::TornRowResponse(_) => MessageName::TornRowResponse,
         }
     }
 }

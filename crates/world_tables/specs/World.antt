@@ -766,16 +766,19 @@ abbrev pub linked : World → ℕ → Bool → Option Client → WorldStep
 linked w c up None = answered w facts.Done
 linked w c up (Some node) = unless_down w (nodes.Client c) (answered (with_link c up w) facts.Done)
 
--- What isn't in the script: how the device calls of an event go, one after the other, and which device writes a client
--- has in it beside those that change what its devices stand for; for each of its plans where it may begin many.
+-- What isn't in the script: how the device calls of an event go, one after the other; which device writes a client has
+-- in it beside those that change what its devices stand for, for each of its plans where it may begin many; and where a
+-- client pulls, the rows that it tells as torn, and those that it asks for whole.
 pub record Lucks : Type 0 where
   pub calls : List Luck
   pub shape : Shape
   pub shapes : List Shape
+  pub tears : List (List ℕ)
+  pub asks : List (List ℕ)
 
--- where all goes well, and no client has such writes
+-- where all goes well, no client has such writes, and no row is torn
 abbrev pub no_lucks : Lucks
-no_lucks = record { calls = []; shape = no_shape; shapes = [] }
+no_lucks = record { calls = []; shape = no_shape; shapes = []; tears = []; asks = [] }
 
 -- what an event makes of the world, where its device calls go so
 abbrev pub step : World → Event → Lucks → WorldStep
@@ -789,7 +792,8 @@ step w (events.Edit c table row edit) lucks = call w c (client.Change table row 
 step w (events.Show c table row) lucks = call w c (client.Show table row) lucks.shape lucks.calls
 step w (events.Sum c table row) lucks = call w c (client.Sum table row) lucks.shape lucks.calls
 step w (events.Sync c table) lucks = call w c (client.Sync table) lucks.shape lucks.calls
-step w (events.Pull c table) lucks = call w c (client.Next table) lucks.shape lucks.calls
+step w (events.Pull c table) lucks =
+    call w c (client.Next table lucks.tears lucks.asks) lucks.shape lucks.calls
 step w (events.BeginCr c table) lucks = call w c (client.BeginCr table) lucks.shape lucks.calls
 step w (events.Conflicts c table) lucks = listed (call w c (client.Conflicts table) lucks.shape lucks.calls)
 step w (events.EndCr c table) lucks = call w c (client.EndCr table) lucks.shape lucks.calls

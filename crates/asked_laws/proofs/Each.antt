@@ -131,7 +131,7 @@ module _ (a : Asked) (c : ℕ) where
         move_stays w (client.Resolve table pair.row pair.version (chosen_of by pair.row (client_at w c) table)) shape fine is (λ node at lets. all pair.row)
         (λ node f.
         let b = resolve_fine a c shape (HasOnePlan Resolves) tt (λ p g. planning_one Resolves shape p [] g) node.disk table pair.row node.agenda f pair.version (chosen_of by pair.row (client_at w c) table) (λ lets. all pair.row) in
-        (ap (λ (some : List Fact). facts_asked some a) b.0, b.4))
+        ((plain_told a _ b.0).1, b.4))
 
     pub each_stays : (shapes : List Shape) (lucks : List Luck) (pairs : List RowPair) (w : World) → AreFine a w → IsResolving w → Stays w.packets (resolve_each c table by shapes lucks pairs w)
     each_stays shapes lucks [] w fine is = still_stays w fine is

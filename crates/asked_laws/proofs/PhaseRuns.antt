@@ -403,7 +403,7 @@ module _ (c t : ℕ) (w : World) (is : IsClosed c t w) where
   step_is (events.Show d table row) lucks = kept_is _ (call_kept d (client.Show table row) lucks.shape lucks.calls tt (client_at w d) refl)
   step_is (events.Sum d table row) lucks = kept_is _ (call_kept d (client.Sum table row) lucks.shape lucks.calls tt (client_at w d) refl)
   step_is (events.Sync d table) lucks = kept_is _ (call_kept d (client.Sync table) lucks.shape lucks.calls tt (client_at w d) refl)
-  step_is (events.Pull d table) lucks = kept_is _ (call_kept d (client.Next table) lucks.shape lucks.calls tt (client_at w d) refl)
+  step_is (events.Pull d table) lucks = kept_is _ (call_kept d (client.Next table lucks.tears lucks.asks) lucks.shape lucks.calls tt (client_at w d) refl)
   step_is (events.BeginCr d table) lucks = begin_is d table lucks.shape lucks.calls
   step_is (events.Conflicts d table) lucks =
       kept_is _ (listed_kept (call w d (client.Conflicts table) lucks.shape lucks.calls) (call_kept d (client.Conflicts table) lucks.shape lucks.calls tt (client_at w d) refl))

@@ -366,7 +366,7 @@ module _ (c : ℕ) (w : World) where
     step_tells (events.Show d table row) lucks = call_tells d (client.Show table row) lucks.shape lucks.calls tt (client_at w d) refl
     step_tells (events.Sum d table row) lucks = call_tells d (client.Sum table row) lucks.shape lucks.calls tt (client_at w d) refl
     step_tells (events.Sync d table) lucks = call_tells d (client.Sync table) lucks.shape lucks.calls tt (client_at w d) refl
-    step_tells (events.Pull d table) lucks = call_tells d (client.Next table) lucks.shape lucks.calls tt (client_at w d) refl
+    step_tells (events.Pull d table) lucks = call_tells d (client.Next table lucks.tears lucks.asks) lucks.shape lucks.calls tt (client_at w d) refl
     step_tells (events.BeginCr d table) lucks = call_tells d (client.BeginCr table) lucks.shape lucks.calls tt (client_at w d) refl
     step_tells (events.Conflicts d table) lucks =
         listed_tells d (call w d (client.Conflicts table) lucks.shape lucks.calls) (call_tells d (client.Conflicts table) lucks.shape lucks.calls tt (client_at w d) refl)

@@ -99,6 +99,17 @@ silently a c s none fine = record {
   unsent = subst (λ (some : List Fact). AreUnsent some) (sym none) tt;
 }
 
+-- one that tells plain facts
+pub plainly : (a : Asked) (c : ℕ) (s : ClientStep) → ArePlainFacts s.facts → IsFine a c s.client → KeepsFine a c s
+plainly a c s plain fine =
+    let told = plain_told a s.facts plain in
+    record {
+      asked = told.0;
+      fine = subst (λ (b : Asked). IsFine b c s.client) (sym told.1) fine;
+      others = subst (λ (b : Asked). AreOthersKept c a b) (sym told.1) (others_kept c a);
+      unsent = plain_unsent s.facts plain;
+    }
+
 module _ (a : Asked) (c : ℕ) (d : ClientDisk) (kept : IsFineKept a c d.plan) where
   pub crashed_fine : (agenda : Option (List ClientTask)) (luck : Luck) → HasOnePlan (IsFinePlan a c) (tasks_in agenda) → KeepsFine a c (client.crashed d agenda luck)
   crashed_fine None luck f = silently a c (client.crashed d None luck) refl (record { plan = kept; tasks = tt })
@@ -121,14 +132,7 @@ module _ (a : Asked) (c : ℕ) (d : ClientDisk) (kept : IsFineKept a c d.plan) w
   done_fine None f = silently a c (client.done d None) refl (record { plan = kept; tasks = tt })
   done_fine (Some []) f = silently a c (client.done d (Some [])) refl (record { plan = kept; tasks = tt })
   done_fine (Some (task ∷ more)) (inl f) =
-      let told = plain_told a task.facts f.0.1 in
-      let now : Client = record { disk = client.changed d task.change; agenda = Some more } in
-      record {
-        asked = told.0;
-        fine = subst (λ (b : Asked). IsFine b c now) (sym told.1) (record { plan = plain_keeps a c d task f.0 kept; tasks = f.1 });
-        others = subst (λ (b : Asked). AreOthersKept c a b) (sym told.1) (others_kept c a);
-        unsent = plain_unsent task.facts f.0.1;
-      }
+      plainly a c (client.done d (Some (task ∷ more))) f.0.1 (record { plan = plain_keeps a c d task f.0 kept; tasks = f.1 })
   done_fine (Some (task ∷ more)) (inr f) =
       let told : IsTold c a task.facts f.0.plan = subst (λ (some : List Fact). IsTold c a some f.0.plan) (sym f.0.tells) (first_told c a f.0.plan f.0.fine) in
       let b : Asked = facts_asked task.facts a in

@@ -169,7 +169,7 @@ module _ (a : Asked) (w : World) (fine : AreFine a w) where
   step_goes (events.Show c table row) lucks = call_goes a w fine (events.Show c table row) c (client.Show table row) lucks.shape lucks.calls (λ node final lets. tt) (client_at w c) refl
   step_goes (events.Sum c table row) lucks = call_goes a w fine (events.Sum c table row) c (client.Sum table row) lucks.shape lucks.calls (λ node final lets. tt) (client_at w c) refl
   step_goes (events.Sync c table) lucks = call_goes a w fine (events.Sync c table) c (client.Sync table) lucks.shape lucks.calls (λ node final lets. tt) (client_at w c) refl
-  step_goes (events.Pull c table) lucks = call_goes a w fine (events.Pull c table) c (client.Next table) lucks.shape lucks.calls (λ node final lets. tt) (client_at w c) refl
+  step_goes (events.Pull c table) lucks = call_goes a w fine (events.Pull c table) c (client.Next table lucks.tears lucks.asks) lucks.shape lucks.calls (λ node final lets. tt) (client_at w c) refl
   step_goes (events.BeginCr c table) lucks = call_goes a w fine (events.BeginCr c table) c (client.BeginCr table) lucks.shape lucks.calls (λ node final lets. tt) (client_at w c) refl
   step_goes (events.Conflicts c table) lucks = conflicts_go a w fine (events.Conflicts c table) c table lucks.shape lucks.calls
   step_goes (events.EndCr c table) lucks = call_goes a w fine (events.EndCr c table) c (client.EndCr table) lucks.shape lucks.calls (λ node final lets. tt) (client_at w c) refl

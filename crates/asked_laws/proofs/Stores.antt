@@ -5,7 +5,7 @@ use Rattle.stab_base.specs.declared.node.Node.{Node}
 use Rattle.stab_base.specs.declared.chunk_name.ChunkName.{ChunkName}
 use Rattle.row_value.specs.declared.schema.Scheme.{Scheme}
 use Rattle.step_tables.specs.Facts as facts
-use Rattle.step_tables.specs.Messages.{Request, Pair, Message, Luck, SyncRequest, SyncResponse, PullRequest, PullResponse}
+use Rattle.step_tables.specs.Messages.{Request, Pair, Message, Luck, SyncRequest, SyncResponse, PullRequest, PullResponse, TornRowRequest, TornRowResponse}
 use Rattle.step_tables.specs.Messages as messages
 use Rattle.step_tables.specs.Store.{Stored, current_of}
 use Rattle.step_tables.specs.StoreMoves as store
@@ -65,6 +65,8 @@ module _ (g : Scheme) (size table : ℕ) (d : StoreDisk) (from : Node) where
   taken_plain (Some []) (PullRequest q) p = (tt, tt)
   taken_plain (Some []) (SyncResponse q) p = (tt, tt)
   taken_plain (Some []) (PullResponse q) p = (tt, tt)
+  taken_plain (Some []) (TornRowRequest q) p = (tt, tt)
+  taken_plain (Some []) (TornRowResponse q) p = (tt, tt)
 
 worked_plain : (d : StoreDisk) (agenda : Option (List StoreTask)) (luck : Luck) → ArePlainWrites (tasks_in agenda) → IsPlainStep (store.worked d agenda luck)
 worked_plain d None messages.Done p = (tt, tt)

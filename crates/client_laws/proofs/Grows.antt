@@ -14,7 +14,7 @@ use Rattle.step_tables.specs.StoreMoves.{version_of}
 use Rattle.step_tables.specs.Client.{version_in}
 use Rattle.step_tables.specs.Facts.{Fact}
 use Rattle.step_tables.specs.Members.{Among, put, put_at}
-use Rattle.step_tables.specs.Messages.{Send, Message, SyncRequest, SyncResponse, PullRequest, PullResponse}
+use Rattle.step_tables.specs.Messages.{Send, Message, SyncRequest, SyncResponse, PullRequest, PullResponse, TornRowRequest, TornRowResponse}
 use Rattle.step_tables.specs.Sayings.{row_wrote, write_of, Saying, SaysNothing, SaysWrite, SaysEntry, SaysBack, SaysAck, SaysLoss, SaysConflict, SaysResolved, SaysRead, SaysPosition, saying, RowHeard}
 use Rattle.step_tables.specs.Sayings.{Heard, own, own_all}
 use Rattle.step_tables.specs.ClientMoves.{Slots, Plan, ClientDisk, ClientTask, Client, seen, applied, changed, told as told_by, retold, slots_of, position_of, top}
@@ -328,6 +328,8 @@ module _ (g : ℕ → Scheme) (c : ℕ) (h : Items) (table : ℕ) (next : Stored
     request_grows t send (PullRequest pull) k = k
     request_grows t send (SyncResponse response) k = absurd k
     request_grows t send (PullResponse pulled) k = absurd k
+    request_grows t send (TornRowRequest torn) k = k
+    request_grows t send (TornRowResponse answer) k = absurd k
 
     requests_grow : (t : Heard) (sends : List Send) → Requests g c h t sends → Requests g c grown t sends
     requests_grow t [] k = tt

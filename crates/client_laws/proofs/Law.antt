@@ -1,6 +1,6 @@
 -- Each move of a client keeps its part.
 use Rattle.std.proofs.Common.{◌≡◌, ◌≢◌, ◌⊎◌, ℕ, Bool, true, false, ◌+◌, ◌≤◌, ◌<◌, List, [], ◌∷◌, ◌++◌, length, Option, Some, None, refl, sym, ap, subst, ◌∙◌, arith, inl, inr, append-nil}
-use Rattle.std.specs.Prelude.{◌==◌, ◌&&◌, nat_lt, nat_le, option_map, Result, Ok, Err, if◌then◌else◌}
+use Rattle.std.specs.Prelude.{◌==◌, ◌&&◌, nat_lt, nat_le, map, option_map, Result, Ok, Err, if◌then◌else◌}
 use Rattle.std.proofs.lemmas.Bool.Decides.{nat_tests}
 use Rattle.row_value.specs.declared.content.Content.{Content}
 use Rattle.row_value.specs.declared.content.Content.TheVariants.{Gone, Row}
@@ -14,11 +14,13 @@ use Rattle.step_tables.specs.Slots.{Main}
 use Rattle.step_tables.specs.Slots.{InFlight}
 use Rattle.step_tables.specs.Slots.{Shadow}
 use Rattle.step_tables.specs.Store.{Stored}
+use Rattle.step_tables.specs.Chunks.{is_named}
 use Rattle.step_tables.specs.Client.{version_in}
 use Rattle.step_tables.specs.Facts.{ClientFact, Fact, Answer, Refusal, Shown}
 use Rattle.step_tables.specs.Facts as facts
 use Rattle.step_tables.specs.Members.{Among}
 use Rattle.step_tables.specs.Messages.{Send, Message, Luck, Response, Pulled, Header, Outcome, SyncRequest, SyncResponse, PullRequest, PullResponse}
+use Rattle.step_tables.specs.Messages.{TornPulled, TornRowRequest, TornRowResponse}
 use Rattle.step_tables.specs.Messages as messages
 use Rattle.step_tables.specs.Sayings.{Heard, own_all}
 use Rattle.conflicts.specs.declared.pair.Choice.{Choice}
@@ -32,16 +34,18 @@ use Rattle.step_tables.specs.ClientMoves.{worked, told, Shape, keeps, rest_of, e
 use Rattle.step_tables.specs.ClientMoves.{write_plan, strong_out, strong_plan, first_out, write_strong}
 use Rattle.step_tables.specs.ClientMoves.{write_by, write_free, write_idle, write_fitting, write_to, write_step, content_of, edit_made, edit_over, edit_in, edit_step, shown_in, show_answer, show_in, show_step, sum_step, resent, RowOut, first_to_send}
 use Rattle.step_tables.specs.ClientMoves.{row_out, send_plan, whole_out, whole_plan, comes_next}
-use Rattle.step_tables.specs.ClientMoves.{sync_first, sync_in, sync_step, next_in, next_step, choose, over_fitting, over_plan, theirs_plan, resolve_over, resolve_in, resolve_step, ack_plan, lost_plan}
-use Rattle.step_tables.specs.ClientMoves.{outcome_taken, response_taken, response_in, row_placed, next_pull, row_plan, position_plan, top, row_taken, pulled_taken, pulled_in, take_step, client_step}
+use Rattle.step_tables.specs.ClientMoves.{sync_first, sync_in, sync_step, torn_from, next_from, next_in, next_step, choose, over_fitting, over_plan}
+use Rattle.step_tables.specs.ClientMoves.{theirs_plan, resolve_over, resolve_in, resolve_step, ack_plan, lost_plan}
+use Rattle.step_tables.specs.ClientMoves.{outcome_taken, response_taken, response_in, row_placed, next_pull, row_plan, position_plan, top}
+use Rattle.step_tables.specs.ClientMoves.{row_taken, pulled_taken, pulled_in, torn_plan, torn_row_taken, torn_taken, torn_in, take_step, client_step}
 use Rattle.step_tables.specs.Items.{IsItemOf, IsChange}
 use Rattle.client_laws.specs.Part.{Items, Sending, sendings, Ours, RowTied, Tied, AreOwn, Requests, IsPlan, IsNewPlan, RestsOn, Rests, Runs, IsAt, ClientPart, IsRefused, IsOutcome}
-use Rattle.client_laws.specs.Part.{IsHeader, IsMessage, IsFair, IsShown, IsAnswer, ClientLaw}
+use Rattle.client_laws.specs.Part.{IsHeader, IsRowFor, IsTornHeader, IsMessage, IsFair, IsShown, IsAnswer, ClientLaw}
 use Rattle.client_laws.proofs.Disks.{opened_by, applied_at, applied_last, put_row_slots}
 use Rattle.client_laws.proofs.PlanRuns.{own-retold, shown_of, rested_of, keeps_run, also_own, own-also, ending_runs, rest_runs, plan_runs, told_plan}
 use Rattle.client_laws.proofs.RowFits.{out_with}
 use Rattle.client_laws.proofs.Plans.{write_is_plan, strong_is_plan, send_is_plan, whole_is_plan, ack_is_plan, lost_is_plan, over_is_plan, theirs_is_plan}
-use Rattle.client_laws.proofs.Headers.{position_is_plan, row_plan_is}
+use Rattle.client_laws.proofs.Headers.{position_is_plan, row_plan_is, torn_plan_is}
 use Rattle.client_laws.proofs.Sends.{request_is, sent_tied, IsSent, all_resent, rows_found, first_is}
 
 and_left : (a b : Bool) → (a && b) ≡ true → a ≡ true
@@ -355,6 +359,9 @@ module _ (g : ℕ → Scheme) (c : ℕ) (h : Items) (sent : List Sending) (t : H
         by_test true = (pull_request u table pulled.to, refl)
         by_test false = (tt, refl)
 
+    row_for : {items : List Stored} {from to : ℕ} {header : Header} → IsChange c items from to header → IsRowFor c items header
+    row_for change = (change.item, change.is, change.content, change.yours)
+
     row_law : (pulled : Pulled) (o : TableDisk) → table_at d pulled.table ≡ Some o → (header : Header) → IsChange c (h pulled.table) o.position pulled.to header → o.position < pulled.to
         → ClientLaw g c h sent t (Take (PullResponse pulled)) (row_taken c shape d pulled o header (slots_at o header.row))
     row_law pulled o is header change rises = by_test (nat_le header.version (top (slots_at o header.row).conflict (slots_at o header.row).shadow)) refl
@@ -365,7 +372,7 @@ module _ (g : ℕ → Scheme) (c : ℕ) (h : Items) (sent : List Sending) (t : H
             let p : Plan = position_plan c d pulled.table pulled.to in
             let requests = next_requests (own_all t (told p)) pulled.table pulled in
             silent_law (Take (PullResponse pulled)) d facts.Done p (next_pull c pulled.table pulled) tt idle
-            (position_is_plan g c h sent t ours d tied pulled.table o is header pulled.to change rises old) requests.0 requests.1
+            (position_is_plan g c h sent t ours d tied pulled.table o is header (row_for change) pulled.to change rises old) requests.0 requests.1
 
         new_law : (s : Scheme) → s ≡ g pulled.table → top (slots_at o header.row).conflict (slots_at o header.row).shadow < header.version
             → ClientLaw g c h sent t (Take (PullResponse pulled))
@@ -376,7 +383,7 @@ module _ (g : ℕ → Scheme) (c : ℕ) (h : Items) (sent : List Sending) (t : H
             let requests = next_requests (own_all t (told p)) pulled.table pulled in
             silent_law (Take (PullResponse pulled)) d facts.Done p (next_pull c pulled.table pulled) tt idle
             (subst (λ (x : Scheme). IsNewPlan g c h sent d t (row_plan c d pulled.table header.row pulled.to (row_placed x c pulled.table header (slots_at o header.row) (slots_at o header.row).out)))
-            (sym scheme) (row_plan_is g c h sent t ours d tied pulled.table o is header pulled.to change rises over)) requests.0 requests.1
+            (sym scheme) (row_plan_is g c h sent t ours d tied pulled.table o is header (row_for change) pulled.to change rises over)) requests.0 requests.1
 
         by_test : (b : Bool) → nat_le header.version (top (slots_at o header.row).conflict (slots_at o header.row).shadow) ≡ b
             → ClientLaw g c h sent t (Take (PullResponse pulled))
@@ -398,6 +405,42 @@ module _ (g : ℕ → Scheme) (c : ℕ) (h : Items) (sent : List Sending) (t : H
             let same : pulled.from ≡ o.position = grind (arith, nat_tests, comes) in
             row_law pulled o is header (subst (λ (n : ℕ). IsChange c (h pulled.table) n pulled.to header) same f.0) (subst (λ (n : ℕ). n < pulled.to) same f.1)
         by_test false e = quiet_law (Take (PullResponse pulled)) d (Some []) facts.Done tt idle
+
+    -- a row that was asked for whole: the next change is asked for behind it
+
+    asks_next : (message : Message) (table position : ℕ) → ClientLaw g c h sent t (Take message) (record (ignored d) { sends = pull_from c table position ∷ [] })
+    asks_next message table position = record { answer = tt; facts = tt; sends = pull_request t table position; part = unsent_part d (Some []) idle }
+
+    torn_row_law : (answer : TornPulled) (o : TableDisk) → table_at d answer.table ≡ Some o → (header : Header) → IsRowFor c (h answer.table) header
+        → ClientLaw g c h sent t (Take (TornRowResponse answer)) (torn_row_taken c shape d answer.table o header (slots_at o header.row))
+    torn_row_law answer o is header found = by_test (nat_le header.version (top (slots_at o header.row).conflict (slots_at o header.row).shadow)) refl
+      where
+        new_law : (s : Scheme) → s ≡ g answer.table → top (slots_at o header.row).conflict (slots_at o header.row).shadow < header.version
+            → ClientLaw g c h sent t (Take (TornRowResponse answer))
+            (begun shape d facts.Done (torn_plan d answer.table header.row (row_placed s c answer.table header (slots_at o header.row) (slots_at o header.row).out))
+            (pull_from c answer.table o.position ∷ []))
+        new_law s scheme over =
+            let p : Plan = torn_plan d answer.table header.row (row_placed s c answer.table header (slots_at o header.row) (slots_at o header.row).out) in
+            silent_law (Take (TornRowResponse answer)) d facts.Done p (pull_from c answer.table o.position ∷ []) tt idle
+            (subst (λ (x : Scheme). IsNewPlan g c h sent d t (torn_plan d answer.table header.row (row_placed x c answer.table header (slots_at o header.row) (slots_at o header.row).out)))
+            (sym scheme) (torn_plan_is g c h sent t ours d tied answer.table o is header found over)) (pull_request (own_all t (told p)) answer.table o.position) refl
+
+        by_test : (b : Bool) → nat_le header.version (top (slots_at o header.row).conflict (slots_at o header.row).shadow) ≡ b
+            → ClientLaw g c h sent t (Take (TornRowResponse answer))
+            (if b then record (ignored d) { sends = pull_from c answer.table o.position ∷ [] }
+            else begun shape d facts.Done (torn_plan d answer.table header.row (row_placed o.schema.scheme c answer.table header (slots_at o header.row) (slots_at o header.row).out))
+            (pull_from c answer.table o.position ∷ []))
+        by_test true e = asks_next (TornRowResponse answer) answer.table o.position
+        by_test false e = new_law o.schema.scheme (scheme_of answer.table o is) (grind (arith, nat_tests, e))
+
+    torn_law : (answer : TornPulled) (o : TableDisk) → table_at d answer.table ≡ Some o → (header : Option Header) → IsTornHeader c (h answer.table) header
+        → ClientLaw g c h sent t (Take (TornRowResponse answer)) (torn_taken c shape d answer.table o header)
+    torn_law answer o is None f = asks_next (TornRowResponse answer) answer.table o.position
+    torn_law answer o is (Some header) f = by_test (is_named o.schema.chunk header.content header.names)
+      where
+        by_test : (b : Bool) → ClientLaw g c h sent t (Take (TornRowResponse answer)) (if b then torn_row_taken c shape d answer.table o header (slots_at o header.row) else ignored d)
+        by_test true = torn_row_law answer o is header f
+        by_test false = quiet_law (Take (TornRowResponse answer)) d (Some []) facts.Done tt idle
 
   -- ---- all moves
 
@@ -476,14 +519,39 @@ module _ (g : ℕ → Scheme) (c : ℕ) (h : Items) (sent : List Sending) (t : H
       by_table (task ∷ more) p (Some o) is = quiet_law (Sync table) d (Some (task ∷ more)) _ tt p
       by_table [] p (Some o) is = sync_first_law d p table o (in_disk d p table (Some o) is) o.schema.chunk (first_to_send o.rows) refl
 
-  next_law : (d : ClientDisk) (agenda : Option (List ClientTask)) (table : ℕ) → IsAt g c h sent d t agenda → ClientLaw g c h sent t (Next table) (next_step c shape d agenda table)
-  next_law d None table p = quiet_law (Next table) d None _ tt p
-  next_law d (Some agenda) table p = by_table agenda p (table_at (seen d) table)
+  -- rows that are told as torn say nothing of writes
+  tears_own : (table : ℕ) (tears : List (List ℕ)) → AreOwn g c h sent t (map (facts.Torn c table) tears) × (own_all t (map (facts.Torn c table) tears) ≡ t)
+  tears_own table [] = (tt, refl)
+  tears_own table (row ∷ tears) = let k = tears_own table tears in ((tt, k.0), k.1)
+
+  -- nor is a row that is asked for whole a request of a write
+  asks_requests : (u : Heard) (table : ℕ) (rows : List (List ℕ)) → Requests g c h u (map (torn_from c table) rows) × (sendings (map (torn_from c table) rows) ≡ [])
+  asks_requests u table [] = (tt, refl)
+  asks_requests u table (row ∷ rows) = let k = asks_requests u table rows in (((refl, refl), k.0), k.1)
+
+  from_requests : (u : Heard) (table position : ℕ) (asks : List (List ℕ)) → Requests g c h u (next_from c table position asks) × (sendings (next_from c table position asks) ≡ [])
+  from_requests u table position [] = (((refl, refl), tt), refl)
+  from_requests u table position (row ∷ rows) = asks_requests u table (row ∷ rows)
+
+  next_law : (d : ClientDisk) (agenda : Option (List ClientTask)) (table : ℕ) (tears asks : List (List ℕ)) → IsAt g c h sent d t agenda
+      → ClientLaw g c h sent t (Next table tears asks) (next_step c shape d agenda table tears asks)
+  next_law d None table tears asks p = quiet_law (Next table tears asks) d None _ tt p
+  next_law d (Some agenda) table tears asks p = by_table agenda p (table_at (seen d) table)
     where
-      by_table : (agenda : List ClientTask) → Runs g c h sent d t agenda → (m : Option TableDisk) → ClientLaw g c h sent t (Next table) (next_in c shape d agenda table m)
-      by_table agenda p None = quiet_law (Next table) d (Some agenda) _ tt p
-      by_table (task ∷ more) p (Some o) = quiet_law (Next table) d (Some (task ∷ more)) _ tt p
-      by_table [] p (Some o) = record { answer = tt; facts = tt; sends = ((refl, refl), tt); part = unsent_part d (Some []) p }
+      by_table : (agenda : List ClientTask) → Runs g c h sent d t agenda → (m : Option TableDisk)
+          → ClientLaw g c h sent t (Next table tears asks) (next_in c shape d agenda table tears asks m)
+      by_table agenda p None = quiet_law (Next table tears asks) d (Some agenda) _ tt p
+      by_table (task ∷ more) p (Some o) = quiet_law (Next table tears asks) d (Some (task ∷ more)) _ tt p
+      by_table [] p (Some o) =
+          let told = tears_own table tears in
+          let requests = from_requests (own_all t (map (facts.Torn c table) tears)) table o.position asks in
+          record {
+            answer = tt;
+            facts = told.0;
+            sends = requests.0;
+            part = subst (λ (u : Heard). IsAt g c h (sent ++ sendings (next_from c table o.position asks)) d u (Some [])) (sym told.1)
+                (subst (λ (s : List Sending). IsAt g c h s d t (Some [])) (sym (ap (λ (l : List Sending). sent ++ l) requests.1 ∙ append-nil sent)) p);
+          }
 
   resolve_law : (d : ClientDisk) (agenda : Option (List ClientTask)) (table : ℕ) (row : List ℕ) (version : ℕ) (choice : Choice) → IsAt g c h sent d t agenda
       → ClientLaw g c h sent t (Resolve table row version choice) (resolve_step c shape d agenda table row version choice)
@@ -539,6 +607,7 @@ module _ (g : ℕ → Scheme) (c : ℕ) (h : Items) (sent : List Sending) (t : H
   take_law d (Some (task ∷ more)) message f p = quiet_law (Take message) d (Some (task ∷ more)) _ tt p
   take_law d (Some []) (SyncRequest request) f p = quiet_law (Take (SyncRequest request)) d (Some []) facts.Done tt p
   take_law d (Some []) (PullRequest pull) f p = quiet_law (Take (PullRequest pull)) d (Some []) facts.Done tt p
+  take_law d (Some []) (TornRowRequest torn) f p = quiet_law (Take (TornRowRequest torn)) d (Some []) facts.Done tt p
   take_law d (Some []) (SyncResponse r) f p = by_table (table_at (seen d) r.table) refl
     where
       by_table : (m : Option TableDisk) → table_at (seen d) r.table ≡ m → ClientLaw g c h sent t (Take (SyncResponse r)) (response_in c shape d r m)
@@ -549,6 +618,11 @@ module _ (g : ℕ → Scheme) (c : ℕ) (h : Items) (sent : List Sending) (t : H
       by_table : (m : Option TableDisk) → table_at (seen d) pulled.table ≡ m → ClientLaw g c h sent t (Take (PullResponse pulled)) (pulled_in c shape d pulled m)
       by_table None is = quiet_law (Take (PullResponse pulled)) d (Some []) facts.Done tt p
       by_table (Some o) is = pulled_law d p pulled o (in_disk d p pulled.table (Some o) is) pulled.header f
+  take_law d (Some []) (TornRowResponse answer) f p = by_table (table_at (seen d) answer.table) refl
+    where
+      by_table : (m : Option TableDisk) → table_at (seen d) answer.table ≡ m → ClientLaw g c h sent t (Take (TornRowResponse answer)) (torn_in c shape d answer m)
+      by_table None is = quiet_law (Take (TornRowResponse answer)) d (Some []) facts.Done tt p
+      by_table (Some o) is = torn_law d p answer o (in_disk d p answer.table (Some o) is) answer.header f
 
   client_laws : (s : Client) (move : ClientMove) → IsFair g c h sent move → ClientPart g c h sent t s → ClientLaw g c h sent t move (client_step c shape s move)
   client_laws s (Write table row content) f p = write_law s.disk s.agenda table row content p
@@ -556,7 +630,7 @@ module _ (g : ℕ → Scheme) (c : ℕ) (h : Items) (sent : List Sending) (t : H
   client_laws s (Show table row) f p = show_law s.disk s.agenda table row p
   client_laws s (Sum table row) f p = sum_law s.disk s.agenda table row p
   client_laws s (Sync table) f p = sync_law s.disk s.agenda table p
-  client_laws s (Next table) f p = next_law s.disk s.agenda table p
+  client_laws s (Next table tears asks) f p = next_law s.disk s.agenda table tears asks p
   client_laws s (BeginCr table) f p = phase_law (BeginCr table) s.disk s.agenda table (λ answer. tt) p
   client_laws s (Conflicts table) f p = pairs_law s.disk s.agenda table p
   client_laws s (EndCr table) f p = phase_law (EndCr table) s.disk s.agenda table (λ answer. tt) p

@@ -15,7 +15,7 @@ use Rattle.step_tables.specs.Facts.{Fact, Answer, Shown}
 use Rattle.step_tables.specs.Facts as facts
 use Rattle.step_tables.specs.Members.{Among}
 use Rattle.step_tables.specs.Messages.{Request, Response, Pull, Pulled, Header, Outcome, Message, Send, SyncRequest}
-use Rattle.step_tables.specs.Messages.{SyncResponse, PullRequest, PullResponse}
+use Rattle.step_tables.specs.Messages.{SyncResponse, PullRequest, PullResponse, TornRowRequest, TornRowResponse}
 use Rattle.step_tables.specs.Messages as messages
 use Rattle.step_tables.specs.Sayings.{Saying, SaysNothing, SaysWrite, SaysEntry, SaysBack, SaysAck, SaysLoss}
 use Rattle.step_tables.specs.Sayings.{SaysConflict, SaysResolved, SaysRead, SaysPosition, saying, RowHeard, Heard, own}
@@ -23,7 +23,7 @@ use Rattle.step_tables.specs.Sayings.{own_all, write_of, open_of, open_in}
 use Rattle.step_tables.specs.ClientMoves.{Slots, TableDisk, Plan, ClientDisk, ClientTask, Client, ClientStep}
 use Rattle.step_tables.specs.ClientMoves.{ClientMove, Take, Show, seen, applied, changed, told, retold}
 use Rattle.step_tables.specs.ClientMoves.{slots_of, table_at, position_of, top, shown_in}
-use Rattle.step_tables.specs.Items.{latest, IsItemOf, IsItemAt, IsBase, IsChange}
+use Rattle.step_tables.specs.Items.{latest, IsItemOf, IsItemAt, IsBase, IsYours, IsChange}
 use Rattle.world_tables.specs.Again.{may_repeat, IsUp}
 
 -- the items of each table
@@ -43,6 +43,8 @@ sending_in (SyncRequest request) =
 sending_in (SyncResponse response) = []
 sending_in (PullRequest pull) = []
 sending_in (PullResponse pulled) = []
+sending_in (TornRowRequest torn) = []
+sending_in (TornRowResponse answer) = []
 
 -- the requests among messages
 abbrev pub sendings : List Send → List Sending
@@ -289,6 +291,8 @@ IsRequest g c h t send (SyncRequest request) = (send.to ≡ None) × IsSending g
 IsRequest g c h t send (PullRequest pull) = (send.to ≡ None) × (pull.client ≡ c)
 IsRequest g c h t send (SyncResponse response) = ⊥
 IsRequest g c h t send (PullResponse pulled) = ⊥
+IsRequest g c h t send (TornRowRequest torn) = (send.to ≡ None) × (torn.client ≡ c)
+IsRequest g c h t send (TornRowResponse answer) = ⊥
 
 abbrev pub Requests : (ℕ → Scheme) → ℕ → Items → Heard → List Send → Type 0
 Requests g c h t [] = Unit {0}
@@ -359,11 +363,23 @@ IsHeader c h pulled None = Unit {0}
 IsHeader c h pulled (Some header) =
     IsChange c (h pulled.table) pulled.from pulled.to header × (pulled.from < pulled.to)
 
+-- a row for a client is an item's, with the client's last pair on the row up to it
+abbrev pub IsRowFor : ℕ → List Stored → Header → Type 0
+IsRowFor client h header =
+    (i : Stored) × IsItemAt h header.row header.version i × (i.content ≡ header.content)
+    × IsYours client h header.row header.version header.yours
+
+abbrev pub IsTornHeader : ℕ → List Stored → Option Header → Type 0
+IsTornHeader client h None = Unit {0}
+IsTornHeader client h (Some header) = IsRowFor client h header
+
 abbrev pub IsMessage : (ℕ → Scheme) → ℕ → Items → List Sending → Message → Type 0
 IsMessage g c h sent (SyncRequest request) = Unit {0}
 IsMessage g c h sent (PullRequest pull) = Unit {0}
 IsMessage g c h sent (SyncResponse response) = IsOutcome g c h sent response response.outcome
 IsMessage g c h sent (PullResponse pulled) = IsHeader c h pulled pulled.header
+IsMessage g c h sent (TornRowRequest torn) = Unit {0}
+IsMessage g c h sent (TornRowResponse answer) = IsTornHeader c (h answer.table) answer.header
 
 abbrev pub IsFair : (ℕ → Scheme) → ℕ → Items → List Sending → ClientMove → Type 0
 IsFair g c h sent (Take message) = IsMessage g c h sent message

@@ -10,7 +10,7 @@ use Rattle.table_model.specs.declared.line.RowPair.{RowPair}
 use Rattle.step_tables.specs.Facts as facts
 use Rattle.step_tables.specs.Facts.{Answer, Refusal}
 use Rattle.step_tables.specs.Members.{Among}
-use Rattle.step_tables.specs.Messages.{Message, Send, Luck, SyncRequest, SyncResponse, PullRequest, PullResponse}
+use Rattle.step_tables.specs.Messages.{Message, Send, Luck, SyncRequest, SyncResponse, PullRequest, PullResponse, TornRowRequest, TornRowResponse}
 use Rattle.step_tables.specs.Messages as messages
 use Rattle.step_tables.specs.ClientMoves as client
 use Rattle.step_tables.specs.ClientMoves.{Client, ClientTask, ClientMove, ClientStep, Shape, no_shape, client_step, is_cut_off, kept_out, phases_by}
@@ -30,6 +30,8 @@ from_client known c is (SyncRequest q) r = ((r.1, r.2, r.3), subst IsClient (sym
 from_client known c is (PullRequest q) r = tt
 from_client known c is (SyncResponse q) r = absurd r
 from_client known c is (PullResponse q) r = absurd r
+from_client known c is (TornRowRequest q) r = tt
+from_client known c is (TornRowResponse q) r = absurd r
 
 sent_fair : (known : ℕ → Option Schema) (c : ℕ) → IsClient c → (sends : List Send) → AreFairSends known c sends
     → (p : Packet) → Among (packets_from (nodes.Client c) sends) p → IsFairMessage known p.from p.message

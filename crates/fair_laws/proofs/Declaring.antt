@@ -9,7 +9,7 @@ use Rattle.stab_base.specs.declared.node.Node.{Node}
 use Rattle.row_value.specs.declared.schema.Schema.{Schema}
 use Rattle.row_store.specs.Spelling.{IsClient}
 use Rattle.step_tables.specs.ClientMoves.{Client}
-use Rattle.step_tables.specs.Messages.{Message, Luck, SyncRequest, SyncResponse, PullRequest, PullResponse}
+use Rattle.step_tables.specs.Messages.{Message, Luck, SyncRequest, SyncResponse, PullRequest, PullResponse, TornRowRequest, TornRowResponse}
 use Rattle.step_tables.specs.Messages as messages
 use Rattle.step_tables.specs.StoreMoves.{TableStore}
 use Rattle.step_tables.proofs.Lists.{lookup-insert}
@@ -33,6 +33,8 @@ message_more known more is from (SyncRequest q) f = (row_more known more is q.ta
 message_more known more is from (PullRequest q) f = tt
 message_more known more is from (SyncResponse r) f = tt
 message_more known more is from (PullResponse q) f = header_more known more is q.table q.header f
+message_more known more is from (TornRowRequest q) f = tt
+message_more known more is from (TornRowResponse q) f = header_more known more is q.table q.header f
 
 -- ---- a table more
 

@@ -8,7 +8,7 @@ use Rattle.stab_base.specs.declared.node.Node.TheVariants as nodes
 use Rattle.table_model.specs.declared.event.Event.{Event}
 use Rattle.table_model.specs.declared.event.Event.TheVariants as events
 use Rattle.step_tables.specs.Facts as facts
-use Rattle.step_tables.specs.Messages.{Message, Luck, SyncRequest, SyncResponse, PullRequest, PullResponse, table_of}
+use Rattle.step_tables.specs.Messages.{Message, Luck, SyncRequest, SyncResponse, PullRequest, PullResponse, TornRowRequest, TornRowResponse, table_of}
 use Rattle.step_tables.specs.Messages as messages
 use Rattle.step_tables.specs.StoreMoves as store
 use Rattle.step_tables.specs.StoreMoves.{StoreTask}
@@ -51,6 +51,8 @@ module _ (w : World) (f : IsFair w) where
   takes_fair from (PullRequest q) is = refl
   takes_fair from (SyncResponse r) is = tt
   takes_fair from (PullResponse q) is = tt
+  takes_fair from (TornRowRequest q) is = refl
+  takes_fair from (TornRowResponse q) is = tt
 
   carried_fair : (p : Packet) → IsFairMessage (schema_at w) p.from p.message → (shape : Shape) (lucks : List Luck) (to : Node) → IsFair (carried w p shape lucks to).world
   carried_fair p is shape lucks (nodes.Store number) = unless_down_fair w f (nodes.Store number) _
@@ -135,7 +137,7 @@ module _ (w : World) (f : IsFair w) where
   step_fair (events.Show c table row) built lucks = call_fair w f c (client.Show table row) lucks.shape lucks.calls (client_at w c)
   step_fair (events.Sum c table row) built lucks = call_fair w f c (client.Sum table row) lucks.shape lucks.calls (client_at w c)
   step_fair (events.Sync c table) built lucks = call_fair w f c (client.Sync table) lucks.shape lucks.calls (client_at w c)
-  step_fair (events.Pull c table) built lucks = call_fair w f c (client.Next table) lucks.shape lucks.calls (client_at w c)
+  step_fair (events.Pull c table) built lucks = call_fair w f c (client.Next table lucks.tears lucks.asks) lucks.shape lucks.calls (client_at w c)
   step_fair (events.BeginCr c table) built lucks = call_fair w f c (client.BeginCr table) lucks.shape lucks.calls (client_at w c)
   step_fair (events.Conflicts c table) built lucks =
       listed_fair (call w c (client.Conflicts table) lucks.shape lucks.calls) (call_fair w f c (client.Conflicts table) lucks.shape lucks.calls (client_at w c))

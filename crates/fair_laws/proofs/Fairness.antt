@@ -1,6 +1,6 @@
 -- Whatever is done to a client, what it writes and sends stays fit.
 use Rattle.std.proofs.Common.{◌≡◌, ℕ, ◌+◌, ◌++◌, Bool, true, false, cond, List, [], ◌∷◌, Option, Some, None, Result, Ok, Err, refl, sym, ◌∙◌, subst}
-use Rattle.std.specs.Prelude.{option_map, option_to_list, if◌then◌else◌, ◌==◌, nat_le, nat_lt, length}
+use Rattle.std.specs.Prelude.{map, option_map, option_to_list, if◌then◌else◌, ◌==◌, nat_le, nat_lt, length}
 use Rattle.std.specs.List.{AllByRecursion}
 use Rattle.std.specs.declared.cmp.Ordering.{Ordering}
 use Rattle.std.specs.declared.cmp.Ordering.TheVariants.{Less, Equal, Greater}
@@ -28,13 +28,16 @@ use Rattle.step_tables.specs.Client.{row_cmp, version_in}
 use Rattle.step_tables.specs.Facts.{Fact, ClientFact, Answer}
 use Rattle.step_tables.specs.Facts as facts
 use Rattle.step_tables.specs.Messages.{Response, Pulled, Header, Outcome, Message, Send, Luck, SyncRequest, SyncResponse, PullRequest, PullResponse}
+use Rattle.step_tables.specs.Messages.{TornPulled, TornRowRequest, TornRowResponse}
 use Rattle.step_tables.specs.Messages as messages
 use Rattle.step_tables.specs.ClientMoves.{Slots, TableDisk, RowPut, Plan, ClientDisk, ClientChange, ClientTask, Client, ClientMove, ClientStep, Shape, Placed, RowOut, Commit, PutRow, PutTable, Finish, Keep}
 use Rattle.step_tables.specs.ClientMoves.{no_slots, or_none, slots_at, table_at, with_table, put_row, put_position, row_put, table_put, planned_in, seen, changed, quiet, done, crashed, failed, worked, only, row_task, table_task, keeps, rest_of, planning, begun, slots_plan}
 use Rattle.step_tables.specs.ClientMoves.{ending, opening, resumed, started, request_for, pull_from, main_of, write_plan, out_of, strong_out, strong_plan, first_out, write_strong, write_by, write_free, write_idle, write_fitting, write_to, write_step, edit_made, edit_over, edit_in, content_of, shown_in, edit_step}
 use Rattle.step_tables.specs.ClientMoves.{resent, to_send, or_later, first_to_send, row_out, send_plan, sync_first, sync_in, sync_step, next_in, next_step, over_plan, theirs_plan, over_fitting, choose, resolve_over, resolve_in, resolve_step, without, freed, shadow_at, ack_plan, lost_plan, whole_out, whole_plan, outcome_taken, response_taken, response_in}
 use Rattle.step_tables.specs.ClientMoves.{conflicts_in, phase_in, can_resolve, all_idle, all_fitting, all_in, pairs_of, read_new, read_conflict, reads_over, is_weak, placed, row_placed, next_pull, row_plan, position_plan, row_taken, top, comes_next, pulled_taken, pulled_in, take_step, client_step}
+use Rattle.step_tables.specs.ClientMoves.{ignored, torn_from, next_from, torn_plan, torn_row_taken, torn_taken, torn_in}
 use Rattle.step_tables.specs.ClientMoves as client
+use Rattle.step_tables.specs.Chunks.{is_named}
 use Rattle.step_tables.proofs.Lists.{lookup-insert}
 use Rattle.std.proofs.lemmas.Bool.{eqb-true}
 use Rattle.std.specs.Cmp.{unsigned_tied}
@@ -437,10 +440,20 @@ module _ (known : ℕ → Option Schema) (c : ℕ) where
         let h = f t refl in
         sync_first_fair table t h (resent c table t.rows) (resent_fair table t.schema h.schema t.rows h.rows) t.schema.chunk (first_to_send t.rows) refl
 
-    next_in_fair : (agenda : List ClientTask) → AreFairTasks agenda → (table : ℕ) (o : Option TableDisk) → IsFairStep known c (next_in c shape d agenda table o)
-    next_in_fair agenda a table None = quiet_fair d (Some agenda) (facts.Refuses facts.NoTable) k a
-    next_in_fair (task ∷ more) a table (Some t) = quiet_fair d (Some (task ∷ more)) (facts.Refuses (facts.Busy shape.plan)) k a
-    next_in_fair [] a table (Some t) = sends_fair facts.Done (pull_from c table t.position ∷ []) (pull_fair table t.position)
+    asks_fair : (table : ℕ) (rows : List (List ℕ)) → AreFairSends known c (map (torn_from c table) rows)
+    asks_fair table [] = tt
+    asks_fair table (row ∷ rows) = (refl, asks_fair table rows)
+
+    from_fair : (table position : ℕ) (asks : List (List ℕ)) → AreFairSends known c (next_from c table position asks)
+    from_fair table position [] = pull_fair table position
+    from_fair table position (row ∷ rows) = asks_fair table (row ∷ rows)
+
+    next_in_fair : (agenda : List ClientTask) → AreFairTasks agenda → (table : ℕ) (tears asks : List (List ℕ)) (o : Option TableDisk)
+        → IsFairStep known c (next_in c shape d agenda table tears asks o)
+    next_in_fair agenda a table tears asks None = quiet_fair d (Some agenda) (facts.Refuses facts.NoTable) k a
+    next_in_fair (task ∷ more) a table tears asks (Some t) = quiet_fair d (Some (task ∷ more)) (facts.Refuses (facts.Busy shape.plan)) k a
+    next_in_fair [] a table tears asks (Some t) =
+        let s = sends_fair facts.Done (next_from c table t.position asks) (from_fair table t.position asks) in record { client = s.client; sends = s.sends }
 
     resolve_in_fair : (agenda : List ClientTask) → AreFairTasks agenda → (table : ℕ) (row : List ℕ) (version : ℕ) (choice : Choice) (o : Option TableDisk) → ((t : TableDisk) → o ≡ Some t
         → IsFairTable known table t)
@@ -505,12 +518,38 @@ module _ (known : ℕ → Option Schema) (c : ℕ) where
             go true = row_taken_fair pulled t (f t refl) header
             go false = idle_fair facts.Done
 
+    torn_row_fair : (table : ℕ) (t : TableDisk) → IsFairTable known table t → (header : Header) → IsFairStep known c (torn_row_taken c shape d table t header (slots_at t header.row))
+    torn_row_fair table t h header = go (nat_le header.version (top (slots_at t header.row).conflict (slots_at t header.row).shadow))
+      where
+        go : (b : Bool) → IsFairStep known c (if b then record (ignored d) { sends = pull_from c table t.position ∷ [] }
+            else begun shape d facts.Done (torn_plan d table header.row (row_placed t.schema.scheme c table header (slots_at t header.row) (slots_at t header.row).out))
+            (pull_from c table t.position ∷ []))
+        go true = sends_fair facts.Done (pull_from c table t.position ∷ []) (pull_fair table t.position)
+        go false =
+            begun_fair shape d facts.Done (torn_plan d table header.row (row_placed t.schema.scheme c table header (slots_at t header.row) (slots_at t header.row).out))
+            (pull_from c table t.position ∷ []) k
+            (t.schema, h.schema, row_placed_fair table t header.row h t.schema.scheme header (slots_at t header.row).out) (pull_fair table t.position)
+
+    torn_fair : (answer : TornPulled) (o : Option TableDisk) → ((t : TableDisk) → o ≡ Some t → IsFairTable known answer.table t) → IsFairStep known c (torn_in c shape d answer o)
+    torn_fair answer None f = idle_fair facts.Done
+    torn_fair answer (Some t) f = taken answer.header
+      where
+        taken : (o : Option Header) → IsFairStep known c (torn_taken c shape d answer.table t o)
+        taken None = sends_fair facts.Done (pull_from c answer.table t.position ∷ []) (pull_fair answer.table t.position)
+        taken (Some header) = go (is_named t.schema.chunk header.content header.names)
+          where
+            go : (b : Bool) → IsFairStep known c (if b then torn_row_taken c shape d answer.table t header (slots_at t header.row) else quiet d (Some []) facts.Done)
+            go true = torn_row_fair answer.table t (f t refl) header
+            go false = idle_fair facts.Done
+
     take_fair : (agenda : List ClientTask) → AreFairTasks agenda → (m : Message) → IsFairStep known c (take_step c shape d (Some agenda) m)
     take_fair (task ∷ more) a m = quiet_fair d (Some (task ∷ more)) (facts.Refuses (facts.Busy shape.plan)) k a
     take_fair [] a (SyncRequest q) = idle_fair facts.Done
     take_fair [] a (PullRequest q) = idle_fair facts.Done
     take_fair [] a (SyncResponse q) = response_fair q (table_at (seen d) q.table) (λ t e. tables_seen d k q.table t e)
     take_fair [] a (PullResponse q) = pulled_fair q (table_at (seen d) q.table) (λ t e. tables_seen d k q.table t e)
+    take_fair [] a (TornRowRequest q) = idle_fair facts.Done
+    take_fair [] a (TornRowResponse q) = torn_fair q (table_at (seen d) q.table) (λ t e. tables_seen d k q.table t e)
 
     -- ---- writes, crashes and starts
 
@@ -553,7 +592,7 @@ module _ (known : ℕ → Option Schema) (c : ℕ) where
     up_fair agenda a (client.Show table row) = quiet_fair d (Some agenda) _ k a
     up_fair agenda a (client.Sum table row) = quiet_fair d (Some agenda) _ k a
     up_fair agenda a (client.Sync table) = sync_in_fair shape d k agenda a table (table_at (seen d) table) (λ t e. tables_seen d k table t e)
-    up_fair agenda a (client.Next table) = next_in_fair shape d k agenda a table (table_at (seen d) table)
+    up_fair agenda a (client.Next table tears asks) = next_in_fair shape d k agenda a table tears asks (table_at (seen d) table)
     up_fair agenda a (client.BeginCr table) = phase_in_fair shape d k agenda a (table_at (seen d) table)
     up_fair agenda a (client.Conflicts table) = conflicts_in_fair shape d k agenda a (table_at (seen d) table)
     up_fair agenda a (client.EndCr table) = phase_in_fair shape d k agenda a (table_at (seen d) table)
@@ -570,7 +609,7 @@ module _ (known : ℕ → Option Schema) (c : ℕ) where
     down_fair (client.Show table row) = quiet_fair d None (facts.Refuses facts.Down) k tt
     down_fair (client.Sum table row) = quiet_fair d None (facts.Refuses facts.Down) k tt
     down_fair (client.Sync table) = quiet_fair d None (facts.Refuses facts.Down) k tt
-    down_fair (client.Next table) = quiet_fair d None (facts.Refuses facts.Down) k tt
+    down_fair (client.Next table tears asks) = quiet_fair d None (facts.Refuses facts.Down) k tt
     down_fair (client.BeginCr table) = quiet_fair d None (facts.Refuses facts.Down) k tt
     down_fair (client.Conflicts table) = quiet_fair d None (facts.Refuses facts.Down) k tt
     down_fair (client.EndCr table) = quiet_fair d None (facts.Refuses facts.Down) k tt
@@ -601,6 +640,8 @@ module _ (known more : ℕ → Option Schema) (c : ℕ) (is : (number : ℕ) (sc
   request_more (PullRequest q) r = r
   request_more (SyncResponse q) r = r
   request_more (PullResponse q) r = r
+  request_more (TornRowRequest q) r = r
+  request_more (TornRowResponse q) r = r
 
   sends_more : (sends : List Send) → AreFairSends known c sends → AreFairSends more c sends
   sends_more [] a = tt

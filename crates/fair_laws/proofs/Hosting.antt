@@ -10,7 +10,7 @@ use Rattle.stab_base.specs.declared.node.Node.{Node}
 use Rattle.stab_base.specs.declared.node.Node.TheVariants as nodes
 use Rattle.row_value.specs.declared.schema.Schema.{Schema}
 use Rattle.step_tables.specs.Members.{Among}
-use Rattle.step_tables.specs.Messages.{Message, Send, Luck, SyncRequest, SyncResponse, PullRequest, PullResponse}
+use Rattle.step_tables.specs.Messages.{Message, Send, Luck, SyncRequest, SyncResponse, PullRequest, PullResponse, TornRowRequest, TornRowResponse}
 use Rattle.step_tables.specs.Messages as messages
 use Rattle.step_tables.specs.StoreMoves as store
 use Rattle.step_tables.specs.StoreMoves.{StoreMove, StoreStep}
@@ -49,6 +49,8 @@ from_store known from (SyncRequest q) f = absurd f
 from_store known from (PullRequest q) f = tt
 from_store known from (SyncResponse r) f = tt
 from_store known from (PullResponse q) f = f
+from_store known from (TornRowRequest q) f = tt
+from_store known from (TornRowResponse q) f = f
 
 sent_fair : (known : ℕ → Option Schema) (sends : List Send) → AreStoreSends known sends → (p : Packet) → Among (packets_from the_store sends) p → IsFairMessage known p.from p.message
 sent_fair known [] f p a = absurd (among_none p a)

@@ -1,6 +1,7 @@
 -- What a Store's step keeps of a table: each row is one of the table and has a version, and so has each one that is sent.
-use Rattle.std.proofs.Common.{◌≡◌, ℕ, ◌≤◌, Bool, true, false, List, [], ◌∷◌, ◌++◌, Option, Some, None, refl, sym, subst, arith}
-use Rattle.std.specs.Prelude.{if◌then◌else◌, nat_lt, ◌==◌, ◌&&◌, not}
+use Rattle.std.proofs.Common.{◌≡◌, ℕ, ◌≤◌, Bool, true, false, cond, List, [], ◌∷◌, ◌++◌, Option, Some, None, refl, sym, ◌∙◌, subst, arith}
+use Rattle.std.specs.Prelude.{if◌then◌else◌, nat_lt, ◌==◌, ◌&&◌, not, option_map}
+use Rattle.std.specs.Option.{option_or}
 use Rattle.std.specs.List.{AllByRecursion, list_any}
 use Rattle.stab_base.specs.declared.node.Node.{Node}
 use Rattle.stab_base.specs.declared.chunk_name.ChunkName.{ChunkName}
@@ -12,11 +13,14 @@ use Rattle.step_tables.specs.Chunks.{rising, new_names, old_names, is_spelled}
 use Rattle.step_tables.specs.Facts.{Answer}
 use Rattle.step_tables.specs.Facts as facts
 use Rattle.step_tables.specs.Messages.{Request, Pull, Pair, Header, Pulled, Message, Send, Luck, SyncRequest, SyncResponse, PullRequest, PullResponse}
+use Rattle.step_tables.specs.Messages.{TornPull, TornRowRequest, TornRowResponse}
 use Rattle.step_tables.specs.Messages as messages
 use Rattle.step_tables.specs.StoreMoves.{StoreDisk, StoreChange, StoreTask, TableStore, StoreMove, StoreStep, store_step, changed, done, crashed, worked, failed, recovering, reopening, recover}
 use Rattle.step_tables.specs.StoreMoves.{started, recovered, item_at, takes, keeps_there, judged, decided, asked, pulled_for, header_for, taken, accepting, item_for, puts, drops, only, version_of, yours_in, unaccepted}
+use Rattle.step_tables.specs.StoreMoves.{torn_pulled_for}
 use Rattle.step_tables.specs.StoreMoves as store
 use Rattle.world_tables.specs.World.{tasks_in, declared_late}
+use Rattle.step_tables.proofs.Lists.{last_where-cons}
 use Rattle.fair_laws.specs.Worlds.{IsRowOf, IsFairHeader, IsFromStore, IsFairItem, PutsFair, AreStoreSends, AreFairTasks, IsFairStore}
 
 all_join : {X : Type 0} (P : X → Type 0) (xs ys : List X) → AllByRecursion P xs → AllByRecursion P ys → AllByRecursion P (xs ++ ys)
@@ -29,6 +33,8 @@ TakesFair known table (SyncRequest q) = IsRowOf (known table) q.content
 TakesFair known table (PullRequest q) = q.table ≡ table
 TakesFair known table (SyncResponse r) = Unit {0}
 TakesFair known table (PullResponse q) = Unit {0}
+TakesFair known table (TornRowRequest q) = q.table ≡ table
+TakesFair known table (TornRowResponse q) = Unit {0}
 
 abbrev pub IsFairMove : (ℕ → Option Schema) → ℕ → StoreMove → Type 0
 IsFairMove known table (store.Take from message) = TakesFair known table message
@@ -121,11 +127,23 @@ module _ (known : ℕ → Option Schema) (table : ℕ) where
       go true rest e = let same : first ≡ item = cc in subst (IsFairItem (known table)) same f.0
       go false rest e = rest e
 
-  header_fair : (items : List Stored) (pull : Pull) (found : Option Stored) → ((item : Stored) → found ≡ Some item → IsFairItem (known table) item)
-      → (header : Header) → (pulled_for items pull found).header ≡ Some header → (1 ≤ header.version) × IsRowOf (known table) header.content
-  header_fair items pull None f header e = absurd cc
-  header_fair items pull (Some item) f header e =
-      let same : header_for items pull.client item ≡ header = cc in
+  current_fair : (row : List ℕ) (items : List Stored) (item : Stored) → AreItems items → current_of items row ≡ Some item → IsFairItem (known table) item
+  current_fair row [] item f e = absurd cc
+  current_fair row (first ∷ later) item f e = go (current_of later row) (current_fair row later item f.1) (sym (last_where-cons (is_of_row row) first later) ∙ e)
+    where
+      one : (b : Bool) → cond b (Some first) None ≡ Some item → IsFairItem (known table) item
+      one true e = let same : first ≡ item = cc in subst (IsFairItem (known table)) same f.0
+      one false e = absurd cc
+
+      go : (o : Option Stored) → (o ≡ Some item → IsFairItem (known table) item) → option_or o (cond (is_of_row row first) (Some first) None) ≡ Some item → IsFairItem (known table) item
+      go None rest e = one (is_of_row row first) e
+      go (Some last) rest e = rest e
+
+  header_fair : (items : List Stored) (client : ℕ) (found : Option Stored) → ((item : Stored) → found ≡ Some item → IsFairItem (known table) item)
+      → (header : Header) → option_map (header_for items client) found ≡ Some header → (1 ≤ header.version) × IsRowOf (known table) header.content
+  header_fair items client None f header e = absurd cc
+  header_fair items client (Some item) f header e =
+      let same : header_for items client item ≡ header = cc in
       let fair : IsFairItem (known table) item = f item refl in
       subst (λ (h : Header). (1 ≤ h.version) × IsRowOf (known table) h.content) same (fair.version, fair.content)
 
@@ -174,7 +192,12 @@ module _ (known : ℕ → Option Schema) (table : ℕ) where
     pull_fair : (pull : Pull) → pull.table ≡ table → IsFairStep known table (store.answered d from pull)
     pull_fair pull is = answers (record { to = Some from; message = PullResponse (pulled_for d.items pull (next_changed pull.position d.items)) })
         (λ header e. subst (λ (t : ℕ). (1 ≤ header.version) × IsRowOf (known t) header.content) (sym is)
-        (header_fair d.items pull (next_changed pull.position d.items) (λ item at. next_fair pull.position d.items item f at) header e))
+        (header_fair d.items pull.client (next_changed pull.position d.items) (λ item at. next_fair pull.position d.items item f at) header e))
+
+    torn_fair : (torn : TornPull) → torn.table ≡ table → IsFairStep known table (store.torn_answered d from torn)
+    torn_fair torn is = answers (record { to = Some from; message = TornRowResponse (torn_pulled_for d.items torn (current_of d.items torn.row)) })
+        (λ header e. subst (λ (t : ℕ). (1 ≤ header.version) × IsRowOf (known t) header.content) (sym is)
+        (header_fair d.items torn.client (current_of d.items torn.row) (λ item at. current_fair torn.row d.items item f at) header e))
 
     taken_fair : (agenda : Option (List StoreTask)) (message : Message) → TakesFair known table message → AreTasks (tasks_in agenda) → IsFairStep known table (taken g size table d agenda from message)
     taken_fair None message t p = quiet_fair d None _ f tt
@@ -183,6 +206,8 @@ module _ (known : ℕ → Option Schema) (table : ℕ) where
     taken_fair (Some []) (PullRequest pull) t p = pull_fair pull t
     taken_fair (Some []) (SyncResponse r) t p = quiet_fair d (Some []) _ f tt
     taken_fair (Some []) (PullResponse q) t p = quiet_fair d (Some []) _ f tt
+    taken_fair (Some []) (TornRowRequest torn) t p = torn_fair torn t
+    taken_fair (Some []) (TornRowResponse q) t p = quiet_fair d (Some []) _ f tt
 
   pub move_fair : (number : ℕ) (g : Scheme) (size : ℕ) (s : TableStore) (move : StoreMove) → IsFairMove known table move → IsFairStore known table s
       → IsFairStep known table (store_step number g size table s move)
@@ -211,6 +236,8 @@ module _ (known more : ℕ → Option Schema) (is : (number : ℕ) (schema : Sch
   from_more (PullRequest q) f = f
   from_more (SyncResponse r) f = f
   from_more (PullResponse q) f = header_more q.table q.header f
+  from_more (TornRowRequest q) f = f
+  from_more (TornRowResponse q) f = header_more q.table q.header f
 
   sends_more : (sends : List Send) → AreStoreSends known sends → AreStoreSends more sends
   sends_more [] a = tt

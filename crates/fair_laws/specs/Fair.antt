@@ -7,6 +7,7 @@ use Rattle.row_value.specs.Fit.{fit_of}
 use Rattle.step_tables.specs.Slots.{Main}
 use Rattle.step_tables.specs.Slots.{InFlight}
 use Rattle.step_tables.specs.Messages.{Message, Send, SyncRequest, SyncResponse, PullRequest, PullResponse}
+use Rattle.step_tables.specs.Messages.{TornRowRequest, TornRowResponse}
 use Rattle.step_tables.specs.ClientMoves.{Slots, TableDisk, RowPut, Plan, ClientDisk, ClientChange, ClientTask, Client}
 use Rattle.step_tables.specs.ClientMoves.{ClientMove, ClientStep, Shape, Commit, PutRow, PutTable, Finish, Keep}
 use Rattle.step_tables.specs.ClientMoves.{table_at, client_step}
@@ -52,6 +53,8 @@ IsFairRequest known c (SyncRequest q) =
 IsFairRequest known c (PullRequest q) = q.client ≡ c
 IsFairRequest known c (SyncResponse r) = ⊥
 IsFairRequest known c (PullResponse q) = ⊥
+IsFairRequest known c (TornRowRequest q) = q.client ≡ c
+IsFairRequest known c (TornRowResponse q) = ⊥
 
 abbrev pub AreFairSends : (ℕ → Option Schema) → ℕ → List Send → Type 0
 AreFairSends known c sends = AllByRecursion (λ (send : Send). IsFairRequest known c send.message) sends

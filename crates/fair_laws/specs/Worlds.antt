@@ -9,6 +9,7 @@ use Rattle.row_store.specs.Spelling.{IsClient}
 use Rattle.step_tables.specs.Members.{Among}
 use Rattle.step_tables.specs.ClientMoves.{Client}
 use Rattle.step_tables.specs.Messages.{Message, Header, Send, SyncRequest, SyncResponse, PullRequest, PullResponse}
+use Rattle.step_tables.specs.Messages.{TornRowRequest, TornRowResponse}
 use Rattle.step_tables.specs.Store.{Stored}
 use Rattle.step_tables.specs.StoreMoves.{StoreChange, StoreTask, TableStore, Put}
 use Rattle.world_tables.specs.World.{World, Packet, Hosted, schema_at, hosted_at, client_at, tasks_in}
@@ -32,6 +33,8 @@ IsFromStore known (SyncRequest q) = ⊥
 IsFromStore known (PullRequest q) = ⊥
 IsFromStore known (SyncResponse r) = Unit {0}
 IsFromStore known (PullResponse q) = IsFairHeader known q.table q.header
+IsFromStore known (TornRowRequest t) = ⊥
+IsFromStore known (TornRowResponse t) = IsFairHeader known t.table t.header
 
 -- a request's content is a row of its table, and its client sent it; and so is a row in an answer, with a version
 abbrev pub IsFairMessage : (ℕ → Option Schema) → Node → Message → Type 0
@@ -40,6 +43,8 @@ IsFairMessage known from (SyncRequest q) =
 IsFairMessage known from (PullRequest q) = Unit {0}
 IsFairMessage known from (SyncResponse r) = Unit {0}
 IsFairMessage known from (PullResponse q) = IsFairHeader known q.table q.header
+IsFairMessage known from (TornRowRequest t) = Unit {0}
+IsFairMessage known from (TornRowResponse t) = IsFairHeader known t.table t.header
 
 -- ---- tables
 

@@ -159,7 +159,7 @@ step_answered w (events.Link c up) lucks e = linked_answered w c up (client_at w
 step_answered w (events.Show c table row) lucks e = call_answered w c (client.Show table row) lucks.shape lucks.calls (client_at w c)
 step_answered w (events.Sum c table row) lucks e = call_answered w c (client.Sum table row) lucks.shape lucks.calls (client_at w c)
 step_answered w (events.Sync c table) lucks e = call_answered w c (client.Sync table) lucks.shape lucks.calls (client_at w c)
-step_answered w (events.Pull c table) lucks e = call_answered w c (client.Next table) lucks.shape lucks.calls (client_at w c)
+step_answered w (events.Pull c table) lucks e = call_answered w c (client.Next table lucks.tears lucks.asks) lucks.shape lucks.calls (client_at w c)
 step_answered w (events.BeginCr c table) lucks e = call_answered w c (client.BeginCr table) lucks.shape lucks.calls (client_at w c)
 step_answered w (events.Conflicts c table) lucks e =
     listed_answered (call w c (client.Conflicts table) lucks.shape lucks.calls) (call_answered w c (client.Conflicts table) lucks.shape lucks.calls (client_at w c))

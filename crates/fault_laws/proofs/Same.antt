@@ -476,7 +476,7 @@ step_same w (events.Edit c table row edit) lucks e = call_there_same w c (client
 step_same w (events.Show c table row) lucks e = call_there_same w c (client.Show table row) lucks.shape lucks.calls (client_at w c) e
 step_same w (events.Sum c table row) lucks e = call_there_same w c (client.Sum table row) lucks.shape lucks.calls (client_at w c) e
 step_same w (events.Sync c table) lucks e = call_there_same w c (client.Sync table) lucks.shape lucks.calls (client_at w c) e
-step_same w (events.Pull c table) lucks e = call_there_same w c (client.Next table) lucks.shape lucks.calls (client_at w c) e
+step_same w (events.Pull c table) lucks e = call_there_same w c (client.Next table lucks.tears lucks.asks) lucks.shape lucks.calls (client_at w c) e
 step_same w (events.BeginCr c table) lucks e = call_there_same w c (client.BeginCr table) lucks.shape lucks.calls (client_at w c) e
 step_same w (events.Conflicts c table) lucks e =
     listed_same (call w c (client.Conflicts table) lucks.shape lucks.calls) (call w c (client.Conflicts table) lucks.shape []) e

@@ -17,7 +17,7 @@ use Rattle.step_tables.specs.Facts.{Answer, Shown, ShownSum}
 use Rattle.step_tables.specs.Sums.{by_digests, sum_of, or_whole}
 use Rattle.step_tables.specs.Store.{current_of}
 use Rattle.step_tables.specs.Store as items
-use Rattle.step_tables.specs.Messages.{Message, Luck, table_of, SyncRequest, SyncResponse, PullRequest, PullResponse}
+use Rattle.step_tables.specs.Messages.{Message, Luck, table_of, SyncRequest, SyncResponse, PullRequest, PullResponse, TornRowRequest, TornRowResponse}
 use Rattle.step_tables.specs.Messages as messages
 use Rattle.step_tables.specs.StoreMoves as store
 use Rattle.step_tables.specs.StoreMoves.{StoreMove, StoreTask, StoreDisk}
@@ -88,8 +88,9 @@ digests_fine (facts.Refuses refusal) e = e
 sync_fine : (c : ℕ) (shape : Shape) (d : ClientDisk) (agenda : Option (List ClientTask)) (table : ℕ) → is_fault (client.sync_step c shape d agenda table).answer ≡ false
 sync_fine c shape d agenda table = grind (arith, nat_tests)
 
-next_fine : (c : ℕ) (shape : Shape) (d : ClientDisk) (agenda : Option (List ClientTask)) (table : ℕ) → is_fault (client.next_step c shape d agenda table).answer ≡ false
-next_fine c shape d agenda table = grind (arith, nat_tests)
+next_fine : (c : ℕ) (shape : Shape) (d : ClientDisk) (agenda : Option (List ClientTask)) (table : ℕ) (tears asks : List (List ℕ))
+    → is_fault (client.next_step c shape d agenda table tears asks).answer ≡ false
+next_fine c shape d agenda table tears asks = grind (arith, nat_tests)
 
 phase_fine : (d : ClientDisk) (agenda : Option (List ClientTask)) (table : ℕ) → is_fault (client.phase_step d agenda table).answer ≡ false
 phase_fine d agenda table = grind (arith, nat_tests)
@@ -171,7 +172,7 @@ module _ (w : World) (s : WorldStep) (fine : IsFine s) where
   kept_fine phase (client.Show table row) answer = fine
   kept_fine phase (client.Sum table row) answer = fine
   kept_fine phase (client.Sync table) answer = fine
-  kept_fine phase (client.Next table) answer = fine
+  kept_fine phase (client.Next table tears asks) answer = fine
   kept_fine phase (client.BeginCr table) answer = if_open_fine (client.is_before_phase (client.BeginCr table) answer) (phase table)
   kept_fine phase (client.Conflicts table) answer = if_closed_fine (client.is_before_phase (client.Conflicts table) answer) (phase table)
   kept_fine phase (client.EndCr table) answer = if_closed_fine (client.is_before_phase (client.EndCr table) answer) (phase table)
@@ -397,7 +398,8 @@ fine_step w (events.Show c table row) lucks = call_fine w c (client.Show table r
 fine_step w (events.Sum c table row) lucks =
     call_fine w c (client.Sum table row) lucks.shape (λ node. digests_fine (client.show_step node.disk node.agenda table row).answer (show_fine node.disk node.agenda table row))
 fine_step w (events.Sync c table) lucks = call_fine w c (client.Sync table) lucks.shape (λ node. sync_fine c lucks.shape node.disk node.agenda table)
-fine_step w (events.Pull c table) lucks = call_fine w c (client.Next table) lucks.shape (λ node. next_fine c lucks.shape node.disk node.agenda table)
+fine_step w (events.Pull c table) lucks =
+    call_fine w c (client.Next table lucks.tears lucks.asks) lucks.shape (λ node. next_fine c lucks.shape node.disk node.agenda table lucks.tears lucks.asks)
 fine_step w (events.BeginCr c table) lucks = call_fine w c (client.BeginCr table) lucks.shape (λ node. phase_fine node.disk node.agenda table)
 fine_step w (events.Conflicts c table) lucks =
     listed_fine (call w c (client.Conflicts table) lucks.shape []) (call_fine w c (client.Conflicts table) lucks.shape (λ node. conflicts_fine node.disk node.agenda table))

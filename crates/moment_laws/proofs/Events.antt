@@ -292,7 +292,7 @@ module _ (P : ℕ → Hosted → Type 0)
   step_all w (events.Show c table row) lucks all first f = call_all w c (client.Show table row) lucks.shape lucks.calls all (client_at w c)
   step_all w (events.Sum c table row) lucks all first f = call_all w c (client.Sum table row) lucks.shape lucks.calls all (client_at w c)
   step_all w (events.Sync c table) lucks all first f = call_all w c (client.Sync table) lucks.shape lucks.calls all (client_at w c)
-  step_all w (events.Pull c table) lucks all first f = call_all w c (client.Next table) lucks.shape lucks.calls all (client_at w c)
+  step_all w (events.Pull c table) lucks all first f = call_all w c (client.Next table lucks.tears lucks.asks) lucks.shape lucks.calls all (client_at w c)
   step_all w (events.BeginCr c table) lucks all first f = call_all w c (client.BeginCr table) lucks.shape lucks.calls all (client_at w c)
   step_all w (events.Conflicts c table) lucks all first f =
       listed_all (call w c (client.Conflicts table) lucks.shape lucks.calls) (call_all w c (client.Conflicts table) lucks.shape lucks.calls all (client_at w c))

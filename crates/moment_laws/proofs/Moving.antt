@@ -8,7 +8,7 @@ use Rattle.stab_base.specs.declared.node.Node.{Node}
 use Rattle.step_tables.specs.Chunks.{rising, new_names, old_names, is_spelled}
 use Rattle.step_tables.specs.Facts.{Fact, Answer}
 use Rattle.step_tables.specs.Facts as facts
-use Rattle.step_tables.specs.Messages.{Luck, Send, Request, Pair, Message, SyncRequest, SyncResponse, PullRequest, PullResponse}
+use Rattle.step_tables.specs.Messages.{Luck, Send, Request, Pair, Message, SyncRequest, SyncResponse, PullRequest, PullResponse, TornRowRequest, TornRowResponse}
 use Rattle.step_tables.specs.Messages as messages
 use Rattle.step_tables.specs.Sayings.{entered}
 use Rattle.step_tables.specs.Store.{Stored, current_of}
@@ -294,3 +294,5 @@ module _ (g : Scheme) (size table : ℕ) (h : List Entry) (d : StoreDisk) (made 
   taken (Some []) from (PullRequest pull) k = sends _ k
   taken (Some []) from (SyncResponse response) k = stays (Some []) facts.Done k
   taken (Some []) from (PullResponse pulled) k = stays (Some []) facts.Done k
+  taken (Some []) from (TornRowRequest torn) k = sends _ k
+  taken (Some []) from (TornRowResponse answer) k = stays (Some []) facts.Done k

@@ -7,7 +7,7 @@ use Rattle.stab_base.specs.declared.chunk_name.ChunkName.{ChunkName}
 use Rattle.row_value.specs.declared.schema.Scheme.{Scheme}
 use Rattle.step_tables.specs.Store.{Stored, current_of}
 use Rattle.step_tables.specs.Facts as facts
-use Rattle.step_tables.specs.Messages.{Request, Pair, Message, Send, Luck, SyncRequest, SyncResponse, PullRequest, PullResponse}
+use Rattle.step_tables.specs.Messages.{Request, Pair, Message, Send, Luck, SyncRequest, SyncResponse, PullRequest, PullResponse, TornRowRequest, TornRowResponse}
 use Rattle.step_tables.specs.Messages as messages
 use Rattle.step_tables.specs.Chunks.{rising, new_names, old_names, is_spelled}
 use Rattle.step_tables.specs.StoreMoves.{StoreDisk, StoreTask, StoreChange, OpenChunks, OpenRows, OpenLog, Open, PutChunk, Put, DropChunk, Close, changed, TableStore, StoreMove, Take, Work, Crash}
@@ -137,6 +137,8 @@ taken_keeps g size table d (Some []) from (SyncRequest q) k = asked_keeps g size
 taken_keeps g size table d (Some []) from (PullRequest q) k = k
 taken_keeps g size table d (Some []) from (SyncResponse q) k = k
 taken_keeps g size table d (Some []) from (PullResponse q) k = k
+taken_keeps g size table d (Some []) from (TornRowRequest q) k = k
+taken_keeps g size table d (Some []) from (TornRowResponse q) k = k
 
 -- every move keeps it
 pub move_keeps : (store : ℕ) (g : Scheme) (size table : ℕ) (s : TableStore) (move : StoreMove) → IsNamedStore size s → IsNamedStore size (store_step store g size table s move).store

@@ -7,7 +7,7 @@ use Rattle.row_value.specs.declared.schema.Scheme.{Scheme}
 use Rattle.step_tables.specs.Store.{Stored, current_of}
 use Rattle.step_tables.specs.Facts.{Fact}
 use Rattle.step_tables.specs.Facts as facts
-use Rattle.step_tables.specs.Messages.{Request, Pair, Message, Send, Luck, SyncRequest, SyncResponse, PullRequest, PullResponse}
+use Rattle.step_tables.specs.Messages.{Request, Pair, Message, Send, Luck, SyncRequest, SyncResponse, PullRequest, PullResponse, TornRowRequest, TornRowResponse}
 use Rattle.step_tables.specs.Messages as messages
 use Rattle.step_tables.specs.Chunks.{is_of_version, without_names, rising, names_with, new_names, old_names, is_spelled}
 use Rattle.step_tables.specs.StoreMoves.{StoreDisk, StoreTask, TableStore, StoreMove, Take, Work, Crash, Start, Open, PutChunk, Put, DropChunk, Close, changed, store_step}
@@ -175,6 +175,8 @@ take_clean g size table d (Some []) from (SyncRequest q) c = asked_clean g size 
 take_clean g size table d (Some []) from (PullRequest q) c = c
 take_clean g size table d (Some []) from (SyncResponse q) c = c
 take_clean g size table d (Some []) from (PullResponse q) c = c
+take_clean g size table d (Some []) from (TornRowRequest q) c = c
+take_clean g size table d (Some []) from (TornRowResponse q) c = c
 
 -- every move keeps it
 pub move_clean : (store : ℕ) (g : Scheme) (size table : ℕ) (s : TableStore) (move : StoreMove) → IsClean s.disk s.agenda

@@ -21,11 +21,12 @@ use Rattle.step_tables.specs.Slots.{Main, Shadow, InFlight}
 use Rattle.step_tables.specs.Facts.{Fact, ClientFact, Answer}
 use Rattle.step_tables.specs.Facts as facts
 use Rattle.step_tables.specs.Messages.{Request, Response, Pull, Pulled, Header, Pair, Outcome, Message, Send, Luck, SyncRequest, SyncResponse, PullRequest, PullResponse}
+use Rattle.step_tables.specs.Messages.{TornPulled, TornRowRequest, TornRowResponse}
 use Rattle.step_tables.specs.Messages as messages
 use Rattle.step_tables.specs.Store.{Stored, current_of}
 use Rattle.step_tables.specs.StoreMoves as store
 use Rattle.step_tables.specs.StoreMoves.{StoreDisk, StoreTask, TableStore, StoreMove, StoreStep, store_step}
-use Rattle.step_tables.specs.Chunks.{rising, new_names, old_names, is_spelled}
+use Rattle.step_tables.specs.Chunks.{rising, new_names, old_names, is_named, is_spelled}
 use Rattle.step_tables.specs.ClientMoves as client
 use Rattle.step_tables.specs.ClientMoves.{Slots, TableDisk, ClientDisk, ClientTask, Client, ClientMove, ClientStep, Plan, RowPut, RowOut, Shape, client_step}
 use Rattle.world_tables.specs.World.{owner, address}
@@ -181,14 +182,27 @@ module _ (c : ℕ) (shape : Shape) (d : ClientDisk) where
   sync_plain None table p = quiet_plain d None _ tt
   sync_plain (Some agenda) table p = sync_in_plain agenda table (client.table_at (client.seen d) table) p
 
-  next_in_plain : (agenda : List ClientTask) (table : ℕ) (o : Option TableDisk) → ArePlainTasks agenda → IsPlainStep (client.next_in c shape d agenda table o)
-  next_in_plain agenda table None p = quiet_plain d (Some agenda) _ p
-  next_in_plain (task ∷ more) table (Some opened) p = quiet_plain d (Some (task ∷ more)) _ p
-  next_in_plain [] table (Some opened) p = idle_sends _ (refl, tt)
+  tears_plain : (table : ℕ) (tears : List (List ℕ)) → ArePlainFacts (map (facts.Torn c table) tears)
+  tears_plain table [] = tt
+  tears_plain table (row ∷ tears) = (tt, tears_plain table tears)
 
-  next_plain : (agenda : Option (List ClientTask)) (table : ℕ) → IsPlainAgenda agenda → IsPlainStep (client.next_step c shape d agenda table)
-  next_plain None table p = quiet_plain d None _ tt
-  next_plain (Some agenda) table p = next_in_plain agenda table (client.table_at (client.seen d) table) p
+  asks_places : (table : ℕ) (rows : List (List ℕ)) → ToPlaces (map (client.torn_from c table) rows)
+  asks_places table [] = tt
+  asks_places table (row ∷ rows) = (refl, asks_places table rows)
+
+  from_places : (table position : ℕ) (asks : List (List ℕ)) → ToPlaces (client.next_from c table position asks)
+  from_places table position [] = (refl, tt)
+  from_places table position (row ∷ rows) = asks_places table (row ∷ rows)
+
+  next_in_plain : (agenda : List ClientTask) (table : ℕ) (tears asks : List (List ℕ)) (o : Option TableDisk) → ArePlainTasks agenda
+      → IsPlainStep (client.next_in c shape d agenda table tears asks o)
+  next_in_plain agenda table tears asks None p = quiet_plain d (Some agenda) _ p
+  next_in_plain (task ∷ more) table tears asks (Some opened) p = quiet_plain d (Some (task ∷ more)) _ p
+  next_in_plain [] table tears asks (Some opened) p = record { facts = tears_plain table tears; sends = from_places table opened.position asks; agenda = tt }
+
+  next_plain : (agenda : Option (List ClientTask)) (table : ℕ) (tears asks : List (List ℕ)) → IsPlainAgenda agenda → IsPlainStep (client.next_step c shape d agenda table tears asks)
+  next_plain None table tears asks p = quiet_plain d None _ tt
+  next_plain (Some agenda) table tears asks p = next_in_plain agenda table tears asks (client.table_at (client.seen d) table) p
 
   -- ---- conflicts
 
@@ -310,6 +324,27 @@ module _ (c : ℕ) (shape : Shape) (d : ClientDisk) where
   pulled_in_plain q None = quiet_plain d (Some []) _ tt
   pulled_in_plain q (Some opened) = pulled_plain q opened q.header
 
+  torn_row_plain : (table : ℕ) (opened : TableDisk) (hd : Header) (slots : Slots) → IsPlainStep (client.torn_row_taken c shape d table opened hd slots)
+  torn_row_plain table opened hd slots = go (nat_le hd.version (client.top slots.conflict slots.shadow))
+    where
+      go : (b : Bool) → IsPlainStep (if b
+          then record (client.ignored d) { sends = client.pull_from c table opened.position ∷ [] }
+          else client.begun shape d facts.Done (client.torn_plan d table hd.row (client.row_placed opened.schema.scheme c table hd slots slots.out)) (client.pull_from c table opened.position ∷ []))
+      go true = idle_sends _ (refl, tt)
+      go false = begun_plain shape d _ _ _ (refl, tt)
+
+  torn_plain : (table : ℕ) (opened : TableDisk) (o : Option Header) → IsPlainStep (client.torn_taken c shape d table opened o)
+  torn_plain table opened None = idle_sends _ (refl, tt)
+  torn_plain table opened (Some hd) = go (is_named opened.schema.chunk hd.content hd.names)
+    where
+      go : (b : Bool) → IsPlainStep (if b then client.torn_row_taken c shape d table opened hd (client.slots_at opened hd.row) else client.ignored d)
+      go true = torn_row_plain table opened hd (client.slots_at opened hd.row)
+      go false = quiet_plain d (Some []) _ tt
+
+  torn_in_plain : (q : TornPulled) (o : Option TableDisk) → IsPlainStep (client.torn_in c shape d q o)
+  torn_in_plain q None = quiet_plain d (Some []) _ tt
+  torn_in_plain q (Some opened) = torn_plain q.table opened q.header
+
   take_plain : (agenda : Option (List ClientTask)) (m : Message) → IsPlainAgenda agenda → IsPlainStep (client.take_step c shape d agenda m)
   take_plain None m p = quiet_plain d None _ tt
   take_plain (Some (task ∷ more)) m p = quiet_plain d (Some (task ∷ more)) _ p
@@ -317,6 +352,8 @@ module _ (c : ℕ) (shape : Shape) (d : ClientDisk) where
   take_plain (Some []) (PullRequest q) p = quiet_plain d (Some []) _ tt
   take_plain (Some []) (SyncResponse r) p = response_in_plain r (client.table_at (client.seen d) r.table)
   take_plain (Some []) (PullResponse q) p = pulled_in_plain q (client.table_at (client.seen d) q.table)
+  take_plain (Some []) (TornRowRequest q) p = quiet_plain d (Some []) _ tt
+  take_plain (Some []) (TornRowResponse q) p = torn_in_plain q (client.table_at (client.seen d) q.table)
 
   work_plain : (agenda : Option (List ClientTask)) (luck : Luck) → IsPlainAgenda agenda → IsPlainStep (client.worked d agenda luck)
   work_plain None messages.Done p = quiet_plain d None _ tt
@@ -369,7 +406,7 @@ client_plain c shape s (client.Change table row edit) p = edit_plain c shape s.d
 client_plain c shape s (client.Show table row) p = show_plain c shape s.disk s.agenda table row p
 client_plain c shape s (client.Sum table row) p = sum_plain c shape s.disk s.agenda table row p
 client_plain c shape s (client.Sync table) p = sync_plain c shape s.disk s.agenda table p
-client_plain c shape s (client.Next table) p = next_plain c shape s.disk s.agenda table p
+client_plain c shape s (client.Next table tears asks) p = next_plain c shape s.disk s.agenda table tears asks p
 client_plain c shape s (client.Take m) p = take_plain c shape s.disk s.agenda m p
 client_plain c shape s (client.Work luck) p = work_plain c shape s.disk s.agenda luck p
 client_plain c shape s (client.BeginCr table) p = phase_plain c shape s.disk s.agenda table p
@@ -446,6 +483,8 @@ module _ (g : Scheme) (size table : ℕ) (d : StoreDisk) (from : Node) (place : 
   taken_plain (Some []) (PullRequest q) p = sending_plain d _ (place, tt)
   taken_plain (Some []) (SyncResponse q) p = still_plain d (Some []) _ tt
   taken_plain (Some []) (PullResponse q) p = still_plain d (Some []) _ tt
+  taken_plain (Some []) (TornRowRequest q) p = sending_plain d _ (place, tt)
+  taken_plain (Some []) (TornRowResponse q) p = still_plain d (Some []) _ tt
 
 worked_plain : (d : StoreDisk) (agenda : Option (List StoreTask)) (luck : Luck) → HasPlainWrites agenda → IsPlainMove (store.worked d agenda luck)
 worked_plain d None messages.Done p = still_plain d None _ tt

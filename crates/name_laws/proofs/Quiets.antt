@@ -472,7 +472,7 @@ module _ (w : World) (f : IsFine w) where
   step_idle q held sent (events.Show c table row) lucks idle quiet = call_idle c (client.Show table row) lucks.shape lucks.calls (idle quiet)
   step_idle q held sent (events.Sum c table row) lucks idle quiet = call_idle c (client.Sum table row) lucks.shape lucks.calls (idle quiet)
   step_idle q held sent (events.Sync c table) lucks idle quiet = call_idle c (client.Sync table) lucks.shape lucks.calls (idle quiet)
-  step_idle q held sent (events.Pull c table) lucks idle quiet = call_idle c (client.Next table) lucks.shape lucks.calls (idle quiet)
+  step_idle q held sent (events.Pull c table) lucks idle quiet = call_idle c (client.Next table lucks.tears lucks.asks) lucks.shape lucks.calls (idle quiet)
   step_idle q held sent (events.BeginCr c table) lucks idle quiet = call_idle c (client.BeginCr table) lucks.shape lucks.calls (idle quiet)
   step_idle q held sent (events.Conflicts c table) lucks idle quiet = conflicts_idle c (client.Conflicts table) lucks.shape lucks.calls (idle quiet)
   step_idle q held sent (events.EndCr c table) lucks idle quiet = call_idle c (client.EndCr table) lucks.shape lucks.calls (idle quiet)

@@ -499,7 +499,7 @@ step_stepped w (events.Link c up) lucks f = linked_stepped w c up f (client_at w
 step_stepped w (events.Show c table row) lucks f = call_stepped w c (client.Show table row) lucks.shape lucks.calls f (client_at w c)
 step_stepped w (events.Sum c table row) lucks f = call_stepped w c (client.Sum table row) lucks.shape lucks.calls f (client_at w c)
 step_stepped w (events.Sync c table) lucks f = call_stepped w c (client.Sync table) lucks.shape lucks.calls f (client_at w c)
-step_stepped w (events.Pull c table) lucks f = call_stepped w c (client.Next table) lucks.shape lucks.calls f (client_at w c)
+step_stepped w (events.Pull c table) lucks f = call_stepped w c (client.Next table lucks.tears lucks.asks) lucks.shape lucks.calls f (client_at w c)
 step_stepped w (events.BeginCr c table) lucks f = call_stepped w c (client.BeginCr table) lucks.shape lucks.calls f (client_at w c)
 step_stepped w (events.Conflicts c table) lucks f =
     listed_stepped w (call w c (client.Conflicts table) lucks.shape lucks.calls) (call_stepped w c (client.Conflicts table) lucks.shape lucks.calls f (client_at w c))

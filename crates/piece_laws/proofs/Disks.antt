@@ -6,7 +6,7 @@ use Rattle.step_tables.specs.Store.{Stored}
 use Rattle.step_tables.specs.Chunks.{is_spelled}
 use Rattle.step_tables.specs.Facts.{Fact}
 use Rattle.step_tables.specs.Members.{Among}
-use Rattle.step_tables.specs.Messages.{Request, Message, Send, SyncRequest, SyncResponse, PullRequest, PullResponse}
+use Rattle.step_tables.specs.Messages.{Request, Message, Send, SyncRequest, SyncResponse, PullRequest, PullResponse, TornRowRequest, TornRowResponse}
 use Rattle.step_tables.specs.ClientMoves.{Slots, TableDisk, RowPut, Plan, ClientDisk, ClientTask, Client, Shape, Commit, PutTable, Finish, slots_in, slots_of, table_at, row_put, table_put, applied, planned_in, seen, changed, told}
 use Rattle.step_tables.specs.ClientMoves.{only, row_task, table_task, keeps, rest_of, planning, ending}
 use Rattle.step_tables.proofs.Lists.{among_left, among_right, among_either}
@@ -80,6 +80,8 @@ module _ (size : ℕ → ℕ) (c : ℕ) where
   SendsOne h sent (PullRequest pull) = Unit {0}
   SendsOne h sent (SyncResponse r) = ⊥
   SendsOne h sent (PullResponse pulled) = ⊥
+  SendsOne h sent (TornRowRequest torn) = Unit {0}
+  SendsOne h sent (TornRowResponse answer) = ⊥
 
   abbrev pub SendsAll : (ℕ → List Stored) → List Request → List Send → Type 0
   SendsAll h sent [] = Unit {0}
@@ -119,6 +121,8 @@ module _ (size : ℕ → ℕ) (c : ℕ) where
       one (PullRequest pull) x = x
       one (SyncResponse r) x = x
       one (PullResponse pulled) x = x
+      one (TornRowRequest torn) x = x
+      one (TornRowResponse answer) x = x
 
   pub runs_later : (h later : ℕ → List Stored) (sent : List Request) (d : ClientDisk) (tasks : List ClientTask) → ((table : ℕ) → Became (size table) sent table (h table) (later table))
       → Runs h sent d tasks → Runs later sent d tasks
@@ -156,6 +160,8 @@ module _ (size : ℕ → ℕ) (c : ℕ) where
       one (PullRequest pull) x = x
       one (SyncResponse r) x = x
       one (PullResponse pulled) x = x
+      one (TornRowRequest torn) x = x
+      one (TornRowResponse answer) x = x
 
   pub runs_fewer : (h : ℕ → List Stored) (sent fewer : List Request) (d : ClientDisk) (tasks : List ClientTask) → Within fewer sent → Runs h sent d tasks → Runs h fewer d tasks
   runs_fewer h sent fewer d [] sub k = (named_fewer h sent fewer (seen d) sub k.0, k.1)

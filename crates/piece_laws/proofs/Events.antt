@@ -17,7 +17,7 @@ use Rattle.step_tables.specs.Facts.{Answer, Refusal}
 use Rattle.step_tables.specs.Facts as facts
 use Rattle.step_tables.specs.Members.{Among}
 use Rattle.step_tables.specs.Sayings.{Said}
-use Rattle.step_tables.specs.Messages.{Request, Pull, Message, Luck, table_of, SyncRequest, SyncResponse, PullRequest, PullResponse}
+use Rattle.step_tables.specs.Messages.{Request, Pull, TornPull, Message, Luck, table_of, SyncRequest, SyncResponse, PullRequest, PullResponse, TornRowRequest, TornRowResponse}
 use Rattle.step_tables.specs.Messages as messages
 use Rattle.step_tables.specs.StoreMoves as store
 use Rattle.step_tables.specs.StoreMoves.{StoreDisk, StoreTask, StoreMove, taken, yours_in}
@@ -157,7 +157,7 @@ module _ (size : ℕ → ℕ) where
             table_moved size w table hosted hosted (table_step w table hosted (store.Take p.from p.message)) at k
             (subst (λ (n : ℕ). IsMove (size table) (asked_in w) table hosted.store.disk.items (taken (scheme_in (schema_at w table)) n table hosted.store.disk hosted.store.agenda p.from p.message))
             (chunk_is w table hosted k at)
-            (taken_move (size table) (asked_in w) table (scheme_in (schema_at w table)) hosted.store.disk hosted.store.agenda p.from p.message x.linked x.grows x.sends asks pulls))
+            (taken_move (size table) (asked_in w) table (scheme_in (schema_at w table)) hosted.store.disk hosted.store.agenda p.from p.message x.linked x.grows x.sends asks pulls torns))
             (λ none. down_taken (scheme_in (schema_at w table)) (chunk_in (schema_at w table)) table hosted.store.disk hosted.store.agenda p.from p.message (x.unmade none))
           where
             asks : hosted.store.agenda ≡ Some [] → (q : Request) → p.message ≡ SyncRequest q → Among (asked_in w) q × (q.table ≡ table)
@@ -175,6 +175,9 @@ module _ (size : ℕ → ℕ) where
 
             pulls : (pull : Pull) → p.message ≡ PullRequest pull → pull.table ≡ table
             pulls pull is = sym (ap table_of is) ∙ table_is
+
+            torns : (torn : TornPull) → p.message ≡ TornRowRequest torn → torn.table ≡ table
+            torns torn is = sym (ap table_of is) ∙ table_is
 
     to_hosted_named : (p : Packet) → Among w.packets p → (table : ℕ) → table_of p.message ≡ table → (lucks : List Luck) (o : Option Hosted) → Named (to_hosted w table (store.Take p.from p.message) lucks o).world
     to_hosted_named p a table is lucks None = k
@@ -402,7 +405,7 @@ module _ (size : ℕ → ℕ) where
     step_named (events.Show c table row) lucks f = call_named w c (client.Show table row) lucks.shape lucks.calls k (λ node at. tt) (client_at w c)
     step_named (events.Sum c table row) lucks f = call_named w c (client.Sum table row) lucks.shape lucks.calls k (λ node at. tt) (client_at w c)
     step_named (events.Sync c table) lucks f = call_named w c (client.Sync table) lucks.shape lucks.calls k (quiet_takes c) (client_at w c)
-    step_named (events.Pull c table) lucks f = call_named w c (client.Next table) lucks.shape lucks.calls k (λ node at. tt) (client_at w c)
+    step_named (events.Pull c table) lucks f = call_named w c (client.Next table lucks.tears lucks.asks) lucks.shape lucks.calls k (λ node at. tt) (client_at w c)
     step_named (events.BeginCr c table) lucks f = call_named w c (client.BeginCr table) lucks.shape lucks.calls k (λ node at. tt) (client_at w c)
     step_named (events.Conflicts c table) lucks f =
         listed_named (call w c (client.Conflicts table) lucks.shape lucks.calls) (call_named w c (client.Conflicts table) lucks.shape lucks.calls k (λ node at. tt) (client_at w c))

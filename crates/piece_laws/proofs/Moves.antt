@@ -1,6 +1,6 @@
 -- Each move of a client keeps what it has of the Store, and what it sends goes with what it sent before.
 use Rattle.std.proofs.Common.{◌≡◌, ◌≢◌, ◌⊎◌, inl, inr, ⊎_elim, ℕ, ◌+◌, Bool, true, false, List, [], ◌∷◌, ◌++◌, Option, Some, None, Result, Ok, Err, refl, sym, ◌∙◌, ap, subst, append-nil, true≢false}
-use Rattle.std.specs.Prelude.{◌==◌, nat_le, nat_lt, option_map, if◌then◌else◌}
+use Rattle.std.specs.Prelude.{◌==◌, nat_le, nat_lt, map, option_map, if◌then◌else◌}
 use Rattle.std.proofs.lemmas.Bool.{eqb-true}
 use Rattle.conflicts.specs.declared.pair.Choice.{Choice}
 use Rattle.conflicts.specs.declared.pair.Choice.TheVariants as choices
@@ -22,6 +22,8 @@ use Rattle.step_tables.specs.Facts as facts
 use Rattle.step_tables.specs.Items.{IsItemOf}
 use Rattle.step_tables.specs.Members.{Among}
 use Rattle.step_tables.specs.Messages.{Request, Response, Pulled, Header, Outcome, Message, Send, Luck, SyncRequest, SyncResponse, PullRequest, PullResponse}
+use Rattle.step_tables.specs.Messages.{TornPulled, TornRowRequest, TornRowResponse}
+use Rattle.step_tables.specs.Chunks.{is_named}
 use Rattle.step_tables.specs.Messages as messages
 use Rattle.step_tables.specs.ClientMoves as client
 use Rattle.step_tables.specs.ClientMoves.{Slots, TableDisk, RowPut, Plan, ClientDisk, ClientTask, Client, ClientMove, ClientStep, Shape, Placed, RowOut, slots_at, slots_in, slots_of, table_at, seen, applied, planned_in, changed, quiet, begun, planning, keeps, rest_of, opening, ending}
@@ -67,6 +69,8 @@ module _ (size : ℕ → ℕ) (c : ℕ) (h : ℕ → List Stored) where
   IsGiven sent (PullRequest pull) = Unit {0}
   IsGiven sent (SyncResponse r) = IsGivenOutcome sent r r.outcome
   IsGiven sent (PullResponse pulled) = IsHeader (h pulled.table) pulled.header
+  IsGiven sent (TornRowRequest torn) = Unit {0}
+  IsGiven sent (TornRowResponse answer) = IsHeader (h answer.table) answer.header
 
   pub record IsStep (sent : List Request) (s : ClientStep) : Type 0 where
     pub sends : SendsAll size c h sent s.sends
@@ -439,6 +443,32 @@ module _ (size : ℕ → ℕ) (c : ℕ) (h : ℕ → List Stored) where
             go true = taken hd k
             go false = idle_step _
 
+    torn_step : (q : TornPulled) → IsHeader (h q.table) q.header → (o : Option TableDisk) → table_at d q.table ≡ o → IsStep sent (client.torn_in c shape d q o)
+    torn_step q given None at = idle_step _
+    torn_step q given (Some o) at = with_header q.header given
+      where
+        taken : (hd : Header) → IsHeader (h q.table) (Some hd) → IsStep sent (client.torn_row_taken c shape d q.table o hd (slots_at o hd.row))
+        taken hd k = go (nat_le hd.version (client.top (slots_at o hd.row).conflict (slots_at o hd.row).shadow))
+          where
+            placed : Placed
+            placed = client.row_placed o.schema.scheme c q.table hd (slots_at o hd.row) (slots_at o hd.row).out
+
+            go : (b : Bool) → IsStep sent (if b
+                then record (client.ignored d) { sends = client.pull_from c q.table o.position ∷ [] }
+                else begun shape d facts.Done (client.torn_plan d q.table hd.row placed) (client.pull_from c q.table o.position ∷ []))
+            go true = pull_step _ refl (tt, tt)
+            go false =
+                let k2 = row_named q.table o at hd.row o.schema.scheme hd (header_names (h q.table) hd k) (slots_at o hd.row).out in
+                change_step q.table o at hd.row facts.Done placed.slots d.last None placed.facts (client.pull_from c q.table o.position ∷ []) refl (tt, tt) k2.0 k2.1
+
+        with_header : (x : Option Header) → IsHeader (h q.table) x → IsStep sent (client.torn_taken c shape d q.table o x)
+        with_header None k = pull_step _ refl (tt, tt)
+        with_header (Some hd) k = go (is_named o.schema.chunk hd.content hd.names)
+          where
+            go : (b : Bool) → IsStep sent (if b then client.torn_row_taken c shape d q.table o hd (slots_at o hd.row) else client.ignored d)
+            go true = taken hd k
+            go false = idle_step _
+
     -- the plan of a row's next write
     sending_first : IsStocked sent → (table : ℕ) (o : TableDisk) → table_at d table ≡ Some o → (y : RowOut)
         → (k : IsFirst o.rows y) → slots_at o y.row ≡ y.slots → ((q : Request) → Among sent q → q.client ≡ c → q.number ≢ k.main.number)
@@ -562,10 +592,23 @@ module _ (size : ℕ → ℕ) (c : ℕ) (h : ℕ → List Stored) where
     sync_step (task ∷ more) k ready table (Some o) at = still (task ∷ more) _ k
     sync_step [] k ready table (Some o) at = first_step shape sent d k (ready refl) items table o (seen_idle k table (Some o) at) (client.first_to_send o.rows) refl
 
-    next_step : (agenda : List ClientTask) → Runs size c h sent d agenda → (table : ℕ) (m : Option TableDisk) → IsStep sent (client.next_in c shape d agenda table m)
-    next_step agenda k table None = still agenda _ k
-    next_step (task ∷ more) k table (Some o) = still (task ∷ more) _ k
-    next_step [] k table (Some o) = pull_step shape sent d k _ refl (tt, tt)
+    asks_known : (table : ℕ) (rows : List (List ℕ)) (before : List Request)
+        → (requests_in (map (client.torn_from c table) rows) ≡ []) × SendsAll size c h before (map (client.torn_from c table) rows)
+    asks_known table [] before = (refl, tt)
+    asks_known table (row ∷ rows) before = let k = asks_known table rows (before ++ []) in (k.0, (tt, k.1))
+
+    from_known : (table position : ℕ) (asks : List (List ℕ)) → (requests_in (client.next_from c table position asks) ≡ []) × SendsAll size c h sent (client.next_from c table position asks)
+    from_known table position [] = (refl, (tt, tt))
+    from_known table position (row ∷ rows) = asks_known table (row ∷ rows) sent
+
+    next_step : (agenda : List ClientTask) → Runs size c h sent d agenda → (table : ℕ) (tears asks : List (List ℕ)) (m : Option TableDisk)
+        → IsStep sent (client.next_in c shape d agenda table tears asks m)
+    next_step agenda k table tears asks None = still agenda _ k
+    next_step (task ∷ more) k table tears asks (Some o) = still (task ∷ more) _ k
+    next_step [] k table tears asks (Some o) =
+        let known = from_known table o.position asks in
+        let s = pull_step shape sent d k (client.next_from c table o.position asks) known.0 known.1 in
+        record { sends = s.sends; client = s.client }
 
     resolve_in_step : (agenda : List ClientTask) → Runs size c h sent d agenda → (table : ℕ) (row : List ℕ) (version : ℕ) (choice : Choice) (m : Option TableDisk)
         → table_at (seen d) table ≡ m → IsStep sent (client.resolve_in c shape d agenda table row version choice m)
@@ -601,6 +644,8 @@ module _ (size : ℕ → ℕ) (c : ℕ) (h : ℕ → List Stored) where
     take_step (Some []) (PullRequest q) k g = still [] _ k
     take_step (Some []) (SyncResponse r) k g = response_step shape sent d k items r g (table_at (seen d) r.table) (seen_idle k r.table (table_at (seen d) r.table) refl)
     take_step (Some []) (PullResponse q) k g = pulled_step shape sent d k q g (table_at (seen d) q.table) (seen_idle k q.table (table_at (seen d) q.table) refl)
+    take_step (Some []) (TornRowRequest q) k g = still [] _ k
+    take_step (Some []) (TornRowResponse q) k g = torn_step shape sent d k q g (table_at (seen d) q.table) (seen_idle k q.table (table_at (seen d) q.table) refl)
 
   -- what a move takes as known
   abbrev pub Takes : List Request → Client → ClientMove → Type 0
@@ -625,7 +670,7 @@ module _ (size : ℕ → ℕ) (c : ℕ) (h : ℕ → List Stored) where
       by_agenda None is n (client.Show table row) t = quiet_step sent s.disk None _ n
       by_agenda None is n (client.Sum table row) t = quiet_step sent s.disk None _ n
       by_agenda None is n (client.Sync table) t = quiet_step sent s.disk None _ n
-      by_agenda None is n (client.Next table) t = quiet_step sent s.disk None _ n
+      by_agenda None is n (client.Next table tears asks) t = quiet_step sent s.disk None _ n
       by_agenda None is n (client.BeginCr table) t = quiet_step sent s.disk None _ n
       by_agenda None is n (client.Conflicts table) t = quiet_step sent s.disk None _ n
       by_agenda None is n (client.EndCr table) t = quiet_step sent s.disk None _ n
@@ -636,7 +681,7 @@ module _ (size : ℕ → ℕ) (c : ℕ) (h : ℕ → List Stored) where
       by_agenda (Some tasks) is n (client.Show table row) t = quiet_step sent s.disk (Some tasks) _ n
       by_agenda (Some tasks) is n (client.Sum table row) t = quiet_step sent s.disk (Some tasks) _ n
       by_agenda (Some tasks) is n (client.Sync table) t = sync_step shape sent s.disk items tasks n (λ e. t (ap (λ (l : List ClientTask). Some l) e)) table (table_at (seen s.disk) table) refl
-      by_agenda (Some tasks) is n (client.Next table) t = next_step shape sent s.disk items tasks n table (table_at (seen s.disk) table)
+      by_agenda (Some tasks) is n (client.Next table tears asks) t = next_step shape sent s.disk items tasks n table tears asks (table_at (seen s.disk) table)
       by_agenda (Some tasks) is n (client.BeginCr table) t = phase_step shape sent s.disk items tasks n (table_at (seen s.disk) table)
       by_agenda (Some tasks) is n (client.Conflicts table) t = conflicts_step shape sent s.disk items tasks n (table_at (seen s.disk) table)
       by_agenda (Some tasks) is n (client.EndCr table) t = phase_step shape sent s.disk items tasks n (table_at (seen s.disk) table)

@@ -6,16 +6,16 @@ use Rattle.row_value.specs.declared.schema.Scheme.{Scheme}
 use Rattle.table_model.specs.Last.{last_where}
 use Rattle.table_model.specs.declared.line.Write.{Write}
 use Rattle.step_tables.specs.Store.{Stored}
-use Rattle.step_tables.specs.Items.{IsItemOf}
+use Rattle.step_tables.specs.Items.{IsItemOf, IsItemAt}
 use Rattle.step_tables.specs.Members.{Among}
-use Rattle.step_tables.specs.Messages.{Request, Response, Outcome, Message, SyncRequest, SyncResponse, PullRequest, PullResponse}
+use Rattle.step_tables.specs.Messages.{Request, Response, Outcome, Message, SyncRequest, SyncResponse, PullRequest, PullResponse, TornRowRequest, TornRowResponse}
 use Rattle.step_tables.specs.Messages as messages
 use Rattle.step_tables.specs.Sayings.{Said, write_of}
 use Rattle.step_tables.specs.StoreMoves.{StoreDisk, StoreTask, pair_of, is_by, yours_in}
 use Rattle.step_tables.specs.ClientMoves.{ClientDisk, ClientTask, Client}
 use Rattle.step_tables.proofs.Lists.{among_none, among_left}
 use Rattle.store_laws.specs.Part as stores
-use Rattle.store_laws.proofs.Items.{one_version, own_is, own_none, own_last}
+use Rattle.store_laws.proofs.Items.{Counts-push, one_version, own_is, own_none, own_last}
 use Rattle.client_laws.specs.Part.{Sending, write_for, Fit, Tied, ClientPart, IsAt, Runs}
 use Rattle.client_laws.specs.Part as part
 use Rattle.world_tables.specs.World.{World, Packet, Hosted, hosted_at, client_at}
@@ -51,6 +51,28 @@ module _ (g : ℕ → Scheme) (size : ℕ → ℕ) (w : World) (s : Said) (k : K
   item_there table c n row version i is =
       record { stands = told_there table i is.stands; client_is = is.client_is; number_is = is.number_is; row_is = is.row_is; version_is = is.version_is }
 
+  -- ---- the items on the devices have the versions 1, 2, .., so that a row has one content at a version
+
+  resting_counted : (table : ℕ) (d : StoreDisk) → stores.IsResting (g table) (KnownIn s.heard k.sent table) (k.items table) d → stores.Counts 0 d.items
+  resting_counted table d (inl told) = subst (stores.Counts 0) (sym told.items) (k.tables table).counted
+  resting_counted table d (inr untold) = subst (stores.Counts 0) (sym untold.items) (Counts-push 0 (k.items table) untold.item (k.tables table).counted (let next = untold.next.next in omega (arith, next)))
+
+  at_counted : (table : ℕ) (d : StoreDisk) (agenda : Option (List StoreTask)) → stores.IsAt (g table) table (KnownIn s.heard k.sent table) (k.items table) d agenda → stores.Counts 0 d.items
+  at_counted table d None is = resting_counted table d is
+  at_counted table d (Some []) is = resting_counted table d (inl is.0)
+  at_counted table d (Some (task ∷ more)) is = resting_counted table d (inl is.0)
+
+  there_counted : (table : ℕ) → stores.Counts 0 (items_at w table)
+  there_counted table = go (hosted_at w table) refl
+    where
+      go : (o : Option Hosted) → hosted_at w table ≡ o → stores.Counts 0 (items_in o)
+      go None at = tt
+      go (Some hosted) at = at_counted table hosted.store.disk hosted.store.agenda (k.stores table hosted at).0.state
+
+  pub one_item : (table : ℕ) (row : List ℕ) (version : ℕ) (i j : Stored) → IsItemAt (items_at w table) row version i → IsItemAt (items_at w table) row version j → i.content ≡ j.content
+  one_item table row version i j x y =
+      ap (λ (z : Stored). z.content) (one_version 0 (items_at w table) i j (there_counted table) x.stands y.stands (x.version_is ∙ sym y.version_is))
+
   -- ---- at an idle table a client's last item on a row has the greatest number
 
   pub below_yours : (table : ℕ) (hosted : Hosted) → hosted_at w table ≡ Some hosted → hosted.store.agenda ≡ Some [] → (c : ℕ) (row : List ℕ) (i : Stored) → Among hosted.store.disk.items i
@@ -85,6 +107,16 @@ module _ (g : ℕ → Scheme) (size : ℕ → ℕ) (w : World) (s : Said) (k : K
   sending_of q a =
       let p = there_request w.packets q a in
       (subst (λ (m : Message). IsFairMessage g s.heard k.items k.sent p.0.from p.0.to m) p.2 (k.packets p.0 p.1)).1
+
+  -- so that two requests of one write have one content
+  pub one_content : (p q : Request) → Among (asked_in w) p → Among (asked_in w) q → p.client ≡ q.client → p.number ≡ q.number → p.content ≡ q.content
+  one_content p q a b e n =
+      let x = sending_of p a in
+      let y = sending_of q b in
+      let there : write_of p.number (s.heard p.client).writes ≡ Some y.0 =
+      ap (λ (c : ℕ). write_of p.number (s.heard c).writes) e ∙ (ap (λ (m : ℕ). write_of m (s.heard q.client).writes) n ∙ y.1) in
+      let same : x.0 ≡ y.0 = some_write x.0 y.0 (sym x.1 ∙ there) in
+      sym x.4 ∙ (ap (λ (z : Write). z.content) same ∙ y.4)
 
   module _ (c : ℕ) (d : ClientDisk) (tied : Tied g c k.items (k.sent c) d (s.heard c)) where
     of_sent : (q : Request) → Among (asked_in w) q → q.client ≡ c → (x : Write) × (write_of q.number (s.heard c).writes ≡ Some x) × (x.table ≡ q.table) × (x.row ≡ q.row)
@@ -144,3 +176,5 @@ module _ (g : ℕ → Scheme) (size : ℕ → ℕ) (w : World) (s : Said) (k : K
       go (PullRequest q) x f = tt
       go (SyncResponse r) x f = outcome r r.outcome f.0 f.1 x
       go (PullResponse pulled) x f = x
+      go (TornRowRequest q) x f = tt
+      go (TornRowResponse q) x f = x

@@ -10,8 +10,9 @@ use Rattle.row_value.specs.declared.schema.Scheme.{Scheme}
 use Rattle.table_model.specs.declared.event.Event.{Event}
 use Rattle.table_model.specs.declared.event.Event.TheVariants as events
 use Rattle.step_tables.specs.Store.{Stored}
+use Rattle.step_tables.specs.Items.{IsItemAt}
 use Rattle.step_tables.specs.Members.{Among}
-use Rattle.step_tables.specs.Messages.{Header}
+use Rattle.step_tables.specs.Messages.{Request, Header}
 use Rattle.step_tables.specs.Chunks.{flat, objects_of, is_of_each, are_apart, is_spelled, is_named}
 use Rattle.step_tables.specs.Sayings.{Said, nothing_said, hear_lines}
 use Rattle.step_tables.specs.ClientMoves.{ClientTask, ClientDisk, slots_of, seen}
@@ -33,6 +34,7 @@ use Rattle.piece_laws.proofs.Disks.{AreNamed, IsNamedAt, now_named}
 use Rattle.piece_laws.proofs.Worlds.{there_request, IsNamedWorld}
 use Rattle.piece_laws.proofs.Outs.{different_apart}
 use Rattle.piece_laws.proofs.Along.{named_at}
+use Rattle.piece_laws.proofs.Ready.{one_item, one_content}
 use Rattle.piece_laws.proofs.Events.{FitsFirst, step_named}
 
 module _ (size : ℕ → ℕ) where
@@ -42,9 +44,15 @@ module _ (size : ℕ → ℕ) where
   seen_named w c d None k = k
   seen_named w c d (Some tasks) k = now_named size c (items_at w) (asked_in w) d tasks k
 
-  names_stand : (w : World) → IsNamedWorld size w → NamesStand w
-  names_stand w k = record {
+  -- a row has one content at a version, and so have two requests of one write
+  record HaveOneContent (w : World) : Type 0 where
+    items : (table : ℕ) (row : List ℕ) (version : ℕ) (i j : Stored) → IsItemAt (items_at w table) row version i → IsItemAt (items_at w table) row version j → i.content ≡ j.content
+    requests : (p q : Request) → Among (asked_in w) p → Among (asked_in w) q → p.client ≡ q.client → p.number ≡ q.number → p.content ≡ q.content
+
+  names_stand : (w : World) → IsNamedWorld size w → HaveOneContent w → NamesStand w
+  names_stand w k contents = record {
     one = λ table schema at. one table schema at (hosted_at w table) refl;
+    contents = contents.items;
     items = k.items;
     requests = λ q a schema at.
         let p = there_request w.packets q a in
@@ -52,10 +60,13 @@ module _ (size : ℕ → ℕ) where
         subst (λ (n : ℕ). (is_spelled n q.content q.pieces ≡ true) × KeepsKnown n (items_at w q.table) q.row q.content q.pieces) (k.sized q.table schema at) known;
     pairs = λ p q a b e n schema at.
         let x = k.pairs p q a b e n in
-        (x.table_is, x.row_is, subst (λ (m : ℕ). GoTogether m (items_at w q.table) q.row p.pieces q.pieces) (k.sized q.table schema at) x.together);
+        (x.table_is, x.row_is, contents.requests p q a b e n, subst (λ (m : ℕ). GoTogether m (items_at w q.table) q.row p.pieces q.pieces) (k.sized q.table schema at) x.together);
     headers = λ packet a pulled is header some schema at.
         let known = subst (IsHeader (items_at w pulled.table)) some (subst (IsKnown size (items_at w) (asked_in w)) is (k.packets packet a)) in
         (known, subst (λ (n : ℕ). is_named n header.content header.names ≡ true) (k.sized pulled.table schema at) (header_named pulled.table header known));
+    torn = λ packet a answer is header some schema at.
+        let known = subst (IsHeader (items_at w answer.table)) some (subst (IsKnown size (items_at w) (asked_in w)) is (k.packets packet a)) in
+        (known, subst (λ (n : ℕ). is_named n header.content header.names ≡ true) (k.sized answer.table schema at) (header_named answer.table header known));
     answers = λ packet a r is needs schema at.
         let known = subst (IsOutcome size (items_at w) (asked_in w) r) needs (subst (IsKnown size (items_at w) (asked_in w)) is (k.packets packet a)) in
         record {
@@ -99,8 +110,9 @@ module _ (size : ℕ → ℕ) where
   first_fits w other es awaits g s kept k = tt
 
   run_named : (g : ℕ → Scheme) (hs : List Happening) (w : World) (s : Said) → Kept g w s → IsUp w → IsNamedWorld size w
-      → runs.Awaits client_law client_grows lapsed_grows fresh_part g w (map (λ (h : Happening). h.event) hs) → AwaitsSizes w (map (λ (h : Happening). h.event) hs) → IsNamedWorld size (world_from w hs)
-  run_named g [] w s kept up k awaits sizes = k
+      → runs.Awaits client_law client_grows lapsed_grows fresh_part g w (map (λ (h : Happening). h.event) hs) → AwaitsSizes w (map (λ (h : Happening). h.event) hs)
+      → IsNamedWorld size (world_from w hs) × HaveOneContent (world_from w hs)
+  run_named g [] w s kept up k awaits sizes = (k, record { items = one_item g size w s kept; requests = one_content g size w s kept })
   run_named g (h ∷ hs) w s kept up k awaits sizes =
       let es : List Event = map (λ (x : Happening). x.event) hs in
       let first = step_sound client_law client_grows lapsed_grows fresh_part g w s kept up h.event h.lucks (first_is client_law client_grows lapsed_grows fresh_part g w s kept h.event es awaits) in
@@ -125,7 +137,7 @@ pub all_stand : (hs : List Happening) → NamesStand (world_from start hs)
 all_stand hs =
     let es : List Event = map (λ (turn : Turn). turn.event) (turns_from start hs) in
     let g : ℕ → Scheme = scheme_for es in
-    names_stand (size_for es) (world_from start hs)
-    (run_named (size_for es) g hs start nothing_said (start_kept client_law client_grows lapsed_grows fresh_part g) start_up (start_named (size_for es))
+    let run = run_named (size_for es) g hs start nothing_said (start_kept client_law client_grows lapsed_grows fresh_part g) start_up (start_named (size_for es))
     (λ table none. ap (λ (ds : List Event). scheme_for ds table) (events_are hs start))
-    (λ table none. ap (λ (ds : List Event). size_for ds table) (events_are hs start)))
+    (λ table none. ap (λ (ds : List Event). size_for ds table) (events_are hs start)) in
+    names_stand (size_for es) (world_from start hs) run.0 run.1

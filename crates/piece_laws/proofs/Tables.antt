@@ -12,12 +12,13 @@ use Rattle.step_tables.specs.Store.{Stored, current_of, is_of_row, next_changed}
 use Rattle.step_tables.specs.Facts as facts
 use Rattle.step_tables.specs.Members.{Among}
 use Rattle.step_tables.specs.Messages.{Request, Response, Pull, Header, Pair, Outcome, Message, Send, Luck, SyncRequest, SyncResponse, PullRequest, PullResponse}
+use Rattle.step_tables.specs.Messages.{TornPull, TornRowRequest, TornRowResponse}
 use Rattle.step_tables.specs.Messages as messages
 use Rattle.step_tables.specs.Chunks.{rising, new_names, old_names, is_spelled, is_of_each, are_counted, are_apart, kept_in, flat, objects_of}
 use Rattle.step_tables.specs.StoreMoves.{StoreDisk, StoreTask, StoreChange, OpenChunks, OpenRows, OpenLog, Open, PutChunk, Put, DropChunk, Close, changed, StoreStep}
 use Rattle.step_tables.specs.StoreMoves.{quiet, worked, crashed, item_at, drops, recovering, recovered, recover, started, takes, outdated, unaccepted, responded, sending, item_for, puts}
-use Rattle.step_tables.specs.StoreMoves.{accepting, version_of, keeps_there, judged, decided, asked, taken, yours_in, header_for, answered}
-use Rattle.step_tables.proofs.Lists.{among_here, among_next, among_left}
+use Rattle.step_tables.specs.StoreMoves.{accepting, version_of, keeps_there, judged, decided, asked, taken, yours_in, header_for, answered, torn_answered}
+use Rattle.step_tables.proofs.Lists.{among_here, among_next, among_left, among_last}
 use Rattle.piece_laws.specs.Pieces.{IsDead, KeepsKnown, IsOfRequest, IsHeader}
 use Rattle.piece_laws.proofs.Linked.{IsNext, AreLinked, item_next}
 use Rattle.piece_laws.proofs.Gone.{refused_dead, accepted_alive}
@@ -85,6 +86,8 @@ IsAnswer size sent table h (SyncRequest q) = ⊥
 IsAnswer size sent table h (PullRequest pull) = ⊥
 IsAnswer size sent table h (SyncResponse r) = (r.table ≡ table) × NeedsBy size sent table h r r.outcome
 IsAnswer size sent table h (PullResponse pulled) = (pulled.table ≡ table) × IsHeader h pulled.header
+IsAnswer size sent table h (TornRowRequest torn) = ⊥
+IsAnswer size sent table h (TornRowResponse answer) = (answer.table ≡ table) × IsHeader h answer.header
 
 abbrev pub AreKnown : ℕ → List Request → ℕ → List Stored → List Send → Type 0
 AreKnown size sent table h [] = Unit {0}
@@ -301,6 +304,25 @@ module _ (size : ℕ) (sent : List Request) (table : ℕ) where
         go true is = decided_move is
         go false is = stays d (Some []) facts.Done tt tt
 
+  -- ---- a row for a client
+
+  row_header : (d : StoreDisk) (client : ℕ) (o : Option Stored) → ((item : Stored) → o ≡ Some item → Among d.items item) → IsHeader d.items (option_map (header_for d.items client) o)
+  row_header d client None stands = tt
+  row_header d client (Some item) stands = record {
+    item = item;
+    is = record { stands = stands item refl; row_is = refl; version_is = refl };
+    content = refl;
+    names = refl;
+  }
+
+  pub torn_move : (d : StoreDisk) (from : Node) (torn : TornPull) → torn.table ≡ table → IsMove size sent table d.items (torn_answered d from torn)
+  torn_move d from torn table_is = record {
+    became = inl refl;
+    grows = tt;
+    sends = tt;
+    known = ((table_is, row_header d torn.client (current_of d.items torn.row) (λ item at. (among_last (is_of_row torn.row) d.items item at).0)), tt);
+  }
+
   -- ---- a pull
 
   next_stands : (position : ℕ) (h : List Stored) (item : Stored) → next_changed position h ≡ Some item → Among h item
@@ -313,16 +335,12 @@ module _ (size : ℕ) (sent : List Request) (table : ℕ) where
       go false later is = among_next x more item (later is)
 
   pub answered_move : (d : StoreDisk) (from : Node) (pull : Pull) → pull.table ≡ table → IsMove size sent table d.items (answered d from pull)
-  answered_move d from pull table_is = record { became = inl refl; grows = tt; sends = tt; known = ((table_is, header (next_changed pull.position d.items) refl), tt) }
-    where
-      header : (o : Option Stored) → next_changed pull.position d.items ≡ o → IsHeader d.items (option_map (header_for d.items pull.client) o)
-      header None at = tt
-      header (Some item) at = record {
-        item = item;
-        is = record { stands = next_stands pull.position d.items item at; row_is = refl; version_is = refl };
-        content = refl;
-        names = refl;
-      }
+  answered_move d from pull table_is = record {
+    became = inl refl;
+    grows = tt;
+    sends = tt;
+    known = ((table_is, row_header d pull.client (next_changed pull.position d.items) (λ item at. next_stands pull.position d.items item at)), tt);
+  }
 
   -- ---- any message: a table that is up and idle takes it
 
@@ -330,10 +348,13 @@ module _ (size : ℕ) (sent : List Request) (table : ℕ) where
       → SendsBy size sent table agenda
       → (agenda ≡ Some [] → (q : Request) → m ≡ SyncRequest q → Among sent q × (q.table ≡ table) × KeepsKnown size d.items q.row q.content q.pieces
       × ((i : Stored) → Among d.items i → i.entry.client ≡ q.client → i.entry.row ≡ q.row → i.entry.number ≤ (yours_in d.items q.client q.row).number))
-      → ((pull : Pull) → m ≡ PullRequest pull → pull.table ≡ table) → IsMove size sent table d.items (taken g size table d agenda from m)
-  taken_move g d None from m linked grows sends asks pulls = down_move d d _ (inl refl)
-  taken_move g d (Some (task ∷ more)) from m linked grows sends asks pulls = stays d (Some (task ∷ more)) _ grows sends
-  taken_move g d (Some []) from (SyncRequest q) linked grows sends asks pulls = let x = asks refl q refl in asked_move g d linked from q x.0 x.1 x.2 x.3
-  taken_move g d (Some []) from (PullRequest pull) linked grows sends asks pulls = answered_move d from pull (pulls pull refl)
-  taken_move g d (Some []) from (SyncResponse r) linked grows sends asks pulls = stays d (Some []) facts.Done tt tt
-  taken_move g d (Some []) from (PullResponse pulled) linked grows sends asks pulls = stays d (Some []) facts.Done tt tt
+      → ((pull : Pull) → m ≡ PullRequest pull → pull.table ≡ table) → ((torn : TornPull) → m ≡ TornRowRequest torn → torn.table ≡ table)
+      → IsMove size sent table d.items (taken g size table d agenda from m)
+  taken_move g d None from m linked grows sends asks pulls torns = down_move d d _ (inl refl)
+  taken_move g d (Some (task ∷ more)) from m linked grows sends asks pulls torns = stays d (Some (task ∷ more)) _ grows sends
+  taken_move g d (Some []) from (SyncRequest q) linked grows sends asks pulls torns = let x = asks refl q refl in asked_move g d linked from q x.0 x.1 x.2 x.3
+  taken_move g d (Some []) from (PullRequest pull) linked grows sends asks pulls torns = answered_move d from pull (pulls pull refl)
+  taken_move g d (Some []) from (SyncResponse r) linked grows sends asks pulls torns = stays d (Some []) facts.Done tt tt
+  taken_move g d (Some []) from (PullResponse pulled) linked grows sends asks pulls torns = stays d (Some []) facts.Done tt tt
+  taken_move g d (Some []) from (TornRowRequest torn) linked grows sends asks pulls torns = torn_move d from torn (torns torn refl)
+  taken_move g d (Some []) from (TornRowResponse answer) linked grows sends asks pulls torns = stays d (Some []) facts.Done tt tt

@@ -8,7 +8,7 @@ use Rattle.stab_base.specs.declared.node.Node.TheVariants as nodes
 use Rattle.row_value.specs.declared.schema.Schema.{Schema}
 use Rattle.step_tables.specs.Store.{Stored}
 use Rattle.step_tables.specs.Members.{Among}
-use Rattle.step_tables.specs.Messages.{Request, Response, Outcome, Header, Message, Send, SyncRequest, SyncResponse, PullRequest, PullResponse}
+use Rattle.step_tables.specs.Messages.{Request, Response, Outcome, Header, Message, Send, SyncRequest, SyncResponse, PullRequest, PullResponse, TornRowRequest, TornRowResponse}
 use Rattle.step_tables.specs.Messages as messages
 use Rattle.step_tables.specs.StoreMoves.{StoreTask, StoreStep}
 use Rattle.step_tables.specs.ClientMoves.{Client, ClientStep, ClientMove}
@@ -52,6 +52,8 @@ there_request (x ∷ packets) q a = ⊎_elim
     by_message (PullRequest pull) b = absurd (among_none q b)
     by_message (SyncResponse r) b = absurd (among_none q b)
     by_message (PullResponse pulled) b = absurd (among_none q b)
+    by_message (TornRowRequest torn) b = absurd (among_none q b)
+    by_message (TornRowResponse answer) b = absurd (among_none q b)
 
 sent_packet : (from : Node) (sends : List Send) (p : Packet) → Among (packets_from from sends) p → (send : Send) × Among sends send × (p.message ≡ send.message)
 sent_packet from [] p a = absurd (among_none p a)
@@ -159,6 +161,8 @@ module _ (size : ℕ → ℕ) where
     known_later (PullRequest pull) k = tt
     known_later (SyncResponse r) k = outcome_later r r.outcome k
     known_later (PullResponse pulled) k = header_later pulled.table pulled.header k
+    known_later (TornRowRequest torn) k = tt
+    known_later (TornRowResponse answer) k = header_later answer.table answer.header k
 
   -- ---- as requests come
 
@@ -185,6 +189,8 @@ module _ (size : ℕ → ℕ) where
     known_more (PullRequest pull) k = tt
     known_more (SyncResponse r) k = outcome_more r r.outcome k
     known_more (PullResponse pulled) k = k
+    known_more (TornRowRequest torn) k = tt
+    known_more (TornRowResponse answer) k = k
 
     answer_more : (table : ℕ) (l : List Stored) (m : Message) → IsAnswer (size table) sent table l m → IsAnswer (size table) (sent ++ more) table l m
     answer_more table l (SyncRequest q) k = k
@@ -208,6 +214,8 @@ module _ (size : ℕ → ℕ) where
           none = x.none;
         }
     answer_more table l (PullResponse pulled) k = k
+    answer_more table l (TornRowRequest torn) k = k
+    answer_more table l (TornRowResponse answer) k = k
 
     answers_more : (table : ℕ) (l : List Stored) (sends : List Send) → AreKnown (size table) sent table l sends → AreKnown (size table) (sent ++ more) table l sends
     answers_more table l [] k = tt
@@ -265,6 +273,8 @@ module _ (size : ℕ → ℕ) where
       by_message (PullRequest pull) x = subst (Pairs h) (sym (append-nil sent)) pairs
       by_message (SyncResponse r) x = absurd x
       by_message (PullResponse pulled) x = absurd x
+      by_message (TornRowRequest torn) x = subst (Pairs h) (sym (append-nil sent)) pairs
+      by_message (TornRowResponse answer) x = absurd x
 
   of_client : (c : ℕ) (h : ℕ → List Stored) (sent : List Request) (sends : List Send) → SendsAll size c h sent sends → (q : Request) → Among (requests_in sends) q → q.client ≡ c
   of_client c h sent [] k q a = absurd (among_none q a)
@@ -276,6 +286,8 @@ module _ (size : ℕ → ℕ) where
       by_message (PullRequest pull) x b = absurd (among_none q b)
       by_message (SyncResponse r) x b = absurd x
       by_message (PullResponse pulled) x b = absurd x
+      by_message (TornRowRequest torn) x b = absurd (among_none q b)
+      by_message (TornRowResponse answer) x b = absurd x
 
   sends_known : (c : ℕ) (h : ℕ → List Stored) (all sent : List Request) (sends : List Send) → SendsAll size c h sent sends → (send : Send) → Among sends send → IsKnown size h all send.message
   sends_known c h all sent [] k send a = absurd (among_none send a)
@@ -288,6 +300,8 @@ module _ (size : ℕ → ℕ) where
       by_message (PullRequest pull) y = tt
       by_message (SyncResponse r) y = absurd y
       by_message (PullResponse pulled) y = absurd y
+      by_message (TornRowRequest torn) y = tt
+      by_message (TornRowResponse answer) y = absurd y
 
   -- ---- a client's move
 
@@ -330,6 +344,8 @@ module _ (size : ℕ → ℕ) where
       by_message (PullRequest pull) x = refl
       by_message (SyncResponse r) x = refl
       by_message (PullResponse pulled) x = refl
+      by_message (TornRowRequest torn) x = refl
+      by_message (TornRowResponse answer) x = refl
 
   module _ (h : ℕ → List Stored) (sent : List Request) (table : ℕ) where
     needed_now : (r : Response) → r.table ≡ table → IsNeededNow (size table) sent table (h table) r → IsNeeded size h sent r
@@ -357,6 +373,8 @@ module _ (size : ℕ → ℕ) where
         by_outcome (messages.Conflict v) x = tt
         by_outcome messages.NeedWhole x = needed_now r k.0 x
     answer_known (PullResponse pulled) k = subst (λ (t : ℕ). IsHeader (h t) pulled.header) (sym k.0) k.1
+    answer_known (TornRowRequest torn) k = absurd k
+    answer_known (TornRowResponse answer) k = subst (λ (t : ℕ). IsHeader (h t) answer.header) (sym k.0) k.1
 
     answers_known : (sends : List Send) → AreKnown (size table) sent table (h table) sends → (send : Send) → Among sends send → IsKnown size h sent send.message
     answers_known [] k send a = absurd (among_none send a)

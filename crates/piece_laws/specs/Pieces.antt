@@ -13,8 +13,9 @@ use Rattle.step_tables.specs.Chunks.{is_spelled, is_named}
 use Rattle.step_tables.specs.ClientMoves.{Slots, Client, known, slots_of, seen}
 use Rattle.step_tables.specs.Items.{IsItemOf, IsItemAt}
 use Rattle.step_tables.specs.Members.{Among}
-use Rattle.step_tables.specs.Messages.{Request, Response, Pulled, Header, Outcome, Message, NeedWhole, SyncRequest}
-use Rattle.step_tables.specs.Messages.{SyncResponse, PullRequest, PullResponse}
+use Rattle.step_tables.specs.Messages.{Request, Response, Pulled, TornPulled, Header, Outcome, Message, NeedWhole}
+use Rattle.step_tables.specs.Messages.{SyncRequest, SyncResponse, PullRequest, PullResponse, TornRowRequest}
+use Rattle.step_tables.specs.Messages.{TornRowResponse}
 use Rattle.world_tables.specs.World.{World, Packet, Hosted, schema_at, hosted_at, client_at}
 
 -- ---- at the Store
@@ -114,6 +115,8 @@ IsKnown size h sent (SyncRequest q) =
 IsKnown size h sent (PullRequest pull) = Unit {0}
 IsKnown size h sent (SyncResponse r) = IsOutcome size h sent r r.outcome
 IsKnown size h sent (PullResponse pulled) = IsHeader (h pulled.table) pulled.header
+IsKnown size h sent (TornRowRequest torn) = Unit {0}
+IsKnown size h sent (TornRowResponse answer) = IsHeader (h answer.table) answer.header
 
 -- ---- at a client
 
@@ -160,6 +163,8 @@ request_in (SyncRequest q) = q ∷ []
 request_in (PullRequest pull) = []
 request_in (SyncResponse r) = []
 request_in (PullResponse pulled) = []
+request_in (TornRowRequest torn) = []
+request_in (TornRowResponse answer) = []
 
 abbrev pub requests_of : List Packet → List Request
 requests_of [] = []
@@ -170,24 +175,32 @@ abbrev pub asked_in : World → List Request
 asked_in w = requests_of w.packets
 
 -- A NAME STANDS FOR ONE CHUNK of one row, at the Store, on the network and at each client: no two items have other
--- bytes under it; a request spells its chunks, so that the Store takes it, and keeps what an item of its row has; a
--- row from the Store names its chunks, so that a client takes it, by the names of its item, and has them as it was
--- read; all chunks of a write are needed only where a request of it keeps one that is gone; what waits keeps what is
--- known, and its item has the names of its pieces. Each item is of a request on the network, and any two requests of
--- one write spell it alike, or one of them is given up for one that keeps nothing.
+-- bytes under it, and a row has one content at a version; a request spells its chunks, so that the Store takes it, and
+-- keeps what an item of its row has; a row from the Store, whether it was pulled or asked for whole, names its chunks,
+-- so that a client takes it, by the names of its item, and has them as it was read; all chunks of a write are needed
+-- only where a request of it keeps one that is gone; what waits keeps what is known, and its item has the names of its
+-- pieces. Each item is of a request on the network, and any two requests of one write have one content, and spell it
+-- alike, or one of them is given up for one that keeps nothing.
 pub record NamesStand (w : World) : Type 0 where
   pub one : (table : ℕ) (schema : Schema) → schema_at w table ≡ Some schema → NamesOne schema.chunk (items_at w table)
+  pub contents : (table : ℕ) (row : List ℕ) (version : ℕ) (i j : Stored) → IsItemAt (items_at w table) row version i
+      → IsItemAt (items_at w table) row version j → i.content ≡ j.content
   pub items : (table : ℕ) (i : Stored) → Among (items_at w table) i → (q : Request) × IsOfRequest (asked_in w) table i q
   pub requests : (q : Request) → Among (asked_in w) q → (schema : Schema) → schema_at w q.table ≡ Some schema
       → (is_spelled schema.chunk q.content q.pieces ≡ true)
       × KeepsKnown schema.chunk (items_at w q.table) q.row q.content q.pieces
   pub pairs : (p q : Request) → Among (asked_in w) p → Among (asked_in w) q → p.client ≡ q.client → p.number ≡ q.number
       → (schema : Schema) → schema_at w q.table ≡ Some schema
-      → (p.table ≡ q.table) × (p.row ≡ q.row) × GoTogether schema.chunk (items_at w q.table) q.row p.pieces q.pieces
+      → (p.table ≡ q.table) × (p.row ≡ q.row) × (p.content ≡ q.content)
+      × GoTogether schema.chunk (items_at w q.table) q.row p.pieces q.pieces
   pub headers : (packet : Packet) → Among w.packets packet → (pulled : Pulled) → packet.message ≡ PullResponse pulled
       → (header : Header) → pulled.header ≡ Some header
       → (schema : Schema) → schema_at w pulled.table ≡ Some schema
       → IsHeaderOf (items_at w pulled.table) header × (is_named schema.chunk header.content header.names ≡ true)
+  pub torn : (packet : Packet) → Among w.packets packet → (answer : TornPulled)
+      → packet.message ≡ TornRowResponse answer → (header : Header) → answer.header ≡ Some header
+      → (schema : Schema) → schema_at w answer.table ≡ Some schema
+      → IsHeaderOf (items_at w answer.table) header × (is_named schema.chunk header.content header.names ≡ true)
   pub answers : (packet : Packet) → Among w.packets packet → (r : Response) → packet.message ≡ SyncResponse r
       → r.outcome ≡ NeedWhole → (schema : Schema) → schema_at w r.table ≡ Some schema
       → IsNeeded (λ table. schema.chunk) (items_at w) (asked_in w) r

@@ -4,7 +4,7 @@ use Rattle.row_value.specs.declared.content.Content.{Content}
 use Rattle.row_value.specs.declared.schema.Scheme.{Scheme}
 use Rattle.step_tables.specs.Store.{Stored}
 use Rattle.step_tables.specs.Facts.{Fact}
-use Rattle.step_tables.specs.Messages.{Response, Outcome, Message, Send, SyncRequest, SyncResponse, PullRequest, PullResponse}
+use Rattle.step_tables.specs.Messages.{Response, Outcome, Message, Send, SyncRequest, SyncResponse, PullRequest, PullResponse, TornRowRequest, TornRowResponse}
 use Rattle.step_tables.specs.Messages as messages
 use Rattle.step_tables.specs.Sayings.{Saying, SaysNothing, SaysEntry, SaysBack, saying}
 use Rattle.step_tables.specs.StoreMoves.{StoreDisk, StoreTask, TableStore, changed}
@@ -83,6 +83,8 @@ module _ (g : Scheme) (table : ℕ) (K L : Known) (more : (c : ℕ) (row : List 
       one (PullRequest pull) k = k
       one (SyncResponse response) k = (k.0, k.1, outcome_knows h response response.outcome k.2)
       one (PullResponse pulled) k = k
+      one (TornRowRequest torn) k = k
+      one (TornRowResponse answer) k = k
 
   resting_knows : (h : List Stored) (d : StoreDisk) → IsResting g K h d → IsResting g L h d
   resting_knows h d (inl k) = inl k

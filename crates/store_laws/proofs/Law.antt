@@ -11,6 +11,7 @@ use Rattle.step_tables.specs.Facts.{Fact, Answer}
 use Rattle.step_tables.specs.Facts as facts
 use Rattle.step_tables.specs.Members.{Among}
 use Rattle.step_tables.specs.Messages.{Request, Response, Pull, Pulled, Header, Pair, Outcome, Message, Send, Luck, SyncRequest, SyncResponse, PullRequest, PullResponse}
+use Rattle.step_tables.specs.Messages.{TornPull, TornRowRequest, TornRowResponse}
 use Rattle.step_tables.specs.Messages as messages
 use Rattle.step_tables.specs.Sayings.{Saying, SaysNothing, SaysEntry, SaysBack, saying}
 use Rattle.stab_base.specs.declared.chunk_name.ChunkName.{ChunkName}
@@ -18,13 +19,13 @@ use Rattle.step_tables.specs.Chunks.{without_names, rising, new_names, names_wit
 use Rattle.step_tables.specs.StoreMoves.{StoreDisk, StoreTask, TableStore, StoreMove, Open, Put, Close, Take, Work, Crash, Start, quiet, changed, done, crashed}
 use Rattle.step_tables.specs.StoreMoves.{failed, worked, item_at, ends_with, drops, recovering, recovered, recover, started, takes, outdated, responded, sending, item_for, puts, accepting, version_of}
 use Rattle.step_tables.specs.StoreMoves.{unaccepted, keeps_there, judged, pair_of, is_by, yours_in}
-use Rattle.step_tables.specs.StoreMoves.{decided, header_for, pulled_for, answered, asked, taken, store_step}
+use Rattle.step_tables.specs.StoreMoves.{decided, header_for, pulled_for, answered, torn_pulled_for, torn_answered, asked, taken, store_step}
 use Rattle.step_tables.specs.Items.{latest, IsBase, IsYours, IsChange}
 use Rattle.step_tables.proofs.Lists.{among_push, among_left, among_cases}
 use Rattle.world_tables.specs.Again.{may_repeat}
-use Rattle.store_laws.specs.Part.{Known, IsLawful, IsNext, Tells, TellsAll, IsWayTo, IsLate, IsOutcome, IsHeader, Answers, IsTold, IsResting, Runs, IsAt, StorePart, IsAsked}
+use Rattle.store_laws.specs.Part.{Known, IsLawful, IsNext, Tells, TellsAll, IsWayTo, IsLate, IsOutcome, IsHeader, IsRowFor, IsTornHeader, Answers, IsTold, IsResting, Runs, IsAt, StorePart, IsAsked}
 use Rattle.store_laws.specs.Part.{IsFair, StoreLaw}
-use Rattle.store_laws.proofs.Items.{Counts-push, counted_up, one_version, item_at-is, item_at-none, pushed_at, latest_most, latest_item, base_low, own_is, own_none, own_last, next_is}
+use Rattle.store_laws.proofs.Items.{Counts-push, counted_up, one_version, item_at-is, item_at-none, pushed_at, current_is, latest_most, latest_item, base_low, own_is, own_none, own_last, next_is}
 use Rattle.store_laws.proofs.Items.{IsNextChange}
 
 module _ (g : Scheme) (table : ℕ) (K : Known) where
@@ -375,6 +376,25 @@ module _ (g : Scheme) (table : ℕ) (K : Known) where
         ((fair.0, fair.1, header_is pull (next_changed pull.position h) refl), tt) in
         sends_law d _ p (rw p.0.items answer)
 
+    -- ---- a row that is asked for whole
+
+    row_is : (c : ℕ) (row : List ℕ) (s : Stored) → current_of h row ≡ Some s → IsRowFor c h (header_for h c s)
+    row_is c row s at =
+        let k = current_is h row s at in
+        let here : latest h row ≤ s.entry.version = subst (λ (o : Option Stored). version_of o ≤ s.entry.version) (sym at) (omega arith) in
+        let low : latest h s.entry.row ≤ s.entry.version = subst (λ (r : List ℕ). latest h r ≤ s.entry.version) (sym k.1) here in
+        (s, record { stands = k.0; row_is = refl; version_is = refl }, refl, yours c s.entry.row s.entry.version low (last_where (is_by c s.entry.row) h) refl)
+
+    torn_header_is : (torn : TornPull) (o : Option Stored) → current_of h torn.row ≡ o → IsTornHeader torn.client h (option_map (header_for h torn.client) o)
+    torn_header_is torn None at = tt
+    torn_header_is torn (Some s) at = row_is torn.client torn.row s at
+
+    torn_law : (d : StoreDisk) (from : Node) (torn : TornPull) → (torn.table ≡ table) × IsWayTo torn.client from → Runs g table K h d [] → StoreLaw g table K h (torn_answered d from torn)
+    torn_law d from torn fair p =
+        let answer : Answers g table K h (record { to = Some from; message = TornRowResponse (torn_pulled_for h torn (current_of h torn.row)) } ∷ []) =
+        ((fair.0, fair.1, torn_header_is torn (current_of h torn.row) refl), tt) in
+        sends_law d _ p (rw p.0.items answer)
+
     -- a request is judged where it spells its chunks
     asked_law : (size : ℕ) (d : StoreDisk) (from : Node) (q : Request) → IsAsked table K h from q → Runs g table K h d [] → StoreLaw g table K h (asked g size table d from q)
     asked_law size d from q fair p = by_spelling (is_spelled size q.content q.pieces)
@@ -392,6 +412,8 @@ module _ (g : Scheme) (table : ℕ) (K : Known) where
     take_law size d (Some []) from (SyncResponse response) f p = still d (Some []) _ p
     take_law size d (Some []) from (PullResponse pulled) f p = still d (Some []) _ p
     take_law size d (Some []) from (PullRequest pull) f p = answered_law d from pull f p
+    take_law size d (Some []) from (TornRowRequest torn) f p = torn_law d from torn f p
+    take_law size d (Some []) from (TornRowResponse answer) f p = still d (Some []) _ p
     take_law size d (Some []) from (SyncRequest request) f p = asked_law size d from request f p
 
   pub store_law : (store size : ℕ) (h : List Stored) (s : TableStore) (move : StoreMove) → IsFair table K h move → StorePart g table K h s → StoreLaw g table K h (store_step store g size table s move)

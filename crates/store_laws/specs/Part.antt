@@ -11,12 +11,13 @@ use Rattle.step_tables.specs.Store.{Stored}
 use Rattle.step_tables.specs.Facts.{Fact}
 use Rattle.step_tables.specs.Members.{Among}
 use Rattle.step_tables.specs.Messages.{Request, Response, Pull, Pulled, Header, Outcome, Message, Send, SyncRequest}
-use Rattle.step_tables.specs.Messages.{SyncResponse, PullRequest, PullResponse}
+use Rattle.step_tables.specs.Messages.{SyncResponse, PullRequest, PullResponse, TornPulled, TornRowRequest}
+use Rattle.step_tables.specs.Messages.{TornRowResponse}
 use Rattle.step_tables.specs.Messages as messages
 use Rattle.step_tables.specs.Sayings.{Saying, SaysNothing, SaysEntry, SaysBack, saying}
 use Rattle.step_tables.specs.StoreMoves.{StoreDisk, StoreTask, TableStore, StoreStep, StoreMove, Take}
 use Rattle.step_tables.specs.StoreMoves.{changed}
-use Rattle.step_tables.specs.Items.{latest, IsItemOf, IsItemAt, IsBase, IsChange}
+use Rattle.step_tables.specs.Items.{latest, IsItemOf, IsItemAt, IsBase, IsYours, IsChange}
 use Rattle.world_tables.specs.Again.{may_repeat}
 
 -- what is known of a sent write: client, row, number, base, content
@@ -108,6 +109,16 @@ IsHeader h pulled None = Unit {0}
 IsHeader h pulled (Some header) =
     IsChange pulled.client h pulled.from pulled.to header × (pulled.from < pulled.to)
 
+-- a row for a client is an item's, with the client's last pair on the row up to it
+abbrev pub IsRowFor : ℕ → List Stored → Header → Type 0
+IsRowFor client h header =
+    (i : Stored) × IsItemAt h header.row header.version i × (i.content ≡ header.content)
+    × IsYours client h header.row header.version header.yours
+
+abbrev pub IsTornHeader : ℕ → List Stored → Option Header → Type 0
+IsTornHeader client h None = Unit {0}
+IsTornHeader client h (Some header) = IsRowFor client h header
+
 abbrev pub IsAnswer : Scheme → ℕ → Known → List Stored → Option Node → Message → Type 0
 IsAnswer g table K h to (SyncRequest request) = ⊥
 IsAnswer g table K h to (PullRequest pull) = ⊥
@@ -115,6 +126,9 @@ IsAnswer g table K h to (SyncResponse response) =
     (response.table ≡ table) × IsWayBy response.client to × IsOutcome g K h response response.outcome
 IsAnswer g table K h to (PullResponse pulled) =
     (pulled.table ≡ table) × IsWayBy pulled.client to × IsHeader h pulled pulled.header
+IsAnswer g table K h to (TornRowRequest torn) = ⊥
+IsAnswer g table K h to (TornRowResponse answer) =
+    (answer.table ≡ table) × IsWayBy answer.client to × IsTornHeader answer.client h answer.header
 
 abbrev pub Answers : Scheme → ℕ → Known → List Stored → List Send → Type 0
 Answers g table K h [] = Unit {0}
@@ -167,6 +181,7 @@ pub record IsAsked (table : ℕ) (K : Known) (h : List Stored) (from : Node) (re
 abbrev pub IsMessage : ℕ → Known → List Stored → Node → Message → Type 0
 IsMessage table K h from (SyncRequest request) = IsAsked table K h from request
 IsMessage table K h from (PullRequest pull) = (pull.table ≡ table) × IsWayTo pull.client from
+IsMessage table K h from (TornRowRequest torn) = (torn.table ≡ table) × IsWayTo torn.client from
 IsMessage table K h from other = Unit {0}
 
 abbrev pub IsFair : ℕ → Known → List Stored → StoreMove → Type 0

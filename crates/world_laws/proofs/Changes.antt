@@ -11,7 +11,7 @@ use Rattle.table_model.specs.History as history
 use Rattle.step_tables.specs.Store.{Stored, entries_of, current_of, is_of_row}
 use Rattle.step_tables.specs.Facts.{Fact}
 use Rattle.step_tables.specs.Members.{Among, put, put_at}
-use Rattle.step_tables.specs.Messages.{Request, Message, Send, SyncRequest, SyncResponse, PullRequest, PullResponse}
+use Rattle.step_tables.specs.Messages.{Request, Message, Send, SyncRequest, SyncResponse, PullRequest, PullResponse, TornRowRequest, TornRowResponse}
 use Rattle.step_tables.specs.StoreMoves.{version_of}
 use Rattle.step_tables.specs.Items.{latest, IsItemOf, IsItemAt}
 use Rattle.step_tables.specs.Sayings.{Saying, SaysNothing, SaysWrite, SaysEntry, SaysBack, SaysAck, SaysLoss, SaysConflict, SaysResolved, SaysRead, SaysPosition, saying, RowHeard, Heard, own, own_all}
@@ -214,6 +214,8 @@ module _ (g : ℕ → Scheme) (c : ℕ) (h : Items) (sent : List Sending) where
       one_good (SyncResponse x) k b = absurd k
       one_good (PullRequest x) k b = absurd (among_none r b)
       one_good (PullResponse x) k b = absurd k
+      one_good (TornRowRequest x) k b = absurd (among_none r b)
+      one_good (TornRowResponse x) k b = absurd k
 
   -- ---- what is lost is so for good
 

@@ -6,7 +6,7 @@ use Rattle.row_value.specs.declared.schema.Scheme.{Scheme}
 use Rattle.table_model.specs.declared.entry.Entry.{Entry}
 use Rattle.table_model.specs.declared.line.Write.{Write}
 use Rattle.step_tables.specs.Members.{Among, put}
-use Rattle.step_tables.specs.Messages.{Request, Response, Outcome, Message, Send, SyncRequest, SyncResponse, PullRequest, PullResponse}
+use Rattle.step_tables.specs.Messages.{Request, Response, Outcome, Message, Send, SyncRequest, SyncResponse, PullRequest, PullResponse, TornRowRequest, TornRowResponse}
 use Rattle.step_tables.specs.Messages as messages
 use Rattle.step_tables.specs.Sayings.{Heard, nothing_heard, own_all, Said, hear_all, write_of}
 use Rattle.step_tables.specs.ClientMoves.{Client, ClientMove, ClientStep}
@@ -81,6 +81,8 @@ module _ (g : ℕ → Scheme) where
         go (PullRequest q) f = f
         go (SyncResponse r) f = (f.0, outcome_more r r.outcome f.1)
         go (PullResponse q) f = f
+        go (TornRowRequest q) f = f
+        go (TornRowResponse q) f = f
 
   module _ (w : World) (s : Said) (k : Kept g w s) (c : ℕ) (node : Client) (there : client_at w c ≡ Some node) (move : ClientMove) (step : ClientStep)
       (law : ClientLaw g c k.items (k.sent c) (s.heard c) move step) where
@@ -123,6 +125,8 @@ module _ (g : ℕ → Scheme) where
           first (SyncResponse y) f b = absurd f
           first (PullResponse y) f b = absurd f
           first (PullRequest y) f b = λ same. absurd (among_none r b)
+          first (TornRowRequest y) f b = λ same. absurd (among_none r b)
+          first (TornRowResponse y) f b = absurd f
           first (SyncRequest y) f b = λ same.
               let m = f.1 in
               let one : record { table = y.table; row = y.row; number = y.number; base = y.base } ≡ r = ⊎_elim (λ e. e) (λ d. absurd (among_none r d)) (among_cons _ [] r b) in
@@ -196,6 +200,8 @@ module _ (g : ℕ → Scheme) where
           first (SyncResponse y) f there_2 = absurd f
           first (PullResponse y) f there_2 = absurd f
           first (PullRequest y) f there_2 = sym f.1
+          first (TornRowRequest y) f there_2 = sym f.1
+          first (TornRowResponse y) f there_2 = absurd f
           first (SyncRequest y) f there_2 =
               let m = f.1 in
               let r : Sending = record { table = y.table; row = y.row; number = y.number; base = y.base } in

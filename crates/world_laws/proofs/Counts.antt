@@ -29,10 +29,11 @@ use Rattle.step_tables.specs.Slots.{Main}
 use Rattle.step_tables.specs.Slots.{InFlight}
 use Rattle.step_tables.specs.Slots.{Shadow}
 use Rattle.step_tables.specs.Store.{Stored, current_of}
-use Rattle.step_tables.specs.Chunks.{rising, names_with, new_names, old_names, is_spelled}
+use Rattle.step_tables.specs.Chunks.{rising, names_with, new_names, old_names, is_named, is_spelled}
 use Rattle.step_tables.specs.Facts.{Fact, Answer}
 use Rattle.step_tables.specs.Facts as facts
-use Rattle.step_tables.specs.Messages.{Request, Response, Pulled, Header, Pair, Outcome, Message, Send, Luck, SyncRequest, SyncResponse, PullRequest, PullResponse, table_of}
+use Rattle.step_tables.specs.Messages.{Request, Response, Pulled, Header, Pair, Outcome, Message, Send, Luck, SyncRequest, SyncResponse, PullRequest, PullResponse}
+use Rattle.step_tables.specs.Messages.{TornPulled, TornRowRequest, TornRowResponse, table_of}
 use Rattle.step_tables.specs.Messages as messages
 use Rattle.step_tables.specs.StoreMoves as store
 use Rattle.step_tables.specs.StoreMoves.{StoreDisk, StoreChange, StoreTask, TableStore, StoreMove, store_step}
@@ -161,6 +162,8 @@ module _ (x : Scheme) (size table : ℕ) (d : StoreDisk) where
   taken_few (Some []) from (PullRequest q) = omega arith
   taken_few (Some []) from (SyncResponse q) = omega arith
   taken_few (Some []) from (PullResponse q) = omega arith
+  taken_few (Some []) from (TornRowRequest q) = omega arith
+  taken_few (Some []) from (TornRowResponse q) = omega arith
 
 -- a message brings one version at most, and no other move brings any
 abbrev brings : StoreMove → ℕ
@@ -355,6 +358,28 @@ module _ (n c : ℕ) (shape : Shape) (d : ClientDisk) (few : DiskUpTo n d) where
           go true = row_up_to q opened header (slots_at opened header.row)
           go false = (later, tt)
 
+  torn_row_up_to : (table : ℕ) (opened : TableDisk) (header : Header) (slots : Slots) → IsUpTo (n + 1) (client.torn_row_taken c shape d table opened header slots).client
+  torn_row_up_to table opened header slots = go (nat_le header.version (client.top slots.conflict slots.shadow))
+    where
+      go : (b : Bool) → IsUpTo (n + 1) (if b then record (client.ignored d) { sends = client.pull_from c table opened.position ∷ [] }
+          else client.begun shape d facts.Done (client.torn_plan d table header.row (client.row_placed opened.schema.scheme c table header slots slots.out))
+          (client.pull_from c table opened.position ∷ [])).client
+      go true = (later, tt)
+      go false = begun_up_to (n + 1) shape d facts.Done (client.torn_plan d table header.row (client.row_placed opened.schema.scheme c table header slots slots.out))
+          (client.pull_from c table opened.position ∷ []) later same
+
+  torn_up_to : (q : TornPulled) (o : Option TableDisk) → IsUpTo (n + 1) (client.torn_in c shape d q o).client
+  torn_up_to q None = (later, tt)
+  torn_up_to q (Some opened) = taken q.header
+    where
+      taken : (o : Option Header) → IsUpTo (n + 1) (client.torn_taken c shape d q.table opened o).client
+      taken None = (later, tt)
+      taken (Some header) = go (is_named opened.schema.chunk header.content header.names)
+        where
+          go : (b : Bool) → IsUpTo (n + 1) (if b then client.torn_row_taken c shape d q.table opened header (slots_at opened header.row) else client.ignored d).client
+          go true = torn_row_up_to q.table opened header (slots_at opened header.row)
+          go false = (later, tt)
+
   first_up_to : (table : ℕ) (again : List Send) (o : Option RowOut) → IsUpTo (n + 1) (client.sync_first c shape d table again o).client
   first_up_to table again None = (later, tt)
   first_up_to table again (Some x) = begun_up_to (n + 1) shape d facts.Done _ _ later same
@@ -411,14 +436,16 @@ module _ (n c : ℕ) (shape : Shape) (d : ClientDisk) (few : DiskUpTo n d) where
   sync_up_to None tasks table = (later, tt)
   sync_up_to (Some agenda) tasks table = sync_in_up_to agenda tasks table (table_at (seen d) table)
 
-  next_in_up_to : (agenda : List ClientTask) → TasksUpTo n agenda → (table : ℕ) (o : Option TableDisk) → IsUpTo (n + 1) (client.next_in c shape d agenda table o).client
-  next_in_up_to agenda tasks table None = (later, later_tasks agenda tasks)
-  next_in_up_to (task ∷ more) tasks table (Some opened) = (later, later_tasks (task ∷ more) tasks)
-  next_in_up_to [] tasks table (Some opened) = (later, tt)
+  next_in_up_to : (agenda : List ClientTask) → TasksUpTo n agenda → (table : ℕ) (tears asks : List (List ℕ)) (o : Option TableDisk)
+      → IsUpTo (n + 1) (client.next_in c shape d agenda table tears asks o).client
+  next_in_up_to agenda tasks table tears asks None = (later, later_tasks agenda tasks)
+  next_in_up_to (task ∷ more) tasks table tears asks (Some opened) = (later, later_tasks (task ∷ more) tasks)
+  next_in_up_to [] tasks table tears asks (Some opened) = (later, tt)
 
-  next_up_to : (agenda : Option (List ClientTask)) → TasksUpTo n (tasks_in agenda) → (table : ℕ) → IsUpTo (n + 1) (client.next_step c shape d agenda table).client
-  next_up_to None tasks table = (later, tt)
-  next_up_to (Some agenda) tasks table = next_in_up_to agenda tasks table (table_at (seen d) table)
+  next_up_to : (agenda : Option (List ClientTask)) → TasksUpTo n (tasks_in agenda) → (table : ℕ) (tears asks : List (List ℕ))
+      → IsUpTo (n + 1) (client.next_step c shape d agenda table tears asks).client
+  next_up_to None tasks table tears asks = (later, tt)
+  next_up_to (Some agenda) tasks table tears asks = next_in_up_to agenda tasks table tears asks (table_at (seen d) table)
 
   take_up_to : (agenda : Option (List ClientTask)) → TasksUpTo n (tasks_in agenda) → (m : Message) → IsUpTo (n + 1) (client.take_step c shape d agenda m).client
   take_up_to None tasks m = (later, tt)
@@ -427,6 +454,8 @@ module _ (n c : ℕ) (shape : Shape) (d : ClientDisk) (few : DiskUpTo n d) where
   take_up_to (Some []) tasks (PullRequest q) = (later, tt)
   take_up_to (Some []) tasks (SyncResponse r) = response_up_to r (table_at (seen d) r.table)
   take_up_to (Some []) tasks (PullResponse q) = pulled_up_to q (table_at (seen d) q.table)
+  take_up_to (Some []) tasks (TornRowRequest q) = (later, tt)
+  take_up_to (Some []) tasks (TornRowResponse q) = torn_up_to q (table_at (seen d) q.table)
 
   -- a conflict that is resolved
 
@@ -527,7 +556,7 @@ module _ (n c : ℕ) (shape : Shape) where
   no_call_up_to s (client.Show table row) none few = absurd none
   no_call_up_to s (client.Sum table row) none few = absurd none
   no_call_up_to s (client.Sync table) none few = absurd none
-  no_call_up_to s (client.Next table) none few = absurd none
+  no_call_up_to s (client.Next table tears asks) none few = absurd none
   no_call_up_to s (client.BeginCr table) none few = absurd none
   no_call_up_to s (client.Conflicts table) none few = absurd none
   no_call_up_to s (client.EndCr table) none few = absurd none
@@ -835,9 +864,9 @@ module _ (n m : ℕ) (w : World) (few : AreFew n m w) where
   sync_event c table shape lucks = call_few (n + 1) (m + 1) w after c (client.Sync table) shape lucks
       (λ node at. let old : IsUpTo m node = few.1 c node at in sync_up_to m c shape node.disk old.0 node.agenda old.1 table) (client_at w c) refl
 
-  next_event : (c table : ℕ) (shape : Shape) (lucks : List Luck) → AreFew (n + 1) (m + 1) (call w c (client.Next table) shape lucks).world
-  next_event c table shape lucks = call_few (n + 1) (m + 1) w after c (client.Next table) shape lucks
-      (λ node at. let old : IsUpTo m node = few.1 c node at in next_up_to m c shape node.disk old.0 node.agenda old.1 table) (client_at w c) refl
+  next_event : (c table : ℕ) (tears asks : List (List ℕ)) (shape : Shape) (lucks : List Luck) → AreFew (n + 1) (m + 1) (call w c (client.Next table tears asks) shape lucks).world
+  next_event c table tears asks shape lucks = call_few (n + 1) (m + 1) w after c (client.Next table tears asks) shape lucks
+      (λ node at. let old : IsUpTo m node = few.1 c node at in next_up_to m c shape node.disk old.0 node.agenda old.1 table tears asks) (client_at w c) refl
 
   begin_event : (c table : ℕ) (shape : Shape) (lucks : List Luck) → AreFew (n + 1) (m + 1) (call w c (client.BeginCr table) shape lucks).world
   begin_event c table shape lucks = call_few (n + 1) (m + 1) w after c (client.BeginCr table) shape lucks
@@ -995,7 +1024,7 @@ module _ (n m : ℕ) (w : World) (few : AreFew n m w) where
   step_few (events.Show c table row) lucks = show_event c table row lucks.shape lucks.calls
   step_few (events.Sum c table row) lucks = sum_event c table row lucks.shape lucks.calls
   step_few (events.Sync c table) lucks = sync_event c table lucks.shape lucks.calls
-  step_few (events.Pull c table) lucks = next_event c table lucks.shape lucks.calls
+  step_few (events.Pull c table) lucks = next_event c table lucks.tears lucks.asks lucks.shape lucks.calls
   step_few (events.BeginCr c table) lucks = begin_event c table lucks.shape lucks.calls
   step_few (events.Conflicts c table) lucks = conflicts_event c table lucks.shape lucks.calls
   step_few (events.EndCr c table) lucks = end_event c table lucks.shape lucks.calls

@@ -19,15 +19,17 @@ use Rattle.step_tables.specs.Slots.{Shadow}
 use Rattle.step_tables.specs.Facts.{Answer, Refusal, Shown, ShownSum}
 use Rattle.step_tables.specs.Facts as facts
 use Rattle.step_tables.specs.Sums.{by_digests, or_whole, sum_of}
-use Rattle.step_tables.specs.Messages.{Request, Response, Pull, Pulled, Header, Pair, Outcome, Message, Send, SyncRequest, SyncResponse, PullRequest, PullResponse}
+use Rattle.step_tables.specs.Messages.{Request, Response, Pull, Pulled, TornPulled, Header, Pair, Outcome, Message, Send, SyncRequest, SyncResponse, PullRequest}
+use Rattle.step_tables.specs.Messages.{PullResponse, TornRowRequest, TornRowResponse}
 use Rattle.step_tables.specs.Messages as messages
 use Rattle.stab_base.specs.declared.node.Node.{Node}
 use Rattle.step_tables.specs.Store.{current_of}
-use Rattle.step_tables.specs.Chunks.{is_spelled}
+use Rattle.step_tables.specs.Chunks.{is_named, is_spelled}
 use Rattle.step_tables.specs.StoreMoves as store
 use Rattle.step_tables.specs.StoreMoves.{StoreDisk, StoreTask}
 use Rattle.step_tables.specs.ClientMoves.{Slots, TableDisk, ClientDisk, ClientTask, Shape, RowOut, slots_at, table_at, seen, shown_in, show_answer, show_in, write_step, write_to}
 use Rattle.step_tables.specs.ClientMoves.{write_fitting, content_of, edit_made, edit_over, edit_in, edit_step}
+use Rattle.step_tables.specs.ClientMoves.{ignored, pull_from, torn_plan, torn_row_taken, torn_taken, torn_in}
 use Rattle.step_tables.specs.ClientMoves.{write_idle, write_free, write_by, write_strong, first_out, show_step, sync_step, sync_in, sync_first, resent, first_to_send, next_step, next_in, take_step}
 use Rattle.step_tables.specs.ClientMoves.{refused, phase_in, phase_step, choose, over_fitting, resolve_over, resolve_in, resolve_step, can_resolve, all_idle, all_fitting, all_in, all_step}
 use Rattle.step_tables.specs.ClientMoves.{row_out, request_for, whole_out, whole_plan, comes_next}
@@ -160,14 +162,14 @@ module _ (c : ℕ) (shape : Shape) (d : ClientDisk) where
   sync_form None table = tt
   sync_form (Some agenda) table = sync_in_form agenda table (table_at (seen d) table)
 
-  next_in_form : (agenda : List ClientTask) (table : ℕ) (o : Option TableDisk) → IsDone (next_in c shape d agenda table o).answer
-  next_in_form agenda table None = tt
-  next_in_form (task ∷ more) table (Some opened) = tt
-  next_in_form [] table (Some opened) = tt
+  next_in_form : (agenda : List ClientTask) (table : ℕ) (tears asks : List (List ℕ)) (o : Option TableDisk) → IsDone (next_in c shape d agenda table tears asks o).answer
+  next_in_form agenda table tears asks None = tt
+  next_in_form (task ∷ more) table tears asks (Some opened) = tt
+  next_in_form [] table tears asks (Some opened) = tt
 
-  pub next_form : (agenda : Option (List ClientTask)) (table : ℕ) → IsDone (next_step c shape d agenda table).answer
-  next_form None table = tt
-  next_form (Some agenda) table = next_in_form agenda table (table_at (seen d) table)
+  pub next_form : (agenda : Option (List ClientTask)) (table : ℕ) (tears asks : List (List ℕ)) → IsDone (next_step c shape d agenda table tears asks).answer
+  next_form None table tears asks = tt
+  next_form (Some agenda) table tears asks = next_in_form agenda table tears asks (table_at (seen d) table)
 
   -- ---- conflicts
 
@@ -277,6 +279,27 @@ module _ (c : ℕ) (shape : Shape) (d : ClientDisk) where
   pulled_in_form q None = tt
   pulled_in_form q (Some opened) = pulled_form q opened q.header
 
+  torn_row_form : (table : ℕ) (opened : TableDisk) (hd : Header) (slots : Slots) → IsDone (torn_row_taken c shape d table opened hd slots).answer
+  torn_row_form table opened hd slots = go (nat_le hd.version (top slots.conflict slots.shadow))
+    where
+      go : (b : Bool) → IsDone (if b
+          then record (ignored d) { sends = pull_from c table opened.position ∷ [] }
+          else begun shape d facts.Done (torn_plan d table hd.row (row_placed opened.schema.scheme c table hd slots slots.out)) (pull_from c table opened.position ∷ [])).answer
+      go true = tt
+      go false = tt
+
+  torn_form : (table : ℕ) (opened : TableDisk) (o : Option Header) → IsDone (torn_taken c shape d table opened o).answer
+  torn_form table opened None = tt
+  torn_form table opened (Some hd) = go (is_named opened.schema.chunk hd.content hd.names)
+    where
+      go : (b : Bool) → IsDone (if b then torn_row_taken c shape d table opened hd (slots_at opened hd.row) else ignored d).answer
+      go true = torn_row_form table opened hd (slots_at opened hd.row)
+      go false = tt
+
+  torn_in_form : (q : TornPulled) (o : Option TableDisk) → IsDone (torn_in c shape d q o).answer
+  torn_in_form q None = tt
+  torn_in_form q (Some opened) = torn_form q.table opened q.header
+
   pub take_form : (agenda : Option (List ClientTask)) (m : Message) → IsDone (take_step c shape d agenda m).answer
   take_form None m = tt
   take_form (Some (task ∷ more)) m = tt
@@ -284,6 +307,8 @@ module _ (c : ℕ) (shape : Shape) (d : ClientDisk) where
   take_form (Some []) (PullRequest q) = tt
   take_form (Some []) (SyncResponse r) = response_in_form r (table_at (seen d) r.table)
   take_form (Some []) (PullResponse q) = pulled_in_form q (table_at (seen d) q.table)
+  take_form (Some []) (TornRowRequest q) = tt
+  take_form (Some []) (TornRowResponse q) = torn_in_form q (table_at (seen d) q.table)
 
 -- ---- the Store's
 
@@ -321,3 +346,5 @@ taken_form g size table d (Some []) from (SyncRequest q) = asked_form g size tab
 taken_form g size table d (Some []) from (PullRequest q) = tt
 taken_form g size table d (Some []) from (SyncResponse q) = tt
 taken_form g size table d (Some []) from (PullResponse q) = tt
+taken_form g size table d (Some []) from (TornRowRequest q) = tt
+taken_form g size table d (Some []) from (TornRowResponse q) = tt

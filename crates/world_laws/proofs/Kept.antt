@@ -11,7 +11,7 @@ use Rattle.table_model.specs.declared.line.Write.{Write}
 use Rattle.step_tables.specs.Store.{Stored, entries_of}
 use Rattle.step_tables.specs.Facts.{Fact, Answer, Line}
 use Rattle.step_tables.specs.Members.{Among}
-use Rattle.step_tables.specs.Messages.{Request, Response, Pulled, Message, SyncRequest, SyncResponse, PullRequest, PullResponse}
+use Rattle.step_tables.specs.Messages.{Request, Response, Pulled, TornPulled, Message, SyncRequest, SyncResponse, PullRequest, PullResponse, TornRowRequest, TornRowResponse}
 use Rattle.step_tables.specs.Sayings.{Heard, nothing_heard, Said, hear_lines, write_of}
 use Rattle.step_tables.specs.StoreMoves.{TableStore}
 use Rattle.step_tables.specs.ClientMoves.{Client}
@@ -63,6 +63,8 @@ IsFairMessage g heard h sent from to (SyncRequest q) =
 IsFairMessage g heard h sent from to (PullRequest pull) = IsWayTo pull.client from
 IsFairMessage g heard h sent from to (SyncResponse r) = IsWayTo r.client to × part.IsOutcome g r.client h (sent r.client) r r.outcome
 IsFairMessage g heard h sent from to (PullResponse pulled) = IsWayTo pulled.client to × part.IsHeader pulled.client h pulled pulled.header
+IsFairMessage g heard h sent from to (TornRowRequest torn) = IsWayTo torn.client from
+IsFairMessage g heard h sent from to (TornRowResponse answer) = IsWayTo answer.client to × part.IsTornHeader answer.client (h answer.table) answer.header
 
 abbrev pub IsFairPacket : (ℕ → Scheme) → (ℕ → Heard) → Items → (ℕ → List Sending) → Packet → Type 0
 IsFairPacket g heard h sent p = IsFairMessage g heard h sent p.from p.to p.message

@@ -24,7 +24,7 @@ use Rattle.step_tables.specs.Store.{Stored, entries_of, current_of}
 use Rattle.step_tables.specs.Facts.{Fact, Answer, Refusal, Line, AnswerLine, EntryLine, PairLine, FactLine}
 use Rattle.step_tables.specs.Facts as facts
 use Rattle.step_tables.specs.Sums.{by_digests}
-use Rattle.step_tables.specs.Messages.{Message, Luck, SyncRequest, SyncResponse, PullRequest, PullResponse, table_of, name_of}
+use Rattle.step_tables.specs.Messages.{Message, Luck, SyncRequest, SyncResponse, PullRequest, PullResponse, TornRowRequest, TornRowResponse, table_of, name_of}
 use Rattle.step_tables.specs.Messages as messages
 use Rattle.step_tables.specs.Sayings.{Heard, nothing_heard, Said, nothing_said, hear_lines}
 use Rattle.step_tables.specs.StoreMoves as store
@@ -420,10 +420,11 @@ module _ (client_law : ClientLaws) (client_grows : ClientGrows) (lapsed_grows : 
         there_sound (events.Sync c table) c (client.Sync table) shape lucks (λ lines a. a) (λ told. tt) (λ r before. record { form = tt; counts = refl; is = tt }) tt
         (λ node at. by_number (λ (a : Answer). IsGoodAnswer s (events.Sync c table) a) (λ n. record { form = tt; counts = refl; is = tt }) (λ r. record { form = tt; counts = refl; is = tt }) _ (sync_form c shape node.disk node.agenda table)) (client_at w c) refl
 
-    pull_sound : (c table : ℕ) (shape : Shape) (lucks : List Luck) → StepSound s w (events.Pull c table) (call w c (client.Next table) shape lucks)
-    pull_sound c table shape lucks =
-        there_sound (events.Pull c table) c (client.Next table) shape lucks (λ lines a. a) (λ told. tt) (λ r before. record { form = tt; counts = refl; is = tt }) tt
-        (λ node at. by_done (λ (a : Answer). IsGoodAnswer s (events.Pull c table) a) (record { form = tt; counts = refl; is = tt }) (λ r. record { form = tt; counts = refl; is = tt }) _ (next_form c shape node.disk node.agenda table)) (client_at w c) refl
+    pull_sound : (c table : ℕ) (tears asks : List (List ℕ)) (shape : Shape) (lucks : List Luck) → StepSound s w (events.Pull c table) (call w c (client.Next table tears asks) shape lucks)
+    pull_sound c table tears asks shape lucks =
+        there_sound (events.Pull c table) c (client.Next table tears asks) shape lucks (λ lines a. a) (λ told. tt) (λ r before. record { form = tt; counts = refl; is = tt }) tt
+        (λ node at. by_done (λ (a : Answer). IsGoodAnswer s (events.Pull c table) a) (record { form = tt; counts = refl; is = tt }) (λ r. record { form = tt; counts = refl; is = tt }) _
+        (next_form c shape node.disk node.agenda table tears asks)) (client_at w c) refl
 
     -- ---- conflicts
 
@@ -565,12 +566,16 @@ module _ (client_law : ClientLaws) (client_grows : ClientGrows) (lapsed_grows : 
     store_fair from to (PullRequest q) f = (refl, f)
     store_fair from to (SyncResponse r) f = tt
     store_fair from to (PullResponse q) f = tt
+    store_fair from to (TornRowRequest q) f = (refl, f)
+    store_fair from to (TornRowResponse q) f = tt
 
     client_fair : (c : ℕ) (from : Node) (m : Message) → kept.IsFairMessage g s.heard k.items k.sent from (nodes.Client c) m → part.IsFair g c k.items (k.sent c) (client.Take m)
     client_fair c from (SyncRequest q) f = tt
     client_fair c from (PullRequest q) f = tt
     client_fair c from (SyncResponse r) f = subst (λ (q : ℕ). part.IsOutcome g q k.items (k.sent q) r r.outcome) (sym f.0) f.1
     client_fair c from (PullResponse q) f = subst (λ (x : ℕ). part.IsHeader x k.items q q.header) (sym f.0) f.1
+    client_fair c from (TornRowRequest q) f = tt
+    client_fair c from (TornRowResponse q) f = subst (λ (x : ℕ). part.IsTornHeader x (k.items q.table) q.header) (sym f.0) f.1
 
     -- a device call that fails takes the Store down
     failed_sound : (event : Event) → CanTurn s event → IsQuiet event [] → IsGoodAnswer s event (facts.Refuses facts.NoDevice)
@@ -968,7 +973,7 @@ module _ (client_law : ClientLaws) (client_grows : ClientGrows) (lapsed_grows : 
     step_sound up (events.Show c table row) lucks first = show_sound c table row lucks.shape lucks.calls
     step_sound up (events.Sum c table row) lucks first = sum_sound c table row lucks.shape lucks.calls
     step_sound up (events.Sync c table) lucks first = sync_sound c table lucks.shape lucks.calls
-    step_sound up (events.Pull c table) lucks first = pull_sound c table lucks.shape lucks.calls
+    step_sound up (events.Pull c table) lucks first = pull_sound c table lucks.tears lucks.asks lucks.shape lucks.calls
     step_sound up (events.BeginCr c table) lucks first = begin_sound c table lucks.shape lucks.calls
     step_sound up (events.Conflicts c table) lucks first = conflicts_sound c table lucks.shape lucks.calls
     step_sound up (events.EndCr c table) lucks first = end_sound c table lucks.shape lucks.calls

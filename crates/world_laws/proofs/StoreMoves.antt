@@ -9,7 +9,7 @@ use Rattle.table_model.specs.declared.line.Write.{Write}
 use Rattle.step_tables.specs.Store.{Stored, entries_of}
 use Rattle.step_tables.specs.Facts.{Fact}
 use Rattle.step_tables.specs.Members.{Among}
-use Rattle.step_tables.specs.Messages.{Request, Response, Pulled, Header, Outcome, Message, Send, SyncRequest, SyncResponse, PullRequest, PullResponse}
+use Rattle.step_tables.specs.Messages.{Request, Response, Pulled, Header, Outcome, Message, Send, SyncRequest, SyncResponse, PullRequest, PullResponse, TornRowRequest, TornRowResponse}
 use Rattle.step_tables.specs.Messages as messages
 use Rattle.step_tables.specs.Sayings.{Saying, SaysNothing, SaysEntry, SaysBack, saying, Heard, Said, hear, hear_all, entered, write_of}
 use Rattle.step_tables.specs.StoreMoves.{StoreStep}
@@ -135,6 +135,10 @@ module _ (client_grows : ClientGrows) (lapsed_grows : LapsedGrows) (g : ℕ → 
       header_here q None same f = tt
       header_here q (Some hd) same f = subst (λ (xs : List Stored). store.IsHeader xs q (Some hd)) (sym here ∙ ap items (sym same)) f
 
+      torn_here : (c q : ℕ) (o : Option Header) → q ≡ table → store.IsTornHeader c law.later o → part.IsTornHeader c (items q) o
+      torn_here c q None same f = tt
+      torn_here c q (Some hd) same f = subst (λ (xs : List Stored). store.IsTornHeader c xs (Some hd)) (sym here ∙ ap items (sym same)) f
+
       way_here : (c : ℕ) (to : Option Node) → IsWayBy c to → IsWayTo c (address to)
       way_here c None f = absurd f
       way_here c (Some node) f = f
@@ -150,6 +154,8 @@ module _ (client_grows : ClientGrows) (lapsed_grows : LapsedGrows) (g : ℕ → 
           first (PullRequest q) x = absurd x
           first (SyncResponse r) x = (way_here r.client send.to x.1, outcome_here r r.outcome x.0 x.2)
           first (PullResponse q) x = (way_here q.client send.to x.1, header_here q q.header x.0 x.2)
+          first (TornRowRequest q) x = absurd x
+          first (TornRowResponse q) x = (way_here q.client send.to x.1, torn_here q.client q.table q.header x.0 x.2)
 
       table_kept : Kept g (after_table w table hosted step).world s'
       table_kept = record {

@@ -11,7 +11,7 @@ use Rattle.table_model.specs.History.{current, same_row}
 use Rattle.step_tables.specs.Store.{Stored, entries_of}
 use Rattle.step_tables.specs.Facts.{Fact}
 use Rattle.step_tables.specs.Members.{Among, put}
-use Rattle.step_tables.specs.Messages.{Request, Response, Pulled, Header, Pair, Outcome, Message, Send, SyncRequest, SyncResponse, PullRequest, PullResponse}
+use Rattle.step_tables.specs.Messages.{Request, Response, Pulled, Header, Pair, Outcome, Message, Send, SyncRequest, SyncResponse, PullRequest, PullResponse, TornRowRequest, TornRowResponse}
 use Rattle.step_tables.specs.Messages as messages
 use Rattle.step_tables.specs.Sayings.{Saying, SaysNothing, SaysEntry, SaysBack, saying, Heard, Said, hear, hear_all, entered, write_of}
 use Rattle.step_tables.specs.ClientMoves.{Client}
@@ -295,6 +295,18 @@ module _ (client_grows : ClientGrows) (lapsed_grows : LapsedGrows) (g : ℕ → 
                   ⊎_elim (λ e. inl e) (λ e. inr (let e2 = e in omega arith)) (b.others row (omega arith));
             }
 
+    row_for_at : (c q : ℕ) (hd : Header) → part.IsRowFor c (h q) hd → part.IsRowFor c (Later q) hd
+    row_for_at c q hd f = grown_at q (λ xs. part.IsRowFor c xs hd) (λ e b. one b) f
+      where
+        one : part.IsRowFor c (h table) hd → part.IsRowFor c (h table ++ i ∷ []) hd
+        one b =
+            let low : hd.version ≤ length (h table) = (let up = counted_up 0 (h table) b.0 counted b.1.stands in let v = b.1.version_is in omega arith) in (
+              b.0,
+              record { stands = among_left (h table) (i ∷ []) b.0 b.1.stands; row_is = b.1.row_is; version_is = b.1.version_is },
+              b.2,
+              yours_at c hd.row hd.version hd.yours low b.3,
+            )
+
     item_of_at : (c m q : ℕ) (row : List ℕ) (v : ℕ) → (o : Stored) × IsItemOf (h q) c m row v o → (o : Stored) × IsItemOf (Later q) c m row v o
     item_of_at c m q row v f =
         (f.0, record { stands = more_at q f.0 f.1.stands; client_is = f.1.client_is; number_is = f.1.number_is; row_is = f.1.row_is; version_is = f.1.version_is })
@@ -314,11 +326,17 @@ module _ (client_grows : ClientGrows) (lapsed_grows : LapsedGrows) (g : ℕ → 
         header q None f = tt
         header q (Some hd) f = (change_at q.client q.table q.from q.to hd f.0, f.1)
 
+        torn : (c q : ℕ) (o : Option Header) → part.IsTornHeader c (h q) o → part.IsTornHeader c (Later q) o
+        torn c q None f = tt
+        torn c q (Some hd) f = row_for_at c q hd f
+
         go : (m : Message) → IsFairMessage g s.heard h sent p.from p.to m → IsFairMessage g s.heard Later sent p.from p.to m
         go (SyncRequest q) f = (f.0, f.1, base_at q.table q.row q.base f.2)
         go (PullRequest q) f = f
         go (SyncResponse r) f = (f.0, outcome_at r r.outcome f.1)
         go (PullResponse q) f = (f.0, header q q.header f.1)
+        go (TornRowRequest q) f = f
+        go (TornRowResponse q) f = (f.0, torn q.client q.table q.header f.1)
 
     inv_next : Inv (hear s (SaysEntry table i.entry)) Later
     inv_next = record {

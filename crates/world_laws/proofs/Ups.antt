@@ -20,7 +20,7 @@ use Rattle.step_tables.specs.Store.{current_of}
 use Rattle.step_tables.specs.Facts.{Answer}
 use Rattle.step_tables.specs.Facts as facts
 use Rattle.step_tables.specs.Members.{Among}
-use Rattle.step_tables.specs.Messages.{Request, Pair, Message, Luck, SyncRequest, SyncResponse, PullRequest, PullResponse, table_of}
+use Rattle.step_tables.specs.Messages.{Request, Pair, Message, Luck, SyncRequest, SyncResponse, PullRequest, PullResponse, TornRowRequest, TornRowResponse, table_of}
 use Rattle.step_tables.specs.Messages as messages
 use Rattle.step_tables.specs.Chunks.{is_spelled}
 use Rattle.step_tables.specs.StoreMoves as store
@@ -88,6 +88,8 @@ module _ (x : Scheme) (size table : ℕ) (d : StoreDisk) where
   taken_up [] from (PullRequest q) = ([], refl)
   taken_up [] from (SyncResponse q) = ([], refl)
   taken_up [] from (PullResponse q) = ([], refl)
+  taken_up [] from (TornRowRequest q) = ([], refl)
+  taken_up [] from (TornRowResponse q) = ([], refl)
 
   worked_up : (agenda : List StoreTask) (luck : Luck) → is_fault (store.worked d (Some agenda) luck).answer ≡ false → IsUpAt (store.worked d (Some agenda) luck).store.agenda
   worked_up [] messages.Done fine = ([], refl)
@@ -603,7 +605,7 @@ step_up w (events.Link c link) lucks up = linked_up w c link up (client_at w c)
 step_up w (events.Show c table row) lucks up = event_up w c (client.Show table row) lucks.shape lucks.calls up
 step_up w (events.Sum c table row) lucks up = event_up w c (client.Sum table row) lucks.shape lucks.calls up
 step_up w (events.Sync c table) lucks up = event_up w c (client.Sync table) lucks.shape lucks.calls up
-step_up w (events.Pull c table) lucks up = event_up w c (client.Next table) lucks.shape lucks.calls up
+step_up w (events.Pull c table) lucks up = event_up w c (client.Next table lucks.tears lucks.asks) lucks.shape lucks.calls up
 step_up w (events.BeginCr c table) lucks up = event_up w c (client.BeginCr table) lucks.shape lucks.calls up
 step_up w (events.Conflicts c table) lucks up =
     listed_up (call w c (client.Conflicts table) lucks.shape lucks.calls) (event_up w c (client.Conflicts table) lucks.shape lucks.calls up)

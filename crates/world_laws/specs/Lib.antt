@@ -7,3 +7,4 @@ pub mod Resolving
 pub mod WorkedEdits
 pub mod WorkedConflicts
 pub mod WorkedPieces
+pub mod WorkedTorn

@@ -49,6 +49,7 @@ ghost use Rattle.world_laws.specs.WorkedCrashes.{crash_between_chunks_written, c
 ghost use Rattle.world_laws.specs.WorkedCrashes.{crash_behind_chunks_written, forward, two_tables};
 ghost use Rattle.world_laws.specs.WorkedCrashes.{two_tables_written, loud, nameless};
 ghost use Rattle.world_laws.specs.WorkedPieces.{sent_whole, sent_whole_written};
+ghost use Rattle.world_laws.specs.WorkedTorn.{asked_whole, asked_whole_written};
 
 /// What the fold of the lines has of a client is what the whole list of lines says: the versions read are the greatest
 /// that lines name, with conflicts and without, a position is the greatest, and a number's conflict is the last that
@@ -162,6 +163,12 @@ pub fn an_object_in_place_of_another()
 /// answer comes twice the client sends that once. It is accepted, and the client's next write keeps a chunk of it.
 pub fn a_write_that_is_sent_whole()
     ensures { turns sent_whole ≡ sent_whole_written }
+{}
+
+/// A row that a client asks for whole, computed: it is read from the answer, and the next change is asked for. Where
+/// the answer comes again, the client asks once more and nothing changes; its position moves with the answer to a pull.
+pub fn a_row_that_is_asked_for_whole()
+    ensures { turns asked_whole ≡ asked_whole_written }
 {}
 
 /// Other names aren't those of the chunks: where one is missing, where they stand in another order, and where one has a

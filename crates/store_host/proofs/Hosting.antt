@@ -283,6 +283,8 @@ module _ (g : Scheme) (size table : ℕ) (d : StoreDisk) (from : Node) where
   take_facts (Some []) (messages.PullRequest q) = refl
   take_facts (Some []) (messages.SyncResponse q) = refl
   take_facts (Some []) (messages.PullResponse q) = refl
+  take_facts (Some []) (messages.TornRowRequest q) = refl
+  take_facts (Some []) (messages.TornRowResponse q) = refl
 
 module _ {D : Type 0} (state : D → DiskState) (images : D → ℕ → List ℕ → Type 0) (schema : Option Schema) (table : ℕ) where
   abbrev at : StoreDisk → Option (List StoreTask) → List Entry → Bool → world.Hosted

@@ -396,12 +396,16 @@ module _ (g : Scheme) (size table : ℕ) (d : StoreDisk) (from : Node) where
   take_answer (Some []) (messages.PullRequest q) = refl
   take_answer (Some []) (messages.SyncResponse q) = refl
   take_answer (Some []) (messages.PullResponse q) = refl
+  take_answer (Some []) (messages.TornRowRequest q) = refl
+  take_answer (Some []) (messages.TornRowResponse q) = refl
 
 fits_there : (w : World) (message : Message) (schema : Schema) → schema_at w (table_in message) ≡ Some schema → FitsIn w message → Fits schema message
 fits_there w (kinds.SyncRequest q) schema is f = (f.0 schema is, f.1)
 fits_there w (kinds.SyncResponse q) schema is f = tt
 fits_there w (kinds.PullRequest q) schema is f = tt
 fits_there w (kinds.PullResponse q) schema is f = tt
+fits_there w (kinds.TornRowRequest q) schema is f = tt
+fits_there w (kinds.TornRowResponse q) schema is f = tt
 
 there_fits : (w : World) (message : Message) (schema : Schema) → schema_at w (table_in message) ≡ Some schema → Fits schema message → FitsIn w message
 there_fits w (kinds.SyncRequest q) schema is f =
@@ -409,6 +413,8 @@ there_fits w (kinds.SyncRequest q) schema is f =
 there_fits w (kinds.SyncResponse q) schema is f = tt
 there_fits w (kinds.PullRequest q) schema is f = tt
 there_fits w (kinds.PullResponse q) schema is f = tt
+there_fits w (kinds.TornRowRequest q) schema is f = tt
+there_fits w (kinds.TornRowResponse q) schema is f = tt
 
 module _ {D : Type 0} (state : D → DiskState) (w : World) (numbers : List ℕ) (old new : tree.BTreeMap ℕ (Hosted D)) (it was : Hosted D) (h : HoldsTables state w numbers old) where
   same_hosted : (o : Option world.Hosted) (a b : world.Hosted) → o ≡ Some a → o ≡ Some b → a ≡ b

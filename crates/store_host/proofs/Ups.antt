@@ -12,7 +12,7 @@ use Rattle.row_value.specs.declared.schema.Scheme.{Scheme}
 use Rattle.step_tables.specs.Chunks.{is_spelled}
 use Rattle.step_tables.specs.Store.{Stored, current_of}
 use Rattle.step_tables.specs.Members.{Among}
-use Rattle.step_tables.specs.Messages.{Request, Pair, Message, Luck, SyncRequest, SyncResponse, PullRequest, PullResponse}
+use Rattle.step_tables.specs.Messages.{Request, Pair, Message, Luck, SyncRequest, SyncResponse, PullRequest, PullResponse, TornRowRequest, TornRowResponse}
 use Rattle.step_tables.specs.Facts as facts
 use Rattle.step_tables.specs.Messages as messages
 use Rattle.step_tables.specs.StoreMoves as store
@@ -56,6 +56,8 @@ module _ (x : Scheme) (size table : ℕ) (d : StoreDisk) where
   taken_up [] from (PullRequest q) = ([], refl)
   taken_up [] from (SyncResponse q) = ([], refl)
   taken_up [] from (PullResponse q) = ([], refl)
+  taken_up [] from (TornRowRequest q) = ([], refl)
+  taken_up [] from (TornRowResponse q) = ([], refl)
 
   pub taken_at : (o : Option (List StoreTask)) → IsUpAt o → (from : Node) (m : Message) → IsUpAt (store.taken x size table d o from m).store.agenda
   taken_at None up from m = absurd (let e = up.1 in cc)

@@ -1,4 +1,4 @@
--- What a node that is up and has nothing to be done makes of a request or a pull, from what its devices do.
+-- What a node that is up and has nothing to be done makes of a request, a pull or a client that asks for a row whole, from what its devices do.
 use Rattle.std.proofs.Common.{◌≡◌, ◌⊎◌, ⊎_elim, ℕ, ◌<◌, ◌++◌, length, map, Bool, true, false, true≢false, List, [], ◌∷◌, Option, Some, None, Result, Ok, Err, refl, sym, ◌∙◌, ap, subst}
 use Rattle.std.proofs.lemmas.List.{map-append}
 use Rattle.disk_trait.specs.Image.{IsImage}
@@ -16,14 +16,17 @@ use Rattle.step_tables.specs.declared.message.PullRequest.{PullRequest}
 use Rattle.step_tables.specs.declared.message.PullResponse.{PullResponse}
 use Rattle.step_tables.specs.declared.message.SyncRequest.{SyncRequest}
 use Rattle.step_tables.specs.declared.message.SyncResponse.{SyncResponse}
-use Rattle.step_tables.specs.Messages.{Send, Pulled}
+use Rattle.step_tables.specs.declared.message.TornRowRequest.{TornRowRequest}
+use Rattle.step_tables.specs.declared.message.TornRowResponse.{TornRowResponse}
+use Rattle.step_tables.specs.Messages.{Send, Pulled, TornPulled}
 use Rattle.step_tables.specs.Messages as ends
 use Rattle.std.specs.Prelude.{if◌then◌else◌}
 use Rattle.step_tables.specs.Chunks.{is_spelled}
 use Rattle.step_tables.specs.Facts as facts_of
 use Rattle.step_tables.specs.Store.{current_of, next_changed}
 use Rattle.step_tables.specs.StoreMoves.{StoreDisk, StoreStep, StoreTask, TableStore, asked, decided, quiet, answered, responded, pulled_for, item_for, yours_in, version_of, keeps_there}
-use Rattle.step_tables.specs.Travels.{outcome_of, pulled_of, send_of}
+use Rattle.step_tables.specs.StoreMoves.{torn_answered, torn_pulled_for}
+use Rattle.step_tables.specs.Travels.{outcome_of, pulled_of, torn_of, torn_pulled_of, send_of}
 use Rattle.store_commit.specs.declared.devs.TableDevs.{TableDevs}
 use Rattle.store_commit.specs.declared.fault.CommitFault.{CommitFault}
 use Rattle.store_commit.specs.declared.fault.CommitFault.TheVariants as commits
@@ -43,12 +46,12 @@ use Rattle.store_node.specs.Gathered.{HasRoom}
 use Rattle.store_node.specs.Messages.{entry_of}
 use Rattle.store_node.specs.Node.{IsTable, sent_by}
 use Rattle.store_node.specs.Calls.{Fell, Answers, Delivers, IsTaken, IsSpentOn}
-use Rattle.store_node.specs.Taking.{Serves, IsPulled, IsTaking, refusal_of, refused_by, step_for}
+use Rattle.store_node.specs.Taking.{Serves, IsPulled, IsTornPulled, IsTaking, refusal_of, refused_by, step_for}
 use Rattle.store_node.specs.Update.{request_of, pull_of}
 use Rattle.store_node.proofs.Following.{follows_now}
 use Rattle.store_node.proofs.Delivering.{idle_state, drops, passes, answers, stays_put, answers_as}
 use Rattle.store_node.proofs.Serving.{decided_is, kept_there, at_idle, sends_one, takes_on, fails, short_of}
-use Rattle.store_node.proofs.Telling.{pulled_is}
+use Rattle.store_node.proofs.Telling.{pulled_is, torn_is}
 
 pub pushed : {T : Type 0} (new mid old : List T) (x : T) → new ≡ mid ++ x ∷ [] → mid ≡ old → new ≡ old ++ x ∷ []
 pushed {T} new mid old x is same = is ∙ ap (λ (l : List T). l ++ x ∷ []) same
@@ -134,6 +137,16 @@ module _ {D : Type 0} (state : D → DiskState) (images : D → ℕ → List ℕ
         (answers state images only_now old new s.disk s.agenda (idle_state state images only_now old s.disk s.agenda t up none) from (kinds.PullRequest request) r (λ d. answered d from (pull_of request)) ⊥
         (λ d. refl) (λ x. x) (λ x. x) (subst (IsTaken old) is taken) (a s t))
 
+    pub delivers_torn : (new : TableNode D) (from : Node) (message : Message) (request : TornRowRequest) → message ≡ kinds.TornRowRequest request
+        → (r : Result (Unit {0}) NodeFault) → IsTaken old message
+        → ((s : TableStore) → IsTable state old s → Answers state images s (torn_answered s.disk from (torn_of request)) ⊥ old new r)
+        → (s : TableStore) → IsTable state old s → Delivers state images s from message old new r
+    delivers_torn new from message request is r taken a s t =
+        subst (λ (m : Message). Delivers state images s from m old new r) (sym is)
+        (answers state images only_now old new s.disk s.agenda (idle_state state images only_now old s.disk s.agenda t up none) from (kinds.TornRowRequest request) r
+        (λ d. torn_answered d from (torn_of request)) ⊥
+        (λ d. refl) (λ x. x) (λ x. x) (subst (IsTaken old) is taken) (a s t))
+
     pub passes_response : (from : Node) (message : Message) (response : SyncResponse) → message ≡ kinds.SyncResponse response → (s : TableStore) → IsTable state old s → Delivers state images s from message old old (Ok tt)
     passes_response from message response is s t =
         subst (λ (m : Message). Delivers state images s from m old old (Ok tt)) (sym is)
@@ -143,6 +156,13 @@ module _ {D : Type 0} (state : D → DiskState) (images : D → ℕ → List ℕ
     passes_pulled from message response is s t =
         subst (λ (m : Message). Delivers state images s from m old old (Ok tt)) (sym is)
         (passes state images only_now old s.disk s.agenda (idle_state state images only_now old s.disk s.agenda t up none) t from (kinds.PullResponse response) (λ d. refl) (λ x. x))
+
+    pub passes_torn : (from : Node) (message : Message) (response : TornRowResponse) → message ≡ kinds.TornRowResponse response
+        → (s : TableStore) → IsTable state old s → Delivers state images s from message old old (Ok tt)
+    passes_torn from message response is s t =
+        subst (λ (m : Message). Delivers state images s from m old old (Ok tt)) (sym is)
+        (passes state images only_now old s.disk s.agenda (idle_state state images only_now old s.disk s.agenda t up none) t from
+        (kinds.TornRowResponse response) (λ d. refl) (λ x. x))
 
     -- ---- want of memory before the devices were asked
 
@@ -175,6 +195,23 @@ module _ {D : Type 0} (state : D → DiskState) (images : D → ℕ → List ℕ
           sends_one state images only_now old disk u ⊥ (λ no_. no_) table facts messages response (record { to = Some from; message = ends.PullResponse (pulled_for disk.items (pull_of request) (next_changed request.position disk.items)) }) k writes told
           (ap (map send_of) sent ∙ (map-append send_of old.messages.items.items ((Some from, kinds.PullResponse response) ∷ [])
           ∙ ap (λ (q : Pulled). sent_by old ++ record { to = Some from; message = ends.PullResponse q } ∷ []) same)))
+
+      -- ---- a row that is asked for whole
+
+      pub pulls_torn : (from : Node) (request : TornRowRequest) (response : TornRowResponse) → Serves st im old.devs table (Ok response) → writes_of table ≡ writes_of old.devs
+          → IsTornPulled (devs st old.devs) request response → facts.items.items ≡ old.facts.items.items
+          → messages.items.items ≡ old.messages.items.items ++ (Some from, kinds.TornRowResponse response) ∷ []
+          → (s : TableStore) → IsTable state old s → Answers state images s (torn_answered s.disk from (torn_of request)) ⊥ old
+          (record old { devs = table; facts = facts; messages = messages }) (Ok tt)
+      pulls_torn from request response k writes is told sent s t =
+          idly (λ x. Answers state images x (torn_answered x.disk from (torn_of request)) ⊥ old (record old { devs = table; facts = facts; messages = messages }) (Ok tt)) s t
+          (λ disk u.
+          let answer : TornPulled = torn_pulled_for disk.items (torn_of request) (current_of disk.items request.row) in
+          let same : torn_pulled_of response ≡ answer = torn_is old.schema (devs st old.devs) disk u.size (stands_at disk u) request response is in
+          sends_one state images only_now old disk u ⊥ (λ no_. no_) table facts messages response
+          (record { to = Some from; message = ends.TornRowResponse answer }) k writes told
+          (ap (map send_of) sent ∙ (map-append send_of old.messages.items.items ((Some from, kinds.TornRowResponse response) ∷ [])
+          ∙ ap (λ (q : TornPulled). sent_by old ++ record { to = Some from; message = ends.TornRowResponse q } ∷ []) same)))
 
       -- ---- a request
 

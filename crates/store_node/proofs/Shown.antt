@@ -1,12 +1,13 @@
 -- What a node shows of a row, from what its devices were asked.
 use Rattle.std.proofs.Common.{◌≡◌, ◌⊎◌, inl, inr, ⊎_elim, ℕ, map, true, List, Option, Some, None, Result, Ok, Err, refl, sym, ◌∙◌, ap, subst, arith}
-use Rattle.std.specs.Prelude.{IsErrOf, option_map}
+use Rattle.std.specs.Prelude.{IsErrOf, IfOk, option_map}
 use Rattle.disk_trait.specs.Calls.{DiskState}
 use Rattle.disk_trait.specs.Fuse.{behind, inner_of}
 use Rattle.disk_trait.specs.declared.fuse.FuseDisk.{FuseDisk}
 use Rattle.vault.specs.Calls.{IsEither}
 use Rattle.stab_base.specs.declared.node.Node.{Node}
 use Rattle.step_tables.specs.declared.message.Message.{Message}
+use Rattle.step_tables.specs.Store.{current_of}
 use Rattle.step_tables.specs.StoreMoves.{StoreDisk, StoreTask, TableStore}
 use Rattle.store_commit.specs.declared.devs.TableDevs.{TableDevs}
 use Rattle.store_commit.specs.declared.fault.CommitFault.{CommitFault}
@@ -28,18 +29,54 @@ use Rattle.store_node.specs.declared.showing.ShownRow.{ShownRow}
 use Rattle.step_tables.specs.Travels.{send_of}
 use Rattle.store_node.specs.Due.{fact_of}
 use Rattle.store_node.specs.Node.{AreOwed, IsWorking, IsTable, IsNode, IsSame, own_faults, LeavesEither, LeavesRows}
-use Rattle.store_node.specs.Calls.{Fell, Stays, Shows}
+use Rattle.store_node.specs.Calls.{Fell, Stays, Shows, Gives, IsRowAt}
 use Rattle.store_node.proofs.RowsLeft.{rows_of_disk}
 use Rattle.store_node.proofs.Falling.{MayHold, fallen, fallen_leaves, fallen_rows, ready_sound}
 use Rattle.store_node.proofs.Following.{own_stays, own_rises, follows_now, well_now}
 use Rattle.store_node.proofs.Making.{same_hidden, ready_up}
 use Rattle.store_node.proofs.Onlys.{ready_stays}
-use Rattle.store_node.proofs.Telling.{shown_is}
+use Rattle.store_node.proofs.Telling.{shown_is, row_is}
 
 pub shows_node : {D : Type 0} (state : D → DiskState) (images : D → ℕ → List ℕ → Type 0) (s : TableStore) (row : List ℕ) (old new : TableNode D) (r : Result (Option ShownRow) NodeFault) → Shows state images s row old new r → IsNode state new
 shows_node state images s row old new (Ok x) k = (_, (k.stays (λ is. cc)).table)
 shows_node state images s row old new (Err e) k =
     ⊎_elim (λ is. (_, (k.fallen (ap (λ (f : NodeFault). Err f) is)).table)) (λ is. (_, (k.stays (λ was. let same : e ≡ node_faults.Disk = cc in cc)).table)) k.only
+
+pub gives_node : {D : Type 0} (state : D → DiskState) (images : D → ℕ → List ℕ → Type 0) (s : TableStore) (row : List ℕ) (old new : TableNode D) (r : Result (Option WholeRow) NodeFault) → Gives state images s row old new r → IsNode state new
+gives_node state images s row old new (Ok x) k = (_, (k.stays (λ is. cc)).table)
+gives_node state images s row old new (Err e) k =
+    ⊎_elim (λ is. (_, (k.fallen (ap (λ (f : NodeFault). Err f) is)).table)) (λ is. (_, (k.stays (λ was. let same : e ≡ node_faults.Disk = cc in cc)).table)) k.only
+
+-- what a row that is shown keeps, a row that is given does
+abbrev shown_result : Result (Option WholeRow) NodeFault → Result (Option ShownRow) NodeFault
+shown_result (Ok found) = Ok (option_map shown_row found)
+shown_result (Err e) = Err e
+
+same_err : {A B : Type 0} (e f : NodeFault) → IsErrOf {T = A} (Err e) f → IsErrOf {T = B} (Err e) f
+same_err e f is = let same : e ≡ f = cc in ap (λ (x : NodeFault). Err x) same
+
+gives : {D : Type 0} (state : D → DiskState) (images : D → ℕ → List ℕ → Type 0) (s : TableStore) (row : List ℕ) (old new : TableNode D) (r : Result (Option WholeRow) NodeFault)
+    → Shows state images s row old new (shown_result r) → IfOk r (IsRowAt s.disk.items row (current_of s.disk.items row)) → Gives state images s row old new r
+gives state images s row old new (Ok found) k given = record {
+  given = given;
+  stays = λ _. k.stays (λ is. cc);
+  fallen = λ is. absurd cc;
+  counted = λ _. k.counted (λ is. cc);
+  cause = λ is. absurd cc;
+  only = tt;
+  any_moment = k.any_moment;
+  rows_left = k.rows_left;
+}
+gives state images s row old new (Err e) k given = record {
+  given = tt;
+  stays = λ isnt. k.stays (λ is. isnt (same_err {A = Option ShownRow} {B = Option WholeRow} e node_faults.Disk is));
+  fallen = λ is. k.fallen (same_err {A = Option WholeRow} {B = Option ShownRow} e node_faults.Disk is);
+  counted = λ isnt. k.counted (λ is. isnt (same_err {A = Option ShownRow} {B = Option WholeRow} e node_faults.Disk is));
+  cause = λ is. k.cause (same_err {A = Option WholeRow} {B = Option ShownRow} e node_faults.Disk is);
+  only = k.only;
+  any_moment = k.any_moment;
+  rows_left = k.rows_left;
+}
 
 module _ {D : Type 0} (state : D → DiskState) (images : D → ℕ → List ℕ → Type 0) where
   abbrev st : FuseDisk D → DiskState
@@ -122,6 +159,11 @@ module _ {D : Type 0} (state : D → DiskState) (images : D → ℕ → List ℕ
       rows_left = rows_here (Ok found) o;
     }
 
+    gives_found : (found : Option WholeRow) → Only st im old.devs table (Ok found) → found ≡ whole_at (devs st old.devs) row → Gives state images s row old (with_devs old table) (Ok found)
+    gives_found found o is =
+        gives state images s row old (with_devs old table) (Ok found) (shows_found found (option_map shown_row found) o is refl)
+        (subst (λ (x : Option WholeRow). IsRowAt disk.items row (current_of disk.items row) x) (sym is) (row_is old.schema (devs st old.devs) disk t.size stands row))
+
     -- memory was refused
     shows_short : {T : Type 0} → Only {T = T} st im old.devs table (Err commits.Memory) → Shows state images s row old (with_devs old table) (Err node_faults.Memory)
     shows_short {T} o =
@@ -193,3 +235,12 @@ module _ {D : Type 0} (state : D → DiskState) (images : D → ℕ → List ℕ
         → Shows state images (at disk agenda) row old new (Err (fault_of e))
     refused_shows {T} disk None t e new o fell stays = let no_ = t.at.0 in absurd cc
     refused_shows {T} disk (Some tasks) t e new o fell stays = shows_refused old disk tasks t row table {T = T} e new o fell stays
+
+    pub found_gives : (disk : StoreDisk) (agenda : Option (List StoreTask)) → IsTable state old (at disk agenda) → (found : Option WholeRow) → Only st im old.devs table (Ok found) → found ≡ whole_at (devs st old.devs) row
+        → Gives state images (at disk agenda) row old (with_devs old table) (Ok found)
+    found_gives disk None t found o is = let no_ = t.at.0 in absurd cc
+    found_gives disk (Some tasks) t found o is = gives_found old disk tasks t row table found o is
+
+    pub refused_gives : {T : Type 0} (disk : StoreDisk) (agenda : Option (List StoreTask)) → IsTable state old (at disk agenda) → (e : CommitFault) (new : TableNode D) → Only {T = T} st im old.devs table (Err e)
+        → (e ≡ commits.Disk → Fell state images (with_devs old table) new) → ((e ≡ commits.Disk → ⊥) → new ≡ with_devs old table) → Gives state images (at disk agenda) row old new (Err (fault_of e))
+    refused_gives {T} disk agenda t e new o fell stays = gives state images (at disk agenda) row old new (Err (fault_of e)) (refused_shows {T = T} disk agenda t e new o fell stays) tt

@@ -17,12 +17,14 @@ use Rattle.store_commit.specs.Update.{lasts_if}
 use Rattle.store_commit.proofs.Begins.{one_version}
 use Rattle.step_tables.specs.Store.{Stored, current_of, next_changed}
 use Rattle.step_tables.specs.Store as table
-use Rattle.step_tables.specs.StoreMoves.{StoreDisk, version_of, yours_in, header_for, pulled_for}
+use Rattle.step_tables.specs.StoreMoves.{StoreDisk, version_of, yours_in, header_for, pulled_for, torn_pulled_for}
 use Rattle.step_tables.specs.Messages.{Header}
-use Rattle.step_tables.specs.Travels.{header_of, pulled_of}
+use Rattle.step_tables.specs.Travels.{header_of, pulled_of, torn_of, torn_pulled_of}
 use Rattle.step_tables.specs.Chunks.{Named, objects_of, chunks_of, names_of, each_chunk, is_of_each, cut}
 use Rattle.step_tables.specs.declared.message.PullRequest.{PullRequest}
 use Rattle.step_tables.specs.declared.message.PullResponse.{PullResponse}
+use Rattle.step_tables.specs.declared.message.TornRowRequest.{TornRowRequest}
+use Rattle.step_tables.specs.declared.message.TornRowResponse.{TornRowResponse}
 use Rattle.device_laws.specs.Stands.{Stands, IsStoredAs, kept_objects, kept_content, pair_in}
 use Rattle.device_laws.specs.Reads.{row_version_of}
 use Rattle.device_laws.proofs.Names.{left_among, right_among}
@@ -35,7 +37,8 @@ use Rattle.device_laws.proofs.Fits.{row_within}
 use Rattle.device_laws.proofs.Next.{changed_is, next_stands}
 use Rattle.store_node.specs.Reading.{bytes_in, named_in, held_by, held_in, whole_object, whole_of, whole_row, whole_at, names_held, shown_row, shown_of}
 use Rattle.store_node.specs.declared.showing.ShownRow.{ShownRow}
-use Rattle.store_node.specs.Taking.{held_if, version_if, header_by, header_at, version_or, IsPulled}
+use Rattle.store_node.specs.Calls.{IsRow, IsRowAt}
+use Rattle.store_node.specs.Taking.{held_if, version_if, header_by, header_at, version_or, IsPulled, IsTornPulled}
 
 -- ---- a content by its chunks
 
@@ -160,6 +163,25 @@ module _ (schema : Schema) (d : Devs) (disk : StoreDisk) (some : 0 < schema.chun
         ∙ (ap (λ (h : Header). Some h) (header_now client found.0 found.1 found.2 found.4) ∙ sym (ap (option_map (header_for items client)) found.2)))
         (at_row size items d.held st.held.numbered st.held.rows row)
 
+    row_now : (item : Stored) (stored : StoredRow) → current_of items row ≡ Some item → IsStoredAs size items item stored → IsRow items row item (whole_row d stored)
+    row_now item stored is s =
+        let at : item.entry.row ≡ row = (current_row items row item is).1 in
+        record {
+          id = s.row ∙ at;
+          version = s.version;
+          content = whole_now item stored is s;
+          names = names_now item stored is s;
+          yours = λ client. s.lasts client ∙ ap (λ (r : List ℕ). yours_in items client r) at;
+        }
+
+    pub row_is : IsRowAt items row (current_of items row) (whole_at d row)
+    row_is =
+        ⊎_elim
+        (λ none. subst (λ (o : Option StoredRow). IsRowAt items row (current_of items row) (option_map (whole_row d) o)) (sym none.1) (subst (λ (o : Option Stored). IsRowAt items row o None) (sym none.0) tt))
+        (λ found. subst (λ (o : Option StoredRow). IsRowAt items row (current_of items row) (option_map (whole_row d) o)) (sym found.3)
+        (subst (λ (o : Option Stored). IsRowAt items row o (Some (whole_row d found.1))) (sym found.2) (row_now found.0 found.1 found.2 found.4)))
+        (at_row size items d.held st.held.numbered st.held.rows row)
+
     shown_now : (item : Stored) (stored : StoredRow) → current_of items row ≡ Some item → IsStoredAs size items item stored → shown_row (whole_row d stored) ≡ shown_of item
     shown_now item stored is s = made (whole_now item stored is s) s.version
       where
@@ -199,6 +221,17 @@ module _ (schema : Schema) (d : Devs) (disk : StoreDisk) (some : 0 < schema.chun
           → option_map header_of r.header ≡ option_map (header_for items request.client) (next_changed request.position items)
           → pulled_of r ≡ pulled_for items (record { client = request.client; table = request.table; position = request.position }) (next_changed request.position items)
       made r client table_ from to latest header = cc
+
+  -- ---- a row that is asked for whole
+
+  pub torn_is : (request : TornRowRequest) (response : TornRowResponse) → IsTornPulled d request response
+      → torn_pulled_of response ≡ torn_pulled_for items (torn_of request) (current_of items request.row)
+  torn_is request response k = made response k.client k.table k.row (k.header ∙ header_is request.row request.client)
+    where
+      made : (r : TornRowResponse) → r.client ≡ request.client → r.table ≡ request.table → r.row ≡ request.row
+          → option_map header_of r.header ≡ option_map (header_for items request.client) (current_of items request.row)
+          → torn_pulled_of r ≡ torn_pulled_for items (torn_of request) (current_of items request.row)
+      made r client table_ row header = cc
 
 -- ---- what fits is counted
 

@@ -16,11 +16,11 @@ use Rattle.store_commit.specs.Devs.{Devs}
 use Rattle.store_commit.specs.Standing.{devs, writes_of, AreUp, AreSound, AreSynced, DevsLeave, RowsLeave}
 use Rattle.store_commit.specs.Unset.{AreFresh}
 use Rattle.step_tables.specs.StoreMoves.{StoreDisk, StoreTask, TableStore, StoreStep, StoreMove, Take, version_at}
-use Rattle.step_tables.specs.StoreMoves.{Work, Crash, Start, store_step}
+use Rattle.step_tables.specs.StoreMoves.{Work, Crash, Start, store_step, yours_in}
 use Rattle.step_tables.specs.StoreMoves as moves
 use Rattle.step_tables.specs.Facts as facts
 use Rattle.step_tables.specs.Messages.{Done, FailedBefore, FailedAfter}
-use Rattle.step_tables.specs.Store.{current_of}
+use Rattle.step_tables.specs.Store.{Stored, current_of}
 use Rattle.step_tables.specs.Travels.{message_of}
 use Rattle.step_tables.specs.declared.message.Message.{Message}
 use Rattle.step_tables.specs.declared.message.Message.TheVariants as kinds
@@ -28,6 +28,8 @@ use Rattle.store_node.specs.declared.fault.NodeFault.{NodeFault}
 use Rattle.store_node.specs.declared.fault.NodeFault.TheVariants.{Busy, Spent, Disk, Memory}
 use Rattle.store_node.specs.declared.node.TableNode.{TableNode}
 use Rattle.store_node.specs.declared.showing.ShownRow.{ShownRow}
+use Rattle.store_node.specs.declared.showing.WholeRow.{WholeRow}
+use Rattle.device_laws.specs.Stands.{pair_in}
 use Rattle.store_node.specs.Reading.{shown_of}
 use Rattle.store_node.specs.Node.{IsTable, IsSame, told_by, sent_by, own_faults, behind_next, LeavesEither}
 use Rattle.store_node.specs.Node.{LeavesRows, LeavesNone, HoldsNone, HasBlankDisks}
@@ -184,6 +186,34 @@ pub record Fell {D : Type 0} (state : D → DiskState) (images : D → ℕ → L
 pub record Shows {D : Type 0} (state : D → DiskState) (images : D → ℕ → List ℕ → Type 0) (s : TableStore) (row : List ℕ)
     (old new : TableNode D) (result : Result (Option ShownRow) NodeFault) : Type 0 where
   pub shown : IfOk result (λ shown. shown ≡ option_map shown_of (current_of s.disk.items row))
+  pub stays : (IsErrOf result Disk → ⊥) → Stays state old new s
+  pub fallen : IsErrOf result Disk → Stays state old new (record { disk = s.disk; agenda = None })
+  pub counted : (IsErrOf result Disk → ⊥) → own_faults state new ≡ own_faults state old
+  pub cause : IsErrOf result Disk → own_faults state old < own_faults state new
+  pub only : IfErr result (λ e. (e ≡ Disk) ⊎ (e ≡ Memory))
+  pub any_moment : LeavesEither state images old new s.disk s.disk
+  pub rows_left : LeavesRows state images old new s.disk s.disk
+
+-- a row as the table has it: its last version, with the names of its chunks and the last write of each client on it
+pub record IsRow (items : List Stored) (row : List ℕ) (item : Stored) (found : WholeRow) : Type 0 where
+  pub id : found.row ≡ row
+  pub version : found.version ≡ item.entry.version
+  pub content : found.content ≡ item.content
+  pub names : found.names ≡ item.names
+  pub yours : (client : ℕ) → pair_in found.pairs client ≡ yours_in items client row
+
+-- where there is one
+abbrev pub IsRowAt : List Stored → List ℕ → Option Stored → Option WholeRow → Type 0
+IsRowAt items row None None = Unit {0}
+IsRowAt items row None (Some found) = ⊥
+IsRowAt items row (Some item) None = ⊥
+IsRowAt items row (Some item) (Some found) = IsRow items row item found
+
+-- What is given is the row as it is now, if anything was written to it. Nothing has changed; or a disk has failed, and
+-- the node is down with the disk as it was.
+pub record Gives {D : Type 0} (state : D → DiskState) (images : D → ℕ → List ℕ → Type 0) (s : TableStore) (row : List ℕ)
+    (old new : TableNode D) (result : Result (Option WholeRow) NodeFault) : Type 0 where
+  pub given : IfOk result (IsRowAt s.disk.items row (current_of s.disk.items row))
   pub stays : (IsErrOf result Disk → ⊥) → Stays state old new s
   pub fallen : IsErrOf result Disk → Stays state old new (record { disk = s.disk; agenda = None })
   pub counted : (IsErrOf result Disk → ⊥) → own_faults state new ≡ own_faults state old

@@ -1,4 +1,4 @@
--- What a request and a pull make of a table's devices.
+-- What a request, a pull and a row that is asked for whole make of a table's devices.
 use Rattle.std.specs.Prelude.{◌≡◌, ◌⊎◌, ℕ, ◌+◌, ◌<◌, ◌^◌, Bool, true, false, List, [], length, Option, Some, None}
 use Rattle.std.specs.Prelude.{◌∷◌, option_map, Result}
 use Rattle.std.specs.Prelude.{OnErr, IfErr, IsErrOf}
@@ -31,6 +31,8 @@ use Rattle.step_tables.specs.StoreMoves.{version_of, keeps_there}
 use Rattle.step_tables.specs.declared.message.SyncRequest.{SyncRequest}
 use Rattle.step_tables.specs.declared.message.PullRequest.{PullRequest}
 use Rattle.step_tables.specs.declared.message.PullResponse.{PullResponse}
+use Rattle.step_tables.specs.declared.message.TornRowRequest.{TornRowRequest}
+use Rattle.step_tables.specs.declared.message.TornRowResponse.{TornRowResponse}
 use Rattle.step_tables.specs.declared.message.Yours.{Yours}
 use Rattle.device_laws.specs.Stands.{pair_in, update_for}
 use Rattle.store_node.specs.Reading.{held_in, whole_at}
@@ -153,3 +155,10 @@ pub record IsPulled (d : Devs) (request : PullRequest) (response : PullResponse)
   pub to : response.to ≡ version_or request.position next
   pub latest : IsTableVersion d.held response.latest
   pub header : option_map header_of response.header ≡ header_at d request.client next
+
+-- the answer to a client that asks for a row whole: the row as it is now, none where nothing was written to it
+pub record IsTornPulled (d : Devs) (request : TornRowRequest) (response : TornRowResponse) : Type 0 where
+  pub client : response.client ≡ request.client
+  pub table : response.table ≡ request.table
+  pub row : response.row ≡ request.row
+  pub header : option_map header_of response.header ≡ option_map (header_by request.client) (whole_at d request.row)

@@ -21,5 +21,5 @@ mod update;
 pub use fault::NodeFault;
 pub use messages::table_of;
 pub use node::{StoreOut, TableNode};
-pub use showing::ShownRow;
+pub use showing::{ShownRow, WholeRow};
 pub use told::StoreFact;

@@ -22,6 +22,8 @@ pub fn table_of(message: &Message) -> TableNo
         Message::SyncResponse(response) => response.table,
         Message::PullRequest(request) => request.table,
         Message::PullResponse(response) => response.table,
+        Message::TornRowRequest(request) => request.table,
+        Message::TornRowResponse(response) => response.table,
     }
 }
 
@@ -38,7 +40,11 @@ fn may_be_taken(schema: &Schema, message: &Message) -> bool
 {
     match message {
         Message::SyncRequest(request) => is_fit(schema, request),
-        Message::SyncResponse(_) | Message::PullRequest(_) | Message::PullResponse(_) => true,
+        Message::SyncResponse(_)
+        | Message::PullRequest(_)
+        | Message::PullResponse(_)
+        | Message::TornRowRequest(_)
+        | Message::TornRowResponse(_) => true,
     }
 }
 

@@ -13,13 +13,13 @@ ghost use Rattle.row_store.specs.Standing as rows;
 ghost use Rattle.status_log.specs.Standing as logs;
 ghost use Rattle.store_commit.specs.Standing.{writes_of};
 ghost use Rattle.step_tables.specs.Chunks.{is_spelled};
-ghost use Rattle.step_tables.specs.StoreMoves.{TableStore, answered, asked};
-ghost use Rattle.step_tables.specs.Travels.{send_of};
+ghost use Rattle.step_tables.specs.StoreMoves.{TableStore, answered, asked, torn_answered};
+ghost use Rattle.step_tables.specs.Travels.{send_of, torn_of};
 ghost use Rattle.store_node.specs.Due.{fact_of};
 ghost use Rattle.store_node.specs.Kept.{AreKept};
 ghost use Rattle.store_node.specs.Node.{IsTable, IsNode, IsSame, told_by, sent_by, nothing_stored, has_task};
 ghost use Rattle.store_node.specs.Calls.{Works, Crashes, Declares, DeclaresLate, Recovers, Starts, Falls, Fell};
-ghost use Rattle.store_node.specs.Calls.{Answers, Delivers, Shows, IsSpentOn};
+ghost use Rattle.store_node.specs.Calls.{Answers, Delivers, Shows, Gives, IsSpentOn};
 ghost use Rattle.store_node.specs.Fault.{fault_of};
 ghost use Rattle.store_node.specs.Halts.{Halts};
 ghost use Rattle.store_node.specs.Taking.{refused_by, step_for};
@@ -31,8 +31,8 @@ use crate::fault::NodeFault;
 use crate::gathered::Gathered;
 use crate::messages::{entry, is_taken, response};
 use crate::owed::Owed;
-use crate::pulling::pull;
-use crate::showing::{ShownRow, read_row, shown};
+use crate::pulling::{pull, pull_torn};
+use crate::showing::{ShownRow, WholeRow, read_row, shown};
 use crate::taking::{Taken, take_write};
 use crate::told::StoreFact;
 use disk_trait::{Disk, FuseDisk};
@@ -40,7 +40,7 @@ use row_pieces::is_spelled;
 use row_value::{Schema, Sequence};
 use stab_base::{Names, Node, RowId, Step, StoreNo, TableNo};
 use std::alloc::Global;
-use step_tables::{Addressed, Message, PullRequest, SyncRequest};
+use step_tables::{Addressed, Message, PullRequest, SyncRequest, TornRowRequest};
 use store_commit::{CommitFault, TableDevs};
 
 /// What a table at the Store has to send and to tell, in order.
@@ -165,6 +165,25 @@ impl<D: Disk + Drop> TableNode<D> {
     {
         match read_row(self.alloc, &mut self.devs, row) {
             Ok(found) => Ok(shown(found)),
+            Err(fault) => Err(self.fail(fault)),
+        }
+    }
+
+    /// A row whole, with its last version, the names of its chunks and the last write of each client, or none where
+    /// nothing was written to it.
+    ///
+    /// `Disk` where a disk failed: the node is then down. `Memory` leaves all as it was.
+    pub fn row(&mut self, row: &RowId) -> Result<Option<WholeRow>, NodeFault>
+        requires node { IsNode D.state self.old }
+        requires up { self.old.is_up ≡ true }
+        ensures gives { (s : TableStore) → IsTable D.state self.old s
+            → Gives D.state D.images s row.now self.old self.new result }
+        ensures node { IsNode D.state self.new }
+        ensures declared { self.new.is_declared ≡ self.old.is_declared }
+        ensures up { OnOk result (self.new.is_up ≡ true) }
+    {
+        match read_row(self.alloc, &mut self.devs, row) {
+            Ok(found) => Ok(found),
             Err(fault) => Err(self.fail(fault)),
         }
     }
@@ -366,6 +385,26 @@ impl<D: Disk + Drop> TableNode<D> {
         }
     }
 
+    // Answers a client that asks for a row whole.
+    fn answer_torn(&mut self, from: Node, request: &TornRowRequest) -> Result<(), NodeFault>
+        requires node { IsNode D.state self.old }
+        requires up { self.old.is_up ≡ true }
+        requires idle { writes_of self.old.devs ≡ [] }
+        ensures answers { (s : TableStore) → IsTable D.state self.old s
+            → Answers D.state D.images s (torn_answered s.disk from (torn_of request.now)) ⊥ self.old self.new result }
+        ensures declared { self.new.is_declared ≡ self.old.is_declared }
+    {
+        self.messages.reserve(1)?;
+        match pull_torn(self.alloc, &mut self.devs, request) {
+            Ok(response) => {
+                self.messages
+                    .put((Some(from), Message::TornRowResponse(response)));
+                Ok(())
+            }
+            Err(fault) => Err(self.fail(fault)),
+        }
+    }
+
     // Answers a write that isn't new, and takes a new one on.
     fn take_request(&mut self, from: Node, request: &SyncRequest) -> Result<(), NodeFault>
         requires node { IsNode D.state self.old }
@@ -425,8 +464,9 @@ impl<D: Disk + Drop> TableNode<D> {
         self.take_request(from, request)
     }
 
-    /// Takes a message. A request or a pull is answered, or its update is begun. Any other message, one of another
-    /// table, one whose content is no row of this table, and one that doesn't spell its chunks are dropped.
+    /// Takes a message. A request is answered, or its update is begun. A pull is answered, and so is a client that asks
+    /// for a row whole, with the row as it is now. Any other message, one of another table, one whose content is no row
+    /// of this table, and one that doesn't spell its chunks are dropped.
     ///
     /// `Busy` where writes are still to be done, and `Spent` where a new write finds no version left. `Disk` where a
     /// disk failed: the node is then down.
@@ -449,7 +489,9 @@ impl<D: Disk + Drop> TableNode<D> {
         match message {
             Message::SyncRequest(request) => self.take_spelled(from, request),
             Message::PullRequest(request) => self.answer_pull(from, request),
+            Message::TornRowRequest(request) => self.answer_torn(from, request),
             Message::SyncResponse(_) | Message::PullResponse(_) => Ok(()),
+            Message::TornRowResponse(_) => Ok(()),
         }
     }
 

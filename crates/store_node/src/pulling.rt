@@ -1,16 +1,17 @@
-//! What a table's devices tell of a row, and of the next change.
+//! What a table's devices tell of a row that is asked for whole, and of the next change.
 ghost use Rattle.std.specs.Prelude.{◌≡◌, option_map, IfOk};
 ghost use Rattle.store_commit.specs.Standing.{devs, AreUp, AreLookedAt, NothingHidden};
 ghost use Rattle.step_tables.specs.Travels.{header_of};
 ghost use Rattle.store_node.specs.Reading.{Only};
 ghost use Rattle.store_node.specs.Taking.{header_by, header_at, version_or, IsPulled};
+ghost use Rattle.store_node.specs.Taking.{IsTornPulled};
 
 use crate::showing::{WholeRow, read_row};
 use crate::taking::yours_in;
 use disk_trait::Disk;
 use stab_base::{ClientNo, RowVersion, Version};
 use std::alloc::Global;
-use step_tables::{PullRequest, PullResponse, RowHeader};
+use step_tables::{PullRequest, PullResponse, RowHeader, TornRowRequest, TornRowResponse};
 use store_commit::{CommitFault, TableDevs};
 
 fn header(client: ClientNo, found: WholeRow) -> RowHeader
@@ -89,5 +90,26 @@ pub(crate) fn pull<D: Disk + Drop>(
         to: version_or(request.position, &next),
         latest,
         header,
+    })
+}
+
+/// The answer to a client that asks for a row whole: the row as it is now, none where nothing was written to it.
+pub(crate) fn pull_torn<D: Disk + Drop>(
+    alloc: Global,
+    table: &mut TableDevs<D>,
+    request: &TornRowRequest,
+) -> Result<TornRowResponse, CommitFault>
+    requires up { AreUp table.old }
+    requires looked { AreLookedAt D.state table.old }
+    requires hidden { NothingHidden table.old }
+    ensures reads { Only D.state D.images table.old table.new result }
+    ensures answer { IfOk result (IsTornPulled (devs D.state table.old) request.now) }
+{
+    let found = read_row(alloc, table, &request.row)?;
+    Ok(TornRowResponse {
+        client: request.client,
+        table: request.table,
+        row: request.row,
+        header: header_if(request.client, found),
     })
 }

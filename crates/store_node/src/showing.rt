@@ -1,25 +1,37 @@
 //! A row as a node reads it whole from its devices, and shows it.
 ghost use Rattle.std.specs.Prelude.{◌≡◌, option_map, IfOk};
 ghost use Rattle.store_commit.specs.Standing.{devs, AreUp, AreLookedAt, NothingHidden};
+ghost use Rattle.device_laws.specs.Stands.{pair_in};
 ghost use Rattle.store_node.specs.Reading.{Only, whole_row, whole_at, shown_row};
+ghost use Rattle.store_node.specs.Taking.{pair_of};
 
 use crate::reading::{names_held, read_content, whole};
+use crate::taking::yours_in;
 use disk_trait::Disk;
 use row_store::{LastWrites, StoredRow};
 use row_value::Content;
-use stab_base::{RowId, Version};
+use stab_base::{ClientNo, RowId, Version};
 use std::alloc::Global;
-use step_tables::ObjectNames;
+use step_tables::{ObjectNames, Yours};
 use store_commit::{CommitFault, TableDevs};
 
 /// A row with its content whole, the names of its chunks, and the last write of each client on it.
 #[derive(Debug, Drop)]
-pub(crate) struct WholeRow {
-    pub(crate) row: RowId,
-    pub(crate) version: Version,
-    pub(crate) content: Content,
-    pub(crate) names: ObjectNames,
-    pub(crate) pairs: LastWrites,
+pub struct WholeRow {
+    pub row: RowId,
+    pub version: Version,
+    pub content: Content,
+    pub names: ObjectNames,
+    pub pairs: LastWrites,
+}
+
+impl WholeRow {
+    /// A client's last write on the row; zeros where there is none.
+    pub fn yours(&self, client: ClientNo) -> Yours
+        ensures { pair_of result ≡ pair_in self.now.pairs client }
+    {
+        yours_in(&self.pairs, client)
+    }
 }
 
 /// What a table at the Store shows of a row.

@@ -10,7 +10,7 @@ use Rattle.stab_base.specs.declared.node.Node.{Node}
 use Rattle.stab_base.specs.declared.node.Node.TheVariants as nodes
 use Rattle.step_tables.specs.declared.message.Message.{Message as Sent}
 use Rattle.step_tables.specs.Facts as facts
-use Rattle.step_tables.specs.Messages.{Message, Header, Luck, SyncRequest, SyncResponse, PullRequest, PullResponse}
+use Rattle.step_tables.specs.Messages.{Message, Header, Luck, SyncRequest, SyncResponse, PullRequest, PullResponse, TornRowRequest, TornRowResponse}
 use Rattle.step_tables.specs.Messages as messages
 use Rattle.step_tables.specs.Travels.{message_of}
 use Rattle.step_tables.specs.ClientMoves.{Client, ClientDisk, ClientTask, ClientStep, ClientMove, Shape, TableDisk, Write, Change, Show, Sum, Sync, Next, BeginCr, Conflicts, EndCr, Resolve, ResolveAll, Take, Work, Crash, Start, client_step, no_shape, conflicts_in, table_at, seen}
@@ -64,7 +64,7 @@ is_asked (Change table row edit) = true
 is_asked (Show table row) = true
 is_asked (Sum table row) = true
 is_asked (Sync table) = true
-is_asked (Next table) = true
+is_asked (Next table tears asks) = true
 is_asked (BeginCr table) = true
 is_asked (EndCr table) = true
 is_asked (Resolve table row version choice) = true
@@ -89,7 +89,7 @@ down_never c shape d (Change table row edit) asked = λ is. absurd cc
 down_never c shape d (Show table row) asked = λ is. absurd cc
 down_never c shape d (Sum table row) asked = λ is. absurd cc
 down_never c shape d (Sync table) asked = λ is. absurd cc
-down_never c shape d (Next table) asked = λ is. absurd cc
+down_never c shape d (Next table tears asks) asked = λ is. absurd cc
 down_never c shape d (Take message) asked = λ is. absurd cc
 down_never c shape d (BeginCr table) asked = λ is. absurd cc
 down_never c shape d (Conflicts table) asked = λ is. absurd cc
@@ -107,7 +107,7 @@ up_never c shape d tasks (Change table row edit) asked = λ is. (edit_only c sha
 up_never c shape d tasks (Show table row) asked = λ is. (show_only d tasks row (table_at (seen d) table) facts.NoDevice is).1 refl
 up_never c shape d tasks (Sum table row) asked = λ is. (sum_only d tasks row (table_at (seen d) table) facts.NoDevice is).1 refl
 up_never c shape d tasks (Sync table) asked = λ is. (sync_only c shape d tasks table (table_at (seen d) table) facts.NoDevice is).1 refl
-up_never c shape d tasks (Next table) asked = λ is. (next_only c shape d tasks table (table_at (seen d) table) facts.NoDevice is).1 refl
+up_never c shape d tasks (Next table tears asks) asked = λ is. (next_only c shape d tasks table tears asks (table_at (seen d) table) facts.NoDevice is).1 refl
 up_never c shape d tasks (Take message) asked = λ is. (take_only c shape d tasks message facts.NoDevice is).1 refl
 up_never c shape d tasks (BeginCr table) asked = λ is. (phase_only d tasks (table_at (seen d) table) facts.NoDevice is).1 refl
 up_never c shape d tasks (Conflicts table) asked = absurd cc
@@ -190,6 +190,8 @@ fits_client d (PullResponse pulled) = fits_table (table_at (seen d) pulled.table
 fits_client d (SyncRequest request) = inl tt
 fits_client d (SyncResponse response) = inl tt
 fits_client d (PullRequest pull) = inl tt
+fits_client d (TornRowRequest torn) = inl tt
+fits_client d (TornRowResponse answer) = fits_table (table_at (seen d) answer.table) answer.header
 
 fits_there : (o : Option Client) (message : Sent) → FitsThere o message ⊎ (FitsThere o message → ⊥)
 fits_there None message = inl tt

@@ -310,7 +310,7 @@ module _ {D : Type 0} (state : D → DiskState) (w : World) (old mid : ClientHos
   -- where it is refused
   pub refused_all : ((count : ℕ) → answer ≢ answers.Number count) → ComesSo state old mid (step w (events.ResolveAll c table way)) (Ok answer)
   refused_all isnt = (
-    record { calls = all_lucks; shape = plan_shape; shapes = [] },
+    record { calls = all_lucks; shape = plan_shape; shapes = []; tears = []; asks = [] },
     subst (λ (s : WorldStep). IsCalled state old mid s answer)
         (sym (ap (λ (s : WorldStep). resolve_all w c table way [] (other_lucks all_lucks) s) alone_is
         ∙ other_answer w c table way [] (other_lucks all_lucks) (call_alone w c (ResolveAll table way) plan_shape all_lucks) answer k.2.answer_is isnt))
@@ -345,7 +345,7 @@ module _ {D : Type 0} (state : D → DiskState) (w : World) (old mid : ClientHos
         → ComesSo state old new (step w (events.ResolveAll c table way)) result
     resolved_event new (Err e) r = tt
     resolved_event new (Ok given) r = (
-      record { calls = first_luck all_lucks ∷ r.1; shape = plan_shape; shapes = r.0 },
+      record { calls = first_luck all_lucks ∷ r.1; shape = plan_shape; shapes = r.0; tears = []; asks = [] },
       subst (λ (s : WorldStep). IsCalled state old new s given)
           (sym (ap (λ (s : WorldStep). resolve_all w c table way r.0 r.1 s) (ap_first ∙ alone_is)
           ∙ number_answer w c table way r.0 r.1 (call_alone w c (ResolveAll table way) plan_shape all_lucks) count said_is))

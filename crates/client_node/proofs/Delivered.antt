@@ -37,7 +37,7 @@ use Rattle.client_node.proofs.Answering.{disk_or, does_node, stays, does_err, do
 use Rattle.client_node.proofs.Asked.{IsMid, mid_devs, call_leaves, call_plans}
 use Rattle.client_node.proofs.OwnFaults.{own_kept, fresh_now}
 use Rattle.client_node.proofs.Pulls.{no_refusal, same_refusal}
-use Rattle.client_node.proofs.Sent.{HasSent, sent_client, tasks_of_writes}
+use Rattle.client_node.proofs.Sent.{HasSent, sent_told, sent_client, tasks_of_writes}
 use Rattle.client_node.proofs.Serving.{looks_none}
 use Rattle.client_node.proofs.TakenPlans.{idle_at, is_idle, shape_of, does_carried, does_uncarried}
 
@@ -159,7 +159,7 @@ module _ {D : Type 0} (state : D → DiskState) (images : D → ℕ → List ℕ
             let now : Shape = shape_now state images only_now old in
             let step : step_with old now here (Take m) ≡ record (ignored disk) { sends = sends } = up_step old.is_linked old.number now here m linked ∙ r.step old.waiting disk now (idle_at state images only_now old disk t is_up idle) in
             let b : IsBehind state old new (record (ignored disk) { sends = sends }) = record {
-              client = sent_client state images only_now old disk [] t is_up (Take m) (λ shape s. refl) found client k new sends is h refl;
+              client = sent_client state images only_now old disk [] t is_up (Take m) (λ shape s. refl) found client k new [] sends is (sent_told old new sends h) refl;
               told = h.told ∙ sym (append-nil (told_by old));
               sent = h.sent;
               same = record { number = h.number; linked = h.linked };
@@ -169,7 +169,7 @@ module _ {D : Type 0} (state : D → DiskState) (images : D → ℕ → List ℕ
                   does_ok state images only_now old disk (Some []) t is_up (Take m) said found tt client k.serves new is
                   (call_plans state images only_now old disk (Some []) t is_up new (ap (λ (d : Journal (FuseDisk D)). devs st d) is ∙ k.serves.same (λ no. cc)) (ap (λ (d : Journal (FuseDisk D)). writes_of d) is ∙ k.agenda)) now (record { plan = refl })
                   (subst (λ (x : ClientStep). IsBehind state old new x) (sym step) b) (ap (λ (x : ClientStep). x.answer) step);
-              dropped = λ unfit. absurd (unfit (r.fits disk));
+              dropped = λ unfit. absurd (unfit (r.fits old.waiting disk (idle_at state images only_now old disk t is_up idle)));
             }
 
       -- memory was refused for what was to be sent
@@ -283,17 +283,19 @@ takes_node {D} state images s m old new r k (inr unfit) = drops_node r (k.droppe
         pick (inr apart) = (_, (d.kept (λ is. apart (of_err e call.Disk is))).client)
 
 -- whether a row fits is decided
+which : (r : Result (Unit {0}) FitFault) → (r ≡ Ok tt) ⊎ (r ≡ Ok tt → ⊥)
+which (Ok x) = inl refl
+which (Err f) = inr (λ is. cc)
+
+fits_table : (o : Option TableDisk) (h : Option messages.Header) → FitsTable o h ⊎ (FitsTable o h → ⊥)
+fits_table None h = inl tt
+fits_table (Some t) None = inl tt
+fits_table (Some t) (Some h) = which (fit_of t.schema h.content)
+
 pub fits_or_not : (s : Client) (m : messages.Message) → FitsClient s.disk m ⊎ (FitsClient s.disk m → ⊥)
 fits_or_not s (messages.SyncRequest q) = inl tt
 fits_or_not s (messages.SyncResponse q) = inl tt
 fits_or_not s (messages.PullRequest q) = inl tt
-fits_or_not s (messages.PullResponse q) = pick (table_at (seen s.disk) q.table) q.header
-  where
-    which : (r : Result (Unit {0}) FitFault) → (r ≡ Ok tt) ⊎ (r ≡ Ok tt → ⊥)
-    which (Ok x) = inl refl
-    which (Err f) = inr (λ is. cc)
-
-    pick : (o : Option TableDisk) (h : Option messages.Header) → FitsTable o h ⊎ (FitsTable o h → ⊥)
-    pick None h = inl tt
-    pick (Some t) None = inl tt
-    pick (Some t) (Some h) = which (fit_of t.schema h.content)
+fits_or_not s (messages.PullResponse q) = fits_table (table_at (seen s.disk) q.table) q.header
+fits_or_not s (messages.TornRowRequest q) = inl tt
+fits_or_not s (messages.TornRowResponse q) = fits_table (table_at (seen s.disk) q.table) q.header

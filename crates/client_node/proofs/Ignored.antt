@@ -4,6 +4,7 @@ use Rattle.client_journal.specs.Devs.{ClientDevs}
 use Rattle.step_tables.specs.declared.message.Message.TheVariants as kinds
 use Rattle.step_tables.specs.declared.message.PullRequest.{PullRequest}
 use Rattle.step_tables.specs.declared.message.SyncRequest.{SyncRequest}
+use Rattle.step_tables.specs.declared.message.TornRowRequest.{TornRowRequest}
 use Rattle.client_node.specs.Readied.{Readies}
 
 -- a request is no message for a client
@@ -12,3 +13,6 @@ request_readies d c q = record { none = λ is w disk shape idle fit. refl; some 
 
 pub pull_readies : (d : ClientDevs) (c : ℕ) (q : PullRequest) → Readies d c (kinds.PullRequest q) None
 pull_readies d c q = record { none = λ is w disk shape idle fit. refl; some = tt }
+
+pub torn_readies : (d : ClientDevs) (c : ℕ) (q : TornRowRequest) → Readies d c (kinds.TornRowRequest q) None
+torn_readies d c q = record { none = λ is w disk shape idle fit. refl; some = tt }

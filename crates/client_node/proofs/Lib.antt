@@ -59,7 +59,10 @@ pub mod Syncs
 pub mod SyncDone
 pub mod NewerRows
 pub mod SyncKept
+pub mod RowsTaken
 pub mod Pulled
+pub mod WholeRows
+pub mod NamedChunks
 pub mod AskedAgain
 pub mod CarriedOut
 pub mod TakenOff

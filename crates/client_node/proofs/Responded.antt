@@ -309,7 +309,7 @@ module _ (d : ClientDevs) (c : ℕ) (response : SyncResponse) where
 
     pub still_reacts : made.change.slots ≡ None → SendsBack d c (kinds.SyncResponse response) asked
     still_reacts none = record {
-      fits = λ disk. tt;
+      fits = λ w disk idle. tt;
       step = λ w disk shape idle. taken_is w disk idle shape ∙ pick w disk idle shape (the_case w disk idle);
     }
       where

@@ -1,6 +1,6 @@
--- What a call promises that sends messages at once.
+-- What a call promises that tells facts and sends messages at once.
 use Rattle.std.proofs.Common.{◌≡◌, ℕ, ◌++◌, length, true, List, [], ◌∷◌, Option, Some, None, Result, Ok, Err, refl, sym, ◌∙◌, ap, subst, append-nil}
-use Rattle.std.specs.Prelude.{map, IsErrOf}
+use Rattle.std.specs.Prelude.{IsErrOf}
 use Rattle.disk_trait.specs.Image.{IsImage}
 use Rattle.disk_trait.specs.Calls.{DiskState}
 use Rattle.disk_trait.specs.Fuse.{behind, inner_of}
@@ -9,20 +9,17 @@ use Rattle.client_journal.specs.declared.devs.Journal.{Journal}
 use Rattle.client_journal.specs.Devs.{ClientDevs, Write}
 use Rattle.client_journal.specs.Standing.{devs, writes_of}
 use Rattle.gathering.specs.Room.{HasRoom}
-use Rattle.step_tables.specs.Facts.{Answer}
-use Rattle.step_tables.specs.Facts as facts
-use Rattle.step_tables.specs.Lines.{fact_of}
-use Rattle.step_tables.specs.Travels.{send_of}
+use Rattle.step_tables.specs.Facts.{Answer, Fact}
 use Rattle.step_tables.specs.Messages.{Send}
 use Rattle.step_tables.specs.ClientMoves.{ClientDisk, ClientTask, Client, ClientStep, ClientMove, Shape}
 use Rattle.client_node.specs.declared.fault.CallFault.{CallFault}
 use Rattle.client_node.specs.declared.fault.CallFault.TheVariants as call
 use Rattle.client_node.specs.declared.node.ClientNode.{ClientNode}
-use Rattle.client_node.specs.Node.{AreOwed, FollowsFor, IsWorking, IsClient, told_by, sent_by, facts_owed, sends_owed}
-use Rattle.client_node.specs.Calls.{Fell, Stays, IsBehind}
+use Rattle.client_node.specs.Node.{FollowsFor, IsWorking, IsClient, told_by, sent_by}
+use Rattle.client_node.specs.Calls.{Fell, IsBehind}
 use Rattle.client_node.specs.Linked.{linked_step}
-use Rattle.client_node.specs.Looks.{Serves, Looks}
-use Rattle.client_node.specs.Does.{Does, IsOfNode, step_with}
+use Rattle.client_node.specs.Looks.{Looks}
+use Rattle.client_node.specs.Does.{Does, step_with}
 use Rattle.client_node.specs.Sending.{AreTasksOf, Sends, sending}
 use Rattle.client_node.proofs.Asked.{IsMid, mid_devs, stands_now, call_plans}
 use Rattle.client_node.proofs.Answering.{stays, does_err, does_short, does_ok, shape_now, as_err}
@@ -48,6 +45,35 @@ pub record HasSent {D : Type 0} (old new : ClientNode D) (sends : List Send) : T
   pub declared : new.is_declared ≡ old.is_declared
   pub waiting : new.waiting ≡ old.waiting
 
+-- and where facts were told too
+pub record HasTold {D : Type 0} (old new : ClientNode D) (some : List Fact) (sends : List Send) : Type 0 where
+  pub sent : sent_by new ≡ sent_by old ++ sends
+  pub told : told_by new ≡ told_by old ++ some
+  pub no_facts : new.owed.facts.items ≡ []
+  pub no_messages : new.owed.messages.items ≡ []
+  pub fact_room : HasRoom new.facts 0
+  pub message_room : HasRoom new.messages 0
+  pub number : new.number ≡ old.number
+  pub linked : new.is_linked ≡ old.is_linked
+  pub up : new.is_up ≡ old.is_up
+  pub declared : new.is_declared ≡ old.is_declared
+  pub waiting : new.waiting ≡ old.waiting
+
+pub sent_told : {D : Type 0} (old new : ClientNode D) (sends : List Send) → HasSent old new sends → HasTold old new [] sends
+sent_told old new sends h = record {
+  sent = h.sent;
+  told = h.told ∙ sym (append-nil (told_by old));
+  no_facts = h.no_facts;
+  no_messages = h.no_messages;
+  fact_room = h.fact_room;
+  message_room = h.message_room;
+  number = h.number;
+  linked = h.linked;
+  up = h.up;
+  declared = h.declared;
+  waiting = h.waiting;
+}
+
 module _ {D : Type 0} (state : D → DiskState) (images : D → ℕ → List ℕ → Type 0) (only_now : (disk : FuseDisk D) (image : List ℕ) → images (inner_of disk) (behind state disk).moment image → IsImage (behind state disk).pending image) where
   abbrev st : FuseDisk D → DiskState
   st f = behind state f
@@ -64,8 +90,8 @@ module _ {D : Type 0} (state : D → DiskState) (images : D → ℕ → List ℕ
     tasks_are = tasks_of_writes old.number (devs st old.devs) (writes_of old.devs) disk tasks t.at.1.follows
 
     -- an idle node that owes nothing
-    pub sent_client : {S : Type 0} (x : S) (client : Journal (FuseDisk D)) → Looks st im old.devs client (Ok x) → (new : ClientNode D) (sends : List Send) → new.devs ≡ client → HasSent old new sends → tasks ≡ [] → IsClient state new (at disk (Some []))
-    sent_client x client k new sends is h none =
+    pub sent_client : {S : Type 0} (x : S) (client : Journal (FuseDisk D)) → Looks st im old.devs client (Ok x) → (new : ClientNode D) (some : List Fact) (sends : List Send) → new.devs ≡ client → HasTold old new some sends → tasks ≡ [] → IsClient state new (at disk (Some []))
+    sent_client x client k new some sends is h none =
         let s = stays state images only_now old disk (Some tasks) t is_up move (Ok x) (record old { devs = client }) (mid_devs old client) k.serves (λ no. cc) k.agenda in
         let w : IsWorking state (record old { devs = client }) disk [] = subst (λ (l : List ClientTask). IsWorking state (record old { devs = client }) disk l) none s.client.at.1 in
         let empty : writes_of client ≡ [] = k.agenda ∙ tasks_are.some none in
@@ -88,8 +114,8 @@ module _ {D : Type 0} (state : D → DiskState) (images : D → ℕ → List ℕ
           );
         }
 
-    module _ {S T : Type 0} (said : S → Answer) (sent : S → List Send) (says : T → Answer) where
-      pub sends_err : (e : CallFault) (client : Journal (FuseDisk D)) → Looks {T = S} st im old.devs client (Err e) → Sends {T = S} st old.devs old.is_linked old.number move said sent (Err e)
+    module _ {S T : Type 0} (said : S → Answer) (told : S → List Fact) (sent : S → List Send) (says : T → Answer) where
+      pub sends_err : (e : CallFault) (client : Journal (FuseDisk D)) → Looks {T = S} st im old.devs client (Err e) → Sends {T = S} st old.devs old.is_linked old.number move said told sent (Err e)
           → (new : ClientNode D) → (IsErrOf {T = S} (Err e) call.Disk → Fell state images (record old { devs = client }) new) → ((IsErrOf {T = S} (Err e) call.Disk → ⊥) → new ≡ record old { devs = client })
           → Does {T = T} state images (at disk (Some tasks)) move says old new (Err e)
       sends_err e client k a new fell other =
@@ -102,15 +128,15 @@ module _ {D : Type 0} (state : D → DiskState) (images : D → ℕ → List ℕ
           does_short state images only_now old disk (Some tasks) t is_up move says x new.devs l.serves new refl l.agenda
           (stays state images only_now old disk (Some tasks) t is_up move (Ok x) new m l.serves (λ no. cc) l.agenda)
 
-      pub sends_ok : (x : S) (value : T) (client : Journal (FuseDisk D)) → Looks st im old.devs client (Ok x) → Sends st old.devs old.is_linked old.number move said sent (Ok x) → says value ≡ said x → (new : ClientNode D) → new.devs ≡ client → HasSent old new (sent x)
+      pub sends_ok : (x : S) (value : T) (client : Journal (FuseDisk D)) → Looks st im old.devs client (Ok x) → Sends st old.devs old.is_linked old.number move said told sent (Ok x) → says value ≡ said x → (new : ClientNode D) → new.devs ≡ client → HasTold old new (told x) (sent x)
           → Does {T = T} state images (at disk (Some tasks)) move says old new (Ok value)
       sends_ok x value client k a same new is h =
           let now : Shape = shape_now state images only_now old in
           let d = a.done disk tasks now (stands_now state images old disk (Some tasks) t is_up) tasks_are in
           let is_step = plain now (at disk (Some tasks)) ∙ d.1 in
-          let b : IsBehind state old new (sending disk (said x) (sent x)) = record {
-            client = sent_client x client k new (sent x) is h d.0;
-            told = h.told ∙ sym (append-nil (told_by old));
+          let b : IsBehind state old new (sending disk (said x) (told x) (sent x)) = record {
+            client = sent_client x client k new (told x) (sent x) is h d.0;
+            told = h.told;
             sent = h.sent;
             same = record { number = h.number; linked = h.linked };
           } in
@@ -120,24 +146,24 @@ module _ {D : Type 0} (state : D → DiskState) (images : D → ℕ → List ℕ
 
   -- ---- whatever is to be done
 
-  module _ (old : ClientNode D) (disk : ClientDisk) (move : ClientMove) (plain : (shape : Shape) (s : Client) → step_with old shape s move ≡ linked_step old.is_linked old.number shape s move) {S T : Type 0} (said : S → Answer) (sent : S → List Send) (says : T → Answer) (found : Result S CallFault) (client : Journal (FuseDisk D)) (k : Looks st im old.devs client found)
-      (a : Sends st old.devs old.is_linked old.number move said sent found) where
+  module _ (old : ClientNode D) (disk : ClientDisk) (move : ClientMove) (plain : (shape : Shape) (s : Client) → step_with old shape s move ≡ linked_step old.is_linked old.number shape s move) {S T : Type 0} (said : S → Answer) (told : S → List Fact) (sent : S → List Send) (says : T → Answer) (found : Result S CallFault) (client : Journal (FuseDisk D)) (k : Looks st im old.devs client found)
+      (a : Sends st old.devs old.is_linked old.number move said told sent found) where
     pub by_err : (agenda : Option (List ClientTask)) → IsClient state old (at disk agenda) → old.is_up ≡ true → (e : CallFault) → Err e ≡ found
         → (new : ClientNode D) → (IsErrOf {T = S} (Err e) call.Disk → Fell state images (record old { devs = client }) new) → ((IsErrOf {T = S} (Err e) call.Disk → ⊥) → new ≡ record old { devs = client })
         → Does {T = T} state images (at disk agenda) move says old new (Err e)
     by_err None t is_up e same new fell other = let no = t.at.0 in absurd cc
     by_err (Some tasks) t is_up e same new fell other =
-        sends_err old disk tasks t is_up move plain said sent says e client (subst (λ (r : Result S CallFault). Looks st im old.devs client r) (sym same) k)
-        (subst (λ (r : Result S CallFault). Sends st old.devs old.is_linked old.number move said sent r) (sym same) a) new fell other
+        sends_err old disk tasks t is_up move plain said told sent says e client (subst (λ (r : Result S CallFault). Looks st im old.devs client r) (sym same) k)
+        (subst (λ (r : Result S CallFault). Sends st old.devs old.is_linked old.number move said told sent r) (sym same) a) new fell other
 
     pub by_short : (agenda : Option (List ClientTask)) → IsClient state old (at disk agenda) → old.is_up ≡ true → (x : S) → Ok x ≡ found → (new : ClientNode D) → new.devs ≡ client → IsMid old new → Does {T = T} state images (at disk agenda) move says old new (Err call.Memory)
     by_short None t is_up x same new is m = let no = t.at.0 in absurd cc
     by_short (Some tasks) t is_up x same new is m =
-        sends_short old disk tasks t is_up move plain said sent says x client (subst (λ (r : Result S CallFault). Looks st im old.devs client r) (sym same) k) new is m
+        sends_short old disk tasks t is_up move plain said told sent says x client (subst (λ (r : Result S CallFault). Looks st im old.devs client r) (sym same) k) new is m
 
-    pub by_ok : (agenda : Option (List ClientTask)) → IsClient state old (at disk agenda) → old.is_up ≡ true → (x : S) (value : T) → Ok x ≡ found → says value ≡ said x → (new : ClientNode D) → new.devs ≡ client → HasSent old new (sent x)
+    pub by_ok : (agenda : Option (List ClientTask)) → IsClient state old (at disk agenda) → old.is_up ≡ true → (x : S) (value : T) → Ok x ≡ found → says value ≡ said x → (new : ClientNode D) → new.devs ≡ client → HasTold old new (told x) (sent x)
         → Does {T = T} state images (at disk agenda) move says old new (Ok value)
     by_ok None t is_up x value same says_so new is h = let no = t.at.0 in absurd cc
     by_ok (Some tasks) t is_up x value same says_so new is h =
-        sends_ok old disk tasks t is_up move plain said sent says x value client (subst (λ (r : Result S CallFault). Looks st im old.devs client r) (sym same) k)
-        (subst (λ (r : Result S CallFault). Sends st old.devs old.is_linked old.number move said sent r) (sym same) a) says_so new is h
+        sends_ok old disk tasks t is_up move plain said told sent says x value client (subst (λ (r : Result S CallFault). Looks st im old.devs client r) (sym same) k)
+        (subst (λ (r : Result S CallFault). Sends st old.devs old.is_linked old.number move said told sent r) (sym same) a) says_so new is h

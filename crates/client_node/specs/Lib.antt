@@ -19,6 +19,7 @@ pub mod Answering
 pub mod Tells
 pub mod Readied
 pub mod Placing
+pub mod HeldRows
 pub mod NotedRows
 pub mod Requesting
 pub mod Spelling

@@ -110,9 +110,10 @@ pub record Readies (d : ClientDevs) (c : ℕ) (message : Message) (found : Optio
       × IsReadied d c idle.stands.0 disk planned p sends
       × ((shape : Shape) → taken_at c message shape disk ≡ begun shape disk facts.Done p sends))
 
--- A message begins no plan, and these are sent at once.
+-- A message begins no plan, and these are sent at once; a row that it brings fits its table.
 pub record SendsBack (d : ClientDevs) (c : ℕ) (message : Message) (sends : List Send) : Type 0 where
-  pub fits : (disk : ClientDisk) → FitsClient disk (message_of message)
+  pub fits : (waiting : Waiting) (disk : ClientDisk) → IsIdleAt d c waiting disk
+      → FitsClient disk (message_of message)
   pub step : (waiting : Waiting) (disk : ClientDisk) (shape : Shape) → IsIdleAt d c waiting disk
       → taken_at c message shape disk ≡ record (ignored disk) { sends = sends }
 

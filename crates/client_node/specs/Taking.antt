@@ -4,7 +4,8 @@ use Rattle.disk_trait.specs.Calls.{DiskState}
 use Rattle.row_value.specs.Fit.{fit_of}
 use Rattle.step_tables.specs.Facts.{Refusal, Done}
 use Rattle.step_tables.specs.Facts as facts
-use Rattle.step_tables.specs.Messages.{Header, Message, PullResponse}
+use Rattle.step_tables.specs.Messages.{Header, Message, SyncRequest, SyncResponse, PullRequest, PullResponse}
+use Rattle.step_tables.specs.Messages.{TornRowRequest, TornRowResponse}
 use Rattle.step_tables.specs.ClientMoves.{Shape, TableDisk, ClientDisk, Client, Take, table_at, seen}
 use Rattle.client_node.specs.declared.fault.CallFault.{CallFault}
 use Rattle.client_node.specs.declared.fault.CallFault.TheVariants.{Disk}
@@ -22,7 +23,11 @@ FitsTable (Some table) (Some row) = fit_of table.schema row.content ≡ Ok tt
 -- what a message brings fits its table, where the client has opened that
 abbrev pub FitsClient : ClientDisk → Message → Type 0
 FitsClient d (PullResponse pulled) = FitsTable (table_at (seen d) pulled.table) pulled.header
-FitsClient d other = Unit {0}
+FitsClient d (TornRowResponse answer) = FitsTable (table_at (seen d) answer.table) answer.header
+FitsClient d (SyncRequest request) = Unit {0}
+FitsClient d (SyncResponse response) = Unit {0}
+FitsClient d (PullRequest pull) = Unit {0}
+FitsClient d (TornRowRequest torn) = Unit {0}
 
 -- A message whose row doesn't fit is dropped; or it is refused as the step table refuses it, or a disk has failed.
 pub record Drops {D : Type 0} (state : D → DiskState) (images : D → ℕ → List ℕ → Type 0) (s : Client)

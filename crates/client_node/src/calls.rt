@@ -1,6 +1,7 @@
 //! The calls of a client.
 mod choosing;
 mod editing;
+pub(crate) mod held;
 mod listing;
 pub(crate) mod phases;
 pub(crate) mod pulling;

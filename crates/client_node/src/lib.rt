@@ -22,7 +22,9 @@ mod starting;
 mod strong;
 mod telling;
 mod tells;
+mod torn;
 mod waiting;
 
+pub use calls::held::RowHeld;
 pub use fault::CallFault;
 pub use node::ClientNode;

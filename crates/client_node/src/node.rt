@@ -224,6 +224,39 @@ impl<D: Disk + Drop> ClientNode<D> {
         Ok(())
     }
 
+    // Gathers facts that are told and messages that are sent at once. Nothing is owed by a node that has no write to do.
+    pub(crate) fn tell_and_send(
+        &mut self,
+        mut told: Vec<Fact>,
+        mut sends: Vec<Addressed>,
+    ) -> Result<(), AllocError>
+        ensures told { OnOk result (told_by self.new ≡ told_by self.old ++ map fact_of told.items) }
+        ensures sent { OnOk result (sent_by self.new ≡ sent_by self.old ++ map send_of sends.items) }
+        ensures no_facts { OnOk result (self.new.owed.facts.items ≡ []) }
+        ensures no_messages { OnOk result (self.new.owed.messages.items ≡ []) }
+        ensures fact_room { OnOk result (HasRoom self.new.facts 0) }
+        ensures message_room { OnOk result (HasRoom self.new.messages 0) }
+        ensures untold { OnErr result (self.new.facts.items.items ≡ self.old.facts.items.items) }
+        ensures unsent { OnErr result (self.new.messages.items.items ≡ self.old.messages.items.items) }
+        ensures owed { OnErr result (self.new.owed ≡ self.old.owed) }
+        ensures facts_kept { OnErr result ((n : ℕ) → HasRoom self.old.facts n → HasRoom self.new.facts n) }
+        ensures kept { OnErr result ((n : ℕ) → HasRoom self.old.messages n → HasRoom self.new.messages n) }
+        ensures devs { self.new.devs ≡ self.old.devs }
+        ensures number { self.new.number ≡ self.old.number }
+        ensures linked { self.new.is_linked ≡ self.old.is_linked }
+        ensures up { self.new.is_up ≡ self.old.is_up }
+        ensures declared { self.new.is_declared ≡ self.old.is_declared }
+        ensures waiting { self.new.waiting ≡ self.old.waiting }
+        ensures phases { self.new.phases ≡ self.old.phases }
+    {
+        self.facts.reserve(told.len())?;
+        self.messages.reserve(sends.len())?;
+        self.owed = Owed::nothing(self.alloc);
+        self.facts.put_all(&mut told);
+        self.messages.put_all(&mut sends);
+        Ok(())
+    }
+
     // Makes the node's disks those of its tables without a row.
     fn make(&mut self) -> Result<(), CallFault>
         requires node { IsNode D.state self.old }

@@ -13,13 +13,15 @@ ghost use Rattle.step_tables.specs.Chunks.{is_of_each, objects_of};
 ghost use Rattle.step_tables.specs.ClientMoves.{next_pull};
 ghost use Rattle.step_tables.specs.declared.message.Message.TheVariants.{PullResponse as ResponseMessage};
 ghost use Rattle.step_tables.specs.Travels.{pulled_of, send_of};
+ghost use Rattle.field_codec.specs.Forms.{IsOption};
+ghost use Rattle.plan_log.specs.Spelling.{IsPosition};
 ghost use Rattle.plan_limits.specs.Fit.{HasWord, HaveWords};
 ghost use Rattle.client_node.specs.Answering.{yours_in};
 ghost use Rattle.held_contents.specs.Holding.{IsFit};
 ghost use Rattle.held_contents.specs.Reading.{AreThereIf, chunks_shown};
 ghost use Rattle.client_node.specs.Answers.{record_at, held_at, IsFault};
 ghost use Rattle.client_node.specs.Looks.{Looks};
-ghost use Rattle.client_node.specs.Placing.{IsOfPosition, HoldsRow, IsNext};
+ghost use Rattle.client_node.specs.Placing.{IsOfPosition, HoldsRow, IsWhole, IsNext, PlansRow};
 ghost use Rattle.client_node.specs.Readied.{IsIdle, Readies};
 
 use crate::calls::pulling::request_from;
@@ -40,8 +42,8 @@ use std::alloc::{AllocError, Global};
 use step_tables::{Addressed, ObjectNames, PullResponse, RowHeader};
 use table_model::{ClientFact, Fact, Yours};
 
-// The version of the row that the client has read.
-fn version_read(slots: &Slots) -> Version
+/// The version of the row that the client has read.
+pub(crate) fn version_read(slots: &Slots) -> Version
     ensures { result ≡ seen_in slots.now.conflict slots.now.shadow }
 {
     match (&slots.conflict, &slots.shadow) {
@@ -51,8 +53,8 @@ fn version_read(slots: &Slots) -> Version
     }
 }
 
-// Whether a row of this version isn't newer than the one that the client has read.
-fn is_old(version: Version, slots: &Slots) -> bool
+/// Whether a row of this version isn't newer than the one that the client has read.
+pub(crate) fn is_old(version: Version, slots: &Slots) -> bool
     ensures { result ≡ nat_le version (seen_in slots.now.conflict slots.now.shadow) }
 {
     version <= version_read(slots)
@@ -206,12 +208,28 @@ fn know_names(names: &[Names])
     }
 }
 
-// Whether a row comes next and fits the table.
-fn fits_next(opened: &TableRecord, from: Version, content: &Content) -> bool
-    ensures next { result ≡ true → (from ≡ opened.now.position) × (fit_of opened.now.schema content.now ≡ Ok tt) }
-    ensures other { result ≡ false → from ≡ opened.now.position → fit_of opened.now.schema content.now ≡ Ok tt → ⊥ }
+// Whether a row fits the table.
+fn fits_table(opened: &TableRecord, content: &Content) -> bool
+    ensures fit { result ≡ true → fit_of opened.now.schema content.now ≡ Ok tt }
+    ensures other { result ≡ false → fit_of opened.now.schema content.now ≡ Ok tt → ⊥ }
 {
-    from == opened.position && fits(&opened.schema, content).is_ok()
+    fits(&opened.schema, content).is_ok()
+}
+
+/// Whether a row fits the table, and is named chunk by chunk.
+pub(crate) fn is_whole(
+    alloc: Global,
+    opened: &TableRecord,
+    header: &RowHeader,
+) -> Result<bool, AllocError>
+    requires size { 0 < opened.now.schema.chunk }
+    ensures whole { IfOk result (λ whole. whole ≡ true → IsWhole opened.now header.now) }
+    ensures other { IfOk result (λ whole. whole ≡ false → IsWhole opened.now header.now → ⊥) }
+{
+    if !fits_table(opened, &header.content) {
+        return Ok(false);
+    }
+    is_named(alloc, opened.schema.chunk, &header.content, &header.names)
 }
 
 // Whether a row is one that comes next, fits the table, and is named chunk by chunk.
@@ -225,10 +243,10 @@ fn comes_next(
     ensures next { IfOk result (λ next. next ≡ true → IsNext opened.now from header.now) }
     ensures other { IfOk result (λ next. next ≡ false → IsNext opened.now from header.now → ⊥) }
 {
-    if !fits_next(opened, from, &header.content) {
+    if from != opened.position {
         return Ok(false);
     }
-    is_named(alloc, opened.schema.chunk, &header.content, &header.names)
+    is_whole(alloc, opened, header)
 }
 
 // What holds the content of a row, against what the client shows of it, with the Store's names of its chunks.
@@ -260,7 +278,57 @@ fn hold_row<D: Disk + Drop>(
     Ok(held)
 }
 
-// The plan of a row that is newer than the one that was read, with the chunks that it brings.
+/// The plan of a row that is newer than the one that was read, with the chunks that it brings, a new position of its
+/// table, if there is one, and what it sends.
+pub(crate) fn plan_row<D: Disk + Drop>(
+    alloc: Global,
+    client: ClientNo,
+    devs: &mut Journal<D>,
+    opened: &TableRecord,
+    table: TableNo,
+    slots: &Slots,
+    header: &RowHeader,
+    position: Option<Version>,
+    messages: Vec<Addressed>,
+) -> Result<Option<Planned>, CallFault>
+    requires up { AreUp devs.old }
+    requires ready { IsReady D.state devs.old (writes_of devs.old) }
+    requires idle { IsIdle (held_by D.state devs.old) client }
+    requires opened { record_at (held_by D.state devs.old) table ≡ Some opened.now }
+    requires held { slots.now ≡ held_at (held_by D.state devs.old) table header.now.row }
+    requires whole { IsWhole opened.now header.now }
+    requires newer { nat_le header.now.version (seen_in slots.now.conflict slots.now.shadow) ≡ false }
+    requires few { IsOption IsPosition position }
+    ensures looks { Looks D.state D.images devs.old devs.new result }
+    ensures plans { IfOk result (PlansRow (held_by D.state devs.old) client table header.now position
+        (map send_of messages.items)) }
+    ensures refused { IfErr result IsFault }
+{
+    let last = last_write(devs)?;
+    let size = opened.schema.chunk;
+    let held = hold_row(alloc, devs, size, slots, &header.content, &header.names)?;
+    let version = of_64_bits(header.version);
+    let row = Shadow {
+        version,
+        content: held.content,
+    };
+    let yours = yours_in(header.yours);
+    let made = plan_header(alloc, opened.schema.scheme, slots, yours, row, held.brought)?;
+    let found = plan_of_row(
+        alloc,
+        client,
+        table,
+        &header.row,
+        last,
+        true,
+        position,
+        made,
+        messages,
+    )?;
+    Ok(found)
+}
+
+// The plan of a row that is newer than the one that was read, for the client's position.
 fn put_row<D: Disk + Drop>(
     alloc: Global,
     client: ClientNo,
@@ -282,29 +350,19 @@ fn put_row<D: Disk + Drop>(
     ensures readies { IfOk result (Readies (held_by D.state devs.old) client (ResponseMessage pulled.now)) }
     ensures refused { IfErr result IsFault }
 {
-    let last = last_write(devs)?;
-    let size = opened.schema.chunk;
-    let held = hold_row(alloc, devs, size, slots, &header.content, &header.names)?;
-    let version = of_64_bits(header.version);
-    let row = Shadow {
-        version,
-        content: held.content,
-    };
-    let yours = yours_in(header.yours);
-    let made = plan_header(alloc, opened.schema.scheme, slots, yours, row, held.brought)?;
     let next = next_request(alloc, client, pulled)?;
     let position = of_64_bits(pulled.to);
-    let found = plan_of_row(
+    plan_row(
         alloc,
         client,
+        devs,
+        opened,
         pulled.table,
-        &header.row,
-        last,
+        slots,
+        header,
         Some(position),
-        made,
         next,
-    )?;
-    Ok(found)
+    )
 }
 
 // The plan of a row for the client's position.

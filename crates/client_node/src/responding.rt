@@ -146,6 +146,7 @@ fn answer_row<D: Disk + Drop>(
         response.table,
         &response.row,
         last,
+        false,
         None,
         made,
         asked,

@@ -75,14 +75,15 @@ fn with_position(tells: Tells, position: Option<Version>) -> Result<Tells, Alloc
     }
 }
 
-/// The plan of a row's change, with a new position of its table, if there is one, and what it sends. None where no slot
-/// changes.
+/// The plan of a row's change, with a new position of its table, if there is one, and what it sends; `server` where the
+/// row comes from the Store. None where no slot changes.
 pub(crate) fn plan_of_row(
     alloc: Global,
     client: ClientNo,
     table: TableNo,
     row: &RowId,
     last: WriteNo,
+    server: bool,
     position: Option<Version>,
     made: RowPlan,
     messages: Vec<Addressed>,
@@ -110,8 +111,7 @@ pub(crate) fn plan_of_row(
     let facts = facts_told(alloc, client, table, &row, tells.as_slice())?;
     Ok(Some(Planned {
         plan: Plan {
-            // a new position comes with a row from the Store
-            server: position.is_some(),
+            server,
             table,
             last,
             row: Some(RowChange { row, slots }),

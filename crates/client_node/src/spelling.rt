@@ -24,7 +24,8 @@ pub(crate) struct Spelled {
     pub(crate) pieces: Pieces,
 }
 
-fn content_read(shadow: &Option<Shadow>) -> Option<&HeldContent>
+/// The content of a row that was read.
+pub(crate) fn content_read(shadow: &Option<Shadow>) -> Option<&HeldContent>
     ensures { option_copied result ≡ content_read shadow.now }
 {
     match shadow {

@@ -48,7 +48,7 @@ move_only c shape d tasks (asks.Edit table row edit) = edit_only c shape d tasks
 move_only c shape d tasks (asks.Show table row) = show_only d tasks row (table_at (seen d) table)
 move_only c shape d tasks (asks.Sum table row) = sum_only d tasks row (table_at (seen d) table)
 move_only c shape d tasks (asks.Sync table) = sync_only c shape d tasks table (table_at (seen d) table)
-move_only c shape d tasks (asks.Pull table) = next_only c shape d tasks table (table_at (seen d) table)
+move_only c shape d tasks (asks.Pull table) = next_only c shape d tasks table [] [] (table_at (seen d) table)
 move_only c shape d tasks (asks.BeginCr table) = phase_only d tasks (table_at (seen d) table)
 move_only c shape d tasks (asks.EndCr table) = phase_only d tasks (table_at (seen d) table)
 move_only c shape d tasks (asks.Resolve table row version choice) = resolve_only c shape d tasks table row version choice (table_at (seen d) table)
@@ -60,6 +60,7 @@ asked_only c shape d tasks (requests.Deliver message) = take_only c shape d task
 asked_only c shape d tasks (requests.Resolvable table by) = all_only shape d tasks by (table_at (seen d) table)
 asked_only c shape d tasks (requests.ResolveBy table row version by) =
     resolve_only c shape d tasks table row version (chosen_of by row (Some (record { disk = d; agenda = Some tasks })) table) (table_at (seen d) table)
+asked_only c shape d tasks (requests.AskWhole table tears rows) = next_only c shape d tasks table tears rows (table_at (seen d) table)
 
 -- the same of one whose link may be down
 linked_only : (up : Bool) (c : ℕ) (shape : Shape) (d : ClientDisk) (tasks : List ClientTask) (move : ClientMove)

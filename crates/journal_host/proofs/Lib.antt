@@ -6,6 +6,7 @@ pub mod Replying
 pub mod Hosting
 pub mod Crashed
 pub mod Clients
+pub mod RowsHeld
 pub mod Listed
 pub mod Cuts
 pub mod Draining

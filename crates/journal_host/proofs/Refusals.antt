@@ -18,12 +18,13 @@ use Rattle.step_tables.specs.Slots.{Main}
 use Rattle.step_tables.specs.Slots.{Shadow}
 use Rattle.step_tables.specs.Facts.{Answer, Refusal, Shown, ShownSum}
 use Rattle.step_tables.specs.Facts as facts
-use Rattle.step_tables.specs.Messages.{Header, Message, Outcome, Pulled, Response, Send, SyncRequest, SyncResponse, PullRequest, PullResponse}
+use Rattle.step_tables.specs.Messages.{Header, Message, Outcome, Pulled, Response, Send, SyncRequest, SyncResponse, PullRequest, PullResponse, TornPulled, TornRowRequest, TornRowResponse}
 use Rattle.step_tables.specs.Messages as messages
+use Rattle.step_tables.specs.Chunks.{is_named}
 use Rattle.step_tables.specs.Sums.{by_digests, or_whole, sum_of}
 use Rattle.step_tables.specs.ClientMoves.{Slots, TableDisk, ClientDisk, ClientTask, ClientStep, Shape, RowOut, quiet, table_at, seen, slots_at, shown_in, show_answer, show_in, content_of, first_out, row_out, first_to_send, resent, top}
 use Rattle.step_tables.specs.ClientMoves.{ClientMove, is_before_write, is_before_phase, kept_out, phase_in, conflicts_in, choose, over_fitting, resolve_over, resolve_in, all_in, all_fitting, all_idle, can_resolve}
-use Rattle.step_tables.specs.ClientMoves.{write_strong, write_by, write_free, write_idle, write_fitting, write_to, edit_made, edit_over, edit_in, sync_first, sync_in, next_in, outcome_taken, response_taken, response_in, row_taken, pulled_taken, pulled_in, take_step}
+use Rattle.step_tables.specs.ClientMoves.{write_strong, write_by, write_free, write_idle, write_fitting, write_to, edit_made, edit_over, edit_in, sync_first, sync_in, next_in, outcome_taken, response_taken, response_in, row_taken, pulled_taken, pulled_in, torn_row_taken, torn_taken, torn_in, take_step}
 use Rattle.step_tables.specs.ClientMoves as moves
 
 -- a step that answers by a refusal does nothing, and the refusal isn't that a device failed
@@ -127,10 +128,10 @@ sync_only c shape d [] table (Some opened) = first (resent c table opened.rows) 
     first again None = λ r is. absurd cc
     first again (Some x) = λ r is. absurd cc
 
-pub next_only : (c : ℕ) (shape : Shape) (d : ClientDisk) (tasks : List ClientTask) (table : ℕ) (o : Option TableDisk) → RefusesOnly d tasks (next_in c shape d tasks table o)
-next_only c shape d tasks table None = only_answers d tasks (facts.Refuses facts.NoTable) (λ bad. absurd cc)
-next_only c shape d (task ∷ more) table (Some opened) = only_answers d (task ∷ more) (facts.Refuses (facts.Busy shape.plan)) (λ bad. absurd cc)
-next_only c shape d [] table (Some opened) = λ r is. absurd cc
+pub next_only : (c : ℕ) (shape : Shape) (d : ClientDisk) (tasks : List ClientTask) (table : ℕ) (tears asks : List (List ℕ)) (o : Option TableDisk) → RefusesOnly d tasks (next_in c shape d tasks table tears asks o)
+next_only c shape d tasks table tears asks None = only_answers d tasks (facts.Refuses facts.NoTable) (λ bad. absurd cc)
+next_only c shape d (task ∷ more) table tears asks (Some opened) = only_answers d (task ∷ more) (facts.Refuses (facts.Busy shape.plan)) (λ bad. absurd cc)
+next_only c shape d [] table tears asks (Some opened) = λ r is. absurd cc
 
 -- ---- phases, and what is resolved in one
 
@@ -253,6 +254,27 @@ pulled_done c shape d pulled (Some opened) = brings pulled.header
         either true = row header
         either false = refl
 
+torn_done : (c : ℕ) (shape : Shape) (d : ClientDisk) (answer : TornPulled) (o : Option TableDisk) → (torn_in c shape d answer o).answer ≡ facts.Done
+torn_done c shape d answer None = refl
+torn_done c shape d answer (Some opened) = brings answer.header
+  where
+    row : (header : Header) → (torn_row_taken c shape d answer.table opened header (slots_at opened header.row)).answer ≡ facts.Done
+    row header = go (nat_le header.version (top (slots_at opened header.row).conflict (slots_at opened header.row).shadow))
+      where
+        go : (b : Bool) → (if b then record (moves.ignored d) { sends = moves.pull_from c answer.table opened.position ∷ [] }
+            else moves.begun shape d facts.Done (moves.torn_plan d answer.table header.row
+            (moves.row_placed opened.schema.scheme c answer.table header (slots_at opened header.row) (slots_at opened header.row).out)) (moves.pull_from c answer.table opened.position ∷ [])).answer ≡ facts.Done
+        go true = refl
+        go false = refl
+
+    brings : (o : Option Header) → (torn_taken c shape d answer.table opened o).answer ≡ facts.Done
+    brings None = refl
+    brings (Some header) = either (is_named opened.schema.chunk header.content header.names)
+      where
+        either : (b : Bool) → (if b then torn_row_taken c shape d answer.table opened header (slots_at opened header.row) else moves.ignored d).answer ≡ facts.Done
+        either true = row header
+        either false = refl
+
 pub take_only : (c : ℕ) (shape : Shape) (d : ClientDisk) (tasks : List ClientTask) (message : Message) → RefusesOnly d tasks (take_step c shape d (Some tasks) message)
 take_only c shape d (task ∷ more) message = only_answers d (task ∷ more) (facts.Refuses (facts.Busy shape.plan)) (λ bad. absurd cc)
 take_only c shape d [] (SyncRequest request) = only_done d [] (moves.ignored d) refl
@@ -261,3 +283,6 @@ take_only c shape d [] (SyncResponse response) =
     only_done d [] (response_in c shape d response (table_at (seen d) response.table)) (response_done c shape d response (table_at (seen d) response.table))
 take_only c shape d [] (PullResponse pulled) =
     only_done d [] (pulled_in c shape d pulled (table_at (seen d) pulled.table)) (pulled_done c shape d pulled (table_at (seen d) pulled.table))
+take_only c shape d [] (TornRowRequest torn) = only_done d [] (moves.ignored d) refl
+take_only c shape d [] (TornRowResponse answer) =
+    only_done d [] (torn_in c shape d answer (table_at (seen d) answer.table)) (torn_done c shape d answer (table_at (seen d) answer.table))

@@ -12,9 +12,9 @@ use Rattle.step_tables.specs.Slots.{Main}
 use Rattle.step_tables.specs.Slots.{Shadow}
 use Rattle.step_tables.specs.Facts as facts
 use Rattle.step_tables.specs.Lines.{answer_of}
-use Rattle.step_tables.specs.Messages.{Header, Message, SyncRequest, SyncResponse, PullRequest, PullResponse}
+use Rattle.step_tables.specs.Messages.{Header, Message, SyncRequest, SyncResponse, PullRequest, PullResponse, TornRowRequest, TornRowResponse}
 use Rattle.step_tables.specs.Travels.{message_of}
-use Rattle.step_tables.specs.ClientMoves.{Slots, ClientDisk, ClientTask, TableDisk, Client, ClientMove, Shape, ResolveAll, Take, all_in, all_step, client_step, is_cut_off, kept_out, pairs_of, quiet, slots_of, table_at, seen}
+use Rattle.step_tables.specs.ClientMoves.{Slots, ClientDisk, ClientTask, TableDisk, Client, ClientMove, Shape, Next, ResolveAll, Take, all_in, all_step, client_step, is_cut_off, kept_out, pairs_of, quiet, slots_of, table_at, seen}
 use Rattle.client_node.specs.declared.fault.CallFault.{CallFault}
 use Rattle.client_node.specs.declared.fault.CallFault.TheVariants.{Disk, Spent}
 use Rattle.client_node.specs.declared.fault.CallFault.TheVariants as call
@@ -132,6 +132,13 @@ module _ {D : Type 0} (state : D → DiskState) (images : D → ℕ → List ℕ
         → Replies state images s (Take message) old new (HasDropped state s old new) a
     drops r a is k = subst (λ (x : Result Answer CallFault). Replies state images s (Take message) old new (HasDropped state s old new) x) (sym is) (drops_as r k)
 
+-- rows that are asked for are the same by another name
+pub rows_same : {D : Type 0} (state : D → DiskState) (images : D → ℕ → List ℕ → Type 0) (s : Client) (old new : ClientNode D) (table : ℕ) (a b tears rows : List (List ℕ)) (r : Result (Unit {0}) CallFault) → a ≡ tears → b ≡ rows
+    → Does state images s (Next table a b) (λ x. facts.Done) old new r → Does state images s (Next table tears rows) (λ x. facts.Done) old new r
+rows_same state images s old new table a b tears rows r same_tears same_rows k =
+    subst (λ (l : List (List ℕ)). Does {T = Unit {0}} state images s (Next table l rows) (λ x. facts.Done) old new r) same_tears
+    (subst (λ (l : List (List ℕ)). Does {T = Unit {0}} state images s (Next table a l) (λ x. facts.Done) old new r) same_rows k)
+
 -- ---- a message fits, or doesn't
 
 fits_table : (o : Option TableDisk) (h : Option Header) → FitsTable o h ⊎ (FitsTable o h → ⊥)
@@ -148,6 +155,8 @@ fits_client d (PullResponse pulled) = fits_table (table_at (seen d) pulled.table
 fits_client d (SyncRequest request) = inl tt
 fits_client d (SyncResponse response) = inl tt
 fits_client d (PullRequest pull) = inl tt
+fits_client d (TornRowRequest torn) = inl tt
+fits_client d (TornRowResponse answer) = fits_table (table_at (seen d) answer.table) answer.header
 
 pub fits_or : (d : ClientDisk) (request : Request) → FitsDisk d request ⊎ (FitsDisk d request → ⊥)
 fits_or d (requests.Deliver message) = fits_client d (message_of message)

@@ -1,5 +1,5 @@
 -- What a client is asked for, as the moves of its step table.
-use Rattle.std.specs.Prelude.{◌≡◌, ℕ, List, Option, Some, None, Result, Ok, Err}
+use Rattle.std.specs.Prelude.{◌≡◌, ◌≢◌, ℕ, List, [], Option, Some, None, Result, Ok, Err}
 use Rattle.table_model.specs.declared.line.Answer.{Answer}
 use Rattle.table_model.specs.declared.line.Answer.TheVariants as answers
 use Rattle.table_model.specs.declared.line.Refusal.TheVariants as refusals
@@ -24,7 +24,7 @@ move_of (asks.Edit table row edit) = Change table row edit
 move_of (asks.Show table row) = Show table row
 move_of (asks.Sum table row) = Sum table row
 move_of (asks.Sync table) = Sync table
-move_of (asks.Pull table) = Next table
+move_of (asks.Pull table) = Next table [] []
 move_of (asks.BeginCr table) = BeginCr table
 move_of (asks.EndCr table) = EndCr table
 move_of (asks.Resolve table row seen choice) = Resolve table row seen choice
@@ -35,6 +35,12 @@ asked_by s (requests.Ask ask) = move_of ask
 asked_by s (requests.Deliver message) = Take (message_of message)
 asked_by s (requests.Resolvable table by) = ResolveAll table by
 asked_by s (requests.ResolveBy table row seen by) = Resolve table row seen (chosen_of by row s table)
+asked_by s (requests.AskWhole table tears rows) = Next table tears rows
+
+-- where rows are to be asked for whole, there are some
+abbrev pub AsksSome : Request → Type 0
+AsksSome (requests.AskWhole table tears rows) = rows ≢ []
+AsksSome other = Unit {0}
 
 -- the row that a message brings fits its table; all else is fit
 abbrev pub FitsDisk : ClientDisk → Request → Type 0

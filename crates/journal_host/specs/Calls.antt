@@ -1,6 +1,6 @@
 -- What the calls of clients on their devices promise, in the moves of the world.
 use Rattle.std.specs.Prelude.{◌≡◌, ◌⊎◌, ℕ, ◌≤◌, ◌++◌, false, List, map, Option, Some, None, Result, IfOk, IfErr}
-use Rattle.std.specs.Prelude.{IsErrOf}
+use Rattle.std.specs.Prelude.{IsErrOf, option_map}
 use Rattle.std.specs.BTreeMap as tree
 use Rattle.disk_trait.specs.Calls.{DiskState}
 use Rattle.stab_base.specs.declared.limits.TheConstants.{NUMBER_MAX}
@@ -9,7 +9,9 @@ use Rattle.table_model.specs.declared.line.RowPair.{RowPair}
 use Rattle.step_tables.specs.Facts.{PairLine}
 use Rattle.step_tables.specs.Lines.{answer_of}
 use Rattle.step_tables.specs.Messages.{Luck, Done}
-use Rattle.step_tables.specs.ClientMoves.{Shape, Client, seen}
+use Rattle.step_tables.specs.ClientMoves.{Shape, Client, seen, table_at}
+use Rattle.client_node.specs.HeldRows.{row_held}
+use Rattle.client_node.specs.declared.calls.held.RowHeld.{RowHeld}
 use Rattle.client_node.specs.declared.fault.CallFault.{CallFault}
 use Rattle.client_node.specs.declared.fault.CallFault.TheVariants.{Disk, Memory}
 use Rattle.client_node.specs.declared.node.ClientNode.{ClientNode}
@@ -57,6 +59,11 @@ Lists state old new f pairs result = IfOk result (λ answer. (shape : Shape) × 
 pub record Stays {D : Type 0} (state : D → DiskState) (w : World) (old new : ClientHost D) : Type 0 where
   pub held : HoldsClients state w new
   pub outs : outs_of new ≡ outs_of old
+
+-- what a client holds of a row; one that isn't there holds none
+abbrev pub held_by : Option Client → ℕ → List ℕ → Option RowHeld
+held_by None table row = None
+held_by (Some s) table row = option_map (row_held row) (table_at (seen s.disk) table)
 
 -- ---- causes
 

@@ -5,7 +5,7 @@ ghost use Rattle.step_tables.specs.ClientMoves.{Client};
 ghost use Rattle.client_node.specs.declared.fault.CallFault.TheVariants.{Spent};
 ghost use Rattle.client_node.specs.Does.{HasNoNumber};
 ghost use Rattle.client_node.specs.Node.{IsClient, IsNode};
-ghost use Rattle.journal_host.specs.Asks.{move_of, asked_by, FitsDisk, AreAsked, as_answer};
+ghost use Rattle.journal_host.specs.Asks.{move_of, asked_by, FitsDisk, AreAsked, AsksSome, as_answer};
 ghost use Rattle.journal_host.specs.Phases.{MovesPhases, answer_in};
 ghost use Rattle.journal_host.specs.Steps.{HasMade, HasDropped, Replies};
 
@@ -14,7 +14,7 @@ use conflicts::{Choice, Stored};
 use disk_trait::Disk;
 use row_edits::Edit;
 use row_value::Content;
-use stab_base::{RowId, Step, TableNo, Version};
+use stab_base::{RowId, Sequence, Step, TableNo, Version};
 use step_tables::Message;
 use table_model::{Answer, RowPairs, Shown};
 
@@ -85,6 +85,12 @@ pub(crate) enum Request {
         row: RowId,
         seen: Version,
         by: Stored,
+    },
+    /// To tell rows of a table as torn, and to ask for rows whole in place of its next change.
+    AskWhole {
+        table: TableNo,
+        tears: Sequence<RowId>,
+        asks: Sequence<RowId>,
     },
 }
 
@@ -187,6 +193,7 @@ pub(crate) fn reply<D: Disk + Drop>(
 ) -> Result<Answer, CallFault>
     requires node { IsNode D.state node.old }
     requires up { node.old.is_up ≡ true }
+    requires some { AsksSome request }
     ensures made { (s : Client) → IsClient D.state node.old s → FitsDisk s.disk request
         → Replies D.state D.images s (asked_by (Some s) request) node.old node.new
         (HasMade D.state s (asked_by (Some s) request) node.old node.new) result }
@@ -211,5 +218,8 @@ pub(crate) fn reply<D: Disk + Drop>(
             seen,
             by,
         } => numbered(node.resolve_by(table, row, seen, by)),
+        Request::AskWhole { table, tears, asks } => {
+            done(node.ask_whole(table, tears.as_slice(), asks.as_slice()))
+        }
     }
 }

@@ -4,19 +4,19 @@ ghost use Rattle.std.specs.Prelude.{IfOk, IfErr, OnOk, OnErr, IfSome, IsErrOf, o
 ghost use Rattle.std.specs.Ordering.{nat_cmp};
 ghost use Rattle.std.specs.BTreeMap as tree;
 ghost use Rattle.stab_base.specs.declared.node.Node.TheVariants as nodes;
-ghost use Rattle.step_tables.specs.ClientMoves.{Conflicts, Resolve, ResolveAll};
+ghost use Rattle.step_tables.specs.ClientMoves.{Conflicts, Next, Resolve, ResolveAll};
 ghost use Rattle.step_tables.specs.Messages.{Luck};
 ghost use Rattle.step_tables.specs.Messages as lucks;
 ghost use Rattle.step_tables.specs.Travels.{message_of};
 ghost use Rattle.client_node.specs.declared.fault.CallFault.TheVariants.{Disk as DiskFailed};
 ghost use Rattle.world_tables.specs.World.{World as AWorld, client_at, client_tasks, is_down, joined, linked};
 ghost use Rattle.world_tables.specs.World.{worked, all_worked, client_crashes, client_writes, client_until_idle};
-ghost use Rattle.world_tables.specs.World.{next_write, client_pairs, chosen_of};
+ghost use Rattle.world_tables.specs.World.{next_write, client_pairs, chosen_of, client_falls};
 ghost use Rattle.journal_host.specs.declared.asking.Request.TheVariants as requests;
 ghost use Rattle.journal_host.specs.declared.fault.ClientFault.TheVariants.{Memory};
-ghost use Rattle.journal_host.specs.Asks.{move_of, asked_by, FitsIn, AreAsked};
+ghost use Rattle.journal_host.specs.Asks.{move_of, asked_by, FitsIn, AreAsked, AsksSome};
 ghost use Rattle.journal_host.specs.Calls.{IsMoved, IsCalled, Comes, Lists, Stays, HasCause, HasMoveCause};
-ghost use Rattle.journal_host.specs.Calls.{HasLuck, IsNumberCause};
+ghost use Rattle.journal_host.specs.Calls.{HasLuck, IsNumberCause, held_by};
 ghost use Rattle.journal_host.specs.Holds.{HoldsClients, AreClients, HasSchemas, AreToOpen, SameFaults, disks_at};
 ghost use Rattle.journal_host.specs.Holds.{outs_of, outs_in, faults_at, HavePlansBelow};
 ghost use Rattle.journal_host.specs.Opening.{HasJoinLuck};
@@ -27,7 +27,7 @@ use crate::fault::ClientFault;
 use crate::hosted::{answered, call, crash, link, list, start, work};
 use crate::opening::joining;
 use crate::out::ClientOut;
-use client_node::{CallFault, ClientNode};
+use client_node::{CallFault, ClientNode, RowHeld};
 use conflicts::Stored;
 use disk_trait::Disk;
 use row_value::Schema;
@@ -158,7 +158,8 @@ impl<D: Disk + Drop> ClientHost<D> {
         request: Request,
         pairs: &mut RowPairs,
     ) -> Result<Answer, ClientFault>
-        requires { AreClients D.state self.old }
+        requires clients { AreClients D.state self.old }
+        requires some { AsksSome request }
         ensures called { (w : AWorld) → HoldsClients D.state w self.old → FitsIn w client request
             → Comes D.state self.old self.new (call_alone w client (asked_by (client_at w client) request)) result }
         ensures dropped { (w : AWorld) → HoldsClients D.state w self.old → (FitsIn w client request → ⊥)
@@ -296,6 +297,66 @@ impl<D: Disk + Drop> ClientHost<D> {
             by,
         };
         self.call(client, request, &mut none)
+    }
+
+    /// Has a client tell that rows of a table are torn, and ask for rows whole in place of the next change, in these
+    /// orders.
+    ///
+    /// # Errors
+    ///
+    /// Those of `ask`.
+    pub fn ask_whole(
+        &mut self,
+        client: ClientNo,
+        table: TableNo,
+        tears: Sequence<RowId>,
+        asks: Sequence<RowId>,
+    ) -> Result<Answer, ClientFault>
+        requires clients { AreClients D.state self.old }
+        requires some { asks ≢ [] }
+        ensures called { (w : AWorld) → HoldsClients D.state w self.old
+            → Comes D.state self.old self.new (call_alone w client (Next table tears asks)) result }
+        ensures spent { (w : AWorld) (n : ℕ) → HoldsClients D.state w self.old
+            → HavePlansBelow D.state n self.old.clients → IfErr result (IsNumberCause n (client_at w client)) }
+        ensures kept { (w : AWorld) → HoldsClients D.state w self.old
+            → OnErr result (Stays D.state w self.old self.new) }
+        ensures cause { HasCause D.state client self.old.clients self.new.clients result }
+        ensures plans { (n : ℕ) → HavePlansBelow D.state n self.old.clients
+            → HavePlansBelow D.state (suc n) self.new.clients }
+    {
+        let mut none = Sequence::new(self.alloc);
+        let request = Request::AskWhole { table, tears, asks };
+        self.call(client, request, &mut none)
+    }
+
+    /// What a client holds of a row under the Store's names, whatever is still to be done: none where it hasn't opened
+    /// the table, or hasn't joined.
+    ///
+    /// # Errors
+    ///
+    /// `Disk`, and the client is down then, and `Memory`.
+    pub fn held_row(
+        &mut self,
+        client: ClientNo,
+        table: TableNo,
+        row: &RowId,
+    ) -> Result<Option<RowHeld>, CallFault>
+        requires clients { AreClients D.state self.old }
+        requires up { (w : AWorld) → HoldsClients D.state w self.old → is_down w (nodes.Client client) ≡ false }
+        ensures held { (w : AWorld) → HoldsClients D.state w self.old
+            → IfOk result (λ found. found ≡ held_by (client_at w client) table row.now) }
+        ensures kept { (w : AWorld) → HoldsClients D.state w self.old → (IsErrOf result DiskFailed → ⊥)
+            → Stays D.state w self.old self.new }
+        ensures fallen { (w : AWorld) → HoldsClients D.state w self.old → IsErrOf result DiskFailed
+            → IsMoved D.state self.old self.new (client_falls client w) }
+        ensures cause { HasMoveCause D.state client self.old.clients self.new.clients result }
+        ensures plans { (n : ℕ) → HavePlansBelow D.state n self.old.clients
+            → HavePlansBelow D.state (suc n) self.new.clients }
+    {
+        match self.clients.get_mut(&client) {
+            Some(node) => node.held_row(table, row),
+            None => Ok(None),
+        }
     }
 
     /// Takes a message; one for a client that hasn't joined is lost, and so is a row that doesn't fit its table.

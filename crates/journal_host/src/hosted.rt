@@ -12,7 +12,7 @@ ghost use Rattle.client_node.specs.Node.{IsClient, IsNode, told_by, has_task, Ha
 ghost use Rattle.client_node.specs.Phases.{is_open, KeepsPhases};
 ghost use Rattle.world_tables.specs.World.{next_write, tasks_in};
 ghost use Rattle.journal_host.specs.declared.fault.ClientFault.TheVariants as faults;
-ghost use Rattle.journal_host.specs.Asks.{asked_by, FitsDisk, AreAsked, answered_as};
+ghost use Rattle.journal_host.specs.Asks.{asked_by, FitsDisk, AreAsked, AsksSome, answered_as};
 ghost use Rattle.journal_host.specs.Calls.{IsNumberCause};
 ghost use Rattle.journal_host.specs.Holds.{IsHosted, outs_in, outbox_of, says_something, said, node_faults};
 ghost use Rattle.journal_host.specs.Phases.{SamePhases, MovesPhases, answer_in};
@@ -101,6 +101,7 @@ fn call_up<D: Disk + Drop>(
 ) -> Result<Answer, ClientFault>
     requires node { IsNode D.state node.old }
     requires up { node.old.is_up ≡ true }
+    requires some { AsksSome request }
     ensures made { (cut : Bool) (s : Client) → IsHosted D.state cut client s node.old → FitsDisk s.disk request
         → IfOk result (λ answer. IsMade D.state (is_open node.old) cut client s (asked_by (Some s) request) node.new
         outs.old.items outs.new.items answer
@@ -135,7 +136,8 @@ pub(crate) fn call<D: Disk + Drop>(
     request: Request,
     pairs: &mut RowPairs,
 ) -> Result<Answer, ClientFault>
-    requires { IsNode D.state node.old }
+    requires node { IsNode D.state node.old }
+    requires some { AsksSome request }
     ensures made { (cut : Bool) (s : Client) → IsHosted D.state cut client s node.old → FitsDisk s.disk request
         → node.old.is_up ≡ true
         → IfOk result (λ answer. IsMade D.state (is_open node.old) cut client s (asked_by (Some s) request) node.new

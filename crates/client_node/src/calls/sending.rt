@@ -84,7 +84,7 @@ fn plan_of_main<D: Disk + Drop>(
     let base = version_in(&slots.shadow);
     let request = request_with(client, table, row, main.number, base, content, parted);
     let messages = vec![in alloc; request]?;
-    let found = plan_of_row(alloc, client, table, row, last, None, made, messages)?;
+    let found = plan_of_row(alloc, client, table, row, last, false, None, made, messages)?;
     Ok(found)
 }
 

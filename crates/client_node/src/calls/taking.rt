@@ -17,6 +17,7 @@ use crate::node::ClientNode;
 use crate::placing::place;
 use crate::planning::{Reaction, begins};
 use crate::responding::answer;
+use crate::torn::place_torn;
 use client_journal::Journal;
 use disk_trait::Disk;
 use stab_base::ClientNo;
@@ -40,14 +41,18 @@ fn prepare<D: Disk + Drop>(
     match message {
         Message::SyncResponse(response) => answer(alloc, client, devs, response),
         Message::PullResponse(pulled) => Ok(begins(place(alloc, client, devs, pulled)?)),
-        Message::SyncRequest(_) | Message::PullRequest(_) => Ok(Reaction::Nothing),
+        Message::TornRowResponse(answer) => place_torn(alloc, client, devs, answer),
+        Message::SyncRequest(_) | Message::PullRequest(_) | Message::TornRowRequest(_) => {
+            Ok(Reaction::Nothing)
+        }
     }
 }
 
 impl<D: Disk + Drop> ClientNode<D> {
-    /// Takes a message: the Store's answer to a request, or a row for the position that the client pulled from. After a
-    /// refusal and a conflict it asks for what has changed. Every other message is ignored, and a row that doesn't fit
-    /// its table is dropped.
+    /// Takes a message: the Store's answer to a request, a row for the position that the client pulled from, or one that
+    /// it asked for whole. After a refusal and a conflict it asks for what has changed, and so it does behind a row that
+    /// came whole, and where the Store has none. Every other message is ignored, and a row that doesn't fit its table is
+    /// dropped.
     ///
     /// # Errors
     ///

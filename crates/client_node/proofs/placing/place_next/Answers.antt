@@ -10,7 +10,8 @@ use Rattle.client_node.specs.declared.fault.CallFault.TheVariants as call
 use Rattle.client_node.specs.Answers.{record_at, held_at}
 use Rattle.client_node.specs.Readied.{IsIdle, Readies}
 use Rattle.client_node.proofs.Serving.{looks_err, looks_ok, looks_fault, looks_none, looks_other, looks_then}
-use Rattle.client_node.proofs.Pulled.{chunk_some, pulled_other}
+use Rattle.client_node.proofs.Pulled.{pulled_other}
+use Rattle.client_node.proofs.RowsTaken.{chunk_some}
 use Rattle.client_node.proofs.placing.place_next.Goals as goal
 
 pub comes_next-requires : goal.comes_next-requires

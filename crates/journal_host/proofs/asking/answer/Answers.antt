@@ -1,4 +1,4 @@
-use Rattle.std.proofs.Common.{refl}
+use Rattle.std.proofs.Common.{[], refl}
 use Rattle.table_model.specs.declared.line.Answer.TheVariants as answers
 use Rattle.step_tables.specs.ClientMoves as moves
 use Rattle.step_tables.specs.Facts as facts
@@ -55,11 +55,11 @@ returns-in-Sync-clause-spent g c s t last is = spent g.D.Disk.state g.D.Disk.ima
 
 pub returns-in-Pull-clause-made : goal.returns-in-Pull-clause-made
 returns-in-Pull-clause-made g c s t = rw c.in-Pull.is
-    (replies g.D.Disk.state g.D.Disk.images s c.args.node.now c.pull_now.new.self (moves.Next c.in-Pull.table) (λ x. facts.Done) (λ x. answers.Done) (λ x. refl) c.pull_now.result c.done.result
+    (replies g.D.Disk.state g.D.Disk.images s c.args.node.now c.pull_now.new.self (moves.Next c.in-Pull.table [] []) (λ x. facts.Done) (λ x. answers.Done) (λ x. refl) c.pull_now.result c.done.result
     c.done.ensures (c.pull_now.ensures.does s t))
 
 pub returns-in-Pull-clause-spent : goal.returns-in-Pull-clause-spent
-returns-in-Pull-clause-spent g c s t last is = spent g.D.Disk.state g.D.Disk.images s c.args.node.now c.pull_now.new.self (moves.Next c.in-Pull.table) (λ x. facts.Done) (λ x. answers.Done)
+returns-in-Pull-clause-spent g c s t last is = spent g.D.Disk.state g.D.Disk.images s c.args.node.now c.pull_now.new.self (moves.Next c.in-Pull.table [] []) (λ x. facts.Done) (λ x. answers.Done)
     (λ x. refl) c.pull_now.result c.done.result c.done.ensures (c.pull_now.ensures.does s t) last is
 
 pub returns-in-Write-clause-phases : goal.returns-in-Write-clause-phases
@@ -78,7 +78,7 @@ pub returns-in-Sync-clause-phases : goal.returns-in-Sync-clause-phases
 returns-in-Sync-clause-phases g c = rw c.in-Sync.is (keeps_moves c.args.node.now c.sync_now.new.self (moves.Sync c.in-Sync.table) (answer_in c.numbered-in-Sync.result) (λ phase table. refl) c.sync_now.ensures.phases)
 
 pub returns-in-Pull-clause-phases : goal.returns-in-Pull-clause-phases
-returns-in-Pull-clause-phases g c = rw c.in-Pull.is (keeps_moves c.args.node.now c.pull_now.new.self (moves.Next c.in-Pull.table) (answer_in c.done.result) (λ phase table. refl) c.pull_now.ensures.phases)
+returns-in-Pull-clause-phases g c = rw c.in-Pull.is (keeps_moves c.args.node.now c.pull_now.new.self (moves.Next c.in-Pull.table [] []) (answer_in c.done.result) (λ phase table. refl) c.pull_now.ensures.phases)
 
 pub returns-in-Resolve-clause-phases : goal.returns-in-Resolve-clause-phases
 returns-in-Resolve-clause-phases g c = rw c.in-Resolve.is (keeps_moves c.args.node.now c.resolve.new.self (moves.Resolve c.in-Resolve.table c.in-Resolve.row c.in-Resolve.seen c.in-Resolve.choice) (answer_in c.numbered-in-Resolve.result) (λ phase table. refl) c.resolve.ensures.phases)

@@ -1,11 +1,11 @@
-use Rattle.std.proofs.Common.{List, length, Some, refl}
+use Rattle.std.proofs.Common.{List, length, Some, refl, sym, ◌∙◌}
 use Rattle.table_model.specs.declared.line.Answer.TheVariants as answers
 use Rattle.table_model.specs.declared.line.RowPair.{RowPair}
 use Rattle.step_tables.specs.ClientMoves as moves
 use Rattle.step_tables.specs.Facts as facts
 use Rattle.step_tables.specs.Travels.{message_of}
 use Rattle.world_tables.specs.World.{chosen_of}
-use Rattle.journal_host.proofs.Replying.{replies, spent, drops, hands_over, is_chosen}
+use Rattle.journal_host.proofs.Replying.{replies, spent, drops, rows_same, hands_over, is_chosen}
 use Rattle.journal_host.specs.Phases.{answer_in}
 use Rattle.journal_host.proofs.Phased.{keeps_moves}
 use Rattle.journal_host.proofs.asking.reply.Goals as goal
@@ -97,3 +97,28 @@ returns-in-ResolveBy-clause-phases g c s = rw c.in-ResolveBy.is
     (keeps_moves c.args.node.now c.resolve_by.new.self
     (moves.Resolve c.in-ResolveBy.table c.in-ResolveBy.row c.in-ResolveBy.seen (chosen_of c.in-ResolveBy.by c.in-ResolveBy.row s c.in-ResolveBy.table)) (answer_in c.numbered.result) (λ phase table. refl)
     c.resolve_by.ensures.phases)
+
+pub ask_whole-requires : goal.ask_whole-requires
+ask_whole-requires g c = record { node = c.requires.node; up = c.requires.up; some = λ none. (rw c.in-AskWhole.is at c.requires.some) (sym c.as_slice-in-AskWhole.ensures ∙ none) }
+
+pub returns-in-AskWhole-clause-made : goal.returns-in-AskWhole-clause-made
+returns-in-AskWhole-clause-made g c s t fits = rw c.in-AskWhole.is
+    (replies g.D.Disk.state g.D.Disk.images s c.args.node.now c.ask_whole.new.self (moves.Next c.in-AskWhole.table c.in-AskWhole.tears c.in-AskWhole.asks) (λ x. facts.Done) (λ x. answers.Done) (λ x. refl)
+    c.ask_whole.result c.done-in-AskWhole.result c.done-in-AskWhole.ensures
+    (rows_same g.D.Disk.state g.D.Disk.images s c.args.node.now c.ask_whole.new.self c.in-AskWhole.table _ _ c.in-AskWhole.tears c.in-AskWhole.asks c.ask_whole.result c.as_slice.ensures c.as_slice-in-AskWhole.ensures (c.ask_whole.ensures.does s t)))
+
+pub returns-in-AskWhole-clause-dropped : goal.returns-in-AskWhole-clause-dropped
+returns-in-AskWhole-clause-dropped g c s t unfit = let bad = rw c.in-AskWhole.is at unfit in absurd (bad tt)
+
+pub returns-in-AskWhole-clause-spent : goal.returns-in-AskWhole-clause-spent
+returns-in-AskWhole-clause-spent g c s t fits last is =
+    spent g.D.Disk.state g.D.Disk.images s c.args.node.now c.ask_whole.new.self (moves.Next c.in-AskWhole.table c.in-AskWhole.tears c.in-AskWhole.asks) (λ x. facts.Done) (λ x. answers.Done) (λ x. refl)
+    c.ask_whole.result c.done-in-AskWhole.result c.done-in-AskWhole.ensures
+    (rows_same g.D.Disk.state g.D.Disk.images s c.args.node.now c.ask_whole.new.self c.in-AskWhole.table _ _ c.in-AskWhole.tears c.in-AskWhole.asks c.ask_whole.result c.as_slice.ensures c.as_slice-in-AskWhole.ensures (c.ask_whole.ensures.does s t)) last is
+
+pub returns-in-AskWhole-clause-pairs : goal.returns-in-AskWhole-clause-pairs
+returns-in-AskWhole-clause-pairs g c s count t is = rw c.in-AskWhole.is tt
+
+pub returns-in-AskWhole-clause-phases : goal.returns-in-AskWhole-clause-phases
+returns-in-AskWhole-clause-phases g c s = rw c.in-AskWhole.is
+    (keeps_moves c.args.node.now c.ask_whole.new.self (moves.Next c.in-AskWhole.table c.in-AskWhole.tears c.in-AskWhole.asks) (answer_in c.done-in-AskWhole.result) (λ phase table. refl) c.ask_whole.ensures.phases)

@@ -8,7 +8,7 @@ use Rattle.journal_host.proofs.Phased.{refusal_leaves}
 use Rattle.journal_host.proofs.hosted.call.Goals as goal
 
 pub call_up-requires : goal.call_up-requires
-call_up-requires g c = record { node = c.requires; up = sym c.is_up.ensures ∙ c.if-is_up.true }
+call_up-requires g c = record { node = c.requires.node; up = sym c.is_up.ensures ∙ c.if-is_up.true; some = c.requires.some }
 
 pub returns-then-is_up-clause-made : goal.returns-then-is_up-clause-made
 returns-then-is_up-clause-made g c cut s h fits up = c.call_up.ensures.made cut s h fits

@@ -1,11 +1,10 @@
-use Rattle.std.proofs.Common.{◌≡◌, ◌++◌, ℕ, map, List, Ok, Err, refl, sym, ◌∙◌, ap, subst}
+use Rattle.std.proofs.Common.{◌++◌, map, [], refl, sym, ◌∙◌, ap, append-nil}
 use Rattle.std.proofs.lemmas.Result.{err_from_is_err_and}
 use Rattle.disk_trait.specs.Fuse.{inner_of}
 use Rattle.step_tables.specs.ClientMoves.{Next}
 use Rattle.step_tables.specs.Facts as facts
 use Rattle.step_tables.specs.Lines.{fact_of}
 use Rattle.step_tables.specs.Travels.{send_of}
-use Rattle.client_node.specs.declared.fault.CallFault.TheVariants as call
 use Rattle.client_node.proofs.Answering.{does_node}
 use Rattle.client_node.proofs.Rooms.{devices_up, node_ready}
 use Rattle.client_node.proofs.Sent.{by_err, by_short, by_ok}
@@ -22,7 +21,7 @@ returns-in_err-sends-clause-does g c s t =
     let old = c.args.self.now in
     let p = err_from_is_err_and c.from_residual.result c.from_residual.ensures.1 in
     let k = c.in_err-sends.ensures in
-    rw (p.1, p.2) (by_err g.D.Disk.state g.D.Disk.images (λ f image left. g.met.D.Disk.only_now (inner_of f) image left) old s.disk (Next c.args.table) (λ shape s. refl) (λ sends. facts.Done) (λ sends. map send_of sends.items) (λ value. facts.Done)
+    rw (p.1, p.2) (by_err g.D.Disk.state g.D.Disk.images (λ f image left. g.met.D.Disk.only_now (inner_of f) image left) old s.disk (Next c.args.table [] []) (λ shape s. refl) (λ sends. facts.Done) (λ sends. []) (λ sends. map send_of sends.items) (λ value. facts.Done)
     c.pull-found.result c.pull-found.new.devs c.pull-found.ensures.looks c.pull-found.ensures.sends s.agenda t c.requires.up c.in_err-sends.field-0.0 k.same c.settle.new.self k.disk k.other)
 
 pub returns-in_err-send-clause-does : goal.returns-in_err-send-clause-does
@@ -32,7 +31,7 @@ returns-in_err-send-clause-does g c s t =
     let k = c.in_ok-sends.ensures in
     let is = k.other (λ no. cc) in
     let e = c.in_err-send.ensures in
-    rw (p.1, p.2) (by_short g.D.Disk.state g.D.Disk.images (λ f image left. g.met.D.Disk.only_now (inner_of f) image left) old s.disk (Next c.args.table) (λ shape s. refl) (λ sends. facts.Done) (λ sends. map send_of sends.items) (λ value. facts.Done)
+    rw (p.1, p.2) (by_short g.D.Disk.state g.D.Disk.images (λ f image left. g.met.D.Disk.only_now (inner_of f) image left) old s.disk (Next c.args.table [] []) (λ shape s. refl) (λ sends. facts.Done) (λ sends. []) (λ sends. map send_of sends.items) (λ value. facts.Done)
     c.pull-found.result c.pull-found.new.devs c.pull-found.ensures.looks c.pull-found.ensures.sends s.agenda t c.requires.up c.in_ok-sends.sends k.same c.send.new.self (e.devs ∙ ap (λ x. x.devs) is)
     (record {
       number = e.number ∙ ap (λ x. x.number) is;
@@ -53,11 +52,11 @@ returns-clause-does g c s t =
     let k = c.in_ok-sends.ensures in
     let is = k.other (λ no. cc) in
     let e = c.in_ok-send.ensures in
-    by_ok g.D.Disk.state g.D.Disk.images (λ f image left. g.met.D.Disk.only_now (inner_of f) image left) old s.disk (Next c.args.table) (λ shape s. refl) (λ sends. facts.Done) (λ sends. map send_of sends.items) (λ value. facts.Done)
+    by_ok g.D.Disk.state g.D.Disk.images (λ f image left. g.met.D.Disk.only_now (inner_of f) image left) old s.disk (Next c.args.table [] []) (λ shape s. refl) (λ sends. facts.Done) (λ sends. []) (λ sends. map send_of sends.items) (λ value. facts.Done)
     c.pull-found.result c.pull-found.new.devs c.pull-found.ensures.looks c.pull-found.ensures.sends s.agenda t c.requires.up c.in_ok-sends.sends _ k.same refl c.send.new.self (e.devs ∙ ap (λ x. x.devs) is)
     (record {
       sent = e.sent ∙ ap (λ x. x ++ map send_of c.in_ok-sends.sends.items) (ap (λ x. map send_of x.messages.items.items) is);
-      told = ap (λ x. map fact_of x.items.items) (e.facts ∙ ap (λ x. x.facts) is);
+      told = ap (λ x. map fact_of x.items.items) (e.facts ∙ ap (λ x. x.facts) is) ∙ sym (append-nil (map fact_of old.facts.items.items));
       no_facts = e.no_facts;
       no_messages = e.no_messages;
       fact_room = e.fact_room;
@@ -70,10 +69,10 @@ returns-clause-does g c s t =
     })
 
 pub returns-in_err-sends-clause-node : goal.returns-in_err-sends-clause-node
-returns-in_err-sends-clause-node g c = let n = c.requires.node in does_node g.D.Disk.state g.D.Disk.images n.0 (Next c.args.table) (λ value. facts.Done) c.args.self.now _ _ (returns-in_err-sends-clause-does g c n.0 n.1)
+returns-in_err-sends-clause-node g c = let n = c.requires.node in does_node g.D.Disk.state g.D.Disk.images n.0 (Next c.args.table [] []) (λ value. facts.Done) c.args.self.now _ _ (returns-in_err-sends-clause-does g c n.0 n.1)
 
 pub returns-in_err-send-clause-node : goal.returns-in_err-send-clause-node
-returns-in_err-send-clause-node g c = let n = c.requires.node in does_node g.D.Disk.state g.D.Disk.images n.0 (Next c.args.table) (λ value. facts.Done) c.args.self.now _ _ (returns-in_err-send-clause-does g c n.0 n.1)
+returns-in_err-send-clause-node g c = let n = c.requires.node in does_node g.D.Disk.state g.D.Disk.images n.0 (Next c.args.table [] []) (λ value. facts.Done) c.args.self.now _ _ (returns-in_err-send-clause-does g c n.0 n.1)
 
 pub returns-clause-node : goal.returns-clause-node
-returns-clause-node g c = let n = c.requires.node in does_node g.D.Disk.state g.D.Disk.images n.0 (Next c.args.table) (λ value. facts.Done) c.args.self.now _ _ (returns-clause-does g c n.0 n.1)
+returns-clause-node g c = let n = c.requires.node in does_node g.D.Disk.state g.D.Disk.images n.0 (Next c.args.table [] []) (λ value. facts.Done) c.args.self.now _ _ (returns-clause-does g c n.0 n.1)

@@ -7,7 +7,7 @@ use Rattle.journal_host.proofs.Clients.{some_there, found_node, client_called, c
 use Rattle.journal_host.proofs.host.ClientHost.call.Goals as goal
 
 pub call-requires : goal.call-requires
-call-requires g c = found_node g.D.Disk.state c.args.self.now c.args.client c.in-Some.node.now c.requires c.in-Some.ensures.value
+call-requires g c = record { node = found_node g.D.Disk.state c.args.self.now c.args.client c.in-Some.node.now c.requires.clients c.in-Some.ensures.value; some = c.requires.some }
 
 pub returns-in-Some-clause-called : goal.returns-in-Some-clause-called
 returns-in-Some-clause-called g c w h fits =

@@ -14,14 +14,14 @@ use Rattle.journal_host.specs.Asks.{move_of}
 use Rattle.world_steps.specs.declared.fault.WorldFault.{WorldFault}
 use Rattle.world_steps.specs.declared.fault.WorldFault.TheVariants.{Limit}
 use Rattle.world_steps.specs.Asked.{ask_of}
-use Rattle.world_steps.specs.Calls.{by_lucks}
+use Rattle.world_steps.specs.Calls.{by_lucks, untorn}
 use Rattle.world_steps.specs.Steps.{Spends, SpendsNumber, may_begin}
 
 -- the event is this call of this client
 pub record IsCallOf (event : Event) (c : ℕ) (ask : Ask) : Type 0 where
   pub told : is_declaration event ≡ false
   pub fails : (w : moves.World) (lucks : Lucks) → is_device_fault w event lucks ≡ is_fault_answer (step w event lucks).answer
-  pub steps : (w : moves.World) (lucks : Lucks) → step w event lucks ≡ by_lucks (call w c (move_of ask)) lucks
+  pub steps : (w : moves.World) (lucks : Lucks) → step w event (untorn lucks) ≡ by_lucks (call w c (move_of ask)) lucks
   pub spends : (n : ℕ) (w : moves.World) → SpendsNumber n w c → Spends n w event
   pub begins : (w : moves.World) → may_begin w event ≡ 1
 

@@ -23,7 +23,7 @@ use Rattle.world_tables.specs.World as moves
 use Rattle.world_tables.specs.Faults.{is_failure, is_fault_answer, fails_write}
 use Rattle.fault_laws.proofs.Same.{done_alone}
 use Rattle.fair_laws.specs.Worlds.{IsFair}
-use Rattle.fair_laws.proofs.Worlds.{pulled_fits}
+use Rattle.fair_laws.proofs.Worlds.{pulled_fits, torn_fits}
 use Rattle.store_host.specs.declared.host.StoreHost.{StoreHost}
 use Rattle.store_host.specs.Holds.{HoldsStore}
 use Rattle.store_host.specs.Holds as stores
@@ -138,7 +138,7 @@ module _ {D : Type 0} (state : D → DiskState) (w : moves.World) (old : World D
   client_comes new found (Err e) k t = tt
   client_comes new found (Ok lines) k t =
       let x : events.Comes state old.clients mid f (Ok t.0) = subst (λ (r : Result Answer ClientFault). events.Comes state old.clients mid f r) t.1 k in
-      (record { calls = x.1; shape = x.0; shapes = [] }, told_one state w old h (f x.0 x.1) [] (keeps x.0 x.1) mid t.0 x.2 new lines t.2)
+      (record { calls = x.1; shape = x.0; shapes = []; tears = []; asks = [] }, told_one state w old h (f x.0 x.1) [] (keeps x.0 x.1) mid t.0 x.2 new lines t.2)
 
   -- the same of one that lists the rows in conflict
   pub client_lists : (new : World D) (pairs : List RowPair) (found : Result Answer ClientFault) (result : Result (List TextLine) WorldFault) → events.Lists state old.clients mid f pairs found
@@ -146,7 +146,7 @@ module _ {D : Type 0} (state : D → DiskState) (w : moves.World) (old : World D
   client_lists new pairs found (Err e) k t = tt
   client_lists new pairs found (Ok lines) k t =
       let x : events.Lists state old.clients mid f pairs (Ok t.0) = subst (λ (r : Result Answer ClientFault). events.Lists state old.clients mid f pairs r) t.1 k in (
-        record { calls = x.1; shape = x.0; shapes = [] },
+        record { calls = x.1; shape = x.0; shapes = []; tears = []; asks = [] },
         told_one state w old h (listed (f x.0 x.1)) pairs (listed_keeps w (f x.0 x.1) pairs (keeps x.0 x.1) x.2.counted) mid t.0 x.2.called new lines t.2,
       )
 
@@ -379,6 +379,13 @@ module _ (w : moves.World) (fair : IsFair w) (packet : Packet) (a : Among w.pack
       go None at_table row e = tt
       go (Some t) at_table None e = tt
       go (Some t) at_table (Some header) e = pulled_fits w fair packet a pulled is c s at t at_table header e
+  fits_client s at (messages.TornRowRequest torn) is = tt
+  fits_client s at (messages.TornRowResponse torn) is = go (table_at (seen s.disk) torn.table) refl torn.header refl
+    where
+      go : (o : Option TableDisk) → table_at (seen s.disk) torn.table ≡ o → (row : Option Header) → torn.header ≡ row → FitsTable o row
+      go None at_table row e = tt
+      go (Some t) at_table None e = tt
+      go (Some t) at_table (Some header) e = torn_fits w fair packet a torn is c s at t at_table header e
 
   pub fits_sent : (message : Message) → packet.message ≡ message_of message → FitsMessage w c message
   fits_sent message is = go (client_at w c) refl

@@ -28,7 +28,7 @@ use Rattle.world_steps.specs.Nodes.{HasNodes, is_in}
 use Rattle.world_steps.specs.Numbers.{AreNumbered}
 use Rattle.world_steps.specs.Holds.{Holds}
 use Rattle.world_steps.specs.Outs.{packets_of, Goes, IsAnswered}
-use Rattle.world_steps.specs.Calls.{IsDone, Comes, HasTold}
+use Rattle.world_steps.specs.Calls.{IsDone, Comes, HasTold, untorn}
 use Rattle.world_steps.proofs.NodeSets.{same_is}
 use Rattle.world_steps.proofs.Said.{said_lines, said_packets}
 
@@ -49,6 +49,12 @@ pub comes_as : {D : Type 0} (state : D → DiskState) (w : moves.World) (f g : L
     → ((lucks : Lucks) → f lucks ≡ g lucks) → Comes state w g result world → Comes state w f result world
 comes_as state w f g (Err e) world same k = tt
 comes_as state w f g (Ok lines) world same k = (k.0, subst (λ (s : WorldStep). IsDone state w s lines world) (sym (same k.0)) k.1)
+
+-- one that is the same where no row is torn
+pub comes_untorn : {D : Type 0} (state : D → DiskState) (w : moves.World) (f g : Lucks → WorldStep) (result : Result (List TextLine) WorldFault) (world : World D)
+    → ((lucks : Lucks) → f (untorn lucks) ≡ g lucks) → Comes state w g result world → Comes state w f result world
+comes_untorn state w f g (Err e) world same k = tt
+comes_untorn state w f g (Ok lines) world same k = (untorn k.0, subst (λ (s : WorldStep). IsDone state w s lines world) (sym (same k.0)) k.1)
 
 -- ---- a node that is down, and one that is up
 

@@ -81,6 +81,8 @@ taken_done g size table d from (messages.SyncRequest q) = asked_done g size tabl
 taken_done g size table d from (messages.PullRequest q) = refl
 taken_done g size table d from (messages.SyncResponse r) = refl
 taken_done g size table d from (messages.PullResponse q) = refl
+taken_done g size table d from (messages.TornRowRequest q) = refl
+taken_done g size table d from (messages.TornRowResponse q) = refl
 
 -- ---- moves, and then others
 
@@ -269,6 +271,8 @@ fits w from (kinds.SyncRequest q) f = (
 fits w from (kinds.PullRequest q) f = tt
 fits w from (kinds.SyncResponse r) f = tt
 fits w from (kinds.PullResponse q) f = tt
+fits w from (kinds.TornRowRequest q) f = tt
+fits w from (kinds.TornRowResponse q) f = tt
 
 -- no version is left for the write that it asks for
 pub full_at : (w : World) (message : Message) → IsSpentIn w message → IsFull w
@@ -276,6 +280,8 @@ full_at w (kinds.SyncRequest q) k = record { table = q.table; hosted = k.0; at =
 full_at w (kinds.PullRequest q) k = absurd k.3
 full_at w (kinds.SyncResponse r) k = absurd k.3
 full_at w (kinds.PullResponse q) k = absurd k.3
+full_at w (kinds.TornRowRequest q) k = absurd k.3
+full_at w (kinds.TornRowResponse q) k = absurd k.3
 
 pub full_limit : {A : Type 0} (w : World) (message : Message) (r : Result A WorldFault) → IfErr r (λ e. (code count : ℕ) → e ≡ LimitPassed code count → (code ≡ 11) × IsSpentIn w message)
     → IfErr r (λ e. (code count : ℕ) → e ≡ LimitPassed code count → (code ≡ 11) × IsFull w)

@@ -36,6 +36,10 @@ with_calls calls = record no_lucks { calls = calls }
 abbrev pub by_lucks : (Shape → List Luck → WorldStep) → Lucks → WorldStep
 by_lucks f lucks = f lucks.shape lucks.calls
 
+-- the lucks with which no row is told as torn, nor asked for whole
+abbrev pub untorn : Lucks → Lucks
+untorn lucks = record lucks { tears = []; asks = [] }
+
 -- the same with some lucks, unless the call ends the run
 abbrev pub Comes : {D : Type 0} → (D → DiskState) → moves.World → (Lucks → WorldStep)
     → Result (List TextLine) WorldFault → World D → Type 0

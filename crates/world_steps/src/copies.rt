@@ -6,6 +6,7 @@ use crate::fault::WorldFault;
 use row_value::Content;
 use step_tables::{
     Message, ObjectNames, ObjectPieces, PullRequest, PullResponse, RowHeader, SyncRequest,
+    TornRowRequest, TornRowResponse,
 };
 
 fn copied_content(content: &Content) -> Result<Content, WorldFault>
@@ -98,6 +99,30 @@ fn copied_asking(request: &PullRequest) -> PullRequest
     }
 }
 
+fn copied_torn(request: &TornRowRequest) -> TornRowRequest
+    ensures { result ≡ request.now }
+{
+    TornRowRequest {
+        client: request.client,
+        token: request.token,
+        table: request.table,
+        row: request.row,
+    }
+}
+
+fn copied_whole(response: &TornRowResponse) -> Result<TornRowResponse, WorldFault>
+    ensures same { IfOk result (λ made. made ≡ response.now) }
+    ensures memory { IfErr result (λ e. e ≡ Memory) }
+{
+    let header = copied_row(&response.header)?;
+    Ok(TornRowResponse {
+        client: response.client,
+        table: response.table,
+        row: response.row,
+        header,
+    })
+}
+
 /// A copy of a message.
 pub(crate) fn copied(message: &Message) -> Result<Message, WorldFault>
     ensures same { IfOk result (λ made. made ≡ message.now) }
@@ -108,5 +133,7 @@ pub(crate) fn copied(message: &Message) -> Result<Message, WorldFault>
         Message::PullResponse(response) => Ok(Message::PullResponse(copied_response(response)?)),
         Message::SyncRequest(request) => Ok(Message::SyncRequest(copied_request(request)?)),
         Message::SyncResponse(response) => Ok(Message::SyncResponse(*response)),
+        Message::TornRowRequest(request) => Ok(Message::TornRowRequest(copied_torn(request))),
+        Message::TornRowResponse(response) => Ok(Message::TornRowResponse(copied_whole(response)?)),
     }
 }

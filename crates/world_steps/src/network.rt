@@ -41,6 +41,8 @@ pub(crate) fn table_in(message: &Message) -> TableNo
         Message::PullResponse(response) => response.table,
         Message::SyncRequest(request) => request.table,
         Message::SyncResponse(response) => response.table,
+        Message::TornRowRequest(request) => request.table,
+        Message::TornRowResponse(response) => response.table,
     }
 }
 

@@ -19,7 +19,7 @@ use Rattle.world_steps.specs.Steps.{HavePlansBelow, IsStep, Spends, may_begin}
 use Rattle.world_steps.proofs.Counted.{stepped, stepped_first, stepped_still, stepped_counted, never_left, left_still}
 use Rattle.world_steps.proofs.Rows.{Stays, any_ok, none_left, stay_left, stay_still, stay_taken}
 use Rattle.world_steps.proofs.Stepping.{nothing_done, memory_limit, either_limit, other_counted, memory_other, places, fair_there, nodes_same, joins_as, plans_later, plans_kept, one_begun, least_begun, left_if, never_single}
-use Rattle.world_steps.proofs.Done.{comes_as}
+use Rattle.world_steps.proofs.Done.{comes_untorn}
 use Rattle.world_steps.proofs.AsCalls.{as_call, spent_limit}
 use Rattle.world_steps.proofs.world.World.step.Goals as goal
 
@@ -27,7 +27,7 @@ pub returns-in-Some-clause-done : goal.returns-in-Some-clause-done
 returns-in-Some-clause-done g c w r h out =
     let is = as_call c.args.event.now c.in-Some.client c.in-Some.ask (sym c.in_ok-client.ensures.asked ∙ c.in-Some.is) in
     stepped g.D.Disk.state g.D.Disk.images w c.args.event.now (g.P.Depot.state c.args.depot.now).is_out c.args.self.now c.call.new.self c.call.result out is.told (is.fails w)
-    (comes_as g.D.Disk.state w (step w c.args.event.now) (by_lucks (call w c.in-Some.client (move_of c.in-Some.ask))) c.call.result c.call.new.self (is.steps w) (c.call.ensures.done w h))
+    (comes_untorn g.D.Disk.state w (step w c.args.event.now) (by_lucks (call w c.in-Some.client (move_of c.in-Some.ask))) c.call.result c.call.new.self (is.steps w) (c.call.ensures.done w h))
     c.call.ensures.counted
     (stay_still g.D.Disk.state g.D.Disk.images w r c.args.event.now c.call.result c.args.self.now c.call.new.self g.met.D.Disk.only_now h (any_ok c.call.result _ c.call.ensures.store))
 

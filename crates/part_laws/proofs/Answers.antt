@@ -14,13 +14,13 @@ use Rattle.row_value.specs.declared.schema.Scheme.{Scheme}
 use Rattle.chunker.specs.Sized.{sized}
 use Rattle.step_tables.specs.Chunks.{Named, same_name, flat, each_chunk, is_of_each, objects_of, chunks_of, is_spelled, is_named, is_there, has_kept, are_counted, are_apart, kept_in}
 use Rattle.step_tables.specs.Store.{current_of}
-use Rattle.step_tables.specs.Messages.{Request, Pulled, Header}
+use Rattle.step_tables.specs.Messages.{Request, Pulled, TornPulled, Header}
 use Rattle.step_tables.specs.StoreMoves.{StoreDisk, takes, version_of, yours_in, asked, decided}
-use Rattle.step_tables.specs.ClientMoves.{Shape, ClientDisk, TableDisk, ClientStep, client_step, table_at, seen, slots_at, top, comes_next, pulled_taken, pulled_in}
+use Rattle.step_tables.specs.ClientMoves.{Shape, ClientDisk, TableDisk, ClientStep, client_step, table_at, seen, slots_at, top, comes_next, pulled_taken, pulled_in, torn_taken, torn_in}
 use Rattle.step_tables.specs.ClientMoves as client_moves
 use Rattle.part_tables.specs.Parts.{spelled_by, head_of}
 use Rattle.part_tables.specs.StoreParts.{is_as_long, has_kept_by_len, is_answered}
-use Rattle.part_laws.specs.Lengths.{AreAsLong, request_with, answer_with}
+use Rattle.part_laws.specs.Lengths.{AreAsLong, request_with, answer_with, torn_with}
 use Rattle.part_laws.proofs.Lengths.{all_alike, spelled_alike, named_alike, as_long, pieces_back}
 
 -- ---- tests that imply each other
@@ -136,3 +136,20 @@ module _ (c : ℕ) (shape : Shape) (d : ClientDisk) (opened : TableDisk) (p : Pu
       → client_step c shape (record { disk = d; agenda = Some [] }) (client_moves.Take (answer_with p h other)) ≡ client_step c shape (record { disk = d; agenda = Some [] }) (client_moves.Take (answer_with p h h.content))
   seen_alike there =
       ap (λ o. pulled_in c shape d (with other) o) there ∙ (taken_alike ∙ sym (ap (λ o. pulled_in c shape d (with h.content) o) there))
+
+-- ---- a row that was asked for whole
+
+module _ (c : ℕ) (shape : Shape) (d : ClientDisk) (opened : TableDisk) (t : TornPulled) (h : Header) (other : Content) (same : AreAsLong h.content other)
+    (is : nat_le h.version (top (slots_at opened h.row).conflict (slots_at opened h.row).shadow) ≡ true) where
+  abbrev whole_with : Content → TornPulled
+  whole_with content = record t { header = Some (record h { content = content }) }
+
+  torn_alike : torn_taken c shape d t.table opened (Some (record h { content = other })) ≡ torn_taken c shape d t.table opened (Some h)
+  torn_alike =
+      seen_before (is_named opened.schema.chunk other h.names) (is_named opened.schema.chunk h.content h.names) (nat_le h.version (top (slots_at opened h.row).conflict (slots_at opened h.row).shadow)) _ _ _ _
+      (named_alike opened.schema.chunk other h.content h.names (sym same)) is
+
+  pub whole_alike : table_at (seen d) t.table ≡ Some opened
+      → client_step c shape (record { disk = d; agenda = Some [] }) (client_moves.Take (torn_with t h other)) ≡ client_step c shape (record { disk = d; agenda = Some [] }) (client_moves.Take (torn_with t h h.content))
+  whole_alike there =
+      ap (λ o. torn_in c shape d (whole_with other) o) there ∙ (torn_alike ∙ sym (ap (λ o. torn_in c shape d (whole_with h.content) o) there))

@@ -22,15 +22,17 @@ use Rattle.step_tables.specs.Store.{Stored}
 use Rattle.step_tables.specs.Items.{IsItemAt}
 use Rattle.step_tables.specs.Members.{Among}
 use Rattle.step_tables.specs.Messages.{Pulled, Header, Message, SyncResponse, PullResponse}
+use Rattle.step_tables.specs.Messages as messages
 use Rattle.step_tables.specs.ClientMoves.{Slots, TableDisk, client_step, Take, table_at, seen, slots_at, top, chunks_read, known}
 use Rattle.step_tables.proofs.Lists.{among_none, among_either, among_found, find_some, same_row-is}
-use Rattle.part_tables.specs.Parts.{Part, Asks, Responds, Pulls, Answers, BringsUp, BringsDown, PulledHead, RowHead, Fragment, spelled_by, kept, row_head, pulled_head, chunks_down}
+use Rattle.part_tables.specs.Parts.{Part, Asks, Responds, Pulls, Answers, BringsUp, BringsDown, AsksTorn, AnswersTorn, PulledHead, RowHead, Fragment, spelled_by, kept, row_head, pulled_head, chunks_down}
 use Rattle.part_tables.specs.ClientParts.{Answering, Taken, Whole, Tears, Waits, ClientTaken, is_of_table, without_table, Held, held_in, is_under, is_as_long, has_held, bytes_in, bytes_of, sends_of}
 use Rattle.part_tables.specs.ClientParts.{names_in, assembled, weighed, answered, waits_for, brought_to, parted}
 use Rattle.part_tables.specs.ClientParts as client_parts
 use Rattle.piece_laws.specs.Pieces.{IsNamed, NamesOne}
 use Rattle.part_laws.specs.Lengths as same_lengths
 use Rattle.part_laws.specs.Answers.{IsOfItem, AreAnswers, IsReadItem, AreReadItems, IsOpened, IsAnswering, AreAnswering, table_of, IsPart, AreTakenAlike, IsTakenAsSent, ComesAs}
+use Rattle.part_laws.specs.Rows.{IsTakenAsPull, IsTornRow}
 use Rattle.part_laws.proofs.Lengths.{all_alike, as_long, pieces_back, names_back, kept_of_each}
 use Rattle.part_laws.proofs.Answers.{seen_alike}
 use Rattle.part_laws.proofs.Members.{all_among, any_among, each_among, each_filter, said_mapped}
@@ -126,19 +128,32 @@ module _ (size : ℕ) (items : List Stored) (names : NamesOne size items) (h : H
 
 -- ---- what is weighed
 
--- what waits stays as it should, and what is whole is taken as an answer that was sent
-record IsSound (size : ℕ → ℕ) (table : ℕ) (opened : TableDisk) (sent : List Pulled) (t : ClientTaken) : Type 0 where
-  waits : AreAnswering size sent t.answerings
-  whole : (m : Message) → t.taken ≡ Whole m → IsTakenAsSent table opened sent m
+-- what waits stays as it should, what is whole is taken as an answer that was sent, and a torn row is of one
+pub record IsSound (size : ℕ → ℕ) (table : ℕ) (opened : TableDisk) (sent : List Pulled) (t : ClientTaken) : Type 0 where
+  pub waits : AreAnswering size sent t.answerings
+  pub whole : (m : Message) → t.taken ≡ Whole m → IsTakenAsPull table opened sent m
+  pub tears : (row : List ℕ) → t.taken ≡ Tears row → IsTornRow table sent row
 
-same_whole : (m n : Message) → Whole m ≡ Whole n → m ≡ n
+as_sent : (table : ℕ) (opened : TableDisk) (sent : List Pulled) (m : Message) → IsTakenAsPull table opened sent m → IsTakenAsSent table opened sent m
+as_sent table opened sent m is = (is.answer, is.was_sent, is.alike)
+
+pub same_whole : (m n : Message) → Whole m ≡ Whole n → m ≡ n
 same_whole m n e = cc
 
-wait_whole : (m : Message) → Waits ≡ Whole m → ⊥
+pub wait_whole : (m : Message) → Waits ≡ Whole m → ⊥
 wait_whole m e = cc
 
 torn_whole : (row : List ℕ) (m : Message) → Tears row ≡ Whole m → ⊥
 torn_whole row m e = cc
+
+pub whole_torn : (m : Message) (row : List ℕ) → Whole m ≡ Tears row → ⊥
+whole_torn m row e = cc
+
+pub wait_torn : (row : List ℕ) → Waits ≡ Tears row → ⊥
+wait_torn row e = cc
+
+same_torn : (row other : List ℕ) → Tears row ≡ Tears other → row ≡ other
+same_torn row other e = cc
 
 not_false : (b : Bool) → not b ≡ false → b ≡ true
 not_false true e = refl
@@ -157,6 +172,14 @@ with_heads size p h content each =
       header = Some (record { row = h.row; version = h.version; yours = h.yours; content = content; names = names });
     })) (names_back size h.content h.names each)
 
+-- ---- a chunk on its way
+
+pub record IsOnItsWay (size : ℕ) (items : List Stored) (table : ℕ) (f : Fragment) : Type 0 where
+  pub client : ℕ
+  pub header : Header
+  pub its : IsOfItem size items header
+  pub fragment : IsFragment size client table header.row header.version header.content f
+
 module _ (size : ℕ → ℕ) (table : ℕ) (opened : TableDisk) (items : List Stored) (is_open : IsOpened (size table) items opened) (sent : List Pulled)
     (are : (p : Pulled) (h : Header) → Among sent p → p.table ≡ table → p.header ≡ Some h → IsOfItem (size table) items h) where
   abbrev n : ℕ
@@ -170,7 +193,7 @@ module _ (size : ℕ → ℕ) (table : ℕ) (opened : TableDisk) (items : List S
   if_sound false x y f h = h refl
 
   waiting_sound : (xs : List Answering) → AreAnswering size sent xs → Sound (record { taken = Waits; answerings = xs })
-  waiting_sound xs all = record { waits = all; whole = λ m e. absurd (wait_whole m e) }
+  waiting_sound xs all = record { waits = all; whole = λ m e. absurd (wait_whole m e); tears = λ row e. absurd (wait_torn row e) }
 
   others_wait : (t : ℕ) (xs : List Answering) → AreAnswering size sent xs → AreAnswering size sent (without_table t xs)
   others_wait t xs all = each_filter (λ (x : Answering). IsAnswering (size x.head.table) sent x) (λ (x : Answering). not (is_of_table t x)) xs all
@@ -231,8 +254,37 @@ module _ (size : ℕ → ℕ) (table : ℕ) (opened : TableDisk) (items : List S
           ap (λ (m : Message). client_step c shape (record { disk = d; agenda = Some [] }) (Take m))
           (ap (λ (content : Content). client_parts.answer_with x.head x.row content) (made_whole held whole) ∙ (same_message h.content ∙ as_it_was))
 
-      as_sent : (k m : Message) → AreTakenAlike table opened k (PullResponse p) → Whole k ≡ Whole m → IsTakenAsSent table opened sent m
-      as_sent k m alike e = (p, is.was_sent, subst (λ (z : Message). AreTakenAlike table opened z (PullResponse p)) (same_whole k m e) alike)
+      abbrev answer_of : Content → Message
+      answer_of content = client_parts.answer_with x.head x.row content
+
+      taken_as : (content : Content) (m : Message) → AreTakenAlike table opened (answer_of content) (PullResponse p) → Whole (answer_of content) ≡ Whole m → IsTakenAsPull table opened sent m
+      taken_as content m alike e =
+          let same = same_whole (answer_of content) m e in
+          record {
+            answer = p;
+            was_sent = is.was_sent;
+            table_is = p_table;
+            to_table = sym (ap messages.table_of same) ∙ of_table;
+            alike = subst (λ (z : Message). AreTakenAlike table opened z (PullResponse p)) same alike;
+          }
+
+      whole_sound : (content : Content) (others : List Answering) → AreAnswering size sent others → AreTakenAlike table opened (answer_of content) (PullResponse p)
+          → Sound (record { taken = Whole (answer_of content); answerings = others })
+      whole_sound content others all alike = record { waits = all; whole = λ m e. taken_as content m alike e; tears = λ row e. absurd (whole_torn (answer_of content) row e) }
+
+      torn_sound : (others : List Answering) → AreAnswering size sent others → Sound (record { taken = Tears x.row.row; answerings = others })
+      torn_sound others all = record {
+        waits = all;
+        whole = λ m e. absurd (torn_whole x.row.row m e);
+        tears = λ row e. record {
+          answer = p;
+          header = h;
+          was_sent = is.was_sent;
+          table_is = p_table;
+          header_is = is.header_is;
+          row_is = sym (ap (λ (r : RowHead). r.row) is.row) ∙ same_torn x.row.row row e;
+        };
+      }
 
       old_row : nat_le x.row.version (top slots.conflict slots.shadow) ≡ true → nat_le h.version (top (slots_at opened h.row).conflict (slots_at opened h.row).shadow) ≡ true
       old_row old = sym (ap (λ (row : RowHead). nat_le row.version (top slots.conflict slots.shadow)) is.row ∙ ap (λ (s : Slots). nat_le h.version (top s.conflict s.shadow)) at) ∙ old
@@ -240,11 +292,11 @@ module _ (size : ℕ → ℕ) (table : ℕ) (opened : TableDisk) (items : List S
       weighed_sound : (others : List Answering) → AreAnswering size sent others → Sound (weighed n slots others x)
       weighed_sound others all =
           if_sound (nat_le x.row.version (top slots.conflict slots.shadow)) _ _
-          (λ old. record { waits = all; whole = λ m e. as_sent _ m (taken_by_lens (old_row old)) e })
+          (λ old. whole_sound (sized x.row.content) others all (taken_by_lens (old_row old)))
           (λ newer. if_sound (not (has_held (sends_of x.head) n (held_in n slots) x.row.content)) _ _
-          (λ torn. record { waits = all; whole = λ m e. absurd (torn_whole x.row.row m e) })
+          (λ torn. torn_sound others all)
           (λ holds. if_sound (is_whole x.slots) _ _
-          (λ whole. record { waits = all; whole = λ m e. as_sent _ m (taken_whole (not_false (has_held (sends_of x.head) n (held_in n slots) x.row.content) holds) whole) e })
+          (λ whole. whole_sound (assembled n slots x) others all (taken_whole (not_false (has_held (sends_of x.head) n (held_in n slots) x.row.content) holds) whole))
           (λ more. waiting_sound (x ∷ others) (subst (λ t. IsAnswering (size t) sent x) (sym of_table) is, all))))
 
   -- where the table's size is the opened one's
@@ -289,8 +341,13 @@ module _ (size : ℕ → ℕ) (table : ℕ) (opened : TableDisk) (items : List S
 
   -- ---- a chunk comes
 
-  module _ (f : Fragment) (q : Pulled) (g : Header) (was : Among sent q) (q_table : q.table ≡ table) (g_is : q.header ≡ Some g) (of_q : IsFragment n q.client q.table g.row g.version g.content f)
-      (x : Answering) (is : IsAnswering n sent x) (of_table : x.head.table ≡ table) where
+  module _ (f : Fragment) (brings : IsOnItsWay n items table f) (x : Answering) (is : IsAnswering n sent x) (of_table : x.head.table ≡ table) where
+    abbrev g : Header
+    g = brings.header
+
+    abbrev of_q : IsFragment n brings.client table g.row g.version g.content f
+    of_q = brings.fragment
+
     abbrev later : Answering
     later = record x { slots = taken f.column f.place f.bytes x.slots }
 
@@ -305,7 +362,7 @@ module _ (size : ℕ → ℕ) (table : ℕ) (opened : TableDisk) (items : List S
         let keys = and_parts (x.row.version == f.key) (takes f.column f.place f.bytes x.slots) rows.1 in
         let row_is : g.row ≡ is.header.row = sym of_q.row_is ∙ rows_are waits in
         let version_is : g.version ≡ is.header.version = sym of_q.key_is ∙ (sym (eqb-true x.row.version f.key keys.0) ∙ ap (λ (row : RowHead). row.version) is.row) in
-        let of_g = are q g was q_table g_is in
+        let of_g = brings.its in
         let of_h = its_item x is of_table in
         let there : IsItemAt items is.header.row is.header.version of_g.item =
         subst (λ (r : List ℕ). IsItemAt items r is.header.version of_g.item) row_is (subst (λ v. IsItemAt items g.row v of_g.item) version_is of_g.is) in
@@ -334,41 +391,42 @@ module _ (size : ℕ → ℕ) (table : ℕ) (opened : TableDisk) (items : List S
         (λ lacks. waiting_sound (later ∷ without_table f.table xs) (subst (λ t. IsAnswering (size t) sent later) (sym of_table) (more_answered waits), others_wait f.table xs all)))
         (λ drops. waiting_sound xs all)
 
-  brought_sound : (xs : List Answering) → AreAnswering size sent xs → (f : Fragment) → f.table ≡ table → (q : Pulled) (g : Header) → Among sent q → q.header ≡ Some g
-      → IsFragment (size q.table) q.client q.table g.row g.version g.content f → (o : Option Answering) → find (is_of_table f.table) xs ≡ o → Sound (brought_to opened xs f o)
-  brought_sound xs all f f_table q g was g_is of_q None e = waiting_sound xs all
-  brought_sound xs all f f_table q g was g_is of_q (Some x) e =
+  brought_sound : (xs : List Answering) → AreAnswering size sent xs → (f : Fragment) → IsOnItsWay n items table f → (o : Option Answering) → find (is_of_table f.table) xs ≡ o → Sound (brought_to opened xs f o)
+  brought_sound xs all f brings None e = waiting_sound xs all
+  brought_sound xs all f brings (Some x) e =
       let found = among_found (is_of_table f.table) xs x e in
-      let of_table : x.head.table ≡ table = eqb-true x.head.table f.table found.1 ∙ f_table in
-      let q_table : q.table ≡ table = sym of_q.table_is ∙ f_table in
-      found_sound f q g was q_table g_is (subst (λ t. IsFragment (size t) q.client q.table g.row g.version g.content f) q_table of_q) x
-      (subst (λ t. IsAnswering (size t) sent x) of_table (each_among (λ (y : Answering). IsAnswering (size y.head.table) sent y) xs x all found.0)) of_table xs all
+      let of_table : x.head.table ≡ table = eqb-true x.head.table f.table found.1 ∙ brings.fragment.table_is in
+      found_sound f brings x (subst (λ t. IsAnswering (size t) sent x) of_table (each_among (λ (y : Answering). IsAnswering (size y.head.table) sent y) xs x all found.0)) of_table xs all
 
 -- ---- any part
 
-record IsBrought (size : ℕ) (q : Pulled) (f : Fragment) : Type 0 where
-  header : Header
-  header_is : q.header ≡ Some header
-  fragment : IsFragment size q.client q.table header.row header.version header.content f
+-- a chunk of a row that is sent is on its way
+pub on_its_way : (size : ℕ → ℕ) (items : ℕ → List Stored) (client table : ℕ) (h : Header) (f : Fragment) → IsOfItem (size table) (items table) h
+    → IsFragment (size table) client table h.row h.version h.content f → IsOnItsWay (size f.table) (items f.table) f.table f
+on_its_way size items client table h f its is =
+    subst (λ t. IsOnItsWay (size t) (items t) t f) (sym is.table_is) (record { client = client; header = h; its = its; fragment = is })
 
-brought_of : (size : ℕ) (q : Pulled) (f : Fragment) (o : Option Header) → q.header ≡ o → Among (chunks_down size q o) f → IsBrought size q f
-brought_of size q f None e a = absurd (among_none f a)
-brought_of size q f (Some h) e a =
-    record { header = h; header_is = e; fragment = fragment_is (is_sent (sents.Above q.from)) size q.client q.table h.row h.version h.content (kept h.names) f a }
+way_by : (size : ℕ → ℕ) (items : ℕ → List Stored) (q : Pulled) (f : Fragment) (o : Option Header) → ((h : Header) → o ≡ Some h → IsOfItem (size q.table) (items q.table) h)
+    → Among (chunks_down (size q.table) q o) f → IsOnItsWay (size f.table) (items f.table) f.table f
+way_by size items q f None its a = absurd (among_none f a)
+way_by size items q f (Some h) its a =
+    on_its_way size items q.client q.table h f (its h refl) (fragment_is (is_sent (sents.Above q.from)) (size q.table) q.client q.table h.row h.version h.content (kept h.names) f a)
+
+pub pull_on_its_way : (size : ℕ → ℕ) (items : ℕ → List Stored) (sent : List Pulled) → AreAnswers size items sent → (q : Pulled) (f : Fragment) → Among sent q → Among (chunks_down (size q.table) q q.header) f
+    → IsOnItsWay (size f.table) (items f.table) f.table f
+pull_on_its_way size items sent are q f was a = way_by size items q f q.header (λ h e. are q h was e) a
 
 module _ (size : ℕ → ℕ) (items : ℕ → List Stored) (sent : List Pulled) (are : AreAnswers size items sent) (opened : TableDisk) (xs : List Answering) (all : AreAnswering size sent xs) where
   -- those of a table
   of_its_table : (table : ℕ) (p : Pulled) (h : Header) → Among sent p → p.table ≡ table → p.header ≡ Some h → IsOfItem (size table) (items table) h
   of_its_table table p h was of_table e = subst (λ t. IsOfItem (size t) (items t) h) of_table (are p h was e)
 
-  answers_sound : (p : Pulled) → Among sent p → IsOpened (size p.table) (items p.table) opened → IsSound size p.table opened sent (answered opened xs (pulled_head p) (pulled_head p).header)
+  pub answers_sound : (p : Pulled) → Among sent p → IsOpened (size p.table) (items p.table) opened → IsSound size p.table opened sent (answered opened xs (pulled_head p) (pulled_head p).header)
   answers_sound p was is_open = answered_sound size p.table opened (items p.table) is_open sent (of_its_table p.table) xs all p was refl p.header refl
 
-  brings_sound : (f : Fragment) → IsOpened (size f.table) (items f.table) opened → (q : Pulled) → Among sent q → Among (chunks_down (size q.table) q q.header) f
+  pub brings_sound : (f : Fragment) → IsOpened (size f.table) (items f.table) opened → IsOnItsWay (size f.table) (items f.table) f.table f
       → IsSound size f.table opened sent (brought_to opened xs f (find (is_of_table f.table) xs))
-  brings_sound f is_open q was a =
-      let from = brought_of (size q.table) q f q.header refl a in
-      brought_sound size f.table opened (items f.table) is_open sent (of_its_table f.table) xs all f refl q from.header was from.header_is from.fragment (find (is_of_table f.table) xs) refl
+  brings_sound f is_open way = brought_sound size f.table opened (items f.table) is_open sent (of_its_table f.table) xs all f way (find (is_of_table f.table) xs) refl
 
   pub waits_still : (part : Part) → IsOpened (size (table_of part)) (items (table_of part)) opened → IsPart size sent part → AreAnswering size sent (parted opened xs part).answerings
   waits_still (Asks head) is_open is = all
@@ -378,7 +436,9 @@ module _ (size : ℕ → ℕ) (items : ℕ → List Stored) (sent : List Pulled)
       subst (λ (h : PulledHead). AreAnswering size sent (answered opened xs h h.header).answerings) (sym is.2)
       (answers_sound is.0 is.1 (subst (λ (h : PulledHead). IsOpened (size h.table) (items h.table) opened) is.2 is_open)).waits
   waits_still (BringsUp f) is_open is = all
-  waits_still (BringsDown f) is_open is = (brings_sound f is_open is.0 is.1 is.2).waits
+  waits_still (BringsDown f) is_open is = (brings_sound f is_open (pull_on_its_way size items sent are is.0 f is.1 is.2)).waits
+  waits_still (AsksTorn torn) is_open is = all
+  waits_still (AnswersTorn head) is_open is = all
 
   pub comes_whole : (part : Part) → IsOpened (size (table_of part)) (items (table_of part)) opened → IsPart size sent part → (m : Message) → (parted opened xs part).taken ≡ Whole m → ComesAs opened sent part m
   comes_whole (Asks head) is_open is m e = absurd (wait_whole m e)
@@ -386,19 +446,24 @@ module _ (size : ℕ → ℕ) (items : ℕ → List Stored) (sent : List Pulled)
   comes_whole (Pulls pull) is_open is m e = absurd (wait_whole m e)
   comes_whole (Answers head) is_open is m e =
       subst (λ (h : PulledHead). IsTakenAsSent h.table opened sent m) (sym is.2)
-      ((answers_sound is.0 is.1 (subst (λ (h : PulledHead). IsOpened (size h.table) (items h.table) opened) is.2 is_open)).whole m (subst (λ (h : PulledHead). (answered opened xs h h.header).taken ≡ Whole m) is.2 e))
+      (as_sent is.0.table opened sent m
+      ((answers_sound is.0 is.1 (subst (λ (h : PulledHead). IsOpened (size h.table) (items h.table) opened) is.2 is_open)).whole m (subst (λ (h : PulledHead). (answered opened xs h h.header).taken ≡ Whole m) is.2 e)))
   comes_whole (BringsUp f) is_open is m e = absurd (wait_whole m e)
-  comes_whole (BringsDown f) is_open is m e = (brings_sound f is_open is.0 is.1 is.2).whole m e
+  comes_whole (BringsDown f) is_open is m e = as_sent f.table opened sent m ((brings_sound f is_open (pull_on_its_way size items sent are is.0 f is.1 is.2)).whole m e)
+  comes_whole (AsksTorn torn) is_open is m e = absurd (wait_whole m e)
+  comes_whole (AnswersTorn head) is_open is m e = absurd (wait_whole m e)
 
 -- ---- more items, and more that is sent
 
 item_still : (items more : List Stored) (row : List ℕ) (version : ℕ) (i : Stored) → ((j : Stored) → Among items j → Among more j) → IsItemAt items row version i → IsItemAt more row version i
 item_still items more row version i to is = record { stands = to i is.stands; row_is = is.row_is; version_is = is.version_is }
 
+pub item_of_more : (items more : List Stored) (size : ℕ) (h : Header) → ((j : Stored) → Among items j → Among more j) → IsOfItem size items h → IsOfItem size more h
+item_of_more items more size h to is =
+    record { item = is.item; is = item_still items more h.row h.version is.item to is.is; content = is.content; names = is.names; named = is.named }
+
 pub answers_still : (size : ℕ → ℕ) (items more : ℕ → List Stored) (sent : List Pulled) → ((table : ℕ) (i : Stored) → Among (items table) i → Among (more table) i) → AreAnswers size items sent → AreAnswers size more sent
-answers_still size items more sent to are = λ p h was e.
-    let is = are p h was e in
-    record { item = is.item; is = item_still (items p.table) (more p.table) h.row h.version is.item (to p.table) is.is; content = is.content; names = is.names; named = is.named }
+answers_still size items more sent to are = λ p h was e. item_of_more (items p.table) (more p.table) (size p.table) h (to p.table) (are p h was e)
 
 one_still : (size : ℕ) (sent others : List Pulled) → ((p : Pulled) → Among sent p → Among others p) → (x : Answering) → IsAnswering size sent x → IsAnswering size others x
 one_still size sent others to x is = record {

@@ -74,12 +74,12 @@ as_fragment f = record { column = f.column; place = f.place; bytes = f.bytes }
 abbrev pub as_fragments : List Fragment → List assembly.Fragment
 as_fragments fs = map as_fragment fs
 
-else_then : {X : Type 0} (a b : Bool) (x y z : X) → a ≡ false → b ≡ true → (if a then x else (if b then y else z)) ≡ y
+pub else_then : {X : Type 0} (a b : Bool) (x y z : X) → a ≡ false → b ≡ true → (if a then x else (if b then y else z)) ≡ y
 else_then true b x y z p q = absurd (true≢false p)
 else_then false true x y z p q = refl
 else_then false false x y z p q = absurd (true≢false (sym q))
 
-else_else : {X : Type 0} (a b : Bool) (x y z : X) → a ≡ false → b ≡ false → (if a then x else (if b then y else z)) ≡ z
+pub else_else : {X : Type 0} (a b : Bool) (x y z : X) → a ≡ false → b ≡ false → (if a then x else (if b then y else z)) ≡ z
 else_else true b x y z p q = absurd (true≢false p)
 else_else false true x y z p q = absurd (true≢false q)
 else_else false false x y z p q = refl

@@ -8,3 +8,5 @@ pub mod Stores
 pub mod Clients
 pub mod Completed
 pub mod Arrived
+pub mod WholeRows
+pub mod RowsOnce

@@ -20,11 +20,11 @@ use Rattle.assemblies.proofs.Mixes.{places_stay, places_waiting, none_came, more
 use Rattle.step_tables.specs.Chunks.{Named, same_name, flat, each_chunk, is_of_each, objects_of, chunks_in, chunks_of, is_spelled, are_counted, are_apart, kept_in}
 use Rattle.step_tables.specs.Store.{Stored, current_of, is_of_row}
 use Rattle.step_tables.specs.Members.{Among}
-use Rattle.step_tables.specs.Messages.{Request, Message, SyncRequest, PullRequest}
+use Rattle.step_tables.specs.Messages.{Request, Message, SyncRequest, PullRequest, TornRowRequest, table_of}
 use Rattle.step_tables.specs.StoreMoves.{StoreDisk, store_step, Take, yours_in, version_of}
 use Rattle.step_tables.specs.StoreMoves as store_moves
 use Rattle.step_tables.proofs.Lists.{among_none, among_left, among_last, among_found, find_some, same_row-is}
-use Rattle.part_tables.specs.Parts.{Part, Asks, Responds, Pulls, Answers, BringsUp, BringsDown, RequestHead, Fragment, spelled_by, pieces_in, head_of, chunks_up}
+use Rattle.part_tables.specs.Parts.{Part, Asks, Responds, Pulls, Answers, BringsUp, BringsDown, AsksTorn, AnswersTorn, RequestHead, Fragment, spelled_by, pieces_in, head_of, chunks_up}
 use Rattle.part_tables.specs.StoreParts.{Gathering, Taken, Whole, Waits, StoreTaken, is_of_client, without_client, is_as_long, has_kept_by_len, bytes_in, bytes_of, is_answered, assembled, weighed}
 use Rattle.part_tables.specs.StoreParts.{asked, waits_for, brought_to, parted}
 use Rattle.part_tables.specs.StoreParts as store_parts
@@ -67,10 +67,10 @@ module _ (size : ℕ) (items : List Stored) (names : NamesOne size items) (row :
 
 -- ---- what is weighed
 
--- what is gathered stays so, and what is whole is taken as a request that was sent
-record IsSound (g : Scheme) (size : ℕ) (items : List Stored) (sent : List Request) (t : StoreTaken) : Type 0 where
+-- what is gathered stays so, and what is whole is taken as a request of the client that was sent
+record IsSound (g : Scheme) (size : ℕ) (items : List Stored) (sent : List Request) (client : ℕ) (t : StoreTaken) : Type 0 where
   gathers : Gathers size sent t.gatherings
-  whole : (m : Message) → t.taken ≡ Whole m → IsTakenAsSent g size items sent m
+  whole : (m : Message) → t.taken ≡ Whole m → IsTakenAsSent g size items sent client m
 
 same_whole : (m n : Message) → Whole m ≡ Whole n → m ≡ n
 same_whole m n e = cc
@@ -107,15 +107,15 @@ with_head size q content each =
     })) (pieces_back size q.content q.pieces each)
 
 module _ (g : Scheme) (size : ℕ) (some : 0 < size) (items : List Stored) (names : NamesOne size items) (sent : List Request) (are : AreSent size items sent) where
-  abbrev Sound : StoreTaken → Type 0
-  Sound t = IsSound g size items sent t
+  abbrev Sound : ℕ → StoreTaken → Type 0
+  Sound client t = IsSound g size items sent client t
 
-  if_sound : (b : Bool) (x y : StoreTaken) → (b ≡ true → Sound x) → (b ≡ false → Sound y) → Sound (if b then x else y)
-  if_sound true x y f h = f refl
-  if_sound false x y f h = h refl
+  if_sound : (client : ℕ) (b : Bool) (x y : StoreTaken) → (b ≡ true → Sound client x) → (b ≡ false → Sound client y) → Sound client (if b then x else y)
+  if_sound client true x y f h = f refl
+  if_sound client false x y f h = h refl
 
-  waiting_sound : (gs : List Gathering) → Gathers size sent gs → Sound (record { taken = Waits; gatherings = gs })
-  waiting_sound gs all = record { gathers = all; whole = λ m e. absurd (never_whole m e) }
+  waiting_sound : (client : ℕ) (gs : List Gathering) → Gathers size sent gs → Sound client (record { taken = Waits; gatherings = gs })
+  waiting_sound client gs all = record { gathers = all; whole = λ m e. absurd (never_whole m e) }
 
   said_of_each : (q : Request) → Among sent q → is_of_each size q.pieces (objects_of q.content) ≡ true
   said_of_each q was = (and_parts (is_of_each size q.pieces (objects_of q.content)) (are_counted 0 (flat q.pieces) && are_apart (kept_in (flat q.pieces))) (are.spelled q was)).0
@@ -153,16 +153,30 @@ module _ (g : Scheme) (size : ℕ) (some : 0 < size) (items : List Stored) (name
         ap (λ (m : Message). store_step store g size table (record { disk = d; agenda = Some [] }) (Take from m))
         (ap (λ (content : Content). SyncRequest (store_parts.request_with x.head content)) (made_whole answered whole) ∙ same_message q.content)
 
-    as_sent : (n m : Message) → AreTakenAlike g size items n (SyncRequest q) → Whole n ≡ Whole m → IsTakenAsSent g size items sent m
-    as_sent n m alike e = (q, is.was_sent, subst (λ (k : Message). AreTakenAlike g size items k (SyncRequest q)) (same_whole n m e) alike)
+    q_client : q.client ≡ x.head.client
+    q_client = sym (ap (λ (head : RequestHead). head.client) is.head)
 
-    weighed_sound : (others : List Gathering) → Gathers size sent others → Sound (weighed g size items others x)
+    q_table : x.head.table ≡ q.table
+    q_table = ap (λ (head : RequestHead). head.table) is.head
+
+    as_sent : (content : Content) (m : Message) → AreTakenAlike g size items (SyncRequest (store_parts.request_with x.head content)) (SyncRequest q)
+        → Whole (SyncRequest (store_parts.request_with x.head content)) ≡ Whole m → IsTakenAsSent g size items sent x.head.client m
+    as_sent content m alike e =
+        let same = same_whole (SyncRequest (store_parts.request_with x.head content)) m e in (
+          q,
+          is.was_sent,
+          q_client,
+          sym (ap table_of same) ∙ q_table,
+          subst (λ (k : Message). AreTakenAlike g size items k (SyncRequest q)) same alike,
+        )
+
+    weighed_sound : (others : List Gathering) → Gathers size sent others → Sound x.head.client (weighed g size items others x)
     weighed_sound others all =
-        if_sound (is_answered g size items x.head) _ _
-        (λ answered. record { gathers = all; whole = λ m e. as_sent _ m (taken_by_lens answered) e })
-        (λ open_still. if_sound (is_whole x.slots) _ _
-        (λ whole. record { gathers = all; whole = λ m e. as_sent _ m (taken_whole open_still whole) e })
-        (λ more. waiting_sound (x ∷ others) (is, all)))
+        if_sound x.head.client (is_answered g size items x.head) _ _
+        (λ answered. record { gathers = all; whole = λ m e. as_sent (sized x.head.content) m (taken_by_lens answered) e })
+        (λ open_still. if_sound x.head.client (is_whole x.slots) _ _
+        (λ whole. record { gathers = all; whole = λ m e. as_sent (assembled size items x) m (taken_whole open_still whole) e })
+        (λ more. waiting_sound x.head.client (x ∷ others) (is, all)))
 
   -- ---- a request comes
 
@@ -178,11 +192,11 @@ module _ (g : Scheme) (size : ℕ) (some : 0 < size) (items : List Stored) (name
     came = none_came size q.content (awaited_of (is_sent sents.Fresh) size (spelled_by q.content q.pieces));
   }
 
-  asked_sound : (gs : List Gathering) → Gathers size sent gs → (q : Request) → Among sent q → Sound (asked g size items gs (head_of q))
+  asked_sound : (gs : List Gathering) → Gathers size sent gs → (q : Request) → Among sent q → Sound q.client (asked g size items gs (head_of q))
   asked_sound gs all q was =
-      if_sound (is_spelled size (sized (spelled_by q.content q.pieces)) (pieces_in (spelled_by q.content q.pieces))) _ _
+      if_sound q.client (is_spelled size (sized (spelled_by q.content q.pieces)) (pieces_in (spelled_by q.content q.pieces))) _ _
       (λ spells. weighed_sound _ (begun q was) (without_client q.client gs) (others_gather q.client gs all))
-      (λ drops. waiting_sound gs all)
+      (λ drops. waiting_sound q.client gs all)
 
   -- ---- a chunk comes
 
@@ -213,16 +227,17 @@ module _ (g : Scheme) (size : ℕ) (some : 0 < size) (items : List Stored) (name
             (λ takes_it. of_q.bytes_are ∙ ap (λ (content : Content). chunk_in size content f.column f.place) (same_content waits)) is.came;
       }
 
-      found_sound : (gs : List Gathering) → Gathers size sent gs → Sound (brought_to g size items gs f (Some x))
+      found_sound : (gs : List Gathering) → Gathers size sent gs → Sound f.client (brought_to g size items gs f (Some x))
       found_sound gs all =
-          if_sound (waits_for f x) _ _
-          (λ waits. if_sound (is_whole (taken f.column f.place f.bytes x.slots)) _ _
-          (λ whole. weighed_sound later (more_gathered waits) (without_client f.client gs) (others_gather f.client gs all))
-          (λ lacks. waiting_sound (later ∷ without_client f.client gs) (more_gathered waits, others_gather f.client gs all)))
-          (λ drops. waiting_sound gs all)
+          if_sound f.client (waits_for f x) _ _
+          (λ waits. if_sound f.client (is_whole (taken f.column f.place f.bytes x.slots)) _ _
+          (λ whole. subst (λ client. Sound client (weighed g size items (without_client f.client gs) later)) (eqb-true x.head.client f.client of_client)
+          (weighed_sound later (more_gathered waits) (without_client f.client gs) (others_gather f.client gs all)))
+          (λ lacks. waiting_sound f.client (later ∷ without_client f.client gs) (more_gathered waits, others_gather f.client gs all)))
+          (λ drops. waiting_sound f.client gs all)
 
-    brought_sound : (gs : List Gathering) → Gathers size sent gs → (o : Option Gathering) → find (is_of_client f.client) gs ≡ o → Sound (brought_to g size items gs f o)
-    brought_sound gs all None e = waiting_sound gs all
+    brought_sound : (gs : List Gathering) → Gathers size sent gs → (o : Option Gathering) → find (is_of_client f.client) gs ≡ o → Sound f.client (brought_to g size items gs f o)
+    brought_sound gs all None e = waiting_sound f.client gs all
     brought_sound gs all (Some x) e =
         let found = among_found (is_of_client f.client) gs x e in
         found_sound x (each_among (IsGathered size sent) gs x all found.0) found.1 gs all
@@ -236,15 +251,20 @@ module _ (g : Scheme) (size : ℕ) (some : 0 < size) (items : List Stored) (name
   gathers_still gs all (Answers head) is = all
   gathers_still gs all (BringsUp f) is = (brought_sound f is.0 is.1 is.2 gs all (find (is_of_client f.client) gs) refl).gathers
   gathers_still gs all (BringsDown f) is = all
+  gathers_still gs all (AsksTorn torn) is = all
+  gathers_still gs all (AnswersTorn head) is = all
 
   pub comes_whole : (gs : List Gathering) → Gathers size sent gs → (p : Part) → IsPart size sent p → (m : Message) → (parted g size items gs p).taken ≡ Whole m → ComesAs g size items sent p m
   comes_whole gs all (Asks head) is m e =
-      (asked_sound gs all is.0 is.1).whole m (subst (λ (h : RequestHead). (asked g size items gs h).taken ≡ Whole m) is.2 e)
+      subst (λ (h : RequestHead). IsTakenAsSent g size items sent h.client m) (sym is.2)
+      ((asked_sound gs all is.0 is.1).whole m (subst (λ (h : RequestHead). (asked g size items gs h).taken ≡ Whole m) is.2 e))
   comes_whole gs all (Responds response) is m e = absurd (never_whole m e)
   comes_whole gs all (Pulls pull) is m e = sym (same_whole (PullRequest pull) m e)
   comes_whole gs all (Answers head) is m e = absurd (never_whole m e)
   comes_whole gs all (BringsUp f) is m e = (brought_sound f is.0 is.1 is.2 gs all (find (is_of_client f.client) gs) refl).whole m e
   comes_whole gs all (BringsDown f) is m e = absurd (never_whole m e)
+  comes_whole gs all (AsksTorn torn) is m e = sym (same_whole (TornRowRequest torn) m e)
+  comes_whole gs all (AnswersTorn head) is m e = absurd (never_whole m e)
 
 -- ---- more items, and more that is sent
 

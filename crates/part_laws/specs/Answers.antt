@@ -15,8 +15,8 @@ use Rattle.step_tables.specs.Members.{Among}
 use Rattle.step_tables.specs.Messages.{Pulled, Header, Message, SyncResponse, PullResponse}
 use Rattle.step_tables.specs.ClientMoves.{Shape, ClientDisk, TableDisk, Slots, client_step, Take, table_at, seen}
 use Rattle.step_tables.specs.ClientMoves.{slots_at, known}
-use Rattle.part_tables.specs.Parts.{Part, Asks, Responds, Pulls, Answers, BringsUp, BringsDown, pulled_head, row_head}
-use Rattle.part_tables.specs.Parts.{spelled_by, kept, chunks_down}
+use Rattle.part_tables.specs.Parts.{Part, Asks, Responds, Pulls, Answers, BringsUp, BringsDown, AsksTorn, AnswersTorn}
+use Rattle.part_tables.specs.Parts.{pulled_head, row_head, spelled_by, kept, chunks_down}
 use Rattle.part_tables.specs.ClientParts.{Answering}
 use Rattle.piece_laws.specs.Pieces.{NamesOne}
 
@@ -86,6 +86,8 @@ table_of (Pulls pull) = pull.table
 table_of (Answers head) = head.table
 table_of (BringsUp f) = f.table
 table_of (BringsDown f) = f.table
+table_of (AsksTorn torn) = torn.table
+table_of (AnswersTorn head) = head.table
 
 -- a part of an answer that was sent, or one that isn't of an answer to a pull
 abbrev pub IsPart : (ℕ → ℕ) → List Pulled → Part → Type 0
@@ -95,6 +97,8 @@ IsPart size sent (Pulls pull) = Unit {0}
 IsPart size sent (Answers head) = (p : Pulled) × Among sent p × (head ≡ pulled_head p)
 IsPart size sent (BringsUp f) = Unit {0}
 IsPart size sent (BringsDown f) = (p : Pulled) × Among sent p × Among (chunks_down (size p.table) p p.header) f
+IsPart size sent (AsksTorn torn) = Unit {0}
+IsPart size sent (AnswersTorn head) = Unit {0}
 
 -- a client with this table opened, up and with no write to be done, makes the same of both
 abbrev pub AreTakenAlike : ℕ → TableDisk → Message → Message → Type 0
@@ -114,3 +118,5 @@ ComesAs opened sent (Pulls pull) m = ⊥
 ComesAs opened sent (Answers head) m = IsTakenAsSent head.table opened sent m
 ComesAs opened sent (BringsUp f) m = ⊥
 ComesAs opened sent (BringsDown f) m = IsTakenAsSent f.table opened sent m
+ComesAs opened sent (AsksTorn torn) m = ⊥
+ComesAs opened sent (AnswersTorn head) m = ⊥

@@ -12,10 +12,10 @@ use Rattle.assemblies.specs.Parts.{IsChunkOf}
 use Rattle.step_tables.specs.Store.{Stored}
 use Rattle.step_tables.specs.Chunks.{is_spelled}
 use Rattle.step_tables.specs.Members.{Among}
-use Rattle.step_tables.specs.Messages.{Request, Message, SyncRequest, PullRequest}
+use Rattle.step_tables.specs.Messages.{Request, Message, SyncRequest, PullRequest, TornRowRequest, table_of}
 use Rattle.step_tables.specs.StoreMoves.{StoreDisk, store_step, Take}
-use Rattle.part_tables.specs.Parts.{Part, Asks, Responds, Pulls, Answers, BringsUp, BringsDown, head_of, spelled_by}
-use Rattle.part_tables.specs.Parts.{chunks_up}
+use Rattle.part_tables.specs.Parts.{Part, Asks, Responds, Pulls, Answers, BringsUp, BringsDown, AsksTorn, AnswersTorn}
+use Rattle.part_tables.specs.Parts.{head_of, spelled_by, chunks_up}
 use Rattle.part_tables.specs.StoreParts.{Gathering}
 use Rattle.piece_laws.specs.Pieces.{KeepsKnown}
 
@@ -47,6 +47,8 @@ IsPart size sent (Pulls pull) = Unit {0}
 IsPart size sent (Answers head) = Unit {0}
 IsPart size sent (BringsUp f) = (q : Request) × Among sent q × Among (chunks_up size q) f
 IsPart size sent (BringsDown f) = Unit {0}
+IsPart size sent (AsksTorn torn) = Unit {0}
+IsPart size sent (AnswersTorn head) = Unit {0}
 
 -- a table with these items, up and with no write to be done, makes the same of both
 abbrev pub AreTakenAlike : Scheme → ℕ → List Stored → Message → Message → Type 0
@@ -54,15 +56,19 @@ AreTakenAlike g size items m n = (store table : ℕ) (d : StoreDisk) (from : Nod
     → store_step store g size table (record { disk = d; agenda = Some [] }) (Take from m)
     ≡ store_step store g size table (record { disk = d; agenda = Some [] }) (Take from n)
 
--- a request that was sent
-abbrev pub IsTakenAsSent : Scheme → ℕ → List Stored → List Request → Message → Type 0
-IsTakenAsSent g size items sent m = (q : Request) × Among sent q × AreTakenAlike g size items m (SyncRequest q)
+-- a request of the client that was sent, of the same table
+abbrev pub IsTakenAsSent : Scheme → ℕ → List Stored → List Request → ℕ → Message → Type 0
+IsTakenAsSent g size items sent client m =
+    (q : Request) × Among sent q × (q.client ≡ client) × (table_of m ≡ q.table)
+    × AreTakenAlike g size items m (SyncRequest q)
 
--- what a part completes: a pull is itself
+-- what a part completes: a pull is itself, and so is what asks for a row whole
 abbrev pub ComesAs : Scheme → ℕ → List Stored → List Request → Part → Message → Type 0
-ComesAs g size items sent (Asks head) m = IsTakenAsSent g size items sent m
+ComesAs g size items sent (Asks head) m = IsTakenAsSent g size items sent head.client m
 ComesAs g size items sent (Responds response) m = ⊥
 ComesAs g size items sent (Pulls pull) m = m ≡ PullRequest pull
 ComesAs g size items sent (Answers head) m = ⊥
-ComesAs g size items sent (BringsUp f) m = IsTakenAsSent g size items sent m
+ComesAs g size items sent (BringsUp f) m = IsTakenAsSent g size items sent f.client m
 ComesAs g size items sent (BringsDown f) m = ⊥
+ComesAs g size items sent (AsksTorn torn) m = m ≡ TornRowRequest torn
+ComesAs g size items sent (AnswersTorn head) m = ⊥

@@ -3,3 +3,5 @@ pub mod Gathers
 pub mod Answers
 pub mod Completed
 pub mod Arrived
+pub mod Rows
+pub mod RowsOnce

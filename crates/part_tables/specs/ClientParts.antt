@@ -21,8 +21,8 @@ use Rattle.assemblies.specs.Parts.{joined}
 use Rattle.step_tables.specs.Chunks.{same_name, flat, objects_of, each_chunk, kept_in, is_named}
 use Rattle.step_tables.specs.ClientMoves.{Slots, TableDisk, chunks_read, slots_at, top}
 use Rattle.step_tables.specs.Messages.{Header, Message, SyncResponse, PullResponse}
-use Rattle.part_tables.specs.Parts.{Part, Asks, Responds, Pulls, Answers, BringsUp, BringsDown, PulledHead, RowHead}
-use Rattle.part_tables.specs.Parts.{Fragment, pieces_in}
+use Rattle.part_tables.specs.Parts.{Part, Asks, Responds, Pulls, Answers, BringsUp, BringsDown, AsksTorn, AnswersTorn}
+use Rattle.part_tables.specs.Parts.{PulledHead, RowHead, Fragment, pieces_in}
 
 -- an answer that waits for fragments, its row, and what has come of the chunks that travel
 pub record Answering : Type 0 where
@@ -152,7 +152,7 @@ brought_to opened xs f (Some x) =
     })
     else record { taken = Waits; answerings = xs }
 
--- what a part that comes for an opened table comes to
+-- what a part that comes for an opened table comes to, where no row was asked for whole
 abbrev pub parted : TableDisk → List Answering → Part → ClientTaken
 parted opened xs (Asks head) = record { taken = Waits; answerings = xs }
 parted opened xs (Responds response) = record { taken = Whole (SyncResponse response); answerings = xs }
@@ -160,3 +160,5 @@ parted opened xs (Pulls pull) = record { taken = Waits; answerings = xs }
 parted opened xs (Answers head) = answered opened xs head head.header
 parted opened xs (BringsUp f) = record { taken = Waits; answerings = xs }
 parted opened xs (BringsDown f) = brought_to opened xs f (find (is_of_table f.table) xs)
+parted opened xs (AsksTorn torn) = record { taken = Waits; answerings = xs }
+parted opened xs (AnswersTorn head) = record { taken = Waits; answerings = xs }

@@ -1,3 +1,4 @@
 pub mod Parts
 pub mod StoreParts
 pub mod ClientParts
+pub mod Arriving

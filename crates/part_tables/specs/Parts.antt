@@ -15,7 +15,8 @@ use Rattle.assemblies.specs.Places.{awaited_of}
 use Rattle.assemblies.specs.Parts.{chunk_in}
 use Rattle.step_tables.specs.Chunks.{first_of, others_of}
 use Rattle.step_tables.specs.Messages.{Request, Response, Pull, Pair, Header, Pulled, Message, SyncRequest, SyncResponse}
-use Rattle.step_tables.specs.Messages.{PullRequest, PullResponse}
+use Rattle.step_tables.specs.Messages.{PullRequest, PullResponse, TornPull, TornPulled, TornRowRequest}
+use Rattle.step_tables.specs.Messages.{TornRowResponse}
 
 -- ---- parts
 
@@ -43,6 +44,12 @@ pub record PulledHead : Type 0 where
   pub latest : ℕ
   pub header : Option RowHead
 
+pub record TornHead : Type 0 where
+  pub client : ℕ
+  pub table : ℕ
+  pub row : List ℕ
+  pub header : Option RowHead
+
 -- a chunk on its way; its key is the number of the write on the way to the Store, and the version of the row on the way
 -- to a client
 pub record Fragment : Type 0 where
@@ -61,6 +68,8 @@ pub data Part : Type 0 where
   Answers : (head : PulledHead) → Part
   BringsUp : (fragment : Fragment) → Part
   BringsDown : (fragment : Fragment) → Part
+  AsksTorn : (torn : TornPull) → Part
+  AnswersTorn : (head : TornHead) → Part
 
 -- ---- contents by pieces
 
@@ -119,6 +128,9 @@ pulled_head p = record {
   header = option_map row_head p.header;
 }
 
+abbrev pub torn_head : TornPulled → TornHead
+torn_head t = record { client = t.client; table = t.table; row = t.row; header = option_map row_head t.header }
+
 -- of an answer to a pull the chunks whose names are of a version above the position
 abbrev pub chunks_down : ℕ → Pulled → Option Header → List Fragment
 chunks_down size p None = []
@@ -128,6 +140,12 @@ chunks_down size p (Some h) =
 abbrev pub chunks_up : ℕ → Request → List Fragment
 chunks_up size q = fragments_of (is_sent sents.Fresh) size q.client q.table q.row q.number q.content q.pieces
 
+-- of a row that was asked for whole all chunks
+abbrev pub chunks_whole : ℕ → TornPulled → Option Header → List Fragment
+chunks_whole size t None = []
+chunks_whole size t (Some h) =
+    fragments_of (is_sent sents.All) size t.client t.table h.row h.version h.content (kept h.names)
+
 -- where chunks have this size
 abbrev pub parts_of : ℕ → Message → List Part
 parts_of size (SyncRequest q) = Asks (head_of q) ∷ map (λ (f : Fragment). BringsUp f) (chunks_up size q)
@@ -135,3 +153,6 @@ parts_of size (SyncResponse r) = Responds r ∷ []
 parts_of size (PullRequest q) = Pulls q ∷ []
 parts_of size (PullResponse p) =
     Answers (pulled_head p) ∷ map (λ (f : Fragment). BringsDown f) (chunks_down size p p.header)
+parts_of size (TornRowRequest torn) = AsksTorn torn ∷ []
+parts_of size (TornRowResponse t) =
+    AnswersTorn (torn_head t) ∷ map (λ (f : Fragment). BringsDown f) (chunks_whole size t t.header)

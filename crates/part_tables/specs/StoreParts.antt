@@ -21,9 +21,9 @@ use Rattle.assemblies.specs.Parts.{joined}
 use Rattle.step_tables.specs.Store.{Stored, current_of}
 use Rattle.step_tables.specs.Chunks.{Named, same_name, flat, objects_of, each_chunk, chunks_of, is_spelled}
 use Rattle.step_tables.specs.StoreMoves.{takes as scheme_takes, version_of, yours_in}
-use Rattle.step_tables.specs.Messages.{Request, Pair, Message, SyncRequest, PullRequest}
-use Rattle.part_tables.specs.Parts.{Part, Asks, Responds, Pulls, Answers, BringsUp, BringsDown, RequestHead, Fragment}
-use Rattle.part_tables.specs.Parts.{pieces_in}
+use Rattle.step_tables.specs.Messages.{Request, Pair, Message, SyncRequest, PullRequest, TornRowRequest}
+use Rattle.part_tables.specs.Parts.{Part, Asks, Responds, Pulls, Answers, BringsUp, BringsDown, AsksTorn, AnswersTorn}
+use Rattle.part_tables.specs.Parts.{RequestHead, Fragment, pieces_in}
 
 -- a request that waits for fragments, with what has come of its chunks that travel
 pub record Gathering : Type 0 where
@@ -136,3 +136,5 @@ parted g size items gs (Pulls pull) = record { taken = Whole (PullRequest pull);
 parted g size items gs (Answers head) = record { taken = Waits; gatherings = gs }
 parted g size items gs (BringsUp f) = brought_to g size items gs f (find (is_of_client f.client) gs)
 parted g size items gs (BringsDown f) = record { taken = Waits; gatherings = gs }
+parted g size items gs (AsksTorn torn) = record { taken = Whole (TornRowRequest torn); gatherings = gs }
+parted g size items gs (AnswersTorn head) = record { taken = Waits; gatherings = gs }

@@ -1,0 +1,13 @@
+pub mod LinesAlike
+pub mod TurnsAlike
+pub mod Places
+pub mod PartsOf
+pub mod SpreadLines
+pub mod Ground
+pub mod Keeping
+pub mod Comings
+pub mod ToStores
+pub mod ToClients
+pub mod WireSteps
+pub mod Founded
+pub mod WireRuns

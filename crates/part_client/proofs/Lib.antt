@@ -1,0 +1,10 @@
+pub mod Lacks
+pub mod Loops
+pub mod Firsts
+pub mod Filters
+pub mod Stands
+pub mod Settled
+pub mod Arrivals
+pub mod Risings
+pub mod Bringing
+pub mod Keepings

@@ -1,0 +1,7 @@
+pub mod Gathered
+pub mod Held
+pub mod Contents
+pub mod Weighing
+pub mod Calls
+pub mod Keeping
+pub mod Asking

@@ -1,0 +1,4 @@
+pub mod Filters
+pub mod Firsts
+pub mod Loops
+pub mod Lacks

@@ -1,0 +1,3 @@
+pub mod Finds
+pub mod Views
+pub mod Settling

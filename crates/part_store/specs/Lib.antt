@@ -1,0 +1,4 @@
+pub mod View
+pub mod Gathered
+pub mod Weighing
+pub mod Calls

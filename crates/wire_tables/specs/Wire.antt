@@ -190,6 +190,7 @@ store_taken v p lucks x = by_taken x.taken
   where
     kept : Wire
     kept = with_gathered (part_table p.part) x.gatherings v
+
     by_taken : at_store.Taken → WireStep
     by_taken (at_store.Whole message) = completed kept p message lucks
     by_taken at_store.Waits = waits v kept p lucks (first_luck lucks.calls)
@@ -213,6 +214,7 @@ client_taken v c p lucks x = by_taken x.taken
   where
     kept : Wire
     kept = with_arriving c x.arriving v
+
     by_taken : at_client.Taken → WireStep
     by_taken (at_client.Whole message) = completed kept p message lucks
     by_taken (at_client.Tears row) = spread kept

@@ -1,5 +1,5 @@
 -- What a part comes to, by what is settled of its table.
-use Rattle.std.proofs.Common.{◌≡◌, ℕ, Bool, true, false, not, List, [], ◌∷◌, ◌++◌, Option, Some, None, refl, sym, ap, ◌∙◌, subst}
+use Rattle.std.proofs.Common.{◌≡◌, ℕ, Bool, true, false, not, List, [], ◌∷◌, ◌++◌, Option, Some, None, refl, sym, ap, ◌∙◌}
 use Rattle.std.specs.Prelude.{◌==◌, ◌&&◌, nat_le, if◌then◌else◌}
 use Rattle.std.specs.List.{find, list_all}
 use Rattle.std.proofs.lemmas.Bool.{and_parts, eqb-true}
@@ -9,14 +9,15 @@ use Rattle.chunker.specs.Sized.{sized}
 use Rattle.assemblies.specs.declared.sent.Sent.TheVariants as sents
 use Rattle.assemblies.specs.Travel.{is_sent}
 use Rattle.assemblies.specs.Places.{awaited_of}
-use Rattle.assemblies.specs.Gathering.{Slot, waiting, taken, is_whole, chunks_of}
+use Rattle.assemblies.specs.Gathering.{waiting, taken, is_whole, chunks_of}
 use Rattle.assemblies.specs.Parts.{joined}
 use Rattle.step_tables.specs.Chunks.{is_named}
 use Rattle.step_tables.specs.ClientMoves.{Slots, TableDisk, slots_at, top}
 use Rattle.step_tables.specs.Messages.{Message}
-use Rattle.step_tables.proofs.Lists.{same_row-is, same_row-refl}
-use Rattle.part_tables.specs.Parts.{RowHead, TornHead, Fragment, BringsDown}
-use Rattle.part_tables.specs.ClientParts.{Held, Answering, Taken, Whole, Tears, Waits, ClientTaken, is_of_table, without_table, names_in, header_with, held_in, sends_of, has_held, bytes_of, answer_with, waits_for}
+use Rattle.step_tables.proofs.Lists.{same_row-is}
+use Rattle.part_tables.specs.Parts.{Fragment, BringsDown}
+use Rattle.part_tables.specs.ClientParts.{Held, Answering, Taken, Whole, Tears, Waits, ClientTaken, is_of_table}
+use Rattle.part_tables.specs.ClientParts.{without_table, names_in, header_with, held_in, sends_of, has_held, bytes_of, answer_with, waits_for}
 use Rattle.part_tables.specs.ClientParts as at_client
 use Rattle.part_tables.specs.Arriving.{Arriving, Arrived, WholeRow, is_of_row, without_row, without_torn, torn_answer, assembled, ended, of_pull, is_awaited, waits_whole, arrived}
 use Rattle.part_tables.specs.Arriving as arrivals
@@ -25,7 +26,7 @@ use Rattle.part_client.specs.declared.held.RowHeld.{RowHeld}
 use Rattle.part_client.specs.declared.pulls.PullHead.{PullHead}
 use Rattle.part_client.specs.declared.rows.RowAsked.{RowAsked}
 use Rattle.part_client.specs.Held.{IsHeldOf}
-use Rattle.part_client.specs.Weighing.{WholeTaken, came_weighed, pull_weighed, row_came, row_weighed}
+use Rattle.part_client.specs.Weighing.{WholeTaken, pull_weighed, row_weighed}
 use Rattle.part_client.specs.Calls.{pulled_head, torn_head, pull_settled, row_settled, mended, grown_pull, grown_row}
 use Rattle.part_client.proofs.Filters.{without_twice, without_first, passes}
 
@@ -92,24 +93,8 @@ answer_kept opened view a head row w h there named is =
     let x : Answering = answering_at head row opened.schema.chunk in
     ap (pull_settled head.table a) (is ∙ by_view opened row.row view h (answering_at head row))
     ∙ (ap (of_pull head.table a) (sym (weighed_is opened.schema.chunk (slots_at opened row.row) (without_table head.table a.pulls) x))
-    ∙ ap (λ (b : Bool). of_pull head.table a (if b then at_client.weighed opened.schema.chunk (slots_at opened row.row) (without_table head.table a.pulls) x else record { taken = Waits; answerings = a.pulls })) (sym tests))
-
-module _ (opened : TableDisk) (view : RowHeld) (a : Arriving) (head : PullHead) (row : RowHeader) (h : IsHeldOf opened row.row view) where
-  dropped : ((head.from == opened.position) && is_named opened.schema.chunk (sized row.content) (names_in row.content)) ≡ false
-      → of_pull head.table a (at_client.answered opened a.pulls (pulled_head head row) (Some (row_head_of row))) ≡ record { taken = Waits; arriving = a }
-  dropped tests =
-      ap (λ (b : Bool). of_pull head.table a (if b then at_client.weighed opened.schema.chunk (slots_at opened row.row) (without_table head.table a.pulls) (answering_at head row opened.schema.chunk)
-      else record { taken = Waits; answerings = a.pulls })) tests
-
-  pub elsewhere_dropped : (head.from == view.position) ≡ false → of_pull head.table a (at_client.answered opened a.pulls (pulled_head head row) (Some (row_head_of row))) ≡ record { taken = Waits; arriving = a }
-  elsewhere_dropped e = dropped (ap (λ (b : Bool). b && is_named opened.schema.chunk (sized row.content) (names_in row.content)) (ap (λ (p : ℕ). head.from == p) (sym h.position) ∙ e))
-
-  pub unnamed_dropped : is_named view.chunk (sized row.content) (names_in row.content) ≡ false → of_pull head.table a (at_client.answered opened a.pulls (pulled_head head row) (Some (row_head_of row))) ≡ record { taken = Waits; arriving = a }
-  unnamed_dropped e = dropped (either (head.from == opened.position) (is_named opened.schema.chunk (sized row.content) (names_in row.content)) (ap (λ (size : ℕ). is_named size (sized row.content) (names_in row.content)) (sym h.chunk) ∙ e))
-    where
-      either : (a b : Bool) → b ≡ false → (a && b) ≡ false
-      either true b e = e
-      either false b e = refl
+    ∙ ap (λ (b : Bool). of_pull head.table a (if b then at_client.weighed opened.schema.chunk (slots_at opened row.row)
+    (without_table head.table a.pulls) x else record { taken = Waits; answerings = a.pulls })) (sym tests))
 
 -- ---- an answer to a pull is complete, or goes on to wait
 
@@ -120,9 +105,11 @@ complete_kept opened view table row a x w h whole is =
     ap (λ (l : List Answering). of_pull table a (before l w)) (without_twice (is_of_table table) a.pulls)
     ∙ (ap (λ (v : ClientTaken). of_pull table a (before (without_table table a.pulls) v)) (is ∙ by_view opened row view h (λ size. x))
     ∙ (ap (of_pull table a) (sym (weighed_is opened.schema.chunk (slots_at opened row) (without_table table a.pulls) x))
-    ∙ ap (λ (b : Bool). of_pull table a (if b then at_client.weighed opened.schema.chunk (slots_at opened row) (without_table table a.pulls) x else record { taken = Waits; answerings = a.pulls })) (sym whole)))
+    ∙ ap (λ (b : Bool). of_pull table a (if b then at_client.weighed opened.schema.chunk (slots_at opened row)
+    (without_table table a.pulls) x else record { taken = Waits; answerings = a.pulls })) (sym whole)))
 
-pub still_waits : (opened : TableDisk) (table : ℕ) (row : List ℕ) (a : Arriving) (x : Answering) → is_whole x.slots ≡ false → of_pull table a (grown_pull opened table row a.pulls x) ≡ record { taken = Waits; arriving = a }
+pub still_waits : (opened : TableDisk) (table : ℕ) (row : List ℕ) (a : Arriving) (x : Answering) → is_whole x.slots ≡ false
+    → of_pull table a (grown_pull opened table row a.pulls x) ≡ record { taken = Waits; arriving = a }
 still_waits opened table row a x whole =
     ap (λ (b : Bool). of_pull table a (if b then at_client.weighed opened.schema.chunk (slots_at opened row) (without_table table a.pulls) x else record { taken = Waits; answerings = a.pulls })) whole
 
@@ -166,28 +153,36 @@ module _ (table : ℕ) (row : List ℕ) (a : Arriving) where
   row_cases false false m1 m2 x = refl
 
   rows_all : (b c : Bool) (m1 m2 : Message) (x : WholeRow) → is_of_row table row x ≡ true
-      → list_all (is_of_row table row) ((λ (w : WholeTaken). w.rows) (if b then record { taken = Whole m1; rows = [] } else (if c then record { taken = Whole m2; rows = [] } else record { taken = Waits; rows = x ∷ [] }))) ≡ true
+      → list_all (is_of_row table row) ((λ (w : WholeTaken). w.rows) (if b then record { taken = Whole m1; rows = [] } else
+      (if c then record { taken = Whole m2; rows = [] } else record { taken = Waits; rows = x ∷ [] }))) ≡ true
   rows_all true c m1 m2 x is = refl
   rows_all false true m1 m2 x is = refl
   rows_all false false m1 m2 x is = ap (λ (b : Bool). b && true) is
 
   module _ (slots : Slots) (x : WholeRow) (is : is_of_row table row x ≡ true) where
     pub of_its_row : (read : ℕ) → list_all (is_of_row table row) (row_weighed read x).rows ≡ true
-    of_its_row read = rows_all (nat_le x.row.version read) (is_whole x.slots) (torn_answer x.head (Some (header_with x.row (sized x.row.content)))) (torn_answer x.head (Some (header_with x.row (assembled x)))) x is
+    of_its_row read = rows_all (nat_le x.row.version read) (is_whole x.slots) (torn_answer x.head (Some (header_with x.row (sized x.row.content)))) (torn_answer x.head (Some
+        (header_with x.row (assembled x)))) x is
 
     pub row_weighed_is : row_settled table row a (row_weighed (top slots.conflict slots.shadow) x) ≡ arrivals.weighed slots a (without_row table row a.rows) x
     row_weighed_is =
         let there = and_parts (x.head.table == table) (same_row x.head.row row) is in
-        row_cases (nat_le x.row.version (top slots.conflict slots.shadow)) (is_whole x.slots) (torn_answer x.head (Some (header_with x.row (sized x.row.content)))) (torn_answer x.head (Some (header_with x.row (assembled x)))) x
+        row_cases (nat_le x.row.version (top slots.conflict slots.shadow)) (is_whole x.slots) (torn_answer x.head (Some (header_with x.row (sized x.row.content)))) (torn_answer x.head (Some
+        (header_with x.row (assembled x)))) x
         ∙ (ap (λ (t : ℕ). by_place t row) (sym (eqb-true x.head.table table there.0)) ∙ ap (λ (r : List ℕ). by_place x.head.table r) (sym (same_row-is x.head.row row there.1)))
       where
-        ends : ℕ → List ℕ → Message → Arrived
-        ends t r m = record { taken = Whole m; arriving = record a { rows = without_row table row a.rows; torn = without_torn t r a.torn } }
-
         by_place : ℕ → List ℕ → Arrived
         by_place t r =
-            if nat_le x.row.version (top slots.conflict slots.shadow) then record { taken = Whole (torn_answer x.head (Some (header_with x.row (sized x.row.content)))); arriving = record a { rows = without_row table row a.rows; torn = without_torn t r a.torn } }
-            else (if is_whole x.slots then record { taken = Whole (torn_answer x.head (Some (header_with x.row (assembled x)))); arriving = record a { rows = without_row table row a.rows; torn = without_torn t r a.torn } }
+            if nat_le x.row.version (top slots.conflict slots.shadow) then record {
+              taken = Whole (torn_answer x.head (Some (header_with x.row
+                  (sized x.row.content))));
+              arriving = record a { rows = without_row table row a.rows; torn = without_torn t r a.torn };
+            }
+            else (if is_whole x.slots then record {
+              taken = Whole (torn_answer x.head (Some (header_with x.row
+                  (assembled x))));
+              arriving = record a { rows = without_row table row a.rows; torn = without_torn t r a.torn };
+            }
             else record { taken = Waits; arriving = record a { rows = x ∷ without_row table row a.rows } })
 
 -- ---- a row that was asked for whole comes
@@ -199,9 +194,6 @@ row_at head row size = record {
   slots = waiting (awaited_of (is_sent sents.All) size row.content);
 }
 
-its_own : (n : ℕ) (row : List ℕ) → (n == n) ≡ true → ((n == n) && same_row row row) ≡ true
-its_own n row e = ap (λ (b : Bool). b && same_row row row) e ∙ same_row-refl row
-
 module _ (opened : TableDisk) (view : RowHeld) (a : Arriving) (head : RowAsked) (row : RowHeader) (h : IsHeldOf opened row.row view) where
   abbrev by_named : Bool → Arrived
   by_named b = if b then arrivals.weighed (slots_at opened row.row) a (without_row head.table head.row a.rows) (row_at head row opened.schema.chunk) else record { taken = Waits; arriving = a }
@@ -210,13 +202,10 @@ module _ (opened : TableDisk) (view : RowHeld) (a : Arriving) (head : RowAsked) 
       → w ≡ row_weighed view.read (row_at head row view.chunk)
       → row_settled head.table head.row a w ≡ arrivals.answered opened a (torn_head head (Some (row_head_of row))) (Some (row_head_of row))
   row_kept w its named is =
-      ap (row_settled head.table head.row a) (is ∙ (ap (λ (size : ℕ). row_weighed view.read (row_at head row size)) h.chunk ∙ ap (λ (read : ℕ). row_weighed read (row_at head row opened.schema.chunk)) h.read))
+      ap (row_settled head.table head.row a) (is ∙ (ap (λ (size : ℕ). row_weighed view.read (row_at head row size)) h.chunk ∙ ap (λ (read : ℕ). row_weighed read
+      (row_at head row opened.schema.chunk)) h.read))
       ∙ (row_weighed_is head.table head.row a (slots_at opened row.row) (row_at head row opened.schema.chunk) its
       ∙ ap by_named (sym (ap (λ (size : ℕ). is_named size (sized row.content) (names_in row.content)) (sym h.chunk) ∙ named)))
-
-  pub row_dropped : is_named view.chunk (sized row.content) (names_in row.content) ≡ false
-      → arrivals.answered opened a (torn_head head (Some (row_head_of row))) (Some (row_head_of row)) ≡ record { taken = Waits; arriving = a }
-  row_dropped e = ap by_named (ap (λ (size : ℕ). is_named size (sized row.content) (names_in row.content)) (sym h.chunk) ∙ e)
 
 -- ---- it is complete, or goes on to wait
 
@@ -231,9 +220,6 @@ complete_row_kept opened view table row a x w h its whole is =
   where
     row_settled_over : List WholeRow → Arrived
     row_settled_over l = record { taken = w.taken; arriving = record a { rows = w.rows ++ l; torn = mended table row w.taken a.torn } }
-
-pub row_still_waits : (opened : TableDisk) (table : ℕ) (row : List ℕ) (a : Arriving) (x : WholeRow) → is_whole x.slots ≡ false → grown_row opened table row a x ≡ record { taken = Waits; arriving = a }
-row_still_waits opened table row a x whole = ap (λ (b : Bool). if b then arrivals.weighed (slots_at opened row) a (without_row table row a.rows) x else record { taken = Waits; arriving = a }) whole
 
 module _ (opened : TableDisk) (a : Arriving) (f : Fragment) where
   abbrev row_grown : WholeRow → WholeRow
@@ -256,7 +242,8 @@ module _ (opened : TableDisk) (a : Arriving) (f : Fragment) where
       weighed_over : List WholeRow → Arrived
       weighed_over l = if is_whole (row_grown x).slots then arrivals.weighed (slots_at opened f.row) a l (row_grown x) else record { taken = Waits; arriving = with_row_grown x }
 
-  pub row_unmoved : (x : WholeRow) → find (is_of_row f.table f.row) a.rows ≡ Some x → waits_whole f x ≡ false → arrivals.brought_to opened a f (find (is_of_row f.table f.row) a.rows) ≡ record { taken = Waits; arriving = a }
+  pub row_unmoved : (x : WholeRow) → find (is_of_row f.table f.row) a.rows ≡ Some x → waits_whole f x ≡ false
+      → arrivals.brought_to opened a f (find (is_of_row f.table f.row) a.rows) ≡ record { taken = Waits; arriving = a }
   row_unmoved x there waits =
       ap (arrivals.brought_to opened a f) there
       ∙ ap (λ (b : Bool). if b then (if is_whole (row_grown x).slots then arrivals.weighed (slots_at opened f.row) a (without_row f.table f.row a.rows) (row_grown x)

@@ -1,7 +1,7 @@
 -- A fragment to the client: it goes to the answer to a pull that waits for it, else to the row that does.
-use Rattle.std.proofs.Common.{◌≡◌, ◌⊎◌, ℕ, Bool, true, false, cond, List, [], ◌∷◌, Option, Some, None, refl, sym, ap, ◌∙◌, subst, inl, inr}
-use Rattle.std.specs.Prelude.{◌==◌, ◌&&◌, ◌||◌, filter, option_map, option_to_list, is_some, if◌then◌else◌, Result, IfOk, OnErr}
-use Rattle.std.specs.List.{find, list_any}
+use Rattle.std.proofs.Common.{◌≡◌, ℕ, Bool, true, false, cond, List, [], ◌∷◌, Option, Some, None, refl, sym, ap, ◌∙◌, subst, inr}
+use Rattle.std.specs.Prelude.{◌==◌, ◌&&◌, ◌||◌, filter, option_map, is_some, if◌then◌else◌, Result, IfOk, OnErr}
+use Rattle.std.specs.List.{find}
 use Rattle.std.specs.BTreeMap as tree
 use Rattle.std.specs.BTreeMap.{is_at, WritesThrough}
 use Rattle.std.proofs.lemmas.Result.{IfOk-weaker}
@@ -9,7 +9,7 @@ use Rattle.table_model.specs.History.{same_row}
 use Rattle.assemblies.specs.Gathering.{taken, takes, is_whole}
 use Rattle.step_tables.specs.Client.{row_cmp}
 use Rattle.step_tables.specs.ClientMoves.{TableDisk}
-use Rattle.step_tables.proofs.Lists.{same_row-is, same_row-refl}
+use Rattle.step_tables.proofs.Lists.{same_row-is}
 use Rattle.part_tables.specs.Parts.{Fragment, BringsDown}
 use Rattle.part_tables.specs.ClientParts.{Answering, Waits, is_of_table, without_table, waits_for}
 use Rattle.part_tables.specs.Arriving.{Arriving, Arrived, WholeRow, is_of_row, without_row, of_pull, is_awaited, waits_whole, arrived}
@@ -20,10 +20,10 @@ use Rattle.part_client.specs.declared.rows.TornRow.{TornRow}
 use Rattle.part_client.specs.declared.table.TableParts.{TableParts}
 use Rattle.part_client.specs.declared.taken.Taken.{Taken}
 use Rattle.part_client.specs.declared.taken.Taken.TheVariants as takens
-use Rattle.part_client.specs.Gathered.{GatheredRow, is_for, with_chunk, lacks_few}
+use Rattle.part_client.specs.Gathered.{GatheredRow, with_chunk}
 use Rattle.part_client.specs.Held.{IsHeldOf}
 use Rattle.part_client.specs.Weighing.{answering_of, whole_of}
-use Rattle.part_client.specs.Calls.{waits, is_pull_for, is_pull_whole, is_row_whole, may_complete, may_end, is_of_version, needs_row, let_go, pulls_grown, rows_grown, is_waited, grown_pull, grown_row}
+use Rattle.part_client.specs.Calls.{waits, is_pull_for, is_pull_whole, is_row_whole, may_complete, may_end, is_of_version, needs_row, pulls_grown, rows_grown, is_waited, grown_pull, grown_row}
 use Rattle.part_client.specs.Keeping.{KeepsPull, KeepsRows, KeepsTable, IsTakenAt, IsLeft}
 use Rattle.part_client.proofs.Filters.{filter_first, find_first, without_first, without_twice, find_of_filter, passes, other_find, others_found}
 use Rattle.part_client.proofs.Stands.{other_row}
@@ -89,7 +89,8 @@ module _ (f : Fragment) (xs : List WholeRow) (old new : tree.BTreeMap (List ℕ)
   new_at = (wrote.3 (ap is_some (sym at))).0
 
   -- where its row is looked for, and another
-  grown_at : (q : List ℕ) (b : Bool) → same_row f.row q ≡ b → find (is_of_row f.table q) (grown_whole ∷ without_row f.table f.row xs) ≡ cond b (Some grown_whole) (option_map whole_of (tree.get row_cmp old q))
+  grown_at : (q : List ℕ) (b : Bool) → same_row f.row q ≡ b → find (is_of_row f.table q) (grown_whole ∷ without_row f.table f.row xs) ≡ cond b (Some grown_whole) (option_map whole_of
+      (tree.get row_cmp old q))
   grown_at q true same =
       subst (λ (r : List ℕ). find (is_of_row f.table r) (grown_whole ∷ without_row f.table f.row xs) ≡ Some grown_whole) (same_row-is f.row q same)
       (find_first (is_of_row f.table f.row) grown_whole (without_row f.table f.row xs) row_its)
@@ -171,7 +172,8 @@ module _ (a : Arriving) (it : TableParts) (f : Fragment) (k : KeepsTable f.table
           → ((b : Arriving) (x : Answering) → KeepsTable f.table b parts → find (is_of_table f.table) b.pulls ≡ Some x → (is_whole x.slots ≡ true → IsHeldOf opened f.row view)
           → IfOk r (IsTakenAt f.table (of_pull f.table b (grown_pull opened f.table f.row b.pulls x)) left))
           → IfOk r (IsTakenAt f.table (arrived opened a (BringsDown f)) left)
-      pull_comes r left complete = IfOk-weaker r _ _ (λ told got. taken_as f.table _ _ left told (pull_brought opened a f one.0 found one.2) got) (complete with_behind behind keeps found_behind held_then)
+      pull_comes r left complete = IfOk-weaker r _ _ (λ told got. taken_as f.table _ _ left told (pull_brought opened a f one.0 found one.2) got)
+          (complete with_behind behind keeps found_behind held_then)
 
     pub pull_left : {X Y : Type 0} (r : Result X Y) (left : TableParts)
         → ((b : Arriving) → KeepsTable f.table b parts → OnErr r (KeepsTable f.table (record b { pulls = without_table f.table b.pulls }) left)) → OnErr r (IsLeft f.table a (BringsDown f) left)
@@ -205,12 +207,15 @@ module _ (a : Arriving) (it : TableParts) (f : Fragment) (k : KeepsTable f.table
       → IfOk r (IsTakenAt f.table (arrived opened a (BringsDown f)) left)
   row_comes opened r left got = IfOk-weaker r _ _ (λ told got. taken_as f.table _ _ left told (sym (to_the_row opened)) got) got
 
-  pub row_needs : (opened : TableDisk) (view : RowHeld) → (needs_row a (BringsDown f) ≡ true → IsHeldOf opened f.row view) → may_end f (find (is_of_row f.table f.row) a.rows) ≡ true → IsHeldOf opened f.row view
+  pub row_needs : (opened : TableDisk) (view : RowHeld) → (needs_row a (BringsDown f) ≡ true → IsHeldOf opened f.row view) → may_end f (find (is_of_row f.table f.row) a.rows) ≡ true
+      → IsHeldOf opened f.row view
   row_needs opened view h may = h (or_right (may_complete f (find (is_of_table f.table) a.pulls)) (may_end f (find (is_of_row f.table f.row) a.rows)) may)
 
-  pub row_left : {X Y : Type 0} (r : Result X Y) (left : TableParts) → OnErr r (KeepsTable f.table (record a { rows = without_row f.table f.row a.rows }) left) → OnErr r (IsLeft f.table a (BringsDown f) left)
+  pub row_left : {X Y : Type 0} (r : Result X Y) (left : TableParts) → OnErr r (KeepsTable f.table (record a { rows = without_row f.table f.row a.rows }) left)
+      → OnErr r (IsLeft f.table a (BringsDown f) left)
   row_left r left got = err_weaker r _ _ (λ kept. inr (subst (λ (b : Arriving). KeepsTable f.table b left)
-      (ap (λ (b : Bool). if b then record a { pulls = without_table f.table a.pulls } else record a { rows = without_row f.table f.row a.rows }) (sym (ap (is_awaited f) (pull_found f.table a it k) ∙ missed))) kept)) got
+      (ap (λ (b : Bool). if b then record a { pulls = without_table f.table a.pulls } else record a { rows = without_row f.table f.row a.rows }) (sym (ap (is_awaited f)
+      (pull_found f.table a it k) ∙ missed))) kept)) got
 
 -- an answer of another row or version doesn't wait for it
 pub not_for : (f : Fragment) (o : Option Answering) → is_pull_for f o ≡ false → is_awaited f o ≡ false
@@ -273,13 +278,15 @@ module _ (a : Arriving) (it : TableParts) (f : Fragment) (k : KeepsTable f.table
           → IfOk r (IsTakenAt f.table (grown_row opened f.table f.row b x) left))
           → IfOk r (IsTakenAt f.table (arrivals.brought_to opened a f (find (is_of_row f.table f.row) a.rows)) left)
       row_comes_whole r left complete =
-          IfOk-weaker r _ _ (λ told got. taken_as f.table _ _ left told (row_brought opened a f one_row.0 found_row one_row.2) got) (complete with_row_behind row_behind keeps_then found_then row_held_then)
+          IfOk-weaker r _ _ (λ told got. taken_as f.table _ _ left told (row_brought opened a f one_row.0 found_row one_row.2) got)
+          (complete with_row_behind row_behind keeps_then found_then row_held_then)
 
     pub row_is_left : {X Y : Type 0} (r : Result X Y) (left : TableParts)
         → ((b : Arriving) → KeepsTable f.table b parts_then → OnErr r (KeepsTable f.table (record b { rows = without_row f.table f.row b.rows }) left))
         → OnErr r (KeepsTable f.table (record a { rows = without_row f.table f.row a.rows }) left)
     row_is_left r left complete =
-        err_weaker r _ _ (λ kept. subst (λ (b : Arriving). KeepsTable f.table b left) (ap (λ (l : List WholeRow). record a { rows = l }) (without_first (is_of_row f.table f.row) row_behind (without_row f.table f.row a.rows) its_row ∙ without_twice (is_of_row f.table f.row) a.rows)) kept)
+        err_weaker r _ _ (λ kept. subst (λ (b : Arriving). KeepsTable f.table b left) (ap (λ (l : List WholeRow). record a { rows = l }) (without_first (is_of_row f.table f.row) row_behind
+        (without_row f.table f.row a.rows) its_row ∙ without_twice (is_of_row f.table f.row) a.rows)) kept)
         (complete with_row_behind keeps_then)
 
   module _ (missed : is_waited f (option_map whole_of (tree.get row_cmp it.rows f.row)) ≡ false) where
@@ -294,9 +301,11 @@ module _ (a : Arriving) (it : TableParts) (f : Fragment) (k : KeepsTable f.table
       torn = k.torn;
     }
 
-    unmoved : (opened : TableDisk) (o : Option WholeRow) → find (is_of_row f.table f.row) a.rows ≡ o → is_waited f o ≡ false → arrivals.brought_to opened a f (find (is_of_row f.table f.row) a.rows) ≡ record { taken = Waits; arriving = a }
+    unmoved : (opened : TableDisk) (o : Option WholeRow) → find (is_of_row f.table f.row) a.rows ≡ o → is_waited f o ≡ false
+        → arrivals.brought_to opened a f (find (is_of_row f.table f.row) a.rows) ≡ record { taken = Waits; arriving = a }
     unmoved opened None there e = no_row opened a f there
     unmoved opened (Some x) there e = row_unmoved opened a f x there e
 
     pub row_missed : (opened : TableDisk) → IsTakenAt f.table (arrivals.brought_to opened a f (find (is_of_row f.table f.row) a.rows)) parts_then takens.Waits
-    row_missed opened = taken_as f.table _ _ parts_then _ (sym (unmoved opened (option_map whole_of (tree.get row_cmp it.rows f.row)) (k.rows f.row) missed)) (nothing_changes f.table a parts_then keeps_still)
+    row_missed opened = taken_as f.table _ _ parts_then _ (sym (unmoved opened (option_map whole_of (tree.get row_cmp it.rows f.row)) (k.rows f.row) missed))
+        (nothing_changes f.table a parts_then keeps_still)

@@ -73,7 +73,8 @@ module _ {X : Type 0} (p : X → Bool) where
       first : (a b : X) (l : List X) → a ∷ l ≡ b ∷ [] → a ≡ b
       first a b l h = cc
 
-      one : (b : Bool) → p x ≡ b → (o : Option X) → cond (p x) (x ∷ filter p xs) (filter p xs) ≡ option_to_list o → (filter p xs ≡ option_to_list o → find p xs ≡ o) → cond (p x) (Some x) (find p xs) ≡ o
+      one : (b : Bool) → p x ≡ b → (o : Option X) → cond (p x) (x ∷ filter p xs) (filter p xs) ≡ option_to_list o → (filter p xs ≡ option_to_list o → find p xs ≡ o)
+          → cond (p x) (Some x) (find p xs) ≡ o
       one true is None h more = absurd (let bad : x ∷ filter p xs ≡ [] = ap (λ (b : Bool). cond b (x ∷ filter p xs) (filter p xs)) (sym is) ∙ h in cc)
       one true is (Some y) h more =
           let whole : x ∷ filter p xs ≡ y ∷ [] = ap (λ (b : Bool). cond b (x ∷ filter p xs) (filter p xs)) (sym is) ∙ h in
@@ -105,9 +106,6 @@ module _ {X : Type 0} (p : X → Bool) where
     pub others_among : (xs : List X) → list_any q (without xs) ≡ list_any q xs
     others_among [] = refl
     others_among (x ∷ xs) = others_any x (p x) refl (without xs) ∙ ap (λ (b : Bool). q x || b) (others_among xs)
-
-    pub other_first : (x : X) (xs : List X) → p x ≡ true → filter q (x ∷ xs) ≡ filter q xs
-    other_first x xs is = ap (λ (b : Bool). cond b (x ∷ filter q xs) (filter q xs)) (apart x is)
 
     pub other_find : (x : X) (xs : List X) → p x ≡ true → find q (x ∷ xs) ≡ find q xs
     other_find x xs is = ap (λ (b : Bool). cond b (Some x) (find q xs)) (apart x is)

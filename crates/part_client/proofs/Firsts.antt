@@ -1,5 +1,5 @@
 -- First places, and lengths by names, of one held chunk more.
-use Rattle.std.proofs.Common.{◌≡◌, ℕ, zero, suc, ◌+◌, ◌<◌, ◌≤◌, Bool, true, false, cond, List, [], ◌∷◌, ◌++◌, length, take, get_or, Option, Some, None, refl, sym, ap, ◌∙◌, arith, subst}
+use Rattle.std.proofs.Common.{◌≡◌, ℕ, zero, suc, ◌+◌, ◌<◌, Bool, true, false, cond, List, [], ◌∷◌, ◌++◌, length, take, get_or, Option, Some, None, refl, sym, ap, ◌∙◌, arith}
 use Rattle.std.specs.Prelude.{◌==◌, ◌&&◌, ◌||◌, is_some, option_map, slice_get}
 use Rattle.std.specs.List.{list_any, find}
 use Rattle.std.specs.BTreeMap as tree
@@ -7,7 +7,7 @@ use Rattle.std.specs.BTreeMap.{is_at}
 use Rattle.std.specs.BTreeSet as set
 use Rattle.std.proofs.lemmas.Bool.Decides.{nat_tests}
 use Rattle.std.proofs.lemmas.List.Folds.{list_any-append}
-use Rattle.std.proofs.lemmas.List.{take_more, take_all}
+use Rattle.std.proofs.lemmas.List.{take_more}
 use Rattle.stab_base.specs.declared.chunk_name.ChunkName.{ChunkName}
 use Rattle.step_tables.specs.Chunks.{name_cmp, same_name}
 use Rattle.part_tables.specs.ClientParts.{Held, is_under, bytes_in, bytes_of}
@@ -81,8 +81,10 @@ module _ (held : List Held) (places next : tree.BTreeMap ChunkName ℕ) (i : ℕ
   one_found q b under at =
       at
       ∙ (ap (λ (o : Option ℕ). cond (is_some o) o (cond b (Some i) None)) (so_far q)
-      ∙ (ap (λ (n : ℕ). cond (is_some (first_place (λ (x : Held). is_under q x.0) (take i held))) (first_place (λ (x : Held). is_under q x.0) (take i held)) (cond b (Some n) None)) (sym (length_up held i within))
-      ∙ (ap (λ (c : Bool). cond (is_some (first_place (λ (x : Held). is_under q x.0) (take i held))) (first_place (λ (x : Held). is_under q x.0) (take i held)) (cond c (Some (length (take i held))) None)) (sym under)
+      ∙ (ap (λ (n : ℕ). cond (is_some (first_place (λ (x : Held). is_under q x.0) (take i held))) (first_place (λ (x : Held). is_under q x.0) (take i held)) (cond b (Some n) None)) (sym
+      (length_up held i within))
+      ∙ (ap (λ (c : Bool). cond (is_some (first_place (λ (x : Held). is_under q x.0) (take i held))) (first_place (λ (x : Held). is_under q x.0) (take i held)) (cond c (Some (length
+      (take i held))) None)) (sym under)
       ∙ (sym (place_behind (λ (x : Held). is_under q x.0) (take i held) own)
       ∙ ap (first_place (λ (x : Held). is_under q x.0)) (sym (up_to held i own e within is))))))
 
@@ -90,25 +92,12 @@ module _ (held : List Held) (places next : tree.BTreeMap ChunkName ℕ) (i : ℕ
       → ArePlaces (take (i + 1) held) next
   place_more at q = one_found q (is_under q own.0) refl (at q)
 
--- a chunk that has a name, and one that has none
-pub named_place : (name q : ChunkName) (o : Option ℕ) (place : ℕ) → cond (is_some o) o (cond (is_at (name_cmp name) q) (Some place) None) ≡ cond (is_some o) o (cond (same_name name q) (Some place) None)
-named_place name q o place = ap (λ (b : Bool). cond (is_some o) o (cond b (Some place) None)) (name_test name q)
-
-pub no_place : (o : Option ℕ) → o ≡ cond (is_some o) o None
-no_place None = refl
-no_place (Some n) = refl
-
-pub all_places : (held : List Held) (places : tree.BTreeMap ChunkName ℕ) (i : ℕ) → length held ≤ i → ArePlaces (take i held) places → ArePlaces held places
-all_places held places i le so_far q = so_far q ∙ ap (first_place (λ (x : Held). is_under q x.0)) (take_all i held le)
-
-pub all_lens : (held : List Held) (lens : set.BTreeSet (ChunkName × ℕ)) (i : ℕ) → length held ≤ i → AreLens (take i held) lens → AreLens held lens
-all_lens held lens i le so_far q k = so_far q k ∙ ap (list_any (is_named_len q k)) (take_all i held le)
-
 len_test : (name : ChunkName) (len : ℕ) (q : ChunkName) (k : ℕ) → is_at (named_len_cmp (name, len)) (q, k) ≡ (same_name name q && (len == k))
 len_test name len q k = grind (arith, nat_tests)
 
 module _ (held : List Held) (lens next : set.BTreeSet (ChunkName × ℕ)) (i : ℕ) (own e : Held) (within : i < length held) (is : own ≡ get_or held i e) (so_far : AreLens (take i held) lens) where
-  one_len : (q : ChunkName) (k : ℕ) → set.contains named_len_cmp next (q, k) ≡ (list_any (is_named_len q k) (take i held) || is_named_len q k own) → set.contains named_len_cmp next (q, k) ≡ list_any (is_named_len q k) (take (i + 1) held)
+  one_len : (q : ChunkName) (k : ℕ) → set.contains named_len_cmp next (q, k) ≡ (list_any (is_named_len q k) (take i held) || is_named_len q k own)
+      → set.contains named_len_cmp next (q, k) ≡ list_any (is_named_len q k) (take (i + 1) held)
   one_len q k at =
       at ∙ (ap (λ (b : Bool). list_any (is_named_len q k) (take i held) || b) (sym (or_false (is_named_len q k own)))
       ∙ (sym (list_any-append (is_named_len q k) (take i held) (own ∷ [])) ∙ ap (list_any (is_named_len q k)) (sym (up_to held i own e within is))))
@@ -126,13 +115,10 @@ either_way true false = refl
 either_way false true = refl
 either_way false false = refl
 
-pub named_len : (name q : ChunkName) (len k : ℕ) (bytes : List ℕ) (b : Bool) → len ≡ length bytes → cond (is_at (named_len_cmp (name, len)) (q, k)) true b ≡ (b || (same_name name q && (length bytes == k)))
+pub named_len : (name q : ChunkName) (len k : ℕ) (bytes : List ℕ) (b : Bool) → len ≡ length bytes
+    → cond (is_at (named_len_cmp (name, len)) (q, k)) true b ≡ (b || (same_name name q && (length bytes == k)))
 named_len name q len k bytes b long =
     ap (λ (c : Bool). cond c true b) (len_test name len q k ∙ ap (λ (n : ℕ). same_name name q && (n == k)) long) ∙ either_way (same_name name q && (length bytes == k)) b
-
-pub no_len : (b : Bool) → b ≡ (b || false)
-no_len true = refl
-no_len false = refl
 
 -- ---- the bytes of a name
 

@@ -1,13 +1,12 @@
 -- What is kept of all tables behind a change of one.
-use Rattle.std.proofs.Common.{◌≡◌, ℕ, Bool, true, false, not, cond, List, [], ◌∷◌, Option, Some, None, refl, sym, ap, ◌∙◌, subst, inl, inr, arith}
-use Rattle.std.specs.Prelude.{◌==◌, ◌&&◌, filter, is_some, if◌then◌else◌}
-use Rattle.std.specs.List.{find, list_any, list_all}
-use Rattle.std.specs.Map.{lookup}
+use Rattle.std.proofs.Common.{◌≡◌, ℕ, Bool, true, false, cond, List, [], ◌∷◌, Option, Some, None, refl, sym, ap, ◌∙◌, subst, inl, inr, arith}
+use Rattle.std.specs.Prelude.{◌==◌, ◌&&◌, is_some, if◌then◌else◌}
+use Rattle.std.specs.List.{find, list_any}
 use Rattle.std.specs.BTreeMap as tree
 use Rattle.std.specs.BTreeMap.{is_at}
 use Rattle.std.specs.Ordering.{nat_cmp}
 use Rattle.std.specs.Cmp.{unsigned_tied}
-use Rattle.std.proofs.lemmas.Bool.{and_parts, eqb-true}
+use Rattle.std.proofs.lemmas.Bool.{eqb-true}
 use Rattle.std.proofs.lemmas.Bool.Decides.{nat_tests}
 use Rattle.table_model.specs.History.{same_row}
 use Rattle.chunker.specs.Sized.{sized}
@@ -21,12 +20,13 @@ use Rattle.step_tables.proofs.Lists.{same_row-refl}
 use Rattle.part_tables.specs.Parts.{Part, Asks, Responds, Pulls, Answers, BringsUp, BringsDown, AsksTorn, AnswersTorn, RowHead, PulledHead, TornHead, Fragment}
 use Rattle.part_tables.specs.ClientParts.{Answering, Waits, Whole, ClientTaken, is_of_table, without_table, names_in, sends_of, held_in, waits_for}
 use Rattle.part_tables.specs.ClientParts as at_client
-use Rattle.part_tables.specs.Arriving.{Arriving, Arrived, WholeRow, nothing_arriving, is_of_row, without_row, same_torn, with_all_torn, torn_answer, unfinished, asking, of_pull, is_awaited, waits_whole, arrived}
+use Rattle.part_tables.specs.Arriving.{Arriving, Arrived, WholeRow, nothing_arriving, is_of_row, without_row, same_torn}
+use Rattle.part_tables.specs.Arriving.{with_all_torn, torn_answer, unfinished, asking, of_pull, is_awaited, waits_whole, arrived}
 use Rattle.part_tables.specs.Arriving as arrivals
 use Rattle.part_client.specs.declared.arriving.Arriving as kept
 use Rattle.part_client.specs.declared.table.TableParts.{TableParts}
-use Rattle.part_client.specs.Weighing.{WholeTaken, pull_weighed, row_weighed}
-use Rattle.part_client.specs.Calls.{table_of, let_go, pull_settled, row_settled}
+use Rattle.part_client.specs.Weighing.{pull_weighed, row_weighed}
+use Rattle.part_client.specs.Calls.{table_of, let_go}
 use Rattle.part_client.specs.declared.taken.Taken.{Taken}
 use Rattle.part_client.specs.Keeping.{Keeps, KeepsIn, KeepsTable, HasNothing, IsTaken, IsTakenAt, IsLeft, IsKept}
 use Rattle.part_client.proofs.Filters.{others_stay, others_found, passes}
@@ -37,9 +37,6 @@ use Rattle.part_client.proofs.Arrivals.{weighed_is, of_its_table, of_its_row, ro
 
 pub nothing_of : (table : ℕ) → HasNothing table nothing_arriving
 nothing_of table = record { pull = refl; rows = λ row. refl; torn = λ row. refl }
-
-pub none_kept : (it : kept.Arriving) → it.tables.entries ≡ [] → Keeps it nothing_arriving
-none_kept it none = record { tables = λ table. subst (λ (es : List (ℕ × TableParts)). KeepsIn table nothing_arriving (lookup (is_at (nat_cmp table)) es)) (sym none) (nothing_of table) }
 
 -- ---- of a table
 
@@ -78,10 +75,6 @@ none_changed old new table a b k e same none here = record { tables = λ q. subs
     one q true is = subst (λ (n : ℕ). KeepsIn n b (tree.get nat_cmp old.tables n)) (eqb-true table q is) (subst (λ (o : Option TableParts). KeepsIn table b o) (sym none) here)
     one q false is = still_there table a b e q (turn q is) (tree.get nat_cmp old.tables q) (k.tables q)
 
--- the same tables
-pub same_tables : (old new : kept.Arriving) (a : Arriving) → new.tables.entries ≡ old.tables.entries → Keeps old a → Keeps new a
-same_tables old new a same k = record { tables = λ table. subst (λ (es : List (ℕ × TableParts)). KeepsIn table a (lookup (is_at (nat_cmp table)) es)) (sym same) (k.tables table) }
-
 -- ---- what a part makes of the other tables
 
 module _ (opened : TableDisk) (a : Arriving) where
@@ -96,7 +89,8 @@ module _ (opened : TableDisk) (a : Arriving) where
       one true =
           subst (λ (w : ClientTaken). Elsewhere head.table a (of_pull head.table a w).arriving) (sym (weighed_is opened.schema.chunk (slots_at opened row.row) (without_table head.table a.pulls) x))
           (pull_else head.table a (pull_weighed opened.schema.chunk (top (slots_at opened row.row).conflict (slots_at opened row.row).shadow) (held_in opened.schema.chunk (slots_at opened row.row)) x)
-          (of_its_table head.table opened.schema.chunk (top (slots_at opened row.row).conflict (slots_at opened row.row).shadow) (held_in opened.schema.chunk (slots_at opened row.row)) x (same_number head.table)))
+          (of_its_table head.table opened.schema.chunk (top (slots_at opened row.row).conflict (slots_at opened row.row).shadow) (held_in opened.schema.chunk (slots_at opened row.row)) x
+          (same_number head.table)))
       one false = nothing_else head.table a
 
   torn_answered_else : (head : TornHead) (header : Option RowHead) → Elsewhere head.table a (arrivals.answered opened a head header).arriving
@@ -128,7 +122,8 @@ module _ (opened : TableDisk) (a : Arriving) where
         y = record x { slots = taken f.column f.place f.bytes x.slots }
 
         one : (b c : Bool) → Elsewhere f.table a (of_pull f.table a (if b then (if c then at_client.weighed opened.schema.chunk (slots_at opened f.row) (without_table f.table a.pulls)
-            (record x { slots = taken f.column f.place f.bytes x.slots }) else record { taken = Waits; answerings = record x { slots = taken f.column f.place f.bytes x.slots } ∷ without_table f.table a.pulls })
+            (record x { slots = taken f.column f.place f.bytes x.slots })
+            else record { taken = Waits; answerings = record x { slots = taken f.column f.place f.bytes x.slots } ∷ without_table f.table a.pulls })
             else record { taken = Waits; answerings = a.pulls })).arriving
         one false c = nothing_else f.table a
         one true true =
@@ -147,7 +142,8 @@ module _ (opened : TableDisk) (a : Arriving) where
         is : is_of_row f.table f.row y ≡ true
         is = its x refl
 
-        one : (b c : Bool) → Elsewhere f.table a (if b then (if c then arrivals.weighed (slots_at opened f.row) a (without_row f.table f.row a.rows) (record x { slots = taken f.column f.place f.bytes x.slots })
+        one : (b c : Bool) → Elsewhere f.table a (if b then (if c then arrivals.weighed (slots_at opened f.row) a (without_row f.table f.row a.rows)
+            (record x { slots = taken f.column f.place f.bytes x.slots })
             else record { taken = Waits; arriving = record a { rows = record x { slots = taken f.column f.place f.bytes x.slots } ∷ without_row f.table f.row a.rows } })
             else record { taken = Waits; arriving = a }).arriving
         one false c = nothing_else f.table a
@@ -162,7 +158,8 @@ module _ (opened : TableDisk) (a : Arriving) where
     brought_else None its = rows_else (find (is_of_row f.table f.row) a.rows) (λ x e. passes (is_of_row f.table f.row) a.rows x e)
     brought_else (Some x) its = one (waits_for f x)
       where
-        one : (b : Bool) → Elsewhere f.table a (if b then of_pull f.table a (at_client.brought_to opened a.pulls f (Some x)) else arrivals.brought_to opened a f (find (is_of_row f.table f.row) a.rows)).arriving
+        one : (b : Bool) → Elsewhere f.table a (if b then of_pull f.table a (at_client.brought_to opened a.pulls f (Some x)) else arrivals.brought_to opened a f (find
+            (is_of_row f.table f.row) a.rows)).arriving
         one true = pulled_else x (its x refl)
         one false = rows_else (find (is_of_row f.table f.row) a.rows) (λ x e. passes (is_of_row f.table f.row) a.rows x e)
 

@@ -1,15 +1,14 @@
 -- How many chunks lack, behind one more.
-use Rattle.std.proofs.Common.{◌≡◌, ◌⊎◌, ℕ, zero, suc, ◌+◌, ◌<◌, ◌≤◌, Bool, true, false, List, [], ◌∷◌, length, Some, None, refl, sym, ap, ◌∙◌, arith, inl, inr, subst}
-use Rattle.std.specs.Prelude.{◌==◌, ◌&&◌, ◌||◌, nat_le, cond, map, is_none, is_some, count_by, if◌then◌else◌}
-use Rattle.std.specs.List.{AllByRecursion, list_any, list_all}
+use Rattle.std.proofs.Common.{◌≡◌, ℕ, ◌+◌, ◌<◌, ◌≤◌, Bool, true, false, List, [], ◌∷◌, length, Some, None, refl, sym, ap, ◌∙◌, arith, inl, inr, subst}
+use Rattle.std.specs.Prelude.{◌==◌, ◌&&◌, ◌||◌, nat_le, cond, is_none, if◌then◌else◌}
+use Rattle.std.specs.List.{AllByRecursion}
 use Rattle.std.proofs.lemmas.Bool.Decides.{nat_tests}
 use Rattle.std.proofs.lemmas.List.Sums.{sum_by-cons}
 use Rattle.assemblies.specs.declared.awaiting.Awaited.{Awaited}
 use Rattle.assemblies.specs.Places.{IsBefore, Rises}
 use Rattle.assemblies.specs.Gathering.{Slot, waiting, stands_at, has_place, is_lacking, taken, takes, is_whole}
-use Rattle.assemblies.proofs.Listing.{both_left}
 use Rattle.assemblies.proofs.Mixes.{places, places_stay, places_waiting}
-use Rattle.part_client.specs.Gathered.{GatheredRow, IsGathered, with_chunk, lacking, lacks_few}
+use Rattle.part_client.specs.Gathered.{GatheredRow, IsGathered, with_chunk, lacking}
 
 lacking_more : (slot : Slot) (slots : List Slot) → lacking (slot ∷ slots) ≡ cond (is_none slot.1) 1 0 + lacking slots
 lacking_more slot slots = sum_by-cons (λ (s : Slot). cond (is_none s.1) 1 0) slot slots

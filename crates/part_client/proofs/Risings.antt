@@ -16,7 +16,7 @@ use Rattle.table_model.specs.History.{same_row}
 use Rattle.step_tables.specs.Client.{row_cmp}
 use Rattle.step_tables.proofs.Lists.{same_row-is, same_row-refl}
 use Rattle.part_tables.specs.ClientParts.{Answering, is_of_table}
-use Rattle.part_tables.specs.Arriving.{Arriving, WholeRow, is_of_row, same_torn, with_torn, with_all_torn, rising_rows, unfinished, asking, torn_rows}
+use Rattle.part_tables.specs.Arriving.{Arriving, WholeRow, is_of_row, same_torn, with_all_torn, rising_rows, unfinished, asking, torn_rows}
 use Rattle.part_client.specs.declared.pulls.Pulling.{Pulling}
 use Rattle.part_client.specs.declared.table.TableParts.{TableParts}
 use Rattle.part_client.specs.Weighing.{answering_of, whole_of}
@@ -198,7 +198,8 @@ module _ (table : ℕ) where
   all_torn q [] torn = refl
   all_torn q (row ∷ rows) torn =
       torn_more table (with_all_torn table rows torn) row q
-      ∙ (ap (λ (b : Bool). cond (same_row row q) true b) (all_torn q rows torn) ∙ (ap (λ (b : Bool). cond b true (has q rows || list_any (same_torn table q) torn)) (turned row q) ∙ either (same_row q row) (has q rows) (list_any (same_torn table q) torn)))
+      ∙ (ap (λ (b : Bool). cond (same_row row q) true b) (all_torn q rows torn) ∙ (ap (λ (b : Bool). cond b true (has q rows || list_any (same_torn table q) torn)) (turned row q) ∙ either
+      (same_row q row) (has q rows) (list_any (same_torn table q) torn)))
     where
       either : (a b c : Bool) → cond a true (b || c) ≡ ((a || b) || c)
       either true b c = refl
@@ -211,8 +212,10 @@ module _ (table : ℕ) where
         waits q
         ∙ (swap (is_some (tree.get row_cmp it.rows q)) (is_pulled_row it.pull q)
         ∙ (ap (λ (b : Bool). b || is_some (tree.get row_cmp it.rows q)) (sym (ap (λ (l : List Answering). has q (map (λ (x : Answering). x.row.row) l)) keeps.pull ∙ pulled_rows q it.pull))
-        ∙ (ap (λ (b : Bool). has q (map (λ (x : Answering). x.row.row) (filter (is_of_table table) a.pulls)) || b) (sym (asked_rows q a.rows ∙ (ap is_some (keeps.rows q) ∙ mapped whole_of (tree.get row_cmp it.rows q))))
-        ∙ sym (list_any-append (is_at (row_cmp q)) (map (λ (x : Answering). x.row.row) (filter (is_of_table table) a.pulls)) (map (λ (x : WholeRow). x.head.row) (filter (λ (x : WholeRow). x.head.table == table) a.rows))))))
+        ∙ (ap (λ (b : Bool). has q (map (λ (x : Answering). x.row.row) (filter (is_of_table table) a.pulls)) || b) (sym (asked_rows q a.rows ∙ (ap is_some (keeps.rows q) ∙ mapped whole_of
+        (tree.get row_cmp it.rows q))))
+        ∙ sym (list_any-append (is_at (row_cmp q)) (map (λ (x : Answering). x.row.row) (filter (is_of_table table) a.pulls)) (map (λ (x : WholeRow). x.head.row) (filter (λ
+        (x : WholeRow). x.head.table == table) a.rows))))))
       where
         swap : (b c : Bool) → (b || c) ≡ (c || b)
         swap true true = refl
@@ -227,7 +230,8 @@ module _ (table : ℕ) where
     pub tears_are : IsStrictlySortedBy row_cmp (set.keys tears) → set.keys tears ≡ unfinished table a
     tears_are sorted = rising_is (set.keys tears) _ sorted has_tears
 
-    module _ (sorted : IsStrictlySortedBy row_cmp (set.keys tears)) (torn : set.BTreeSet (List ℕ)) (both : (q : List ℕ) → set.contains row_cmp torn q ≡ (set.contains row_cmp it.torn q || set.contains row_cmp tears q)) where
+    module _ (sorted : IsStrictlySortedBy row_cmp (set.keys tears)) (torn : set.BTreeSet (List ℕ)) (both : (q : List ℕ)
+        → set.contains row_cmp torn q ≡ (set.contains row_cmp it.torn q || set.contains row_cmp tears q)) where
       pub torn_are : KeepsTorn table (with_all_torn table (unfinished table a) a.torn) torn
       torn_are q =
           all_torn q (unfinished table a) a.torn
@@ -253,7 +257,8 @@ unfolding IsStrictlySortedBy
 none_sorted = tt
 
 module _ (table : ℕ) (a : Arriving) (h : HasNothing table a) where
-  none_has : (q : List ℕ) → has q (map (λ (x : Answering). x.row.row) (filter (is_of_table table) a.pulls) ++ map (λ (x : WholeRow). x.head.row) (filter (λ (x : WholeRow). x.head.table == table) a.rows)) ≡ false
+  none_has : (q : List ℕ) → has q (map (λ (x : Answering). x.row.row) (filter (is_of_table table) a.pulls) ++ map (λ (x : WholeRow). x.head.row) (filter (λ
+      (x : WholeRow). x.head.table == table) a.rows)) ≡ false
   none_has q =
       ap (λ (l : List Answering). has q (map (λ (x : Answering). x.row.row) l ++ map (λ (x : WholeRow). x.head.row) (filter (λ (x : WholeRow). x.head.table == table) a.rows))) h.pull
       ∙ (asked_rows table q a.rows ∙ ap is_some (h.rows q))

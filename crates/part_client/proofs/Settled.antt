@@ -1,30 +1,24 @@
 -- What is settled of a table stands.
-use Rattle.std.proofs.Common.{◌≡◌, ◌⊎◌, ℕ, Bool, true, false, not, cond, List, [], ◌∷◌, ◌++◌, Option, Some, None, refl, sym, ap, ◌∙◌, subst, inl, inr}
-use Rattle.std.specs.Prelude.{◌==◌, ◌&&◌, ◌||◌, filter, option_map, option_to_list, if◌then◌else◌, Result, Ok, Err, IfOk, OnOk, OnErr}
-use Rattle.std.specs.List.{find, list_any, list_all}
+use Rattle.std.proofs.Common.{◌≡◌, ℕ, true, false, cond, List, [], ◌∷◌, Some, None, refl, sym, ap, ◌∙◌, subst}
+use Rattle.std.specs.Prelude.{option_map, Result, Ok, Err, IfOk, OnOk, OnErr}
+use Rattle.std.specs.List.{find, list_all}
 use Rattle.std.specs.BTreeMap as tree
 use Rattle.std.specs.BTreeMap.{is_at}
 use Rattle.std.specs.BTreeSet as set
-use Rattle.std.specs.Ordering.{nat_cmp}
-use Rattle.std.proofs.lemmas.Bool.{and_parts, eqb-true}
-use Rattle.std.specs.Cmp.{unsigned_tied}
-use Rattle.table_model.specs.History.{same_row}
+use Rattle.std.proofs.lemmas.Bool.{and_parts}
 use Rattle.step_tables.specs.Client.{row_cmp}
-use Rattle.step_tables.specs.ClientMoves.{TableDisk}
 use Rattle.step_tables.specs.Travels.{message_of}
 use Rattle.step_tables.specs.declared.message.Message.{Message}
 use Rattle.part_tables.specs.ClientParts.{Answering, Whole, Tears, Waits, is_of_table, without_table}
-use Rattle.part_tables.specs.Arriving.{Arriving, Arrived, WholeRow, is_of_row, without_row, with_torn, nothing_arriving}
-use Rattle.part_tables.specs.Arriving as arrivals
+use Rattle.part_tables.specs.Arriving.{Arriving, Arrived, WholeRow, is_of_row, without_row}
 use Rattle.part_client.specs.declared.pulls.Pulling.{Pulling}
 use Rattle.part_client.specs.declared.rows.TornRow.{TornRow}
-use Rattle.part_client.specs.declared.rows.RowAsked.{RowAsked}
 use Rattle.part_client.specs.declared.taken.Taken.{Taken}
 use Rattle.part_client.specs.declared.taken.Taken.TheVariants as takens
 use Rattle.part_client.specs.declared.table.TableParts.{TableParts}
 use Rattle.part_client.specs.Weighing.{answering_of, whole_of}
-use Rattle.part_client.specs.Calls.{pull_settled, row_settled, torn_head}
-use Rattle.part_client.specs.Keeping.{KeepsTable, KeepsRows, KeepsTorn, HasNothing, IsTakenAt}
+use Rattle.part_client.specs.Calls.{pull_settled, row_settled}
+use Rattle.part_client.specs.Keeping.{KeepsTable, IsTakenAt}
 use Rattle.part_client.proofs.Filters.{find_of_filter}
 use Rattle.part_client.proofs.Stands.{no_pull, pull_put, row_gone, row_put, torn_put, torn_gone}
 
@@ -60,14 +54,6 @@ module _ (table : ℕ) (a : Arriving) (it : TableParts) (k : KeepsTable table a 
       taken = refl;
       kept = record { pull = k.pull; rows = row_put table row it.rows rows a.rows k.rows x (and_parts (is_of_row table row (whole_of x)) true all).0 put; torn = k.torn };
     }
-
-  pub torn_stands : (row : List ℕ) (torn : set.BTreeSet (List ℕ)) → ((q : List ℕ) → set.contains row_cmp torn q ≡ cond (is_at (row_cmp row) q) true (set.contains row_cmp it.torn q))
-      → KeepsTable table (record a { torn = with_torn table row a.torn }) (record it { torn = torn })
-  torn_stands row torn at = record { pull = k.pull; rows = k.rows; torn = torn_put table row it.torn torn a.torn k.torn at }
-
-  -- the same sets and maps by their look-ups
-  pub same_torn_set : (torn : set.BTreeSet (List ℕ)) → torn.keys ≡ it.torn.keys → KeepsTable table a (record it { torn = torn })
-  same_torn_set torn e = record { pull = k.pull; rows = k.rows; torn = λ q. k.torn q ∙ ap (list_any (is_at (row_cmp q))) (sym e) }
 
   pub no_pull_stands : KeepsTable table (record a { pulls = without_table table a.pulls }) (record it { pull = None })
   no_pull_stands = record { pull = no_pull table a.pulls; rows = k.rows; torn = k.torn }

@@ -1,26 +1,25 @@
 -- What is kept of a table behind one change.
-use Rattle.std.proofs.Common.{◌≡◌, ℕ, Bool, true, false, not, cond, List, [], ◌∷◌, ◌++◌, Option, Some, None, refl, sym, ap, ◌∙◌, subst, arith}
-use Rattle.std.specs.Prelude.{◌==◌, ◌&&◌, ◌||◌, filter, option_map, option_to_list, if◌then◌else◌}
+use Rattle.std.proofs.Common.{◌≡◌, ℕ, Bool, true, false, cond, List, [], ◌∷◌, ◌++◌, Option, Some, None, refl, sym, ap, ◌∙◌, subst, arith}
+use Rattle.std.specs.Prelude.{◌==◌, ◌&&◌, ◌||◌, filter, option_map, if◌then◌else◌}
 use Rattle.std.specs.List.{find, list_any, list_all}
 use Rattle.std.specs.BTreeMap as tree
 use Rattle.std.specs.BTreeMap.{is_at}
 use Rattle.std.specs.BTreeSet as set
-use Rattle.std.proofs.lemmas.Bool.{and_parts, eqb-true}
+use Rattle.std.proofs.lemmas.Bool.{and_parts}
 use Rattle.std.proofs.lemmas.Bool.Decides.{nat_tests}
-use Rattle.std.proofs.lemmas.List.Elements.{filter-append}
 use Rattle.table_model.specs.History.{same_row}
 use Rattle.step_tables.specs.Client.{row_cmp}
-use Rattle.step_tables.proofs.Lists.{same_row-is, same_row-refl}
+use Rattle.step_tables.proofs.Lists.{same_row-is}
 use Rattle.part_tables.specs.ClientParts.{Answering, ClientTaken, is_of_table, without_table}
 use Rattle.part_tables.specs.ClientParts as at_client
-use Rattle.part_tables.specs.Arriving.{Arriving, Arrived, WholeRow, is_of_row, without_row, same_torn, with_torn, without_torn, torn_by, of_pull}
+use Rattle.part_tables.specs.Arriving.{Arriving, WholeRow, is_of_row, without_row, same_torn, with_torn, without_torn, torn_by}
 use Rattle.part_client.specs.declared.pulls.Pulling.{Pulling}
 use Rattle.part_client.specs.declared.rows.TornRow.{TornRow}
 use Rattle.part_client.specs.declared.table.TableParts.{TableParts}
 use Rattle.part_client.specs.Weighing.{WholeTaken, answering_of, whole_of}
 use Rattle.part_client.specs.Calls.{pull_settled, row_settled, mended}
-use Rattle.part_client.specs.Keeping.{KeepsPull, KeepsRows, KeepsTorn, KeepsTable, HasNothing, KeepsIn}
-use Rattle.part_client.proofs.Filters.{none_left, none_found, none_among, filter_first, find_first, others_stay, others_found, others_among, other_first, other_find}
+use Rattle.part_client.specs.Keeping.{KeepsPull, KeepsRows, KeepsTorn, KeepsIn}
+use Rattle.part_client.proofs.Filters.{none_left, none_found, none_among, filter_first, find_first, others_stay, others_found, others_among, other_find}
 
 pub same_number : (n : ℕ) → (n == n) ≡ true
 same_number n = grind (arith, nat_tests)
@@ -98,10 +97,12 @@ module _ (table : ℕ) where
       one true is true same =
           ap (λ (b : Bool). list_any (same_torn table q) (if b then torn else (table, row) ∷ torn)) is
           ∙ (subst (λ (r : List ℕ). list_any (same_torn table r) torn ≡ true) (same_row-is row q same) is ∙ ap (λ (b : Bool). cond b true (list_any (same_torn table q) torn)) (sym same))
-      one true is false same = ap (λ (b : Bool). list_any (same_torn table q) (if b then torn else (table, row) ∷ torn)) is ∙ ap (λ (b : Bool). cond b true (list_any (same_torn table q) torn)) (sym same)
+      one true is false same = ap (λ (b : Bool). list_any (same_torn table q) (if b then torn else (table, row) ∷ torn)) is ∙ ap (λ (b : Bool). cond b true (list_any
+          (same_torn table q) torn)) (sym same)
       one false is c same =
           ap (λ (b : Bool). list_any (same_torn table q) (if b then torn else (table, row) ∷ torn)) is
-          ∙ (ap (λ (b : Bool). b || list_any (same_torn table q) torn) (here c same) ∙ (either c (list_any (same_torn table q) torn) ∙ ap (λ (b : Bool). cond b true (list_any (same_torn table q) torn)) (sym same)))
+          ∙ (ap (λ (b : Bool). b || list_any (same_torn table q) torn) (here c same) ∙ (either c (list_any (same_torn table q) torn) ∙ ap (λ (b : Bool). cond b true (list_any
+          (same_torn table q) torn)) (sym same)))
         where
           either : (a b : Bool) → (a || b) ≡ cond a true b
           either true b = refl
@@ -197,11 +198,4 @@ row_else table row a w all = record {
   rows = λ other apart q. none_more table other apart row q w.rows (without_row table row a.rows) all
       ∙ others_found (is_of_row table row) (is_of_row other q) (row_apart table other apart row q) a.rows;
   torn = λ other apart q. torn_mended table other apart row q w.taken a.torn;
-}
-
-pub torn_elsewhere : (table : ℕ) (row : List ℕ) (a : Arriving) → Elsewhere table a (record a { torn = with_torn table row a.torn })
-torn_elsewhere table row a = record {
-  pulls = λ other apart. refl;
-  rows = λ other apart q. refl;
-  torn = λ other apart q. torn_else table other apart row q a.torn (list_any (same_torn table row) a.torn);
 }

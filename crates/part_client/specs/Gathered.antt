@@ -3,7 +3,6 @@ use Rattle.std.specs.Prelude.{◌≡◌, ℕ, ◌==◌, ◌&&◌, nat_le, Bool, 
 use Rattle.row_value.specs.declared.pieces.Piece.{Piece}
 use Rattle.table_model.specs.History.{same_row}
 use Rattle.table_model.specs.declared.message.RowHeader.{RowHeader}
-use Rattle.assemblies.specs.declared.awaiting.Awaited.{Awaited}
 use Rattle.assemblies.specs.Places.{Rises, awaited_of}
 use Rattle.assemblies.specs.Gathering.{Slot, waiting, taken}
 use Rattle.part_tables.specs.Parts.{RowHead}

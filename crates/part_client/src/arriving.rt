@@ -13,10 +13,10 @@ ghost use Rattle.part_client.specs.Calls.{table_of, row_of, row_has_places, may_
 ghost use Rattle.part_client.specs.Asking.{AreAsks};
 
 use crate::asking;
-use assemblies::has_places;
 use crate::held::RowHeld;
 use crate::table::TableParts;
 use crate::taken::{Asks, Taken};
+use assemblies::has_places;
 use stab_base::{RowId, TableNo};
 use std::alloc::{AllocError, Global};
 use std::collections::BTreeMap;

@@ -17,10 +17,7 @@ use std::alloc::{AllocError, Global};
 use std::collections::{BTreeMap, BTreeSet};
 
 // Adds the keys of a map.
-fn add_keys(
-    rows: &mut BTreeSet<RowId>,
-    more: &BTreeMap<RowId, TornRow>,
-) -> Result<(), AllocError>
+fn add_keys(rows: &mut BTreeSet<RowId>, more: &BTreeMap<RowId, TornRow>) -> Result<(), AllocError>
     ensures { OnOk result ((q : _) → set.contains row_cmp rows.new q
         ≡ (set.contains row_cmp rows.old q || is_some (tree.get row_cmp more.now q))) }
 {

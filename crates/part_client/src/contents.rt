@@ -256,12 +256,7 @@ pub(crate) fn joined(
 
 // ---- what doesn't travel is held
 
-fn is_as_long(
-    lens: &BTreeSet<(ChunkName, usize)>,
-    sent: Sent,
-    piece: &Piece,
-    len: usize,
-) -> bool
+fn is_as_long(lens: &BTreeSet<(ChunkName, usize)>, sent: Sent, piece: &Piece, len: usize) -> bool
     ensures { (held : List Held) → AreLens held lens.now
         → result ≡ has_its_len (is_sent sent) held piece.now len }
 {

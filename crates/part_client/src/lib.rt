@@ -1,5 +1,5 @@
-//! What a client keeps in memory of what comes in parts: the answers to its pulls that wait for fragments, the rows that
-//! it asked for whole, and which rows are torn. What parts complete are whole messages.
+//! What a client keeps in memory of what comes in parts: the answers to its pulls that wait for fragments, the rows
+//! that it asked for whole, and which rows are torn. What parts complete are whole messages.
 #![tactic(auto)]
 
 mod arriving;

@@ -72,7 +72,10 @@ pub(crate) fn weigh(alloc: Global, held: &RowHeld, x: Pulling) -> Result<Weighed
         return Ok(Weighed::Whole(answer(x.head, header)));
     }
     let sent = Sent::Above(x.head.from);
-    if !x.came.has_held(alloc, held.held.as_slice(), sent, held.chunk)? {
+    if !x
+        .came
+        .has_held(alloc, held.held.as_slice(), sent, held.chunk)?
+    {
         return Ok(Weighed::Tears(x.came.row()));
     }
     weigh_came(alloc, held, x)

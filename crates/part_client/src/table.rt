@@ -20,8 +20,9 @@ ghost use Rattle.message_parts.specs.Parts.{part_of, first_part, outcome_of, row
 ghost use Rattle.part_client.specs.Held.{IsHeldOf};
 ghost use Rattle.part_client.specs.Weighing.{answering_of, whole_of, weighed_of, row_weighed_of};
 ghost use Rattle.part_client.specs.Keeping.{KeepsPull, KeepsRows, KeepsTable, HasNothing, IsTakenAt, taken_of};
-ghost use Rattle.part_client.specs.Calls.{table_of, row_of, may_gather, needs_row, may_complete, may_end, is_of_version};
-ghost use Rattle.part_client.specs.Calls.{let_go, pulled_head, torn_head, pull_settled, row_settled, pulls_grown};
+ghost use Rattle.part_client.specs.Calls.{table_of, row_of, may_gather, needs_row, may_complete, may_end};
+ghost use Rattle.part_client.specs.Calls.{pulled_head, torn_head, pull_settled, row_settled, pulls_grown};
+ghost use Rattle.part_client.specs.Calls.{is_of_version, let_go};
 ghost use Rattle.part_client.specs.Calls.{is_waited, rows_grown, waits, is_row_whole, is_pull_whole, is_pull_for};
 ghost use Rattle.part_client.specs.Calls.{grown_pull, grown_row};
 ghost use Rattle.part_client.specs.Gathered.{is_for, with_chunk, lacks_few};
@@ -149,7 +150,8 @@ fn whole_row(rows: &mut BTreeMap<RowId, TornRow>, row: &RowId) -> Option<TornRow
         ((is_row_whole (option_map whole_of (tree.get row_cmp rows.old row.now)) ≡ false) × (rows.new ≡ rows.old))
         (λ x. (tree.get row_cmp rows.old row.now ≡ Some x)
         × (is_row_whole (option_map whole_of (tree.get row_cmp rows.old row.now)) ≡ true)
-        × ((q : _) → tree.get row_cmp rows.new q ≡ cond (is_at (row_cmp row.now) q) None (tree.get row_cmp rows.old q))) }
+        × ((q : _) → tree.get row_cmp rows.new q
+        ≡ cond (is_at (row_cmp row.now) q) None (tree.get row_cmp rows.old q))) }
 {
     if is_whole_row(rows, row) {
         rows.remove(row)
@@ -324,7 +326,7 @@ impl TableParts {
         ensures { result ≡ is_pull_for (fragment_of f.now) (option_map answering_of self.now.pull) }
     {
         match &self.pull {
-            Some(x) => x.came.is_for(&f.row, f.key),
+            Some(pull) => pull.came.is_for(&f.row, f.key),
             None => false,
         }
     }

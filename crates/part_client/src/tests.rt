@@ -109,11 +109,7 @@ fn asks(arriving: &mut Arriving) -> Result<(usize, usize), Fail> {
     Ok((asks.tears.len(), asks.asks.len()))
 }
 
-fn come(
-    alloc: Global,
-    arriving: &mut Arriving,
-    head: Message,
-) -> Result<[(char, bool); 3], Fail> {
+fn come(alloc: Global, arriving: &mut Arriving, head: Message) -> Result<[(char, bool); 3], Fail> {
     let first = take(alloc, arriving, 0, head)?;
     let front = fragment(alloc, 0, b"abcd")?;
     let front = take(alloc, arriving, 0, front)?;

@@ -1,4 +1,4 @@
-use Rattle.std.proofs.Common.{◌≡◌, ◌∷◌, List, ℕ}
+use Rattle.std.proofs.Common.{◌≡◌, ◌∷◌}
 use Rattle.std.specs.BTreeSet.{contains}
 use Rattle.step_tables.specs.Client.{row_cmp}
 use Rattle.part_client.proofs.Risings.{one_added}

@@ -1,4 +1,4 @@
-use Rattle.std.proofs.Common.{◌≡◌, ◌∙◌, Option, sym, ap}
+use Rattle.std.proofs.Common.{◌∙◌, Option, sym, ap}
 use Rattle.std.specs.Prelude.{◌||◌}
 use Rattle.std.specs.BTreeSet.{contains}
 use Rattle.step_tables.specs.Client.{row_cmp}

@@ -1,7 +1,5 @@
 use Rattle.std.proofs.Common.{◌∙◌}
-use Rattle.part_client.proofs.Risings.{tears_are, torn_are, asks_are, asked}
-use Rattle.part_client.proofs.Arrivals.{weighed_is}
-use Rattle.part_client.proofs.Settled.{taken_as}
+use Rattle.part_client.proofs.Risings.{tears_are, asks_are, asked}
 use Rattle.part_client.proofs.asking.ask.Goals as goal
 
 pub returns-clause-asked : goal.returns-clause-asked

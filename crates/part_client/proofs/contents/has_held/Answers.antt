@@ -1,4 +1,4 @@
-use Rattle.std.proofs.Common.{◌∙◌, sym, ap}
+use Rattle.std.proofs.Common.{◌∙◌, ap}
 use Rattle.std.specs.List.{list_all}
 use Rattle.assemblies.specs.Travel.{is_sent}
 use Rattle.part_client.specs.Contents.{object_is_held}

@@ -1,6 +1,6 @@
-use Rattle.std.proofs.Common.{◌∙◌, ap, sym, refl, arith}
+use Rattle.std.proofs.Common.{◌∙◌, sym, refl, arith}
 use Rattle.assemblies.specs.Travel.{is_sent}
-use Rattle.part_client.proofs.Loops.{held_more, not_held, all_met, no_more}
+use Rattle.part_client.proofs.Loops.{held_more, not_held, all_met}
 use Rattle.part_client.proofs.contents.object_is_held.Goals as goal
 
 pub returns-then-place-count : goal.returns-then-place-count

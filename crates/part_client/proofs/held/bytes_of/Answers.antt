@@ -1,4 +1,4 @@
-use Rattle.std.proofs.Common.{◌∙◌, sym, ap}
+use Rattle.std.proofs.Common.{◌∙◌, sym}
 use Rattle.part_client.proofs.Firsts.{bytes_there, no_bytes}
 use Rattle.part_client.proofs.held.bytes_of.Goals as goal
 

@@ -1,4 +1,3 @@
-use Rattle.std.proofs.Common.{refl}
 use Rattle.part_client.proofs.Firsts.{place_more}
 use Rattle.part_client.proofs.held.places_of.Goals as goal
 

@@ -1,4 +1,4 @@
-use Rattle.std.proofs.Common.{◌≡◌, ◌∷◌, [], Option, ap, sym, ◌∙◌, subst}
+use Rattle.std.proofs.Common.{Option, ap, ◌∙◌}
 use Rattle.std.specs.Prelude.{filter, option_map, option_to_list}
 use Rattle.part_tables.specs.ClientParts.{is_of_table}
 use Rattle.message_parts.specs.Parts.{fragment_of}

@@ -1,4 +1,4 @@
-use Rattle.std.proofs.Common.{◌≡◌, ◌∙◌, sym}
+use Rattle.std.proofs.Common.{◌∙◌, sym}
 use Rattle.part_client.specs.Gathered.{is_for}
 use Rattle.part_client.proofs.Lacks.{came_is}
 use Rattle.part_client.proofs.table.take_chunk.Goals as goal

@@ -1,4 +1,4 @@
-use Rattle.std.proofs.Common.{◌≡◌, ◌∙◌, sym, ap}
+use Rattle.std.proofs.Common.{◌∙◌, sym, ap}
 use Rattle.std.specs.Prelude.{is_some}
 use Rattle.part_tables.specs.Arriving.{asking}
 use Rattle.part_client.proofs.Settled.{ok_then}
@@ -9,7 +9,8 @@ use Rattle.part_client.proofs.arriving.Arriving.ask.Goals as goal
 pub returns-in-Some-clause-kept : goal.returns-in-Some-clause-kept
 returns-in-Some-clause-kept c a k =
     ok_then c.ask.result _ _
-    (λ told got. one_changed c.args.self.now (record { tables = c.get_mut.follows.lender c.ask.new.it; alloc = c.args.self.now.alloc }) c.args.table a (asking c.args.table a) c.ask.new.it k (asking_else c.args.table a)
+    (λ told got. one_changed c.args.self.now (record { tables = c.get_mut.follows.lender c.ask.new.it; alloc = c.args.self.now.alloc }) c.args.table a (asking c.args.table a) c.ask.new.it k
+    (asking_else c.args.table a)
     ((c.get_mut.follows.holds c.ask.new.it).3 (ap is_some (sym c.in-Some.ensures.value))).0 got.kept)
     (c.ask.ensures.asked c.args.table a (kept_there c.args.self.now a c.args.table c.in-Some.it.now k (sym c.in-Some.ensures.value)))
 
@@ -20,5 +21,6 @@ returns-in-None-clause-asks c a k =
 
 pub returns-in-None-clause-kept : goal.returns-in-None-clause-kept
 returns-in-None-clause-kept c a k =
-    none_changed c.args.self.now (record { tables = c.get_mut.follows.lender-at-none; alloc = c.args.self.now.alloc }) c.args.table a (asking c.args.table a) k (asking_else c.args.table a) c.get_mut.follows.holds-at-none
+    none_changed c.args.self.now (record { tables = c.get_mut.follows.lender-at-none; alloc = c.args.self.now.alloc }) c.args.table a (asking c.args.table a) k
+    (asking_else c.args.table a) c.get_mut.follows.holds-at-none
     (sym c.in-None.ensures.value) (still_none c.args.table a (nothing_there c.args.self.now a c.args.table k (sym c.in-None.ensures.value)))

@@ -1,4 +1,4 @@
-use Rattle.std.proofs.Common.{◌≡◌, ◌∙◌, Option, None, sym, ap}
+use Rattle.std.proofs.Common.{◌∙◌, Option, None, sym, ap}
 use Rattle.std.specs.Prelude.{◌||◌}
 use Rattle.std.specs.List.{find}
 use Rattle.part_tables.specs.ClientParts.{Answering, is_of_table}

@@ -1,6 +1,6 @@
-use Rattle.std.proofs.Common.{◌≡◌, List, sym, subst, ap, ◌∙◌, ◌-◌, arith}
+use Rattle.std.proofs.Common.{◌≡◌, List, sym, subst, ◌∙◌, ◌-◌, arith}
 use Rattle.std.specs.Prelude.{true}
-use Rattle.assemblies.specs.Gathering.{Slot, is_whole, taken, takes}
+use Rattle.assemblies.specs.Gathering.{Slot, is_whole}
 use Rattle.part_client.specs.Gathered.{GatheredRow, IsGathered, lacks_few}
 use Rattle.part_client.proofs.Lacks.{same_taken, one_gathered, some_lacks, last_one}
 use Rattle.part_client.proofs.gathered.Gathered.take.Goals as goal

@@ -1,5 +1,5 @@
-use Rattle.std.proofs.Common.{◌≡◌, ◌∙◌, true, sym, ap, subst}
-use Rattle.std.specs.Prelude.{option_map, IfOk, OnErr}
+use Rattle.std.proofs.Common.{◌≡◌, ◌∙◌, true, sym, subst}
+use Rattle.std.specs.Prelude.{IfOk, OnErr}
 use Rattle.std.specs.List.{find}
 use Rattle.table_model.specs.declared.message.ObjectFragment.{ObjectFragment}
 use Rattle.part_tables.specs.Arriving.{is_of_row, without_row}
@@ -29,8 +29,8 @@ returns-in-Some-clause-taken c opened a k h =
     let parts : TableParts = record { pull = c.grow_pull.new.pull; rows = c.args.self.now.rows; torn = c.args.self.now.torn } in
     let same : c.in-Some.f ≡ c.args.f = rw c.in-Some.is at c.in_ok-again.ensures in
     let clause = subst (λ (g : ObjectFragment). KeepsTable g.table a parts → (may_end (fragment_of g) (find (is_of_row g.table g.row) a.rows) ≡ true → IsHeldOf opened g.row c.args.held.now)
-        → IfOk c.bring_row.result (IsTakenAt g.table (arrivals.brought_to opened a (fragment_of g) (find (is_of_row g.table g.row) a.rows)) c.bring_row.new.self))
-        same (c.bring_row.ensures.taken opened a) in
+    → IfOk c.bring_row.result (IsTakenAt g.table (arrivals.brought_to opened a (fragment_of g) (find (is_of_row g.table g.row) a.rows)) c.bring_row.new.self))
+    same (c.bring_row.ensures.taken opened a) in
     row_comes a c.args.self.now (fragment_of c.args.f) k missed opened c.bring_row.result c.bring_row.new.self
     (clause (still_keeps a c.args.self.now (fragment_of c.args.f) k c.grow_pull.new.pull (c.grow_pull.ensures.grown a.pulls k.pull) missed)
     (row_needs a c.args.self.now (fragment_of c.args.f) k missed opened c.args.held.now h))
@@ -41,7 +41,7 @@ returns-in-Some-clause-memory c a k =
     let parts : TableParts = record { pull = c.grow_pull.new.pull; rows = c.args.self.now.rows; torn = c.args.self.now.torn } in
     let same : c.in-Some.f ≡ c.args.f = rw c.in-Some.is at c.in_ok-again.ensures in
     let clause = subst (λ (g : ObjectFragment). KeepsTable g.table a parts → OnErr c.bring_row.result (KeepsTable g.table (record a { rows = without_row g.table g.row a.rows }) c.bring_row.new.self))
-        same (c.bring_row.ensures.memory a) in
+    same (c.bring_row.ensures.memory a) in
     row_left a c.args.self.now (fragment_of c.args.f) k missed c.bring_row.result c.bring_row.new.self
     (clause (still_keeps a c.args.self.now (fragment_of c.args.f) k c.grow_pull.new.pull (c.grow_pull.ensures.grown a.pulls k.pull) missed))
 

@@ -9,7 +9,8 @@ returns-then-not-grow_row-clause-taken c opened a k h =
 
 pub returns-clause-taken : goal.returns-clause-taken
 returns-clause-taken c opened a k h =
-    row_comes_whole a c.args.self.now (fragment_of c.args.f) k c.grow_row.new.rows (c.grow_row.ensures.grown a.rows k.rows) (sym c.grow_row.ensures.took ∙ c.if-not-grow_row.false) opened c.args.held.now h
+    row_comes_whole a c.args.self.now (fragment_of c.args.f) k c.grow_row.new.rows (c.grow_row.ensures.grown a.rows k.rows) (sym c.grow_row.ensures.took
+    ∙ c.if-not-grow_row.false) opened c.args.held.now h
     (c.grow_row.ensures.last c.if-not-grow_row.false) c.complete_row.result c.complete_row.new.self (c.complete_row.ensures.taken opened c.args.f.table)
 
 pub returns-clause-memory : goal.returns-clause-memory

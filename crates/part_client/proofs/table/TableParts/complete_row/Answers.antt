@@ -1,10 +1,9 @@
-use Rattle.std.proofs.Common.{◌≡◌, ◌∙◌, Option, true, sym, ap}
-use Rattle.std.specs.Prelude.{option_map}
+use Rattle.std.proofs.Common.{◌≡◌, ◌∙◌, true, sym, ap}
 use Rattle.std.specs.List.{list_all}
 use Rattle.std.proofs.lemmas.Result.{IfOk-weaker}
 use Rattle.assemblies.specs.Gathering.{is_whole}
 use Rattle.step_tables.specs.ClientMoves.{slots_at}
-use Rattle.part_tables.specs.Arriving.{WholeRow, is_of_row, without_row}
+use Rattle.part_tables.specs.Arriving.{is_of_row, without_row}
 use Rattle.part_client.specs.Weighing.{WholeTaken, whole_of, row_weighed_of, row_weighed}
 use Rattle.part_client.specs.Calls.{is_row_whole}
 use Rattle.part_client.proofs.Filters.{passes}

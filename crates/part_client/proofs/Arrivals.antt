@@ -28,7 +28,7 @@ use Rattle.part_client.specs.declared.rows.RowAsked.{RowAsked}
 use Rattle.part_client.specs.Held.{IsHeldOf}
 use Rattle.part_client.specs.Weighing.{WholeTaken, pull_weighed, row_weighed}
 use Rattle.part_client.specs.Calls.{pulled_head, torn_head, pull_settled, row_settled, mended, grown_pull, grown_row}
-use Rattle.part_client.proofs.Filters.{without_twice, without_first, passes}
+use Rattle.part_contents.proofs.Filters.{without_twice, without_first, passes}
 
 -- ---- an answer to a pull is weighed
 

@@ -25,7 +25,7 @@ use Rattle.part_client.specs.Held.{IsHeldOf}
 use Rattle.part_client.specs.Weighing.{answering_of, whole_of}
 use Rattle.part_client.specs.Calls.{waits, is_pull_for, is_pull_whole, is_row_whole, may_complete, may_end, is_of_version, needs_row, pulls_grown, rows_grown, is_waited, grown_pull, grown_row}
 use Rattle.part_client.specs.Keeping.{KeepsPull, KeepsRows, KeepsTable, IsTakenAt, IsLeft}
-use Rattle.part_client.proofs.Filters.{filter_first, find_first, without_first, without_twice, find_of_filter, passes, other_find, others_found}
+use Rattle.part_contents.proofs.Filters.{filter_first, find_first, without_first, without_twice, find_of_filter, passes, other_find, others_found}
 use Rattle.part_client.proofs.Stands.{other_row}
 use Rattle.part_client.proofs.Settled.{pull_found, taken_as, nothing_changes, err_weaker}
 use Rattle.part_client.proofs.Arrivals.{pull_brought, not_pulled, row_brought, row_unmoved, no_row}

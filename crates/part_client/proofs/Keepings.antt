@@ -29,7 +29,7 @@ use Rattle.part_client.specs.Weighing.{pull_weighed, row_weighed}
 use Rattle.part_client.specs.Calls.{table_of, let_go}
 use Rattle.part_client.specs.declared.taken.Taken.{Taken}
 use Rattle.part_client.specs.Keeping.{Keeps, KeepsIn, KeepsTable, HasNothing, IsTaken, IsTakenAt, IsLeft, IsKept}
-use Rattle.part_client.proofs.Filters.{others_stay, others_found, passes}
+use Rattle.part_contents.proofs.Filters.{others_stay, others_found, passes}
 use Rattle.part_client.proofs.Stands.{Elsewhere, same_number, pull_apart, row_apart, torn_else, still_there, nothing_else, pull_else, row_else}
 use Rattle.part_client.proofs.Arrivals.{weighed_is, of_its_table, of_its_row, row_weighed_is}
 

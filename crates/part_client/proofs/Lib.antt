@@ -1,10 +1,8 @@
-pub mod Lacks
-pub mod Loops
-pub mod Firsts
-pub mod Filters
+pub mod Named
+pub mod Coming
 pub mod Stands
 pub mod Settled
 pub mod Arrivals
-pub mod Risings
 pub mod Bringing
 pub mod Keepings
+pub mod Risings

@@ -22,7 +22,7 @@ use Rattle.part_client.specs.declared.table.TableParts.{TableParts}
 use Rattle.part_client.specs.Weighing.{answering_of, whole_of}
 use Rattle.part_client.specs.Keeping.{KeepsTable, KeepsTorn, HasNothing}
 use Rattle.part_client.specs.Asking.{is_pulled_row, HasUnfinished}
-use Rattle.part_client.proofs.Filters.{none_left}
+use Rattle.part_contents.proofs.Filters.{none_left}
 use Rattle.part_client.proofs.Stands.{torn_more}
 
 -- ---- members of lists of rows

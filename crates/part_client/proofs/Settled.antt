@@ -19,7 +19,7 @@ use Rattle.part_client.specs.declared.table.TableParts.{TableParts}
 use Rattle.part_client.specs.Weighing.{answering_of, whole_of}
 use Rattle.part_client.specs.Calls.{pull_settled, row_settled}
 use Rattle.part_client.specs.Keeping.{KeepsTable, IsTakenAt}
-use Rattle.part_client.proofs.Filters.{find_of_filter}
+use Rattle.part_contents.proofs.Filters.{find_of_filter}
 use Rattle.part_client.proofs.Stands.{no_pull, pull_put, row_gone, row_put, torn_put, torn_gone}
 
 module _ (table : ℕ) (a : Arriving) (it : TableParts) (k : KeepsTable table a it) where

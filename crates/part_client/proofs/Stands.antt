@@ -19,7 +19,7 @@ use Rattle.part_client.specs.declared.table.TableParts.{TableParts}
 use Rattle.part_client.specs.Weighing.{WholeTaken, answering_of, whole_of}
 use Rattle.part_client.specs.Calls.{pull_settled, row_settled, mended}
 use Rattle.part_client.specs.Keeping.{KeepsPull, KeepsRows, KeepsTorn, KeepsIn}
-use Rattle.part_client.proofs.Filters.{none_left, none_found, none_among, filter_first, find_first, others_stay, others_found, others_among, other_find}
+use Rattle.part_contents.proofs.Filters.{none_left, none_found, none_among, filter_first, find_first, others_stay, others_found, others_among, other_find}
 
 pub same_number : (n : ℕ) → (n == n) ≡ true
 same_number n = grind (arith, nat_tests)

@@ -1,10 +1,11 @@
 -- A row by its pieces, with what has come of its chunks that travel.
-use Rattle.std.specs.Prelude.{◌≡◌, ℕ, ◌==◌, ◌&&◌, nat_le, Bool, List, map, is_none, count_by}
+use Rattle.std.specs.Prelude.{ℕ, ◌==◌, ◌&&◌, Bool, List}
 use Rattle.row_value.specs.declared.pieces.Piece.{Piece}
 use Rattle.table_model.specs.History.{same_row}
 use Rattle.table_model.specs.declared.message.RowHeader.{RowHeader}
-use Rattle.assemblies.specs.Places.{Rises, awaited_of}
+use Rattle.assemblies.specs.Places.{awaited_of}
 use Rattle.assemblies.specs.Gathering.{Slot, waiting, taken}
+use Rattle.part_contents.specs.Counted as counted
 use Rattle.part_tables.specs.Parts.{RowHead}
 use Rattle.message_parts.specs.Parts.{row_head_of}
 
@@ -26,15 +27,6 @@ is_for row key x = same_row x.row.row row && (x.row.version == key)
 abbrev pub with_chunk : ℕ → ℕ → List ℕ → GatheredRow → GatheredRow
 with_chunk column place bytes x = record x { slots = taken column place bytes x.slots }
 
--- ---- how many chunks haven't come
-
-abbrev pub lacking : List Slot → ℕ
-lacking slots = count_by (λ (slot : Slot). is_none slot.1) slots
-
+-- one chunk at most hasn't come
 abbrev pub lacks_few : GatheredRow → Bool
-lacks_few x = nat_le (lacking x.slots) 1
-
--- they are counted, and no two stand at one place
-pub record IsGathered (slots : List Slot) (count : ℕ) : Type 0 where
-  pub rising : Rises (map (λ (slot : Slot). slot.0) slots)
-  pub counted : count ≡ lacking slots
+lacks_few x = counted.lacks_few x.slots

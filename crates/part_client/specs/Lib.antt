@@ -1,6 +1,5 @@
 pub mod Gathered
 pub mod Held
-pub mod Contents
 pub mod Weighing
 pub mod Calls
 pub mod Keeping

@@ -10,8 +10,9 @@ ghost use Rattle.step_tables.specs.Travels.{header_of};
 ghost use Rattle.part_tables.specs.ClientParts.{bytes_of, names_in, header_with, has_held};
 ghost use Rattle.part_client.specs.Gathered.{nothing_came, is_for, with_chunk, lacks_few};
 
-use crate::contents;
-use assemblies::{Assembly, Sent, awaited_of};
+use crate::headers;
+use assemblies::{Sent, awaited_of};
+use part_contents::Counted;
 use stab_base::{Bytes, ChunkName, RowId, Version};
 use std::alloc::{AllocError, Global};
 use std::marker::Model;
@@ -21,20 +22,16 @@ use table_model::RowHeader;
 #[derive(Drop)]
 pub(crate) struct Gathered {
     row: RowHeader,
-    slots: Assembly,
-    // How many chunks haven't come.
-    lacks: usize,
+    slots: Counted,
 }
 
 impl Model for Gathered {
     ghost use Rattle.message_parts.specs.Parts.{row_head_of};
-    ghost use Rattle.part_client.specs.Gathered.{GatheredRow, IsGathered};
+    ghost use Rattle.part_client.specs.Gathered.{GatheredRow};
 
     ghost Value = { GatheredRow };
 
     ghost view = { λ g. record { row = row_head_of g.row; slots = g.slots } };
-
-    ghost invariant = { λ g. IsGathered g.slots g.lacks };
 }
 
 impl Gathered {
@@ -49,9 +46,8 @@ impl Gathered {
         ensures { IfOk result (λ made. made ≡ nothing_came (is_sent sent) chunk row) }
     {
         let awaited = awaited_of(alloc, chunk, &row.content, sent)?;
-        let lacks = awaited.len();
-        let slots = Assembly::new(alloc, awaited)?;
-        Ok(Gathered { row, slots, lacks })
+        let slots = Counted::new(alloc, awaited)?;
+        Ok(Gathered { row, slots })
     }
 
     /// Whether this is its row at this version.
@@ -65,7 +61,7 @@ impl Gathered {
     pub(crate) fn lacks_few(&self) -> bool
         ensures { result ≡ lacks_few self.now }
     {
-        self.lacks <= 1
+        self.slots.lacks_few()
     }
 
     /// Takes a chunk. Whether it was taken.
@@ -74,11 +70,7 @@ impl Gathered {
         ensures took { result ≡ takes column place bytes self.old.slots }
         ensures last { result ≡ true → is_whole self.new.slots ≡ true → lacks_few self.old ≡ true }
     {
-        if !self.slots.take(column, place, bytes) {
-            return false;
-        }
-        self.lacks -= 1;
-        true
+        self.slots.take(column, place, bytes)
     }
 
     /// Whether each chunk has come.
@@ -108,8 +100,8 @@ pub(crate) fn is_named(alloc: Global, chunk: u32, row: &RowHeader) -> Result<boo
     requires { 0 < chunk }
     ensures { IfOk result (λ is. is ≡ is_named chunk (sized row.now.content) (names_in row.now.content)) }
 {
-    let content = contents::sized(alloc, &row.content)?;
-    let names = contents::names_in(alloc, &row.content)?;
+    let content = part_contents::sized(alloc, &row.content)?;
+    let names = headers::names_in(alloc, &row.content)?;
     row_pieces::is_named(alloc, chunk, &content, &names)
 }
 
@@ -125,15 +117,15 @@ impl Gathered {
         requires { 0 < chunk }
         ensures { IfOk result (λ has. has ≡ has_held (is_sent sent) chunk held.now self.now.row.content) }
     {
-        contents::has_held(alloc, held, sent, chunk, &self.row.content)
+        part_contents::has_held(alloc, held, sent, chunk, &self.row.content)
     }
 
     /// The header of the row with a content of its lengths alone.
     pub(crate) fn sized_header(&self, alloc: Global) -> Result<step_tables::RowHeader, AllocError>
         ensures { IfOk result (λ made. header_of made ≡ header_with self.now.row (sized self.now.row.content)) }
     {
-        let content = contents::sized(alloc, &self.row.content)?;
-        contents::header_with(alloc, &self.row, content)
+        let content = part_contents::sized(alloc, &self.row.content)?;
+        headers::header_with(alloc, &self.row, content)
     }
 
     /// The header of the row with the content of the chunks that came, and of those that are held.
@@ -147,9 +139,9 @@ impl Gathered {
         ensures { IfOk result (λ made. header_of made ≡ header_with self.row
             (joined (bytes_of held.now) (is_sent sent) self.row.content (chunks_of self.slots))) }
     {
-        let Gathered { row, slots, .. } = self;
+        let Gathered { row, slots } = self;
         let chunks = slots.into_chunks();
-        let content = contents::joined(alloc, held, sent, &row.content, &chunks)?;
-        contents::header_with(alloc, &row, content)
+        let content = part_contents::joined(alloc, held, sent, &row.content, &chunks)?;
+        headers::header_with(alloc, &row, content)
     }
 }

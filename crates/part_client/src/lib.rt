@@ -4,8 +4,8 @@
 
 mod arriving;
 mod asking;
-mod contents;
 mod gathered;
+mod headers;
 mod held;
 mod pulls;
 mod rows;

@@ -1,6 +1,6 @@
 use Rattle.std.proofs.Common.{◌∙◌, sym}
 use Rattle.part_client.specs.Gathered.{is_for}
-use Rattle.part_client.proofs.Lacks.{came_is}
+use Rattle.part_client.proofs.Coming.{came_is}
 use Rattle.part_client.proofs.table.take_chunk.Goals as goal
 
 pub returns-clause-came : goal.returns-clause-came

@@ -5,7 +5,7 @@ use Rattle.part_tables.specs.ClientParts.{Answering, is_of_table}
 use Rattle.part_tables.specs.Arriving.{is_of_row}
 use Rattle.message_parts.specs.Parts.{fragment_of}
 use Rattle.part_client.specs.Calls.{may_complete, may_end}
-use Rattle.part_client.proofs.Filters.{find_of_filter}
+use Rattle.part_contents.proofs.Filters.{find_of_filter}
 use Rattle.part_client.proofs.Keepings.{nothing_there}
 use Rattle.part_client.proofs.arriving.Arriving.fragment_needs_row.Goals as goal
 

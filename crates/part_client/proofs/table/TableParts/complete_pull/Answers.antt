@@ -8,7 +8,7 @@ use Rattle.part_client.specs.declared.table.TableParts.{TableParts}
 use Rattle.part_client.specs.Weighing.{answering_of, weighed_of, pull_weighed}
 use Rattle.part_client.specs.Calls.{is_pull_whole}
 use Rattle.part_client.specs.Keeping.{KeepsTable}
-use Rattle.part_client.proofs.Filters.{passes}
+use Rattle.part_contents.proofs.Filters.{passes}
 use Rattle.part_client.proofs.Settled.{taken_as, nothing_changes, no_pull_stands, pull_found, same_pull, always_err}
 use Rattle.part_client.proofs.Arrivals.{complete_kept, still_waits, of_its_table}
 use Rattle.part_client.proofs.table.TableParts.complete_pull.Goals as goal

@@ -6,7 +6,7 @@ use Rattle.step_tables.specs.ClientMoves.{slots_at}
 use Rattle.part_tables.specs.Arriving.{is_of_row, without_row}
 use Rattle.part_client.specs.Weighing.{WholeTaken, whole_of, row_weighed_of, row_weighed}
 use Rattle.part_client.specs.Calls.{is_row_whole}
-use Rattle.part_client.proofs.Filters.{passes}
+use Rattle.part_contents.proofs.Filters.{passes}
 use Rattle.part_client.proofs.Settled.{taken_as, no_row_stands, same_whole, always_err}
 use Rattle.part_client.proofs.Arrivals.{complete_row_kept, of_its_row}
 use Rattle.part_client.proofs.table.TableParts.complete_row.Goals as goal

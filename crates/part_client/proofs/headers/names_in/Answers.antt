@@ -3,8 +3,8 @@ use Rattle.std.proofs.lemmas.Result.{IfOk-weaker}
 use Rattle.row_value.specs.declared.pieces.PieceObject.{PieceObject}
 use Rattle.step_tables.specs.Chunks.{kept_in}
 use Rattle.part_tables.specs.ClientParts.{names_in}
-use Rattle.part_client.proofs.Loops.{names_are}
-use Rattle.part_client.proofs.contents.names_in.Goals as goal
+use Rattle.part_client.proofs.Named.{names_are}
+use Rattle.part_client.proofs.headers.names_in.Goals as goal
 
 pub returns-in-Row : goal.returns-in-Row
 returns-in-Row c =

@@ -1,6 +1,0 @@
-use Rattle.std.proofs.Common.{take}
-use Rattle.part_client.specs.Held.{ArePlaces}
-use Rattle.part_client.proofs.held.places_of.Given as goal
-
-abbrev pub invariant-loop-place : goal.invariant-loop-place
-invariant-loop-place l = ArePlaces (take l.place l.held) l.places

@@ -156,8 +156,7 @@ impl Arriving {
         Ok(taken)
     }
 
-    /// What a part for an opened table comes to. What is held of its row is looked at only where `needs_row`. A message
-    /// that isn't a part waits, and changes nothing.
+    /// What a part for an opened table comes to. What is held of its row is looked at only where `needs_row`.
     pub fn take(&mut self, held: &RowHeld, part: Message) -> Result<Taken, AllocError>
         requires chunk { 0 < held.now.chunk }
         requires places { may_gather (part_of part) ≡ true }

@@ -1,5 +1,5 @@
--- What a client keeps in memory of what comes in parts: the answers to its pulls that wait for fragments, the rows that it
--- asked for whole and that wait for them, and which rows are torn. What a part makes of it, where the part's table is
+-- What a client keeps in memory of what comes in parts: the answers to its pulls that wait for fragments, the rows that
+-- it asked for whole and that wait for them, and which rows are torn. What a part makes of it, where the part's table is
 -- opened and the client is up, linked and with no write to be done; and what a pull does.
 use Rattle.std.specs.Prelude.{ℕ, ◌==◌, nat_le, ◌&&◌, not, Bool, false, List, [], ◌∷◌, ◌++◌, map, filter, Option, Some}
 use Rattle.std.specs.Prelude.{None, if◌then◌else◌}

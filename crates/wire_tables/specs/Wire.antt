@@ -17,19 +17,21 @@ use Rattle.step_tables.specs.Facts.{Fact, Answer, Line, AnswerLine, FactLine}
 use Rattle.step_tables.specs.Facts as facts
 use Rattle.step_tables.specs.Store.{Stored}
 use Rattle.step_tables.specs.StoreMoves.{StoreTask}
-use Rattle.step_tables.specs.ClientMoves.{Client, ClientTask, Plan, TableDisk, table_at, seen, Next}
+use Rattle.step_tables.specs.ClientMoves.{Client, ClientTask, TableDisk, table_at, seen, Next}
 use Rattle.step_tables.specs.Messages.{Luck, Message, Pull, PullRequest, table_of}
 use Rattle.step_tables.specs.Messages as messages
 use Rattle.world_tables.specs.World.{World, Packet, Hosted, Outbox, WorldStep, Lucks, step, schema_at, hosted_at}
 use Rattle.world_tables.specs.World.{client_at, scheme_in, chunk_in, is_down, is_cut, carried, call, first_luck}
 use Rattle.world_tables.specs.World.{is_client_down}
 use Rattle.world_tables.specs.World as world
+use Rattle.world_tables.specs.Ready.{is_client_ready}
 use Rattle.part_tables.specs.Parts.{Part, Asks, Responds, Pulls, Answers, BringsUp, BringsDown, AsksTorn, AnswersTorn}
 use Rattle.part_tables.specs.Parts.{parts_of}
 use Rattle.part_tables.specs.StoreParts.{Gathering, StoreTaken}
 use Rattle.part_tables.specs.StoreParts as at_store
 use Rattle.part_tables.specs.ClientParts as at_client
 use Rattle.part_tables.specs.Arriving.{Arriving, Arrived, nothing_arriving, arrived, asking, unfinished, torn_rows}
+use Rattle.part_tables.specs.Arriving.{with_torn}
 
 -- a part that was sent
 pub record PartPacket : Type 0 where
@@ -248,22 +250,6 @@ delivered v lucks (Some p) = brought v p lucks p.to
 
 -- ---- a pull asks for what is torn
 
--- whether a client has a table opened, and is up, linked and idle
-abbrev pub has_open : Option TableDisk → Bool
-has_open None = false
-has_open (Some opened) = true
-
-abbrev pub is_idle : Option (List ClientTask) → Bool
-is_idle (Some []) = true
-is_idle other = false
-
-abbrev pub may_pull_by : ℕ → Option Client → Bool
-may_pull_by table None = false
-may_pull_by table (Some node) = is_idle node.agenda && has_open (table_at (seen node.disk) table)
-
-abbrev pub may_pull : Wire → ℕ → ℕ → Bool
-may_pull v c table = not (is_cut v.world c) && may_pull_by table (client_at v.world c)
-
 -- the rows that are told as torn, and those that are asked for
 abbrev pub pulling : Wire → ℕ → ℕ → Lucks → Lucks
 pulling v c table lucks = record lucks {
@@ -273,26 +259,30 @@ pulling v c table lucks = record lucks {
 
 abbrev pub pulled : Wire → ℕ → ℕ → Lucks → WireStep
 pulled v c table lucks =
-    if may_pull v c table
+    if is_client_ready v.world c
     then spread (with_arriving c (asking table (arriving_at v c)) v)
     (step v.world (events.Pull c table) (pulling v c table lucks))
     else spread v (step v.world (events.Pull c table) (record lucks { tears = []; asks = [] }))
 
--- ---- a client that starts finds the row torn whose plan was cut short before its commit
+-- ---- a client that starts notes the row that it tells as torn, and has nothing else in memory
 
-abbrev pub torn_found : Option (ℕ × List ℕ) → Option Plan → Arriving
-torn_found (Some torn) None = record nothing_arriving { torn = torn ∷ [] }
-torn_found (Some torn) (Some plan) = nothing_arriving
-torn_found None plan = nothing_arriving
+abbrev pub torn_by_fact : Fact → List (ℕ × List ℕ)
+torn_by_fact (facts.Torn c table row) = (table, row) ∷ []
+torn_by_fact other = []
 
-abbrev pub starts_with : Lucks → Option Client → Arriving
-starts_with lucks None = nothing_arriving
-starts_with lucks (Some node) = torn_found lucks.shape.torn node.disk.plan
+abbrev pub torn_told : List Outbox → List (ℕ × List ℕ)
+torn_told outs = flat_map (λ (out : Outbox). flat_map torn_by_fact out.facts) outs
+
+abbrev pub noting : List (ℕ × List ℕ) → Arriving → Arriving
+noting [] a = a
+noting (torn ∷ more) a = noting more (record a { torn = with_torn torn.0 torn.1 a.torn })
+
+abbrev pub started_with : Wire → ℕ → WorldStep → WireStep
+started_with v c s = spread (with_arriving c (noting (torn_told s.outs) nothing_arriving) v) s
 
 abbrev pub started : Wire → ℕ → Lucks → WireStep
 started v c lucks = if is_client_down (client_at v.world c)
-    then spread (with_arriving c (starts_with lucks (client_at v.world c)) v)
-    (step v.world (events.Start (nodes.Client c)) lucks)
+    then started_with v c (step v.world (events.Start (nodes.Client c)) lucks)
     else spread v (step v.world (events.Start (nodes.Client c)) lucks)
 
 -- what an event makes of the world, where its device calls go so

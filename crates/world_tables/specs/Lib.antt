@@ -8,3 +8,4 @@ pub mod Settled
 pub mod Quiet
 pub mod Faults
 pub mod Passed
+pub mod Ready

@@ -27,10 +27,10 @@ use Rattle.fair_laws.proofs.Hosting.{beside_fair, some_after, all_after}
 
 from_client : (known : ℕ → Option Schema) (c : ℕ) → IsClient c → (m : Message) → IsFairRequest known c m → IsFairMessage known (nodes.Client c) m
 from_client known c is (SyncRequest q) r = ((r.1, r.2, r.3), subst IsClient (sym r.0) is, ap (λ (n : ℕ). nodes.Client n) (sym r.0))
-from_client known c is (PullRequest q) r = tt
+from_client known c is (PullRequest q) r = subst IsClient (sym r) is
 from_client known c is (SyncResponse q) r = absurd r
 from_client known c is (PullResponse q) r = absurd r
-from_client known c is (TornRowRequest q) r = tt
+from_client known c is (TornRowRequest q) r = subst IsClient (sym r) is
 from_client known c is (TornRowResponse q) r = absurd r
 
 sent_fair : (known : ℕ → Option Schema) (c : ℕ) → IsClient c → (sends : List Send) → AreFairSends known c sends

@@ -30,11 +30,11 @@ nothing_at (Some x) e = absurd cc
 message_more : (known more : ℕ → Option Schema) → ((number : ℕ) (schema : Schema) → known number ≡ Some schema → more number ≡ Some schema) → (from : Node) (m : Message)
     → IsFairMessage known from m → IsFairMessage more from m
 message_more known more is from (SyncRequest q) f = (row_more known more is q.table q.content f.0, f.1, f.2)
-message_more known more is from (PullRequest q) f = tt
-message_more known more is from (SyncResponse r) f = tt
-message_more known more is from (PullResponse q) f = header_more known more is q.table q.header f
-message_more known more is from (TornRowRequest q) f = tt
-message_more known more is from (TornRowResponse q) f = header_more known more is q.table q.header f
+message_more known more is from (PullRequest q) f = f
+message_more known more is from (SyncResponse r) f = f
+message_more known more is from (PullResponse q) f = (header_more known more is q.table q.header f.0, f.1)
+message_more known more is from (TornRowRequest q) f = f
+message_more known more is from (TornRowResponse q) f = (header_more known more is q.table q.header f.0, f.1)
 
 -- ---- a table more
 

@@ -47,11 +47,11 @@ module _ (w : World) (f : IsFair w) where
       go (Some []) = read (first_luck lucks)
 
   takes_fair : (from : Node) (m : Message) → IsFairMessage (schema_at w) from m → TakesFair (schema_at w) (table_of m) m
-  takes_fair from (SyncRequest q) is = is.0
-  takes_fair from (PullRequest q) is = refl
+  takes_fair from (SyncRequest q) is = (is.0, is.1)
+  takes_fair from (PullRequest q) is = (refl, is)
   takes_fair from (SyncResponse r) is = tt
   takes_fair from (PullResponse q) is = tt
-  takes_fair from (TornRowRequest q) is = refl
+  takes_fair from (TornRowRequest q) is = (refl, is)
   takes_fair from (TornRowResponse q) is = tt
 
   carried_fair : (p : Packet) → IsFairMessage (schema_at w) p.from p.message → (shape : Shape) (lucks : List Luck) (to : Node) → IsFair (carried w p shape lucks to).world

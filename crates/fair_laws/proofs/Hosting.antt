@@ -46,10 +46,10 @@ all_after {V} P es k new here old q x at = go (is_at (nat_cmp k) q) refl (sym (l
 
 from_store : (known : ℕ → Option Schema) (from : Node) (m : Message) → IsFromStore known m → IsFairMessage known from m
 from_store known from (SyncRequest q) f = absurd f
-from_store known from (PullRequest q) f = tt
-from_store known from (SyncResponse r) f = tt
+from_store known from (PullRequest q) f = absurd f
+from_store known from (SyncResponse r) f = f
 from_store known from (PullResponse q) f = f
-from_store known from (TornRowRequest q) f = tt
+from_store known from (TornRowRequest q) f = absurd f
 from_store known from (TornRowResponse q) f = f
 
 sent_fair : (known : ℕ → Option Schema) (sends : List Send) → AreStoreSends known sends → (p : Packet) → Among (packets_from the_store sends) p → IsFairMessage known p.from p.message

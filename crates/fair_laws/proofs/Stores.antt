@@ -8,6 +8,7 @@ use Rattle.stab_base.specs.declared.chunk_name.ChunkName.{ChunkName}
 use Rattle.row_value.specs.declared.content.Content.{Content}
 use Rattle.row_value.specs.declared.schema.Schema.{Schema}
 use Rattle.row_value.specs.declared.schema.Scheme.{Scheme}
+use Rattle.row_store.specs.Spelling.{IsClient}
 use Rattle.step_tables.specs.Store.{Stored, current_of, next_changed, is_of_row}
 use Rattle.step_tables.specs.Chunks.{rising, new_names, old_names, is_spelled}
 use Rattle.step_tables.specs.Facts.{Answer}
@@ -27,13 +28,13 @@ all_join : {X : Type 0} (P : X → Type 0) (xs ys : List X) → AllByRecursion P
 all_join P [] ys a b = b
 all_join P (x ∷ xs) ys a b = (a.0, all_join P xs ys a.1 b)
 
--- a message for this table: the content of a request is a row of it
+-- a message for this table, of one of the clients: the content of a request is a row of it
 abbrev pub TakesFair : (ℕ → Option Schema) → ℕ → Message → Type 0
-TakesFair known table (SyncRequest q) = IsRowOf (known table) q.content
-TakesFair known table (PullRequest q) = q.table ≡ table
+TakesFair known table (SyncRequest q) = IsRowOf (known table) q.content × IsClient q.client
+TakesFair known table (PullRequest q) = (q.table ≡ table) × IsClient q.client
 TakesFair known table (SyncResponse r) = Unit {0}
 TakesFair known table (PullResponse q) = Unit {0}
-TakesFair known table (TornRowRequest q) = q.table ≡ table
+TakesFair known table (TornRowRequest q) = (q.table ≡ table) × IsClient q.client
 TakesFair known table (TornRowResponse q) = Unit {0}
 
 abbrev pub IsFairMove : (ℕ → Option Schema) → ℕ → StoreMove → Type 0
@@ -148,65 +149,69 @@ module _ (known : ℕ → Option Schema) (table : ℕ) where
       subst (λ (h : Header). (1 ≤ h.version) × IsRowOf (known table) h.content) same (fair.version, fair.content)
 
   module _ (g : Scheme) (size : ℕ) (d : StoreDisk) (from : Node) (f : AreItems d.items) where
-    accepting_fair : (q : Request) → IsRowOf (known table) q.content → AreTasks (accepting size table d.items from q (item_for d.items q))
-    accepting_fair q fits =
+    accepting_fair : (q : Request) → IsClient q.client → IsRowOf (known table) q.content → AreTasks (accepting size table d.items from q (item_for d.items q))
+    accepting_fair q client fits =
         let item = item_for d.items q in
         let one : IsFairItem (known table) item = record { version = omega arith; content = fits } in (
           (tt, tt),
           tasks_join (puts (new_names size item)) _ (puts_fair (new_names size item))
-              ((one, tt), tasks_join (drops (old_names size d.items item)) _ (drops_fair (old_names size d.items item)) ((tt, (tt, tt)), tt)),
+              ((one, tt), tasks_join (drops (old_names size d.items item)) _ (drops_fair (old_names size d.items item)) ((tt, (client, tt)), tt)),
         )
 
     answers : (send : Send) → IsFromStore known send.message → IsFairStep known table (store.sending d (send ∷ []))
     answers send is = record { store = record { items = f; tasks = tt }; sends = (is, tt) }
 
-    judged_fair : (q : Request) → IsRowOf (known table) q.content → (current : ℕ) → IsFairStep known table (judged g size table d from q current)
-    judged_fair q fits current = go (takes g q.base current && keeps_there size d.items q)
+    judged_fair : (q : Request) → IsClient q.client → IsRowOf (known table) q.content → (current : ℕ) → IsFairStep known table (judged g size table d from q current)
+    judged_fair q client fits current = go (takes g q.base current && keeps_there size d.items q)
       where
         go : (b : Bool) → IsFairStep known table (if b then store.quiet d (Some (accepting size table d.items from q (item_for d.items q))) facts.Done else store.sending d
             (store.responded from q (unaccepted g q.base current) ∷ []))
-        go true = quiet_fair d (Some (accepting size table d.items from q (item_for d.items q))) _ f (accepting_fair q fits)
-        go false = answers (store.responded from q (unaccepted g q.base current)) tt
+        go true = quiet_fair d (Some (accepting size table d.items from q (item_for d.items q))) _ f (accepting_fair q client fits)
+        go false = answers (store.responded from q (unaccepted g q.base current)) client
 
-    decided_fair : (q : Request) → IsRowOf (known table) q.content → (yours : Pair) → IsFairStep known table (decided g size table d from q yours)
-    decided_fair q fits yours = first (yours.number == q.number)
+    decided_fair : (q : Request) → IsClient q.client → IsRowOf (known table) q.content → (yours : Pair) → IsFairStep known table (decided g size table d from q yours)
+    decided_fair q client fits yours = first (yours.number == q.number)
       where
         second : (b : Bool) → IsFairStep known table (if b then store.sending d (store.responded from q (messages.Late yours.number) ∷ []) else judged g size table d from q
             (version_of (current_of d.items q.row)))
-        second true = answers (store.responded from q (messages.Late yours.number)) tt
-        second false = judged_fair q fits (version_of (current_of d.items q.row))
+        second true = answers (store.responded from q (messages.Late yours.number)) client
+        second false = judged_fair q client fits (version_of (current_of d.items q.row))
 
         first : (b : Bool) → IsFairStep known table (if b then store.sending d (store.responded from q (messages.Again yours.version) ∷ [])
             else (if nat_lt q.number yours.number then store.sending d (store.responded from q (messages.Late yours.number) ∷ []) else judged g size table d from q
             (version_of (current_of d.items q.row))))
-        first true = answers (store.responded from q (messages.Again yours.version)) tt
+        first true = answers (store.responded from q (messages.Again yours.version)) client
         first false = second (nat_lt q.number yours.number)
 
-    asked_fair : (q : Request) → IsRowOf (known table) q.content → IsFairStep known table (asked g size table d from q)
-    asked_fair q fits = go (is_spelled size q.content q.pieces)
+    asked_fair : (q : Request) → IsClient q.client → IsRowOf (known table) q.content → IsFairStep known table (asked g size table d from q)
+    asked_fair q client fits = go (is_spelled size q.content q.pieces)
       where
         go : (b : Bool) → IsFairStep known table (if b then decided g size table d from q (yours_in d.items q.client q.row) else store.quiet d (Some []) facts.Done)
-        go true = decided_fair q fits (yours_in d.items q.client q.row)
+        go true = decided_fair q client fits (yours_in d.items q.client q.row)
         go false = quiet_fair d (Some []) _ f tt
 
-    pull_fair : (pull : Pull) → pull.table ≡ table → IsFairStep known table (store.answered d from pull)
-    pull_fair pull is = answers (record { to = Some from; message = PullResponse (pulled_for d.items pull (next_changed pull.position d.items)) })
-        (λ header e. subst (λ (t : ℕ). (1 ≤ header.version) × IsRowOf (known t) header.content) (sym is)
-        (header_fair d.items pull.client (next_changed pull.position d.items) (λ item at. next_fair pull.position d.items item f at) header e))
+    pull_fair : (pull : Pull) → IsClient pull.client → pull.table ≡ table → IsFairStep known table (store.answered d from pull)
+    pull_fair pull client is = answers (record { to = Some from; message = PullResponse (pulled_for d.items pull (next_changed pull.position d.items)) }) (
+      λ header e. subst (λ (t : ℕ). (1 ≤ header.version) × IsRowOf (known t) header.content) (sym is)
+          (header_fair d.items pull.client (next_changed pull.position d.items) (λ item at. next_fair pull.position d.items item f at) header e),
+      client,
+    )
 
-    torn_fair : (torn : TornPull) → torn.table ≡ table → IsFairStep known table (store.torn_answered d from torn)
-    torn_fair torn is = answers (record { to = Some from; message = TornRowResponse (torn_pulled_for d.items torn (current_of d.items torn.row)) })
-        (λ header e. subst (λ (t : ℕ). (1 ≤ header.version) × IsRowOf (known t) header.content) (sym is)
-        (header_fair d.items torn.client (current_of d.items torn.row) (λ item at. current_fair torn.row d.items item f at) header e))
+    torn_fair : (torn : TornPull) → IsClient torn.client → torn.table ≡ table → IsFairStep known table (store.torn_answered d from torn)
+    torn_fair torn client is = answers (record { to = Some from; message = TornRowResponse (torn_pulled_for d.items torn (current_of d.items torn.row)) }) (
+      λ header e. subst (λ (t : ℕ). (1 ≤ header.version) × IsRowOf (known t) header.content) (sym is)
+          (header_fair d.items torn.client (current_of d.items torn.row) (λ item at. current_fair torn.row d.items item f at) header e),
+      client,
+    )
 
     taken_fair : (agenda : Option (List StoreTask)) (message : Message) → TakesFair known table message → AreTasks (tasks_in agenda) → IsFairStep known table (taken g size table d agenda from message)
     taken_fair None message t p = quiet_fair d None _ f tt
     taken_fair (Some (task ∷ more)) message t p = quiet_fair d (Some (task ∷ more)) _ f p
-    taken_fair (Some []) (SyncRequest q) t p = asked_fair q t
-    taken_fair (Some []) (PullRequest pull) t p = pull_fair pull t
+    taken_fair (Some []) (SyncRequest q) t p = asked_fair q t.1 t.0
+    taken_fair (Some []) (PullRequest pull) t p = pull_fair pull t.1 t.0
     taken_fair (Some []) (SyncResponse r) t p = quiet_fair d (Some []) _ f tt
     taken_fair (Some []) (PullResponse q) t p = quiet_fair d (Some []) _ f tt
-    taken_fair (Some []) (TornRowRequest torn) t p = torn_fair torn t
+    taken_fair (Some []) (TornRowRequest torn) t p = torn_fair torn t.1 t.0
     taken_fair (Some []) (TornRowResponse q) t p = quiet_fair d (Some []) _ f tt
 
   pub move_fair : (number : ℕ) (g : Scheme) (size : ℕ) (s : TableStore) (move : StoreMove) → IsFairMove known table move → IsFairStore known table s
@@ -235,9 +240,9 @@ module _ (known more : ℕ → Option Schema) (is : (number : ℕ) (schema : Sch
   from_more (SyncRequest q) f = f
   from_more (PullRequest q) f = f
   from_more (SyncResponse r) f = f
-  from_more (PullResponse q) f = header_more q.table q.header f
+  from_more (PullResponse q) f = (header_more q.table q.header f.0, f.1)
   from_more (TornRowRequest q) f = f
-  from_more (TornRowResponse q) f = header_more q.table q.header f
+  from_more (TornRowResponse q) f = (header_more q.table q.header f.0, f.1)
 
   sends_more : (sends : List Send) → AreStoreSends known sends → AreStoreSends more sends
   sends_more [] a = tt

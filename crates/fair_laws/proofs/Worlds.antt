@@ -40,10 +40,10 @@ pub pulled_fits : (w : World) → IsFair w → (packet : Packet) → Among w.pac
     → (c : ℕ) (s : Client) → client_at w c ≡ Some s → (t : TableDisk) → table_at (seen s.disk) pulled.table ≡ Some t
     → (header : Header) → pulled.header ≡ Some header → fit_of t.schema header.content ≡ Ok tt
 pulled_fits w f packet a pulled is c s there t at header e =
-    row_fits w f pulled.table pulled.header (subst (IsFairMessage (schema_at w) packet.from) is (f.packets packet a)) c s there t at header e
+    row_fits w f pulled.table pulled.header (subst (IsFairMessage (schema_at w) packet.from) is (f.packets packet a)).0 c s there t at header e
 
 pub torn_fits : (w : World) → IsFair w → (packet : Packet) → Among w.packets packet → (torn : TornPulled) → packet.message ≡ TornRowResponse torn
     → (c : ℕ) (s : Client) → client_at w c ≡ Some s → (t : TableDisk) → table_at (seen s.disk) torn.table ≡ Some t
     → (header : Header) → torn.header ≡ Some header → fit_of t.schema header.content ≡ Ok tt
 torn_fits w f packet a torn is c s there t at header e =
-    row_fits w f torn.table torn.header (subst (IsFairMessage (schema_at w) packet.from) is (f.packets packet a)) c s there t at header e
+    row_fits w f torn.table torn.header (subst (IsFairMessage (schema_at w) packet.from) is (f.packets packet a)).0 c s there t at header e

@@ -1,4 +1,5 @@
--- What every world has that a script leads to: each row is one of its table, and each request is its client's own.
+-- What every world has that a script leads to: each row is one of its table, each request is its client's own, and each
+-- message is of one of the clients.
 use Rattle.std.specs.Prelude.{◌≡◌, ℕ, ◌≤◌, true, List, Option, Some, is_some}
 use Rattle.std.specs.List.{AllByRecursion}
 use Rattle.stab_base.specs.declared.node.Node.{Node}
@@ -27,24 +28,25 @@ abbrev pub IsFairHeader : (ℕ → Option Schema) → ℕ → Option Header → 
 IsFairHeader known table row = (header : Header) → row ≡ Some header
     → (1 ≤ header.version) × IsRowOf (known table) header.content
 
--- what a Store sends
+-- what a Store sends, to one of the clients
 abbrev pub IsFromStore : (ℕ → Option Schema) → Message → Type 0
 IsFromStore known (SyncRequest q) = ⊥
 IsFromStore known (PullRequest q) = ⊥
-IsFromStore known (SyncResponse r) = Unit {0}
-IsFromStore known (PullResponse q) = IsFairHeader known q.table q.header
+IsFromStore known (SyncResponse r) = IsClient r.client
+IsFromStore known (PullResponse q) = IsFairHeader known q.table q.header × IsClient q.client
 IsFromStore known (TornRowRequest t) = ⊥
-IsFromStore known (TornRowResponse t) = IsFairHeader known t.table t.header
+IsFromStore known (TornRowResponse t) = IsFairHeader known t.table t.header × IsClient t.client
 
--- a request's content is a row of its table, and its client sent it; and so is a row in an answer, with a version
+-- Each message is of one of the clients. A request's content is a row of its table, and its client sent it; and so is a
+-- row in an answer, with a version.
 abbrev pub IsFairMessage : (ℕ → Option Schema) → Node → Message → Type 0
 IsFairMessage known from (SyncRequest q) =
     IsRowOf (known q.table) q.content × IsClient q.client × (from ≡ nodes.Client q.client)
-IsFairMessage known from (PullRequest q) = Unit {0}
-IsFairMessage known from (SyncResponse r) = Unit {0}
-IsFairMessage known from (PullResponse q) = IsFairHeader known q.table q.header
-IsFairMessage known from (TornRowRequest t) = Unit {0}
-IsFairMessage known from (TornRowResponse t) = IsFairHeader known t.table t.header
+IsFairMessage known from (PullRequest q) = IsClient q.client
+IsFairMessage known from (SyncResponse r) = IsClient r.client
+IsFairMessage known from (PullResponse q) = IsFairHeader known q.table q.header × IsClient q.client
+IsFairMessage known from (TornRowRequest t) = IsClient t.client
+IsFairMessage known from (TornRowResponse t) = IsFairHeader known t.table t.header × IsClient t.client
 
 -- ---- tables
 

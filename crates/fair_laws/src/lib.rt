@@ -23,7 +23,7 @@ pub fn new_clients_are_fair()
 {}
 
 /// In every world that a script leads to, each row of a table and each one that is sent is a row of that table and has
-/// a version, and each request is its client's own.
+/// a version, each request is its client's own, and each message is of one of the clients.
 pub fn reached_worlds_are_fair()
     ensures { ReachedAreFair }
 {}

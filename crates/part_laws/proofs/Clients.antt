@@ -1,5 +1,5 @@
 -- What a client makes of parts of answers to its pulls that were sent.
-use Rattle.std.proofs.Common.{◌≡◌, ⊎_elim, ℕ, Bool, true, false, List, [], ◌∷◌, length, Option, Some, None, refl, sym, ◌∙◌, ap, subst, true≢false}
+use Rattle.std.proofs.Common.{◌≡◌, inl, inr, ⊎_elim, ℕ, Bool, true, false, List, [], ◌∷◌, length, Option, Some, None, refl, sym, ◌∙◌, ap, subst, true≢false}
 use Rattle.std.specs.Prelude.{◌==◌, ◌&&◌, not, nat_le, option_map, if◌then◌else◌}
 use Rattle.std.specs.List.{find, list_any, list_all}
 use Rattle.std.proofs.lemmas.Bool.{and_parts, eqb-true}
@@ -32,7 +32,7 @@ use Rattle.part_tables.specs.ClientParts as client_parts
 use Rattle.piece_laws.specs.Pieces.{IsNamed, NamesOne}
 use Rattle.part_laws.specs.Lengths as same_lengths
 use Rattle.part_laws.specs.Answers.{IsOfItem, AreAnswers, IsReadItem, AreReadItems, IsOpened, IsAnswering, AreAnswering, table_of, IsPart, AreTakenAlike, IsTakenAsSent, ComesAs}
-use Rattle.part_laws.specs.Rows.{IsTakenAsPull, IsTornRow}
+use Rattle.part_laws.specs.Rows.{IsOfAnswer, IsTakenAsPull, IsTornRow}
 use Rattle.part_laws.proofs.Lengths.{all_alike, as_long, pieces_back, names_back, kept_of_each}
 use Rattle.part_laws.proofs.Answers.{seen_alike}
 use Rattle.part_laws.proofs.Members.{all_among, any_among, each_among, each_filter, said_mapped}
@@ -222,15 +222,15 @@ module _ (size : ℕ → ℕ) (table : ℕ) (opened : TableDisk) (items : List S
     p_table : p.table ≡ table
     p_table = sym (ap (λ (head : PulledHead). head.table) is.head) ∙ of_table
 
+    by_lens : client_parts.answer_with x.head x.row (sized x.row.content) ≡ same_lengths.answer_with p h (sized (spelled_by h.content (kept h.names)))
+    by_lens = ap (λ (row : RowHead). client_parts.answer_with x.head x.row (sized row.content)) is.row ∙ same_message (sized (spelled_by h.content (kept h.names)))
+
     -- its row isn't newer than the one that was read
     pub taken_by_lens : nat_le h.version (top (slots_at opened h.row).conflict (slots_at opened h.row).shadow) ≡ true
         → AreTakenAlike table opened (client_parts.answer_with x.head x.row (sized x.row.content)) (PullResponse p)
     taken_by_lens old = λ c shape d there.
-        let blank = sized (spelled_by h.content (kept h.names)) in
-        let message : client_parts.answer_with x.head x.row (sized x.row.content) ≡ same_lengths.answer_with p h blank =
-        ap (λ (row : RowHead). client_parts.answer_with x.head x.row (sized row.content)) is.row ∙ same_message blank in
-        ap (λ (m : Message). client_step c shape (record { disk = d; agenda = Some [] }) (Take m)) message
-        ∙ (seen_alike c shape d opened p h blank (sym (as_long h.content (kept h.names))) old (ap (λ t. table_at (seen d) t) p_table ∙ there)
+        ap (λ (m : Message). client_step c shape (record { disk = d; agenda = Some [] }) (Take m)) by_lens
+        ∙ (seen_alike c shape d opened p h (sized (spelled_by h.content (kept h.names))) (sym (as_long h.content (kept h.names))) old (ap (λ t. table_at (seen d) t) p_table ∙ there)
         ∙ ap (λ (m : Message). client_step c shape (record { disk = d; agenda = Some [] }) (Take m)) as_it_was)
 
     module _ (slots : Slots) (at : slots ≡ slots_at opened h.row) where
@@ -248,17 +248,19 @@ module _ (size : ℕ → ℕ) (table : ℕ) (opened : TableDisk) (items : List S
           ∙ joined_is (bytes_of (held_in n slots)) sends n is_open.some (λ ordinal. refl) h.content (kept h.names) x.slots (each_kept n items is_open.names_one h its_item slots read sends)
           (client_holds n items is_open.names_one h its_item slots read sends held_all) is.places is.came whole)
 
+      whole_is : has_held (sends_of x.head) n (held_in n slots) x.row.content ≡ true → is_whole x.slots ≡ true → client_parts.answer_with x.head x.row (assembled n slots x) ≡ PullResponse p
+      whole_is held whole = ap (λ (content : Content). client_parts.answer_with x.head x.row content) (made_whole held whole) ∙ (same_message h.content ∙ as_it_was)
+
       pub taken_whole : has_held (sends_of x.head) n (held_in n slots) x.row.content ≡ true → is_whole x.slots ≡ true
           → AreTakenAlike table opened (client_parts.answer_with x.head x.row (assembled n slots x)) (PullResponse p)
-      taken_whole held whole = λ c shape d there.
-          ap (λ (m : Message). client_step c shape (record { disk = d; agenda = Some [] }) (Take m))
-          (ap (λ (content : Content). client_parts.answer_with x.head x.row content) (made_whole held whole) ∙ (same_message h.content ∙ as_it_was))
+      taken_whole held whole = λ c shape d there. ap (λ (m : Message). client_step c shape (record { disk = d; agenda = Some [] }) (Take m)) (whole_is held whole)
 
       abbrev answer_of : Content → Message
       answer_of content = client_parts.answer_with x.head x.row content
 
-      taken_as : (content : Content) (m : Message) → AreTakenAlike table opened (answer_of content) (PullResponse p) → Whole (answer_of content) ≡ Whole m → IsTakenAsPull table opened sent m
-      taken_as content m alike e =
+      taken_as : (content : Content) (m : Message) → AreTakenAlike table opened (answer_of content) (PullResponse p) → IsOfAnswer p (answer_of content) → Whole (answer_of content) ≡ Whole m
+          → IsTakenAsPull table opened sent m
+      taken_as content m alike of_it e =
           let same = same_whole (answer_of content) m e in
           record {
             answer = p;
@@ -266,11 +268,12 @@ module _ (size : ℕ → ℕ) (table : ℕ) (opened : TableDisk) (items : List S
             table_is = p_table;
             to_table = sym (ap messages.table_of same) ∙ of_table;
             alike = subst (λ (z : Message). AreTakenAlike table opened z (PullResponse p)) same alike;
+            of_it = subst (λ (z : Message). IsOfAnswer p z) same of_it;
           }
 
       whole_sound : (content : Content) (others : List Answering) → AreAnswering size sent others → AreTakenAlike table opened (answer_of content) (PullResponse p)
-          → Sound (record { taken = Whole (answer_of content); answerings = others })
-      whole_sound content others all alike = record { waits = all; whole = λ m e. taken_as content m alike e; tears = λ row e. absurd (whole_torn (answer_of content) row e) }
+          → IsOfAnswer p (answer_of content) → Sound (record { taken = Whole (answer_of content); answerings = others })
+      whole_sound content others all alike of_it = record { waits = all; whole = λ m e. taken_as content m alike of_it e; tears = λ row e. absurd (whole_torn (answer_of content) row e) }
 
       torn_sound : (others : List Answering) → AreAnswering size sent others → Sound (record { taken = Tears x.row.row; answerings = others })
       torn_sound others all = record {
@@ -292,11 +295,13 @@ module _ (size : ℕ → ℕ) (table : ℕ) (opened : TableDisk) (items : List S
       weighed_sound : (others : List Answering) → AreAnswering size sent others → Sound (weighed n slots others x)
       weighed_sound others all =
           if_sound (nat_le x.row.version (top slots.conflict slots.shadow)) _ _
-          (λ old. whole_sound (sized x.row.content) others all (taken_by_lens (old_row old)))
+          (λ old. whole_sound (sized x.row.content) others all (taken_by_lens (old_row old)) (inr (h, is.header_is, by_lens)))
           (λ newer. if_sound (not (has_held (sends_of x.head) n (held_in n slots) x.row.content)) _ _
           (λ torn. torn_sound others all)
           (λ holds. if_sound (is_whole x.slots) _ _
-          (λ whole. whole_sound (assembled n slots x) others all (taken_whole (not_false (has_held (sends_of x.head) n (held_in n slots) x.row.content) holds) whole))
+          (λ whole.
+          let held = not_false (has_held (sends_of x.head) n (held_in n slots) x.row.content) holds in
+          whole_sound (assembled n slots x) others all (taken_whole held whole) (inl (whole_is held whole)))
           (λ more. waiting_sound (x ∷ others) (subst (λ t. IsAnswering (size t) sent x) (sym of_table) is, all))))
 
   -- where the table's size is the opened one's

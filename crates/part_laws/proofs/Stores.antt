@@ -1,5 +1,5 @@
 -- What a table at the Store makes of parts of requests that were sent to it.
-use Rattle.std.proofs.Common.{◌≡◌, ℕ, ◌<◌, Bool, true, false, List, [], ◌∷◌, ◌++◌, length, Option, Some, None, refl, sym, ◌∙◌, ap, subst, true≢false}
+use Rattle.std.proofs.Common.{◌≡◌, inl, inr, ℕ, ◌<◌, Bool, true, false, List, [], ◌∷◌, ◌++◌, length, Option, Some, None, refl, sym, ◌∙◌, ap, subst, true≢false}
 use Rattle.std.specs.Prelude.{◌==◌, ◌&&◌, ◌||◌, not, nat_lt, if◌then◌else◌}
 use Rattle.std.specs.List.{find, list_any}
 use Rattle.std.proofs.lemmas.Bool.{and_parts, eqb-true}
@@ -31,7 +31,7 @@ use Rattle.part_tables.specs.StoreParts as store_parts
 use Rattle.piece_laws.specs.Pieces.{IsNamed, NamesOne, KeepsKnown}
 use Rattle.part_laws.specs.Lengths.{AreAsLong}
 use Rattle.part_laws.specs.Lengths as same_lengths
-use Rattle.part_laws.specs.Gathers.{AreSent, IsGathered, Gathers, IsPart, AreTakenAlike, IsTakenAsSent, ComesAs}
+use Rattle.part_laws.specs.Gathers.{AreSent, IsGathered, Gathers, IsPart, AreTakenAlike, IsOfRequest, IsTakenAsSent, ComesAs}
 use Rattle.part_laws.proofs.Lengths.{as_long, pieces_back}
 use Rattle.part_laws.proofs.Answers.{kept_by_len, answered_alike}
 use Rattle.part_laws.proofs.Members.{all_among, any_among, each_among, each_filter}
@@ -130,14 +130,15 @@ module _ (g : Scheme) (size : ℕ) (some : 0 < size) (items : List Stored) (name
     same_message : (content : Content) → SyncRequest (store_parts.request_with x.head content) ≡ SyncRequest (same_lengths.request_with q content)
     same_message content = ap (λ (head : RequestHead). SyncRequest (store_parts.request_with head content)) is.head ∙ with_head size q content each
 
+    by_lens : SyncRequest (store_parts.request_with x.head (sized x.head.content)) ≡ SyncRequest (same_lengths.request_with q (sized (spelled_by q.content q.pieces)))
+    by_lens =
+        ap (λ (head : RequestHead). SyncRequest (store_parts.request_with head (sized head.content))) is.head ∙ with_head size q (sized (spelled_by q.content q.pieces)) each
+
     -- it is answered, whatever its bytes
     pub taken_by_lens : is_answered g size items x.head ≡ true → AreTakenAlike g size items (SyncRequest (store_parts.request_with x.head (sized x.head.content))) (SyncRequest q)
     taken_by_lens answered = λ store table d from same.
-        let blank = sized (spelled_by q.content q.pieces) in
-        let message : SyncRequest (store_parts.request_with x.head (sized x.head.content)) ≡ SyncRequest (same_lengths.request_with q blank) =
-        ap (λ (head : RequestHead). SyncRequest (store_parts.request_with head (sized head.content))) is.head ∙ with_head size q blank each in
-        ap (λ (m : Message). store_step store g size table (record { disk = d; agenda = Some [] }) (Take from m)) message
-        ∙ answered_alike g size table d from q blank (sym (as_long q.content q.pieces))
+        ap (λ (m : Message). store_step store g size table (record { disk = d; agenda = Some [] }) (Take from m)) by_lens
+        ∙ answered_alike g size table d from q (sized (spelled_by q.content q.pieces)) (sym (as_long q.content q.pieces))
         (ap (λ (h : List Stored). is_answered g size h (head_of q)) same ∙ (ap (is_answered g size items) (sym is.head) ∙ answered))
 
     -- it is complete
@@ -148,10 +149,12 @@ module _ (g : Scheme) (size : ℕ) (some : 0 < size) (items : List Stored) (name
         ∙ joined_is (bytes_of (chunks_of size items q.row)) (is_sent sents.Fresh) size some (λ ordinal. refl) q.content q.pieces x.slots each
         (row_holds size items names q.row q.content q.pieces (are.keeps q is.was_sent) each by_len) is.places is.came whole
 
+    whole_is : is_answered g size items x.head ≡ false → is_whole x.slots ≡ true → SyncRequest (store_parts.request_with x.head (assembled size items x)) ≡ SyncRequest q
+    whole_is answered whole = ap (λ (content : Content). SyncRequest (store_parts.request_with x.head content)) (made_whole answered whole) ∙ same_message q.content
+
     pub taken_whole : is_answered g size items x.head ≡ false → is_whole x.slots ≡ true → AreTakenAlike g size items (SyncRequest (store_parts.request_with x.head (assembled size items x))) (SyncRequest q)
     taken_whole answered whole = λ store table d from same.
-        ap (λ (m : Message). store_step store g size table (record { disk = d; agenda = Some [] }) (Take from m))
-        (ap (λ (content : Content). SyncRequest (store_parts.request_with x.head content)) (made_whole answered whole) ∙ same_message q.content)
+        ap (λ (m : Message). store_step store g size table (record { disk = d; agenda = Some [] }) (Take from m)) (whole_is answered whole)
 
     q_client : q.client ≡ x.head.client
     q_client = sym (ap (λ (head : RequestHead). head.client) is.head)
@@ -160,22 +163,24 @@ module _ (g : Scheme) (size : ℕ) (some : 0 < size) (items : List Stored) (name
     q_table = ap (λ (head : RequestHead). head.table) is.head
 
     as_sent : (content : Content) (m : Message) → AreTakenAlike g size items (SyncRequest (store_parts.request_with x.head content)) (SyncRequest q)
-        → Whole (SyncRequest (store_parts.request_with x.head content)) ≡ Whole m → IsTakenAsSent g size items sent x.head.client m
-    as_sent content m alike e =
+        → IsOfRequest q (SyncRequest (store_parts.request_with x.head content)) → Whole (SyncRequest (store_parts.request_with x.head content)) ≡ Whole m
+        → IsTakenAsSent g size items sent x.head.client m
+    as_sent content m alike of_it e =
         let same = same_whole (SyncRequest (store_parts.request_with x.head content)) m e in (
           q,
           is.was_sent,
           q_client,
           sym (ap table_of same) ∙ q_table,
           subst (λ (k : Message). AreTakenAlike g size items k (SyncRequest q)) same alike,
+          subst (λ (k : Message). IsOfRequest q k) same of_it,
         )
 
     weighed_sound : (others : List Gathering) → Gathers size sent others → Sound x.head.client (weighed g size items others x)
     weighed_sound others all =
         if_sound x.head.client (is_answered g size items x.head) _ _
-        (λ answered. record { gathers = all; whole = λ m e. as_sent (sized x.head.content) m (taken_by_lens answered) e })
+        (λ answered. record { gathers = all; whole = λ m e. as_sent (sized x.head.content) m (taken_by_lens answered) (inr by_lens) e })
         (λ open_still. if_sound x.head.client (is_whole x.slots) _ _
-        (λ whole. record { gathers = all; whole = λ m e. as_sent (assembled size items x) m (taken_whole open_still whole) e })
+        (λ whole. record { gathers = all; whole = λ m e. as_sent (assembled size items x) m (taken_whole open_still whole) (inl (whole_is open_still whole)) e })
         (λ more. waiting_sound x.head.client (x ∷ others) (is, all)))
 
   -- ---- a request comes

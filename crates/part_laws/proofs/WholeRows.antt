@@ -29,7 +29,7 @@ use Rattle.part_tables.specs.Arriving.{WholeRow, Arriving, nothing_arriving, Arr
 use Rattle.part_tables.specs.Arriving.{waits_whole, brought_to, is_awaited, of_pull, arrived, asking}
 use Rattle.part_laws.specs.Lengths as same_lengths
 use Rattle.part_laws.specs.Answers.{IsOfItem, IsOpened, IsAnswering, table_of, AreTakenAlike}
-use Rattle.part_laws.specs.Rows.{SentDown, AreOfItems, IsWholeRow, AreArriving, IsChunkSent, IsPart, IsTakenAsPull, IsTakenAsRow, ComesAs, IsTornRow}
+use Rattle.part_laws.specs.Rows.{SentDown, AreOfItems, IsWholeRow, AreArriving, IsChunkSent, IsPart, IsOfWholeRow, IsTakenAsPull, IsTakenAsRow, ComesAs, IsTornRow}
 use Rattle.part_laws.proofs.Lengths.{as_long, names_back, kept_of_each}
 use Rattle.part_laws.proofs.Answers.{whole_alike}
 use Rattle.part_laws.proofs.Members.{each_among, each_filter}
@@ -94,8 +94,8 @@ module _ (size : ℕ → ℕ) (table : ℕ) (opened : TableDisk) (items : List S
   others_wait t row = each_filter (λ (x : WholeRow). IsWholeRow (size x.head.table) sent.rows x) (λ (x : WholeRow). not (is_of_row t row x)) a.rows all.rows
 
   ended_sound : (t : TornPulled) → Among sent.rows t → t.table ≡ table → (xs : List WholeRow) → AreRows xs → (head : TornHead) (o : Option Header) → head.table ≡ table
-      → AreTakenAlike table opened (torn_answer head o) (TornRowResponse t) → Sound (ended a xs head o)
-  ended_sound t was of_table xs rows head o to_table alike = record {
+      → AreTakenAlike table opened (torn_answer head o) (TornRowResponse t) → IsOfWholeRow t (torn_answer head o) → Sound (ended a xs head o)
+  ended_sound t was of_table xs rows head o to_table alike of_it = record {
     arriving = record { pulls = all.pulls; rows = rows };
     whole = λ m e. record {
       answer = t;
@@ -103,6 +103,7 @@ module _ (size : ℕ → ℕ) (table : ℕ) (opened : TableDisk) (items : List S
       table_is = of_table;
       to_table = sym (ap messages.table_of (same_whole (torn_answer head o) m e)) ∙ to_table;
       alike = subst (λ (z : Message). AreTakenAlike table opened z (TornRowResponse t)) (same_whole (torn_answer head o) m e) alike;
+      of_it = subst (λ (z : Message). IsOfWholeRow t z) (same_whole (torn_answer head o) m e) of_it;
     };
     tears = λ row e. absurd (whole_torn (torn_answer head o) row e);
   }
@@ -131,15 +132,15 @@ module _ (size : ℕ → ℕ) (table : ℕ) (opened : TableDisk) (items : List S
     as_it_was : same_lengths.torn_with t h h.content ≡ TornRowResponse t
     as_it_was = ap (λ (o : Option Header). TornRowResponse (record t { header = o })) (sym is.header_is)
 
+    by_lens : torn_answer x.head (Some (header_with x.row (sized x.row.content))) ≡ same_lengths.torn_with t h (sized (spelled_by h.content (kept h.names)))
+    by_lens = ap (λ (row : RowHead). torn_answer x.head (Some (header_with x.row (sized row.content)))) is.row ∙ same_message (sized (spelled_by h.content (kept h.names)))
+
     -- it isn't newer than the row that was read
     pub taken_by_lens : nat_le h.version (top (slots_at opened h.row).conflict (slots_at opened h.row).shadow) ≡ true
         → AreTakenAlike table opened (torn_answer x.head (Some (header_with x.row (sized x.row.content)))) (TornRowResponse t)
     taken_by_lens old = λ c shape d there.
-        let blank = sized (spelled_by h.content (kept h.names)) in
-        let message : torn_answer x.head (Some (header_with x.row (sized x.row.content))) ≡ same_lengths.torn_with t h blank =
-        ap (λ (row : RowHead). torn_answer x.head (Some (header_with x.row (sized row.content)))) is.row ∙ same_message blank in
-        ap (λ (m : Message). client_step c shape (record { disk = d; agenda = Some [] }) (Take m)) message
-        ∙ (whole_alike c shape d opened t h blank (sym (as_long h.content (kept h.names))) old (ap (λ k. table_at (seen d) k) t_table ∙ there)
+        ap (λ (m : Message). client_step c shape (record { disk = d; agenda = Some [] }) (Take m)) by_lens
+        ∙ (whole_alike c shape d opened t h (sized (spelled_by h.content (kept h.names))) (sym (as_long h.content (kept h.names))) old (ap (λ k. table_at (seen d) k) t_table ∙ there)
         ∙ ap (λ (m : Message). client_step c shape (record { disk = d; agenda = Some [] }) (Take m)) as_it_was)
 
     -- all its chunks have come
@@ -149,10 +150,11 @@ module _ (size : ℕ → ℕ) (table : ℕ) (opened : TableDisk) (items : List S
         ∙ joined_is (λ (name : ChunkName). []) (is_sent sents.All) n is_open.some (λ ordinal. refl) h.content (kept h.names) x.slots (kept_of_each n h.names (objects_of h.content) ∙ each)
         (λ name bytes among stays. absurd (true≢false stays)) is.places is.came whole
 
+    whole_is : is_whole x.slots ≡ true → torn_answer x.head (Some (header_with x.row (assembled x))) ≡ TornRowResponse t
+    whole_is whole = ap (λ (content : Content). torn_answer x.head (Some (header_with x.row content))) (made_whole whole) ∙ (same_message h.content ∙ as_it_was)
+
     pub taken_whole : is_whole x.slots ≡ true → AreTakenAlike table opened (torn_answer x.head (Some (header_with x.row (assembled x)))) (TornRowResponse t)
-    taken_whole whole = λ c shape d there.
-        ap (λ (m : Message). client_step c shape (record { disk = d; agenda = Some [] }) (Take m))
-        (ap (λ (content : Content). torn_answer x.head (Some (header_with x.row content))) (made_whole whole) ∙ (same_message h.content ∙ as_it_was))
+    taken_whole whole = λ c shape d there. ap (λ (m : Message). client_step c shape (record { disk = d; agenda = Some [] }) (Take m)) (whole_is whole)
 
     old_row : (slots : Slots) → slots ≡ slots_at opened h.row → nat_le x.row.version (top slots.conflict slots.shadow) ≡ true
         → nat_le h.version (top (slots_at opened h.row).conflict (slots_at opened h.row).shadow) ≡ true
@@ -162,9 +164,9 @@ module _ (size : ℕ → ℕ) (table : ℕ) (opened : TableDisk) (items : List S
     weighed_sound : (slots : Slots) → slots ≡ slots_at opened h.row → (others : List WholeRow) → AreRows others → Sound (weighed slots a others x)
     weighed_sound slots at others rows =
         if_sound (nat_le x.row.version (top slots.conflict slots.shadow)) _ _
-        (λ old. ended_sound t is.was_sent t_table others rows x.head _ of_table (taken_by_lens (old_row slots at old)))
+        (λ old. ended_sound t is.was_sent t_table others rows x.head _ of_table (taken_by_lens (old_row slots at old)) (inr (h, is.header_is, by_lens)))
         (λ newer. if_sound (is_whole x.slots) _ _
-        (λ whole. ended_sound t is.was_sent t_table others rows x.head _ of_table (taken_whole whole))
+        (λ whole. ended_sound t is.was_sent t_table others rows x.head _ of_table (taken_whole whole) (inl (whole_is whole)))
         (λ more. waiting_sound (x ∷ others) (subst (λ k. IsWholeRow (size k) sent.rows x) (sym of_table) is, rows)))
 
   -- ---- its header comes
@@ -199,7 +201,7 @@ module _ (size : ℕ → ℕ) (table : ℕ) (opened : TableDisk) (items : List S
   answered_sound : (t : TornPulled) → Among sent.rows t → t.table ≡ table → (o : Option Header) → t.header ≡ o → Sound (answered opened a (torn_head t) (option_map row_head o))
   answered_sound t was of_table None e =
       ended_sound t was of_table (without_row t.table t.row a.rows) (others_wait t.table t.row) (torn_head t) None of_table
-      (λ c shape d there. ap (λ (m : Message). client_step c shape (record { disk = d; agenda = Some [] }) (Take m)) (no_row t e))
+      (λ c shape d there. ap (λ (m : Message). client_step c shape (record { disk = d; agenda = Some [] }) (Take m)) (no_row t e)) (inl (no_row t e))
   answered_sound t was of_table (Some h) e =
       if_sound (is_named opened.schema.chunk (sized (spelled_by h.content (kept h.names))) (names_in (spelled_by h.content (kept h.names)))) _ _
       (λ named. begun_sound t h was of_table e) (λ drops. still_sound)

@@ -1,9 +1,10 @@
 -- Requests that come to the Store in parts: what has been gathered is of those that were sent to its table, and what is
 -- completed is taken as one of them.
-use Rattle.std.specs.Prelude.{◌≡◌, ℕ, true, List, [], map, Some}
+use Rattle.std.specs.Prelude.{◌≡◌, ◌⊎◌, ℕ, true, List, [], map, Some}
 use Rattle.std.specs.List.{AllByRecursion}
 use Rattle.stab_base.specs.declared.node.Node.{Node}
 use Rattle.row_value.specs.declared.schema.Scheme.{Scheme}
+use Rattle.chunker.specs.Sized.{sized}
 use Rattle.assemblies.specs.declared.sent.Sent.TheVariants as sents
 use Rattle.assemblies.specs.Travel.{is_sent}
 use Rattle.assemblies.specs.Places.{awaited_of}
@@ -18,6 +19,7 @@ use Rattle.part_tables.specs.Parts.{Part, Asks, Responds, Pulls, Answers, Brings
 use Rattle.part_tables.specs.Parts.{head_of, spelled_by, chunks_up}
 use Rattle.part_tables.specs.StoreParts.{Gathering}
 use Rattle.piece_laws.specs.Pieces.{KeepsKnown}
+use Rattle.part_laws.specs.Lengths.{request_with}
 
 -- of the requests that were sent to a table, those of one client, row and number have one content; each spells its
 -- chunks and keeps only known ones
@@ -56,11 +58,16 @@ AreTakenAlike g size items m n = (store table : ℕ) (d : StoreDisk) (from : Nod
     → store_step store g size table (record { disk = d; agenda = Some [] }) (Take from m)
     ≡ store_step store g size table (record { disk = d; agenda = Some [] }) (Take from n)
 
+-- the request, or it with objects of which the lengths alone are right
+abbrev pub IsOfRequest : Request → Message → Type 0
+IsOfRequest q m =
+    (m ≡ SyncRequest q) ⊎ (m ≡ SyncRequest (request_with q (sized (spelled_by q.content q.pieces))))
+
 -- a request of the client that was sent, of the same table
 abbrev pub IsTakenAsSent : Scheme → ℕ → List Stored → List Request → ℕ → Message → Type 0
 IsTakenAsSent g size items sent client m =
     (q : Request) × Among sent q × (q.client ≡ client) × (table_of m ≡ q.table)
-    × AreTakenAlike g size items m (SyncRequest q)
+    × AreTakenAlike g size items m (SyncRequest q) × IsOfRequest q m
 
 -- what a part completes: a pull is itself, and so is what asks for a row whole
 abbrev pub ComesAs : Scheme → ℕ → List Stored → List Request → Part → Message → Type 0

@@ -3,6 +3,7 @@
 -- the numbers of tables.
 use Rattle.std.specs.Prelude.{◌≡◌, ◌⊎◌, ℕ, List, map, Some}
 use Rattle.std.specs.List.{AllByRecursion}
+use Rattle.chunker.specs.Sized.{sized}
 use Rattle.assemblies.specs.declared.sent.Sent.TheVariants as sents
 use Rattle.assemblies.specs.Travel.{is_sent}
 use Rattle.assemblies.specs.Places.{awaited_of}
@@ -17,6 +18,7 @@ use Rattle.part_tables.specs.Parts.{Part, Asks, Responds, Pulls, Answers, Brings
 use Rattle.part_tables.specs.Parts.{Fragment, pulled_head, torn_head, row_head, spelled_by, kept, chunks_down}
 use Rattle.part_tables.specs.Parts.{chunks_whole}
 use Rattle.part_tables.specs.Arriving.{WholeRow, Arriving}
+use Rattle.part_laws.specs.Lengths.{answer_with, torn_with}
 use Rattle.part_laws.specs.Answers.{IsOfItem, AreAnswers, AreAnswering, AreTakenAlike}
 
 -- ---- what was sent
@@ -71,6 +73,16 @@ IsPart size sent (AnswersTorn head) = (t : TornPulled) × Among sent.rows t × (
 
 -- ---- what is taken
 
+-- the answer, or it with objects of which the lengths alone are right
+abbrev pub IsOfAnswer : Pulled → Message → Type 0
+IsOfAnswer p m = (m ≡ PullResponse p)
+    ⊎ ((h : Header) × (p.header ≡ Some h) × (m ≡ answer_with p h (sized (spelled_by h.content (kept h.names)))))
+
+-- the same of a row that was asked for whole
+abbrev pub IsOfWholeRow : TornPulled → Message → Type 0
+IsOfWholeRow t m = (m ≡ TornRowResponse t)
+    ⊎ ((h : Header) × (t.header ≡ Some h) × (m ≡ torn_with t h (sized (spelled_by h.content (kept h.names)))))
+
 -- an answer to a pull of the table that was sent
 pub record IsTakenAsPull (table : ℕ) (opened : TableDisk) (pulls : List Pulled) (m : Message) : Type 0 where
   pub answer : Pulled
@@ -78,6 +90,7 @@ pub record IsTakenAsPull (table : ℕ) (opened : TableDisk) (pulls : List Pulled
   pub table_is : answer.table ≡ table
   pub to_table : messages.table_of m ≡ table
   pub alike : AreTakenAlike table opened m (PullResponse answer)
+  pub of_it : IsOfAnswer answer m
 
 -- a row of the table that was asked for whole and sent
 pub record IsTakenAsRow (table : ℕ) (opened : TableDisk) (rows : List TornPulled) (m : Message) : Type 0 where
@@ -86,6 +99,7 @@ pub record IsTakenAsRow (table : ℕ) (opened : TableDisk) (rows : List TornPull
   pub table_is : answer.table ≡ table
   pub to_table : messages.table_of m ≡ table
   pub alike : AreTakenAlike table opened m (TornRowResponse answer)
+  pub of_it : IsOfWholeRow answer m
 
 -- what a part completes: an answer to a request is itself
 abbrev pub ComesAs : TableDisk → SentDown → Part → Message → Type 0

@@ -21,6 +21,7 @@ use Rattle.piece_laws.proofs.Worlds.{request_there}
 use Rattle.part_laws.specs.Gathers.{AreSent}
 use Rattle.part_laws.specs.Answers.{IsOfItem, IsReadItem, IsOpened}
 use Rattle.part_laws.specs.Rows.{SentDown, AreOfItems}
+use Rattle.wire_laws.specs.Carried.{IsFit}
 use Rattle.wire_laws.proofs.Places.{flat_member, member_flat}
 
 pub record IsGround (w : World) : Type 0 where
@@ -32,6 +33,7 @@ pub record IsGround (w : World) : Type 0 where
   pub requests : (p : Packet) (q : Request) → Among w.packets p → p.message ≡ SyncRequest q → (schema : Schema) × (schema_at w q.table ≡ Some schema) × (p.from ≡ nodes.Client q.client)
   pub pulls : (p : Packet) (pulled : Pulled) (h : Header) → Among w.packets p → p.message ≡ PullResponse pulled → pulled.header ≡ Some h → (schema : Schema) × (schema_at w pulled.table ≡ Some schema)
   pub rows : (p : Packet) (t : TornPulled) (h : Header) → Among w.packets p → p.message ≡ TornRowResponse t → t.header ≡ Some h → (schema : Schema) × (schema_at w t.table ≡ Some schema)
+  pub fits : (p : Packet) → Among w.packets p → IsFit (schema_at w) p.from p.message
   pub opened : (c : ℕ) (node : Client) → client_at w c ≡ Some node → (table : ℕ) (t : TableDisk) → table_at (seen node.disk) table ≡ Some t → schema_at w table ≡ Some t.schema
 
 -- the size of a table's chunks

@@ -11,3 +11,6 @@ pub mod ToClients
 pub mod WireSteps
 pub mod Founded
 pub mod WireRuns
+pub mod Fitting
+pub mod Carried
+pub mod Histories

@@ -2,6 +2,7 @@
 -- it asks for a row that it found torn.
 use Rattle.std.proofs.Common.{◌≡◌, ◌≢◌, inl, inr, ℕ, Bool, true, false, List, [], ◌∷◌, Option, Some, None, refl, sym, ◌∙◌, ap, subst}
 use Rattle.std.specs.Prelude.{◌&&◌, slice_get, if◌then◌else◌}
+use Rattle.stab_base.specs.declared.node.Node.{Node}
 use Rattle.stab_base.specs.declared.node.Node.TheVariants as nodes
 use Rattle.table_model.specs.declared.event.Event.TheVariants as events
 use Rattle.step_tables.specs.Facts.{Answer}
@@ -10,7 +11,7 @@ use Rattle.step_tables.specs.Messages.{Message, Luck, SyncRequest, SyncResponse,
 use Rattle.step_tables.specs.Messages as messages
 use Rattle.step_tables.specs.ClientMoves as client
 use Rattle.step_tables.specs.ClientMoves.{TableDisk, ClientDisk, Client, ClientTask, ClientStep, Shape, table_at, seen, client_step, take_step, ignored, response_in, pulled_in, torn_in, phases_by}
-use Rattle.world_tables.specs.World.{World, Packet, Moved, WorldStep, Lucks, client_at, is_cut, answering, unless_down, unless_cut, and_then}
+use Rattle.world_tables.specs.World.{World, Packet, Moved, WorldStep, Lucks, schema_at, client_at, is_cut, answering, unless_down, unless_cut, and_then}
 use Rattle.world_tables.specs.World.{after_client, moved_client, move_there, move_client, client_follows_from, first_luck, other_lucks, reads, calls, call_there, to_there, carried}
 use Rattle.part_tables.specs.Parts.{Part, Asks, Responds, Pulls, Answers, BringsUp, BringsDown, AsksTorn, AnswersTorn}
 use Rattle.part_tables.specs.ClientParts.{Taken, Whole, Tears, Waits}
@@ -21,6 +22,8 @@ use Rattle.part_laws.specs.Answers as answers
 use Rattle.part_laws.specs.Rows.{SentDown, IsPart, IsTakenAsPull, IsTakenAsRow, ComesAs, AreArriving}
 use Rattle.part_laws.proofs.WholeRows.{part_kept}
 use Rattle.wire_tables.specs.Wire.{PartPacket, Wire, arriving_at, with_arriving, part_table, any_of, whole, untaken, completed, waits, client_taken, by_table, by_client, brought}
+use Rattle.wire_laws.specs.Carried.{IsFit}
+use Rattle.wire_laws.proofs.Fitting.{answer_fits, whole_row_fits}
 use Rattle.wire_laws.proofs.PartsOf.{IsPartOf, part_of, same_table, client_part, tables_agree}
 use Rattle.wire_laws.proofs.Ground.{IsGround, size_in, down_to, sent_pulled, pulled_sent, sent_torn, torn_sent, of_items, is_opened}
 use Rattle.wire_laws.proofs.Keeping.{HasWhole, IsKept, arriving_kept}
@@ -102,16 +105,16 @@ unopened_step c shape node m n table tm tn idle none =
 
 module _ (v : Wire) (g : IsGround v.world) (k : IsKept v) (number : ℕ) (p : PartPacket) (at : slice_get v.packets number ≡ Some p) (lucks : Lucks)
     (h : HasWhole v.world p) (c : ℕ) (here : p.to ≡ nodes.Client c) where
-  abbrev table : ℕ
+  abbrev pub table : ℕ
   table = part_table p.part
 
-  abbrev q : Packet
+  abbrev pub q : Packet
   q = h.packet
 
   part_is : IsPartOf (size_in v.world (table_of q.message)) q.message p.part
   part_is = part_of (size_in v.world (table_of q.message)) q.message p.part h.part
 
-  same : table_of q.message ≡ table
+  pub same : table_of q.message ≡ table
   same = sym (same_table (size_in v.world (table_of q.message)) q.message p.part part_is)
 
   -- where the client makes the same of the packet as of any other
@@ -136,7 +139,7 @@ module _ (v : Wire) (g : IsGround v.world) (k : IsKept v) (number : ℕ) (p : Pa
       abbrev sent : SentDown
       sent = down_to c v.world.packets
 
-      abbrev x : Arrived
+      abbrev pub x : Arrived
       x = arrived opened (arriving_at v c) p.part
 
       opened_here : IsOpened (size_in v.world (answers.table_of p.part)) (items_at v.world (answers.table_of p.part)) opened
@@ -155,15 +158,16 @@ module _ (v : Wire) (g : IsGround v.world) (k : IsKept v) (number : ℕ) (p : Pa
       kept = arriving_kept v k c x.arriving arriving
 
       -- the packet of the message that is completed
-      record IsTakenAs (m : Message) : Type 0 where
-        packet : Packet
-        stands : Among v.world.packets packet
-        to : packet.to ≡ nodes.Client c
-        step : client_step c lucks.shape node (client.Take m) ≡ client_step c lucks.shape node (client.Take packet.message)
+      pub record IsTakenAs (m : Message) : Type 0 where
+        pub packet : Packet
+        pub stands : Among v.world.packets packet
+        pub to : packet.to ≡ nodes.Client c
+        pub fit : IsFit (schema_at v.world) p.from m
+        pub step : (shape : Shape) → client_step c shape node (client.Take m) ≡ client_step c shape node (client.Take packet.message)
 
-      alike_step : (t : ℕ) (m n : Message) → t ≡ table → AreTakenAlike t opened m n → client_step c lucks.shape node (client.Take m) ≡ client_step c lucks.shape node (client.Take n)
-      alike_step t m n is alike =
-          at_agenda c lucks.shape node m n (Some []) (alike c lucks.shape node.disk (ap (table_at (seen node.disk)) is ∙ is_there)) idle
+      alike_step : (t : ℕ) (m n : Message) → t ≡ table → AreTakenAlike t opened m n → (shape : Shape) → client_step c shape node (client.Take m) ≡ client_step c shape node (client.Take n)
+      alike_step t m n is alike shape =
+          at_agenda c shape node m n (Some []) (alike c shape node.disk (ap (table_at (seen node.disk)) is ∙ is_there)) idle
 
       as_pull : (t : ℕ) (m : Message) → t ≡ table → IsTakenAsPull t opened sent.pulls m → IsTakenAs m
       as_pull t m is a =
@@ -172,7 +176,8 @@ module _ (v : Wire) (g : IsGround v.world) (k : IsKept v) (number : ℕ) (p : Pa
             packet = r.packet;
             stands = r.stands;
             to = r.to;
-            step = alike_step t m (PullResponse a.answer) is a.alike ∙ ap (λ (y : Message). client_step c lucks.shape node (client.Take y)) (sym r.message);
+            fit = answer_fits (schema_at v.world) p.from a.answer m (subst (IsFit (schema_at v.world) r.packet.from) r.message (g.fits r.packet r.stands)) a.of_it;
+            step = λ shape. alike_step t m (PullResponse a.answer) is a.alike shape ∙ ap (λ (y : Message). client_step c shape node (client.Take y)) (sym r.message);
           }
 
       as_row : (t : ℕ) (m : Message) → t ≡ table → IsTakenAsRow t opened sent.rows m → IsTakenAs m
@@ -182,11 +187,18 @@ module _ (v : Wire) (g : IsGround v.world) (k : IsKept v) (number : ℕ) (p : Pa
             packet = r.packet;
             stands = r.stands;
             to = r.to;
-            step = alike_step t m (TornRowResponse a.answer) is a.alike ∙ ap (λ (y : Message). client_step c lucks.shape node (client.Take y)) (sym r.message);
+            fit = whole_row_fits (schema_at v.world) p.from a.answer m (subst (IsFit (schema_at v.world) r.packet.from) r.message (g.fits r.packet r.stands)) a.of_it;
+            step = λ shape. alike_step t m (TornRowResponse a.answer) is a.alike shape ∙ ap (λ (y : Message). client_step c shape node (client.Take y)) (sym r.message);
           }
 
       as_itself : (m : Message) → m ≡ q.message → IsTakenAs m
-      as_itself m is = record { packet = q; stands = h.stands; to = sym h.to ∙ here; step = ap (λ (y : Message). client_step c lucks.shape node (client.Take y)) is }
+      as_itself m is = record {
+        packet = q;
+        stands = h.stands;
+        to = sym h.to ∙ here;
+        fit = subst (IsFit (schema_at v.world) p.from) (sym is) (subst (λ (f : Node). IsFit (schema_at v.world) f q.message) (sym h.from) (g.fits q h.stands));
+        step = λ shape. ap (λ (y : Message). client_step c shape node (client.Take y)) is;
+      }
 
       taken_as : (m : Message) (part : Part) → part_table part ≡ table → IsPartOf (size_in v.world (table_of q.message)) q.message part → ComesAs opened sent part m → IsTakenAs m
       taken_as m (Asks head) t is a = absurd a
@@ -199,12 +211,18 @@ module _ (v : Wire) (g : IsGround v.world) (k : IsKept v) (number : ℕ) (p : Pa
       taken_as m (AsksTorn torn) t is a = absurd a
       taken_as m (AnswersTorn head) t is a = as_row head.table m t a
 
+      -- what a part completes
+      pub completes_as : (m : Message) → x.taken ≡ Whole m → IsTakenAs m
+      completes_as m is =
+          taken_as m p.part refl part_is
+          ((part_kept (size_in v.world) (items_at v.world) sent (of_items v.world g c) opened (arriving_at v c) (k.arriving c) p.part opened_here is_part).whole m is)
+
       whole_comes : (m : Message) → IsTakenAs m → Comes v (events.Deliver number) (completed (with_arriving c x.arriving v) p m lucks)
       whole_comes m t =
           brings v number p at lucks v.gathered (with_arriving c x.arriving v).arriving kept t.packet t.stands (t.to ∙ sym here) _
           (ap (carried v.world (whole p m) lucks.shape lucks.calls) here
           ∙ (ap (to_there v.world c m lucks.shape lucks.calls) there
-          ∙ (taken_same v.world c lucks.shape lucks.calls node m t.packet.message there t.step
+          ∙ (taken_same v.world c lucks.shape lucks.calls node m t.packet.message there (t.step lucks.shape)
           ∙ (sym (ap (to_there v.world c t.packet.message lucks.shape lucks.calls) there)
           ∙ ap (carried v.world t.packet lucks.shape lucks.calls) (sym t.to)))))
 
@@ -217,8 +235,7 @@ module _ (v : Wire) (g : IsGround v.world) (k : IsKept v) (number : ℕ) (p : Pa
 
       taken_comes : (t : Taken) → x.taken ≡ t → Comes v (events.Deliver number) (client_taken v c p lucks (record x { taken = t }))
       taken_comes (Whole m) is =
-          whole_comes m (taken_as m p.part refl part_is
-          ((part_kept (size_in v.world) (items_at v.world) sent (of_items v.world g c) opened (arriving_at v c) (k.arriving c) p.part opened_here is_part).whole m is))
+          whole_comes m (completes_as m is)
       taken_comes (Tears row) is = inr (record {
         gathered = v.gathered;
         arriving = (with_arriving c x.arriving v).arriving;

@@ -22,6 +22,8 @@ use Rattle.piece_laws.specs.Pieces.{items_in, NamesOne}
 use Rattle.part_laws.specs.Gathers.{AreSent, Gathers, IsPart, IsTakenAsSent, ComesAs}
 use Rattle.part_laws.proofs.Stores.{gathers_still, comes_whole}
 use Rattle.wire_tables.specs.Wire.{PartPacket, Wire, gathered_at, with_gathered, part_table, any_of, whole, untaken, completed, waits, store_taken, by_hosted, brought}
+use Rattle.wire_laws.specs.Carried.{IsFit}
+use Rattle.wire_laws.proofs.Fitting.{request_fits}
 use Rattle.wire_laws.proofs.PartsOf.{IsPartOf, part_of, up_is, same_table, store_part}
 use Rattle.wire_laws.proofs.Ground.{IsGround, size_in, requests_to, IsRequestTo, sent_request, request_sent, positive, one_name, are_sent}
 use Rattle.wire_laws.proofs.Keeping.{HasWhole, IsKept, gathered_kept}
@@ -30,7 +32,7 @@ use Rattle.wire_laws.proofs.Comings.{Comes, brings, stays}
 -- ---- two moves that a table makes the same of
 
 module _ (w : World) (table : ℕ) (lucks : List Luck) (one other : StoreMove) where
-  moved_same : (hosted : Hosted) → hosted_at w table ≡ Some hosted → table_step w table hosted one ≡ table_step w table hosted other → move_table table one w ≡ move_table table other w
+  pub moved_same : (hosted : Hosted) → hosted_at w table ≡ Some hosted → table_step w table hosted one ≡ table_step w table hosted other → move_table table one w ≡ move_table table other w
   moved_same hosted at same =
       ap (λ (o : Option Hosted). move_hosted w table one o) at ∙ (ap (after_table w table hosted) same ∙ sym (ap (λ (o : Option Hosted). move_hosted w table other o) at))
 
@@ -58,7 +60,7 @@ module _ (w : World) (table : ℕ) (lucks : List Luck) (one other : StoreMove) w
       go (Some (task ∷ more)) = busy_same hosted at same
 
   -- a read that fails
-  failing_same : (hosted : Hosted) (rest : List Luck) (luck : Luck) → luck ≢ messages.Done → take_read w table hosted one rest luck ≡ take_read w table hosted other rest luck
+  pub failing_same : (hosted : Hosted) (rest : List Luck) (luck : Luck) → luck ≢ messages.Done → take_read w table hosted one rest luck ≡ take_read w table hosted other rest luck
   failing_same hosted rest messages.Done fails = absurd (fails refl)
   failing_same hosted rest messages.FailedBefore fails = refl
   failing_same hosted rest messages.FailedAfter fails = refl
@@ -105,16 +107,16 @@ module _ (w : World) (number table : ℕ) (lucks : Lucks) (x y : Packet) (tx : t
 
 module _ (v : Wire) (g : IsGround v.world) (k : IsKept v) (number : ℕ) (p : PartPacket) (at : slice_get v.packets number ≡ Some p) (lucks : Lucks)
     (h : HasWhole v.world p) (n : ℕ) (here : p.to ≡ nodes.Store n) where
-  abbrev table : ℕ
+  abbrev pub table : ℕ
   table = part_table p.part
 
-  abbrev q : Packet
+  abbrev pub q : Packet
   q = h.packet
 
   part_is : IsPartOf (size_in v.world (table_of q.message)) q.message p.part
   part_is = part_of (size_in v.world (table_of q.message)) q.message p.part h.part
 
-  same : table_of q.message ≡ table
+  pub same : table_of q.message ≡ table
   same = sym (same_table (size_in v.world (table_of q.message)) q.message p.part part_is)
 
   -- where the Store makes the same of the packet as of any other
@@ -163,7 +165,7 @@ module _ (v : Wire) (g : IsGround v.world) (k : IsKept v) (number : ℕ) (p : Pa
         store_part (size_in v.world table) sent q.message p.part (subst (λ (t : ℕ). IsPartOf (size_in v.world t) q.message p.part) same part_is)
         (λ r is. request_sent table v.world.packets q r n h.stands (sym h.to ∙ here) is (sym (ap table_of is) ∙ same))
 
-    abbrev x : StoreTaken
+    abbrev pub x : StoreTaken
     x = parted scheme (size_in v.world table) items (gathered_at v table) p.part
 
     gathers : Gathers (size_in v.world table) sent x.gatherings
@@ -173,13 +175,14 @@ module _ (v : Wire) (g : IsGround v.world) (k : IsKept v) (number : ℕ) (p : Pa
     kept = gathered_kept v k table x.gatherings gathers
 
     -- the packet of the message that is completed
-    record IsTakenAs (m : Message) : Type 0 where
-      packet : Packet
-      stands : Among v.world.packets packet
-      to : packet.to ≡ p.to
-      table_m : table_of m ≡ table
-      table_is : table_of packet.message ≡ table
-      step : table_step v.world table hosted (store.Take p.from m) ≡ table_step v.world table hosted (store.Take packet.from packet.message)
+    pub record IsTakenAs (m : Message) : Type 0 where
+      pub packet : Packet
+      pub stands : Among v.world.packets packet
+      pub to : packet.to ≡ p.to
+      pub table_m : table_of m ≡ table
+      pub table_is : table_of packet.message ≡ table
+      pub fit : IsFit (schema_at v.world) p.from m
+      pub step : table_step v.world table hosted (store.Take p.from m) ≡ table_step v.world table hosted (store.Take packet.from packet.message)
 
     -- there is one Store
     one_store : (packet : Packet) (other : ℕ) → Among v.world.packets packet → packet.to ≡ nodes.Store other → packet.to ≡ p.to
@@ -199,6 +202,8 @@ module _ (v : Wire) (g : IsGround v.world) (k : IsKept v) (number : ℕ) (p : Pa
             to = one_store r.packet r.store r.stands r.to;
             table_m = t.3 ∙ r.table_is;
             table_is = ap table_of r.message ∙ r.table_is;
+            fit = request_fits (schema_at v.world) p.from t.0 m
+                (subst (λ (f : Node). IsFit (schema_at v.world) f (SyncRequest t.0)) way (subst (IsFit (schema_at v.world) r.packet.from) r.message (g.fits r.packet r.stands))) t.5;
             step = at_store p.from m ∙ (t.4 owner table hosted.store.disk p.from refl ∙ (sym (at_store p.from (SyncRequest t.0))
                 ∙ (ap (λ (f : Node). table_step v.world table hosted (store.Take f (SyncRequest t.0))) (sym way)
                 ∙ ap (λ (y : Message). table_step v.world table hosted (store.Take r.packet.from y)) (sym r.message))));
@@ -212,10 +217,11 @@ module _ (v : Wire) (g : IsGround v.world) (k : IsKept v) (number : ℕ) (p : Pa
         to = sym h.to;
         table_m = ap table_of is ∙ same;
         table_is = same;
+        fit = subst (IsFit (schema_at v.world) p.from) (sym is) (subst (λ (f : Node). IsFit (schema_at v.world) f q.message) (sym h.from) (g.fits q h.stands));
         step = ap (λ (f : Node). table_step v.world table hosted (store.Take f m)) h.from ∙ ap (λ (y : Message). table_step v.world table hosted (store.Take q.from y)) is;
       }
 
-      taken_as : (m : Message) (part : Part) → IsPartOf (size_in v.world (table_of q.message)) q.message part → ComesAs scheme (size_in v.world table) items sent part m → IsTakenAs m
+      pub taken_as : (m : Message) (part : Part) → IsPartOf (size_in v.world (table_of q.message)) q.message part → ComesAs scheme (size_in v.world table) items sent part m → IsTakenAs m
       taken_as m (Asks head) is t =
           as_request m head.client (h.from ∙ ((g.requests q is.0 h.stands is.1).2 ∙ ap nodes.Client (sym (ap (λ (r : RequestHead). r.client) is.2)))) t
       taken_as m (Responds response) is t = absurd t
@@ -226,6 +232,12 @@ module _ (v : Wire) (g : IsGround v.world) (k : IsKept v) (number : ℕ) (p : Pa
       taken_as m (BringsDown f) is t = absurd t
       taken_as m (AsksTorn torn) is t = as_itself m (t ∙ sym is)
       taken_as m (AnswersTorn head) is t = absurd t
+
+      -- what a part completes
+      pub completes_as : (m : Message) → x.taken ≡ Whole m → IsTakenAs m
+      completes_as m is =
+          taken_as m p.part part_is
+          (comes_whole scheme (size_in v.world table) (positive v.world g table schema g_known) items names sent are (gathered_at v table) (k.gathers table) p.part is_part m is)
 
       whole_comes : (m : Message) → IsTakenAs m → Comes v (events.Deliver number) (completed (with_gathered table x.gatherings v) p m lucks)
       whole_comes m t =
@@ -247,9 +259,7 @@ module _ (v : Wire) (g : IsGround v.world) (k : IsKept v) (number : ℕ) (p : Pa
           (λ e. let bad : messages.FailedAfter ≡ messages.Done = sym is ∙ e in cc))
 
       taken_comes : (t : Taken) → x.taken ≡ t → Comes v (events.Deliver number) (store_taken v p lucks (record x { taken = t }))
-      taken_comes (Whole m) is =
-          whole_comes m (taken_as m p.part part_is
-          (comes_whole scheme (size_in v.world table) (positive v.world g table schema g_known) items names sent are (gathered_at v table) (k.gathers table) p.part is_part m is))
+      taken_comes (Whole m) is = whole_comes m (completes_as m is)
       taken_comes Waits is = waits_come (first_luck lucks.calls) refl
 
     agenda_comes : (a : Option (List StoreTask)) → hosted.store.agenda ≡ a → Comes v (events.Deliver number) (by_hosted v p lucks (Some (record hosted { store = record hosted.store { agenda = a } })))

@@ -119,7 +119,7 @@ module _ (g : ℕ → Scheme) (s : Said) where
   lone_said (events.Deliver k) lines (inr is) = subst (AreSaid g s) (sym is.1) (tt, tt)
   lone_said other lines is = absurd is
 
-  lone_heard : (event : Event) (lines : List Line) → IsLone event lines → hear_lines s lines ≡ s
+  pub lone_heard : (event : Event) (lines : List Line) → IsLone event lines → hear_lines s lines ≡ s
   lone_heard (events.Deliver k) lines (inl is) = ap (hear_lines s) is
   lone_heard (events.Deliver k) lines (inr is) = ap (hear_lines s) is.1
   lone_heard other lines is = absurd is

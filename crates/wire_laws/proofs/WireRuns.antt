@@ -1,5 +1,5 @@
 -- A run of wires is a run of whole worlds, and keeps what those keep.
-use Rattle.std.proofs.Common.{◌≡◌, ◌⊎◌, inl, inr, ℕ, true, false, List, [], ◌∷◌, ◌++◌, refl, sym, ◌∙◌, ap, subst, append-nil}
+use Rattle.std.proofs.Common.{◌≡◌, ◌⊎◌, inl, inr, ⊎_elim, ℕ, true, false, List, [], ◌∷◌, ◌++◌, refl, sym, ◌∙◌, ap, subst, append-nil}
 use Rattle.std.proofs.lemmas.List.{map-append}
 use Rattle.stab_base.specs.declared.node.Node.{Node}
 use Rattle.table_model.specs.declared.event.Event.{Event}
@@ -147,6 +147,47 @@ run_from (h ∷ hs) built v front at before k = one_more h hs (run_from hs built
 
 start_kept : IsKept start
 start_kept = record { parts = λ p a. absurd (among_none p a); gathers = λ table. tt; arriving = λ c. record { pulls = tt; rows = tt } }
+
+-- ---- what every wire keeps that a run leads to
+
+-- a run of whole worlds leads to its world
+pub record IsGoing (v : Wire) : Type 0 where
+  pub front : List Happening
+  pub at : v.world ≡ world_from world.start front
+  pub built : AreBuilt front
+  pub kept : IsKept v
+
+pub going_ground : (v : Wire) → IsGoing v → IsGround v.world
+going_ground v i = subst IsGround (sym i.at) (ground i.front i.built)
+
+one_kept : (v : Wire) → IsGoing v → (h : Happening) → IsBuilt h.event → IsGoing (wire_step v h.event h.lucks).wire
+one_kept v i h built = ⊎_elim alone stepped (all_come v here i.kept h.event h.lucks)
+  where
+    here : IsGround v.world
+    here = going_ground v i
+
+    alone : IsLoneStep v h.event (wire_step v h.event h.lucks) → IsGoing (wire_step v h.event h.lucks).wire
+    alone s = subst (λ (x : WireStep). IsGoing x.wire) (sym s.is) (record { front = i.front; at = i.at; built = i.built; kept = s.kept })
+
+    stepped : IsStepOf v h.event (wire_step v h.event h.lucks) → IsGoing (wire_step v h.event h.lucks).wire
+    stepped s =
+        let next : Happening = record { event = s.other; lucks = s.lucks } in
+        let later : AreBuilt (i.front ++ next ∷ []) = built_push i.front next i.built (built_too (to_of v.packets) (whole_to v.world.packets) h.event s.other s.alike built) in
+        let there : (step v.world s.other s.lucks).world ≡ world_from world.start (i.front ++ next ∷ []) =
+        ap (λ (w : World). (step w s.other s.lucks).world) i.at ∙ sym (world_push next i.front world.start) in
+        subst (λ (x : WireStep). IsGoing x.wire) (sym s.is) (record {
+          front = i.front ++ next ∷ [];
+          at = there;
+          built = later;
+          kept = spread_kept (beside v s.gathered s.arriving) here s.kept s.other s.lucks (subst IsGround (sym there) (ground (i.front ++ next ∷ []) later));
+        })
+
+goes_from : (hs : List Happening) → AreBuilt hs → (v : Wire) → IsGoing v → IsGoing (wire_from v hs)
+goes_from [] built v i = i
+goes_from (h ∷ hs) built v i = goes_from hs built.1 (wire_step v h.event h.lucks).wire (one_kept v i h built.0)
+
+pub run_goes : (run : List Happening) → AreBuilt run → IsGoing (wire_from start run)
+run_goes run built = goes_from run built start (record { front = []; at = refl; built = tt; kept = start_kept })
 
 -- ---- every run
 

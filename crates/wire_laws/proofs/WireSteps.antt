@@ -1,19 +1,19 @@
 -- Each event of the wire is one of the whole world, or none.
-use Rattle.std.proofs.Common.{◌≡◌, inl, inr, ℕ, Bool, true, false, List, [], length, Option, Some, None, refl, sym, ◌∙◌, ap}
+use Rattle.std.proofs.Common.{◌≡◌, inl, inr, ℕ, Bool, true, false, List, [], ◌∷◌, length, Option, Some, None, refl, sym, ◌∙◌, ap}
 use Rattle.std.specs.Prelude.{slice_get, if◌then◌else◌}
 use Rattle.stab_base.specs.declared.node.Node.{Node}
 use Rattle.stab_base.specs.declared.node.Node.TheVariants as nodes
 use Rattle.table_model.specs.declared.event.Event.{Event}
 use Rattle.table_model.specs.declared.event.Event.TheVariants as events
 use Rattle.step_tables.specs.Facts as facts
-use Rattle.step_tables.specs.ClientMoves.{Client, Plan}
 use Rattle.step_tables.proofs.Lists.{among_get}
-use Rattle.world_tables.specs.World.{Lucks, client_at, is_client_down, carried, step}
-use Rattle.part_tables.specs.Arriving.{asking}
+use Rattle.world_tables.specs.Ready.{is_client_ready}
+use Rattle.world_tables.specs.World.{Lucks, Outbox, client_at, is_client_down, carried, step}
+use Rattle.part_tables.specs.Arriving.{Arriving, nothing_arriving, with_torn, asking}
 use Rattle.part_laws.specs.Rows.{SentDown, AreArriving}
 use Rattle.part_laws.proofs.WholeRows.{nothing_kept, asking_kept}
 use Rattle.wire_tables.specs.Wire.{PartPacket, Wire, arriving_at, with_arriving, any_of, part_table, whole, untaken, brought}
-use Rattle.wire_tables.specs.Wire.{delivered, may_pull, pulling, pulled, torn_found, starts_with, started, wire_step, spread}
+use Rattle.wire_tables.specs.Wire.{delivered, pulling, pulled, torn_told, noting, started_with, started, wire_step, spread}
 use Rattle.wire_laws.proofs.Ground.{IsGround, size_in, down_to}
 use Rattle.wire_laws.proofs.Keeping.{HasWhole, IsKept, arriving_kept}
 use Rattle.wire_laws.proofs.Comings.{Comes, brings}
@@ -22,14 +22,9 @@ use Rattle.wire_laws.proofs.ToClients.{at_client_comes}
 
 -- ---- a client that starts waits for nothing
 
-found_kept : (size : ℕ → ℕ) (sent : SentDown) (torn : Option (ℕ × List ℕ)) (plan : Option Plan) → AreArriving size sent (torn_found torn plan)
-found_kept size sent (Some row) None = record { pulls = tt; rows = tt }
-found_kept size sent (Some row) (Some plan) = nothing_kept size sent
-found_kept size sent None plan = nothing_kept size sent
-
-starts_kept : (size : ℕ → ℕ) (sent : SentDown) (lucks : Lucks) (o : Option Client) → AreArriving size sent (starts_with lucks o)
-starts_kept size sent lucks None = nothing_kept size sent
-starts_kept size sent lucks (Some node) = found_kept size sent lucks.shape.torn node.disk.plan
+noting_kept : (size : ℕ → ℕ) (sent : SentDown) (torn : List (ℕ × List ℕ)) (a : Arriving) → AreArriving size sent a → AreArriving size sent (noting torn a)
+noting_kept size sent [] a k = k
+noting_kept size sent (row ∷ more) a k = noting_kept size sent more (record a { torn = with_torn row.0 row.1 a.torn }) (record { pulls = k.pulls; rows = k.rows })
 
 module _ (v : Wire) (g : IsGround v.world) (k : IsKept v) where
   -- ---- deliveries
@@ -59,7 +54,7 @@ module _ (v : Wire) (g : IsGround v.world) (k : IsKept v) where
   -- ---- a pull, and a client that starts
 
   pulled_comes : (c table : ℕ) (lucks : Lucks) → Comes v (events.Pull c table) (pulled v c table lucks)
-  pulled_comes c table lucks = go (may_pull v c table)
+  pulled_comes c table lucks = go (is_client_ready v.world c)
     where
       go : (b : Bool) → Comes v (events.Pull c table) (if b
           then spread (with_arriving c (asking table (arriving_at v c)) v) (step v.world (events.Pull c table) (pulling v c table lucks))
@@ -86,13 +81,20 @@ module _ (v : Wire) (g : IsGround v.world) (k : IsKept v) where
   started_comes : (c : ℕ) (lucks : Lucks) → Comes v (events.Start (nodes.Client c)) (started v c lucks)
   started_comes c lucks = go (is_client_down (client_at v.world c))
     where
+      outs : List Outbox
+      outs = (step v.world (events.Start (nodes.Client c)) lucks).outs
+
+      noted : Arriving
+      noted = noting (torn_told outs) nothing_arriving
+
       go : (b : Bool) → Comes v (events.Start (nodes.Client c)) (if b
-          then spread (with_arriving c (starts_with lucks (client_at v.world c)) v) (step v.world (events.Start (nodes.Client c)) lucks)
+          then started_with v c (step v.world (events.Start (nodes.Client c)) lucks)
           else spread v (step v.world (events.Start (nodes.Client c)) lucks))
       go true = inr (record {
         gathered = v.gathered;
-        arriving = (with_arriving c (starts_with lucks (client_at v.world c)) v).arriving;
-        kept = arriving_kept v k c (starts_with lucks (client_at v.world c)) (starts_kept (size_in v.world) (down_to c v.world.packets) lucks (client_at v.world c));
+        arriving = (with_arriving c noted v).arriving;
+        kept = arriving_kept v k c noted
+            (noting_kept (size_in v.world) (down_to c v.world.packets) (torn_told outs) nothing_arriving (nothing_kept (size_in v.world) (down_to c v.world.packets)));
         other = events.Start (nodes.Client c);
         lucks = lucks;
         alike = refl;

@@ -1,5 +1,5 @@
 -- Each part of a message whose content fits its table has a frame.
-use Rattle.std.proofs.Common.{◌≡◌, ℕ, ◌<◌, ◌≤◌, Bool, true, false, List, [], ◌∷◌, length, map, Option, Some, None, refl, ◌∙◌, ap, arith}
+use Rattle.std.proofs.Common.{◌≡◌, ℕ, ◌<◌, ◌≤◌, Bool, true, false, List, [], ◌∷◌, length, map, Option, Some, None, refl, sym, ◌∙◌, ap, subst, arith}
 use Rattle.std.specs.Prelude.{◌&&◌, ◌^◌, option_map}
 use Rattle.std.specs.List.{AllByRecursion}
 use Rattle.std.proofs.lemmas.Bool.{and_parts}
@@ -166,7 +166,7 @@ outcome_spelled (ends.Stale latest) h = h
 outcome_spelled (ends.Conflict latest) h = h
 outcome_spelled ends.NeedWhole h = tt
 
-response_sent : (size : ℕ) (r : Response) → IsSizedResponse r → IsSent size (Responding r)
+pub response_sent : (size : ℕ) (r : Response) → IsSizedResponse r → IsSent size (Responding r)
 response_sent size r h = (
   refl,
   (
@@ -178,7 +178,7 @@ response_sent size r h = (
   ),
 )
 
-pull_sent : (size : ℕ) (q : Pull) → IsSizedPull q → IsSent size (Pulling q)
+pub pull_sent : (size : ℕ) (q : Pull) → IsSizedPull q → IsSent size (Pulling q)
 pull_sent size q h = (
   refl,
   (
@@ -195,31 +195,46 @@ chunks_down_sized size p None client table h = tt
 chunks_down_sized size p (Some header) client table h =
     fragments_sized (is_sent (sents.Above p.from)) size p.client p.table header.row header.version header.content (kept header.names) client table h.row h.version h.split
 
+record AreSizedNumbers (p : Pulled) : Type 0 where
+  pub client : IsClient p.client
+  pub table : IsTable p.table
+  pub from : IsWord p.from
+  pub to : IsWord p.to
+  pub latest : IsWord p.latest
+
+pulled_split : (size : ℕ) (p : Pulled) → AreSizedNumbers p → IsOption (IsSplitHeader size) p.header → IsSent size (Answering p)
+pulled_split size p h split = (
+  option_words size p.header split,
+  (
+    record {
+      spelled = (h.client, (h.table, (h.from, (h.to, (h.latest, option_spelled size p.header split)))));
+      room = omega (
+        arith,
+        pulled_len (record {
+          client = p.client;
+          table = p.table;
+          from = p.from;
+          to = p.to;
+          latest = p.latest;
+          header = option_map row_header_at (option_map row_head p.header);
+        }),
+        option_most size p.header split,
+      );
+    },
+    downs_framed (chunks_down size p p.header) (chunks_down_sized size p p.header h.client h.table split),
+  ),
+)
+
 pulled_sent : (schema : Schema) (p : Pulled) → HasSchemaSpelling schema → IsSizedPulled schema p → IsSent schema.chunk (Answering p)
 pulled_sent schema p table h =
-    let split = option_split schema p.header table h.header in (
-      option_words schema.chunk p.header split,
-      (
-        record {
-          spelled = (h.client, (h.table, (h.from, (h.to, (h.latest, option_spelled schema.chunk p.header split)))));
-          room = omega (
-            arith,
-            pulled_len (record {
-              client = p.client;
-              table = p.table;
-              from = p.from;
-              to = p.to;
-              latest = p.latest;
-              header = option_map row_header_at (option_map row_head p.header);
-            }),
-            option_most schema.chunk p.header split,
-          );
-        },
-        downs_framed (chunks_down schema.chunk p p.header) (chunks_down_sized schema.chunk p p.header h.client h.table split),
-      ),
-    )
+    pulled_split schema.chunk p (record { client = h.client; table = h.table; from = h.from; to = h.to; latest = h.latest }) (option_split schema p.header table h.header)
 
-torn_sent : (size : ℕ) (q : TornPull) → IsSizedTornPull q → IsSent size (AskingTorn q)
+-- an answer without a row
+pub none_pulled_sent : (size : ℕ) (p : Pulled) → p.header ≡ None → IsClient p.client → IsTable p.table → IsWord p.from → IsWord p.to → IsWord p.latest → IsSent size (Answering p)
+none_pulled_sent size p none client table from to latest =
+    pulled_split size p (record { client = client; table = table; from = from; to = to; latest = latest }) (subst (IsOption (IsSplitHeader size)) (sym none) tt)
+
+pub torn_sent : (size : ℕ) (q : TornPull) → IsSizedTornPull q → IsSent size (AskingTorn q)
 torn_sent size q h = (
   refl,
   (
@@ -236,28 +251,34 @@ chunks_whole_sized size t None client table h = tt
 chunks_whole_sized size t (Some header) client table h =
     fragments_sized (is_sent sents.All) size t.client t.table header.row header.version header.content (kept header.names) client table h.row h.version h.split
 
+torn_answer_split : (size : ℕ) (t : TornPulled) → IsClient t.client → IsTable t.table → IsRow t.row → IsOption (IsSplitHeader size) t.header → IsSent size (AnsweringTorn t)
+torn_answer_split size t client table row split = (
+  option_words size t.header split,
+  (
+    record {
+      spelled = (client, (table, (row, option_spelled size t.header split)));
+      room = omega (
+        arith,
+        torn_answer_len (record {
+          client = t.client;
+          table = t.table;
+          row = t.row;
+          header = option_map row_header_at (option_map row_head t.header);
+        }),
+        row,
+        option_most size t.header split,
+      );
+    },
+    downs_framed (chunks_whole size t t.header) (chunks_whole_sized size t t.header client table split),
+  ),
+)
+
 torn_answer_sent : (schema : Schema) (t : TornPulled) → HasSchemaSpelling schema → IsSizedTornPulled schema t → IsSent schema.chunk (AnsweringTorn t)
-torn_answer_sent schema t table h =
-    let split = option_split schema t.header table h.header in (
-      option_words schema.chunk t.header split,
-      (
-        record {
-          spelled = (h.client, (h.table, (h.row, option_spelled schema.chunk t.header split)));
-          room = omega (
-            arith,
-            torn_answer_len (record {
-              client = t.client;
-              table = t.table;
-              row = t.row;
-              header = option_map row_header_at (option_map row_head t.header);
-            }),
-            h.row,
-            option_most schema.chunk t.header split,
-          );
-        },
-        downs_framed (chunks_whole schema.chunk t t.header) (chunks_whole_sized schema.chunk t t.header h.client h.table split),
-      ),
-    )
+torn_answer_sent schema t table h = torn_answer_split schema.chunk t h.client h.table h.row (option_split schema t.header table h.header)
+
+-- an answer without a row
+pub none_torn_sent : (size : ℕ) (t : TornPulled) → t.header ≡ None → IsClient t.client → IsTable t.table → IsRow t.row → IsSent size (AnsweringTorn t)
+none_torn_sent size t none client table row = torn_answer_split size t client table row (subst (IsOption (IsSplitHeader size)) (sym none) tt)
 
 pub is_sent_in_frames : (schema : Schema) (m : Message) → HasSchemaSpelling schema → IsSized schema m → (may_split m ≡ true) × HasFrames schema.chunk m
 is_sent_in_frames schema (Asking q) table h = request_sent schema q table h

@@ -1,0 +1,12 @@
+use Rattle.std.proofs.Common.{rules}
+use Rattle.send_laws.proofs.widths.know_request.Goals as goal
+
+pub returns : goal.returns
+returns c = record {
+  table = search rules;
+  row = search rules;
+  number = search rules;
+  base = search rules;
+  words = search rules;
+  pieces = search rules;
+}

@@ -1,0 +1,10 @@
+use Rattle.std.proofs.Common.{rules}
+use Rattle.send_laws.proofs.widths.know_response.Goals as goal
+
+pub returns : goal.returns
+returns c = record {
+  table = search rules;
+  row = search rules;
+  number = search rules;
+  outcome = search rules;
+}

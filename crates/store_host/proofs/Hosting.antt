@@ -30,13 +30,14 @@ use Rattle.store_commit.specs.declared.devs.TableDevs.{TableDevs}
 use Rattle.store_node.specs.declared.fault.NodeFault.{NodeFault}
 use Rattle.store_node.specs.declared.fault.NodeFault.TheVariants.{Busy, Disk as DiskFailed, Memory}
 use Rattle.store_node.specs.declared.showing.ShownRow.{ShownRow}
+use Rattle.store_node.specs.declared.showing.WholeRow.{WholeRow}
 use Rattle.store_node.specs.Node.{nothing_stored, own_faults, has_task}
-use Rattle.store_node.specs.Calls.{IsBehind, Starts, Stays, Shows, Delivers, IsAtWork, named, late, step_at}
+use Rattle.store_node.specs.Calls.{IsBehind, Starts, Stays, Shows, Gives, Delivers, IsAtWork, named, late, step_at}
 use Rattle.world_tables.specs.World.{Outbox, Packet, history_on, owner, the_store, packets_from, next_step, tasks_in, declared_late, scheme_in, chunk_in}
 use Rattle.world_tables.specs.World as world
 use Rattle.store_host.specs.declared.hosted.Hosted.{Hosted}
 use Rattle.store_host.specs.Holds.{IsHosted, IsUpAt, behind_step, outs_in, outbox_of, says_something}
-use Rattle.store_host.specs.Steps.{IsTelling, HasTold, HasNodeCause, started_by, moved_at, new_table, outbox_at, IsBusy, HasTaken, HasNodeTakeCause, HasShown}
+use Rattle.store_host.specs.Steps.{IsTelling, HasTold, HasNodeCause, started_by, moved_at, new_table, outbox_at, IsBusy, HasTaken, HasNodeTakeCause, HasShown, HasGiven}
 
 -- ---- what says something
 
@@ -320,6 +321,14 @@ module _ {D : Type 0} (state : D → DiskState) (images : D → ℕ → List ℕ
         → HasShown state schema table hosted row (record { node = node; history = old.history }) r
     shows_hosted row node r k declared = record {
       shown = k.shown;
+      stays = λ no. not_started state schema table hosted old node h (k.stays no) declared;
+      fallen = λ is. failed_down hosted.store.disk hosted.store.agenda hosted.history hosted.made old node is_up h (k.fallen is) declared;
+    }
+
+    pub gives_hosted : (row : List ℕ) (node : TableNode D) (r : Result (Option WholeRow) NodeFault) → Gives state images hosted.store row old.node node r → node.is_declared ≡ old.node.is_declared
+        → HasGiven state schema table hosted row (record { node = node; history = old.history }) r
+    gives_hosted row node r k declared = record {
+      given = k.given;
       stays = λ no. not_started state schema table hosted old node h (k.stays no) declared;
       fallen = λ is. failed_down hosted.store.disk hosted.store.agenda hosted.history hosted.made old node is_up h (k.fallen is) declared;
     }

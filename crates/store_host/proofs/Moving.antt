@@ -33,7 +33,8 @@ use Rattle.store_node.specs.declared.fault.NodeFault.{NodeFault}
 use Rattle.store_node.specs.declared.fault.NodeFault.TheVariants.{Disk as DiskFailed}
 use Rattle.store_node.specs.declared.node.StoreOut.{StoreOut}
 use Rattle.store_node.specs.declared.showing.ShownRow.{ShownRow}
-use Rattle.store_node.specs.Calls.{IsAtWork, IsSpent}
+use Rattle.store_node.specs.declared.showing.WholeRow.{WholeRow}
+use Rattle.store_node.specs.Calls.{IsAtWork, IsSpent, IsRowAt}
 use Rattle.store_node.specs.Reading.{shown_of}
 use Rattle.store_node.specs.Node.{IsNode, Fits, has_task}
 use Rattle.store_node.specs.Node.{own_faults}
@@ -43,8 +44,8 @@ use Rattle.world_tables.specs.World.{table_falls, tables_fall, table_starts, tab
 use Rattle.world_tables.specs.World as world
 use Rattle.store_host.specs.declared.hosted.Hosted.{Hosted}
 use Rattle.store_host.specs.Holds.{IsHosted, HostedThere, HoldsTables, AreUpTables, behind_step, outs_in, says_something, said_by, faults_in, faults_at, SameFaults, RisenFaults}
-use Rattle.store_host.specs.Steps.{HasTold, HasNodeCause, moved_at, started_by, HasTaken, HasNodeTakeCause, HasShown}
-use Rattle.store_host.specs.Calls.{AreMoved, HasCause, FitsIn, AreTaken, HasTakeCause, AreShown, table_in}
+use Rattle.store_host.specs.Steps.{HasTold, HasNodeCause, moved_at, started_by, HasTaken, HasNodeTakeCause, HasShown, HasGiven}
+use Rattle.store_host.specs.Calls.{AreMoved, HasCause, FitsIn, AreTaken, HasTakeCause, AreShown, AreGiven, table_in}
 use Rattle.store_host.proofs.Froms.{IsFrom, SameDisk, from_itself, from_then, same_then, start_from}
 use Rattle.store_host.proofs.Hosting.{up_node}
 use Rattle.store_host.proofs.Maps.{moved_tables, found, not_found, at_same}
@@ -469,6 +470,20 @@ module _ {D : Type 0} (state : D → DiskState) (w : World) (numbers : List ℕ)
       record {
         shown = λ other here.
             subst (λ (x : world.Hosted). IfOk r (λ shown. shown ≡ option_map shown_of (current_of x.store.disk.items row))) (same_hosted (hosted_at w table) hosted other f.1 here) k.shown;
+        stays = λ no. same_tables state w numbers old new table it was at wrote h hosted f.1 (k.stays no);
+        fallen = λ is.
+            table_moved state w numbers old new table it was at wrote h (Crash messages.FailedBefore) hosted [] [] false f.1 (k.fallen is) (crash_answer hosted.store.disk hosted.store.agenda messages.FailedBefore);
+      }
+
+  pub tables_given : (table : ℕ) → Some was ≡ tree.get nat_cmp old table → WritesThrough nat_cmp (nat_cmp table) old it new → (row : List ℕ) (r : Result (Option WholeRow) NodeFault)
+      → ((hosted : world.Hosted) → IsHosted state (schema_at w table) table hosted was → HasGiven state (schema_at w table) table hosted row it r) → AreGiven state w numbers table row new r
+  tables_given table at wrote row r give =
+      let f = found state w numbers old table was h at in
+      let hosted = f.0 in
+      let k = give f.0 f.2 in
+      record {
+        given = λ other here.
+            subst (λ (x : world.Hosted). IfOk r (IsRowAt x.store.disk.items row (current_of x.store.disk.items row))) (same_hosted (hosted_at w table) hosted other f.1 here) k.given;
         stays = λ no. same_tables state w numbers old new table it was at wrote h hosted f.1 (k.stays no);
         fallen = λ is.
             table_moved state w numbers old new table it was at wrote h (Crash messages.FailedBefore) hosted [] [] false f.1 (k.fallen is) (crash_answer hosted.store.disk hosted.store.agenda messages.FailedBefore);

@@ -11,11 +11,12 @@ use Rattle.store_node.specs.declared.fault.NodeFault.{NodeFault}
 use Rattle.store_node.specs.declared.fault.NodeFault.TheVariants.{Disk as DiskFailed}
 use Rattle.store_node.specs.declared.node.StoreOut.{StoreOut}
 use Rattle.store_node.specs.declared.showing.ShownRow.{ShownRow}
+use Rattle.store_node.specs.declared.showing.WholeRow.{WholeRow}
 use Rattle.world_tables.specs.World.{World, owner, the_store, has_node, table_falls, store_falls}
 use Rattle.store_host.specs.declared.hosted.Hosted.{Hosted}
 use Rattle.store_host.specs.declared.host.StoreHost.{StoreHost}
 use Rattle.store_host.specs.Holds.{HoldsTables, HoldsParts, HoldsStore, outs_in}
-use Rattle.store_host.specs.Calls.{AreMoved, IsMoved, AreTaken, Takes, AreShown, ShowsRow, table_in}
+use Rattle.store_host.specs.Calls.{AreMoved, IsMoved, AreTaken, Takes, AreShown, ShowsRow, AreGiven, GivesRow, table_in}
 use Rattle.store_host.proofs.Ups.{take_up}
 use Rattle.store_host.proofs.Stores.{moved_is}
 use Rattle.store_host.proofs.Falls.{falls_again}
@@ -90,3 +91,17 @@ module _ {D : Type 0} (state : D → DiskState) (w : World) (old : StoreHost D) 
 
     pub showed_parts : (e : NodeFault) → e ≡ DiskFailed → AreShown state w old.numbers table row tables (Err e) → HoldsParts state (table_falls table w).world (record old { tables = tables; outs = old.outs })
     showed_parts e is k = table_fell table tables old.outs (k.fallen (ap Err is))
+
+    pub gave : (r : Result (Option WholeRow) NodeFault) → (IsErrOf r DiskFailed → ⊥) → AreGiven state w old.numbers table row tables r → GivesRow state w table row old (record old { tables = tables }) r
+    gave r sound k = record { given = k.given; stays = λ other. same_store tables old.outs (k.stays other); fallen = λ is. absurd (sound is) }
+
+    gave_badly : (new : StoreHost D) → AreGiven state w old.numbers table row tables (Err DiskFailed)
+        → ((x : World) → HoldsParts state x (record old { tables = tables }) → IsMoved state (record old { tables = tables }) new (store_falls owner x)) → GivesRow state w table row old new (Err DiskFailed)
+    gave_badly new k falls = record { given = λ hosted here. tt; stays = λ no. absurd (no refl); fallen = λ _. falls_with table tables old.outs new (k.fallen refl) refl falls }
+
+    pub gave_falling : (new : StoreHost D) (e : NodeFault) → e ≡ DiskFailed → AreGiven state w old.numbers table row tables (Err e)
+        → ((x : World) → HoldsParts state x (record old { tables = tables }) → IsMoved state (record old { tables = tables }) new (store_falls owner x)) → GivesRow state w table row old new (Err DiskFailed)
+    gave_falling new e is k = gave_badly new (subst (λ (f : NodeFault). AreGiven state w old.numbers table row tables (Err f)) is k)
+
+    pub gave_parts : (e : NodeFault) → e ≡ DiskFailed → AreGiven state w old.numbers table row tables (Err e) → HoldsParts state (table_falls table w).world (record old { tables = tables; outs = old.outs })
+    gave_parts e is k = table_fell table tables old.outs (k.fallen (ap Err is))

@@ -19,7 +19,8 @@ use Rattle.store_node.specs.declared.fault.NodeFault.{NodeFault}
 use Rattle.store_node.specs.declared.fault.NodeFault.TheVariants.{Busy, Spent, Disk, Memory}
 use Rattle.store_node.specs.declared.node.StoreOut.{StoreOut}
 use Rattle.store_node.specs.declared.showing.ShownRow.{ShownRow}
-use Rattle.store_node.specs.Calls.{IsAtWork, IsSpent}
+use Rattle.store_node.specs.declared.showing.WholeRow.{WholeRow}
+use Rattle.store_node.specs.Calls.{IsAtWork, IsSpent, IsRowAt}
 use Rattle.store_node.specs.Reading.{shown_of}
 use Rattle.world_tables.specs.World.{World, Moved, owner, scheme_in, chunk_in, schema_at, hosted_at, move_table, table_falls}
 use Rattle.world_tables.specs.World.{store_falls}
@@ -149,5 +150,25 @@ pub record ShowsRow {D : Type 0} (state : D → DiskState) (w : World) (table : 
     (old new : StoreHost D) (result : Result (Option ShownRow) NodeFault) : Type 0 where
   pub shown : (hosted : world.Hosted) → hosted_at w table ≡ Some hosted
       → IfOk result (λ shown. shown ≡ option_map shown_of (current_of hosted.store.disk.items row))
+  pub stays : (IsErrOf result Disk → ⊥) → HoldsStore state w new
+  pub fallen : IsErrOf result Disk → IsMoved state old new (store_falls owner w)
+
+-- ---- rows whole
+
+-- What the tables give of a row of one of them.
+pub record AreGiven {D : Type 0} (state : D → DiskState) (w : World) (numbers : List ℕ) (table : ℕ) (row : List ℕ)
+    (new : tree.BTreeMap ℕ (Hosted D)) (result : Result (Option WholeRow) NodeFault) : Type 0 where
+  pub given : (hosted : world.Hosted) → hosted_at w table ≡ Some hosted
+      → IfOk result (IsRowAt hosted.store.disk.items row (current_of hosted.store.disk.items row))
+  pub stays : (IsErrOf result Disk → ⊥) → HoldsTables state w numbers new
+  pub fallen : IsErrOf result Disk → AreMoved state w numbers new [] [] false (table_falls table w)
+
+-- What a Store gives of a row of one of its tables: the row whole as it is now, with the names of its chunks and the
+-- last write of each client on it, if anything was written to it. Nothing has changed; or a disk has failed, and the
+-- Store is down with all its tables.
+pub record GivesRow {D : Type 0} (state : D → DiskState) (w : World) (table : ℕ) (row : List ℕ)
+    (old new : StoreHost D) (result : Result (Option WholeRow) NodeFault) : Type 0 where
+  pub given : (hosted : world.Hosted) → hosted_at w table ≡ Some hosted
+      → IfOk result (IsRowAt hosted.store.disk.items row (current_of hosted.store.disk.items row))
   pub stays : (IsErrOf result Disk → ⊥) → HoldsStore state w new
   pub fallen : IsErrOf result Disk → IsMoved state old new (store_falls owner w)

@@ -16,7 +16,8 @@ use Rattle.store_node.specs.declared.fault.NodeFault.TheVariants.{Busy, Spent, D
 use Rattle.store_node.specs.declared.node.TableNode.{TableNode}
 use Rattle.store_node.specs.declared.node.StoreOut.{StoreOut}
 use Rattle.store_node.specs.declared.showing.ShownRow.{ShownRow}
-use Rattle.store_node.specs.Calls.{IsTaken, IsAtWork, IsSpent}
+use Rattle.store_node.specs.declared.showing.WholeRow.{WholeRow}
+use Rattle.store_node.specs.Calls.{IsTaken, IsAtWork, IsSpent, IsRowAt}
 use Rattle.store_node.specs.Node.{IsTable, told_by, sent_by, own_faults}
 use Rattle.store_node.specs.Reading.{shown_of}
 use Rattle.world_tables.specs.World.{Outbox, owner, the_store, scheme_in, chunk_in, packets_from, declared_late}
@@ -131,6 +132,16 @@ pub record HasShown {D : Type 0} (state : D → DiskState) (declared : Option Sc
     (hosted : world.Hosted) (row : List ℕ) (new : Hosted D) (result : Result (Option ShownRow) NodeFault)
     : Type 0 where
   pub shown : IfOk result (λ shown. shown ≡ option_map shown_of (current_of hosted.store.disk.items row))
+  pub stays : (IsErrOf result Disk → ⊥) → IsHosted state declared table hosted new
+  pub fallen : IsErrOf result Disk → HasTold state declared table hosted
+      (moved_at declared table hosted (Crash messages.FailedBefore)) new [] []
+
+-- What a table gives of a row: the row whole as it is now, if anything was written to it. Nothing has changed; or a
+-- disk has failed, and the table is down with the disk as it was.
+pub record HasGiven {D : Type 0} (state : D → DiskState) (declared : Option Schema) (table : ℕ)
+    (hosted : world.Hosted) (row : List ℕ) (new : Hosted D) (result : Result (Option WholeRow) NodeFault)
+    : Type 0 where
+  pub given : IfOk result (IsRowAt hosted.store.disk.items row (current_of hosted.store.disk.items row))
   pub stays : (IsErrOf result Disk → ⊥) → IsHosted state declared table hosted new
   pub fallen : IsErrOf result Disk → HasTold state declared table hosted
       (moved_at declared table hosted (Crash messages.FailedBefore)) new [] []

@@ -21,12 +21,12 @@ ghost use Rattle.store_host.specs.Holds.{IsHosted, HoldsParts, HoldsStore, ArePa
 ghost use Rattle.store_host.specs.Holds.{LaterFaults, AreLeft, AreStill, AreBlankDisks, LeavesNoRow};
 ghost use Rattle.store_host.specs.Holds.{faults_at, disks_at};
 ghost use Rattle.store_host.specs.Steps.{new_table, faults_of};
-ghost use Rattle.store_host.specs.Calls.{IsMoved, HasCause, HasLuck, Takes, HasTakeCause, ShowsRow};
+ghost use Rattle.store_host.specs.Calls.{IsMoved, HasCause, HasLuck, Takes, HasTakeCause, ShowsRow, GivesRow};
 
 use crate::hosted::Hosted;
 use crate::tables::{
-    crash_busy, deliver_to, first_busy, halt_all, is_busy_at, numbers_of, show_at, start_all,
-    work_at,
+    crash_busy, deliver_to, first_busy, halt_all, is_busy_at, numbers_of, row_at, show_at,
+    start_all, work_at,
 };
 use disk_trait::Disk;
 use row_value::Schema;
@@ -34,7 +34,7 @@ use stab_base::{Names, Node, RowId, Sequence, Step, StoreNo, TableNo};
 use std::alloc::Global;
 use std::collections::BTreeMap;
 use step_tables::Message;
-use store_node::{NodeFault, ShownRow, StoreOut};
+use store_node::{NodeFault, ShownRow, StoreOut, WholeRow};
 use table_model::{History, Tables};
 
 /// A Store with its tables, each on its three disks. The Store is up or down with all of them.
@@ -310,6 +310,34 @@ impl<D: Disk + Drop> StoreHost<D> {
     {
         match show_at(&mut self.tables, table, row) {
             Ok(shown) => Ok(shown),
+            Err(NodeFault::Disk) => {
+                self.fall();
+                Err(NodeFault::Disk)
+            }
+            Err(fault) => Err(fault),
+        }
+    }
+
+    /// A row of a table whole, with its last version, the names of its chunks and the last write of each client, or
+    /// none where nothing was written to it. The table may have writes to do.
+    ///
+    /// `Disk` where a disk failed: the Store is then down, with all its tables. `Memory` leaves all as it was.
+    pub fn row(&mut self, table: TableNo, row: &RowId) -> Result<Option<WholeRow>, NodeFault>
+        requires held { IsStore D.state self.old }
+        requires up { self.old.is_up ≡ true }
+        requires there { IsSome (tree.get nat_cmp self.old.tables table) }
+        ensures gives { (w : AWorld) → HoldsStore D.state w self.old
+            → GivesRow D.state w table row.now self.old self.new result }
+        ensures outs { self.new.outs ≡ self.old.outs }
+        ensures up { (IsErrOf result DiskFailed → ⊥) → self.new.is_up ≡ true }
+        ensures down { IsErrOf result DiskFailed → self.new.is_up ≡ false }
+        ensures numbers { self.new.numbers ≡ self.old.numbers }
+        ensures cause { HasCause D.state self.old.tables self.new.tables result }
+        ensures left { (w : AWorld) → HoldsStore D.state w self.old
+            → AreLeft D.state D.images w self.old.tables self.new.tables }
+    {
+        match row_at(&mut self.tables, table, row) {
+            Ok(found) => Ok(found),
             Err(NodeFault::Disk) => {
                 self.fall();
                 Err(NodeFault::Disk)

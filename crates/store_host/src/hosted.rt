@@ -22,7 +22,7 @@ ghost use Rattle.world_tables.specs.World.{owner, goes_on, history_on, next_step
 ghost use Rattle.world_tables.specs.World as world;
 ghost use Rattle.store_host.specs.Holds.{IsHosted, outs_in, outbox_of, says_something, disks_at, AreBlankDisks};
 ghost use Rattle.store_host.specs.Steps.{IsTelling, HasTold, moved_at, started_at, new_table, faults_of, HasNodeCause};
-ghost use Rattle.store_host.specs.Steps.{HasCrashed, HasTaken, HasNodeTakeCause, HasShown};
+ghost use Rattle.store_host.specs.Steps.{HasCrashed, HasTaken, HasNodeTakeCause, HasShown, HasGiven};
 
 use disk_trait::Disk;
 use row_value::Schema;
@@ -30,7 +30,7 @@ use stab_base::{Node, RowId, Sequence, Step, StoreNo, TableNo};
 use std::alloc::Global;
 use std::mem;
 use step_tables::Message;
-use store_node::{NodeFault, ShownRow, StoreFact, StoreOut, TableNode};
+use store_node::{NodeFault, ShownRow, StoreFact, StoreOut, TableNode, WholeRow};
 use table_model::History;
 
 /// A table of the Store, and the history that it has told.
@@ -314,6 +314,21 @@ impl<D: Disk + Drop> Hosted<D> {
             → LeavesRows D.state D.images self.old.node self.new.node hosted.store.disk hosted.store.disk }
     {
         self.node.show(row)
+    }
+
+    /// A row whole, or none where nothing was written to it.
+    pub(crate) fn row(&mut self, row: &RowId) -> Result<Option<WholeRow>, NodeFault>
+        requires node { IsNode D.state self.old.node }
+        requires up { self.old.node.is_up ≡ true }
+        ensures given { (schema : Option ASchema) (table : ℕ) (hosted : world.Hosted)
+            → IsHosted D.state schema table hosted self.old
+            → HasGiven D.state schema table hosted row.now self.new result }
+        ensures cause { HasNodeCause D.state self.old.node self.new.node result }
+        ensures left { (schema : Option ASchema) (table : ℕ) (hosted : world.Hosted)
+            → IsHosted D.state schema table hosted self.old → hosted.made ≡ true
+            → LeavesRows D.state D.images self.old.node self.new.node hosted.store.disk hosted.store.disk }
+    {
+        self.node.row(row)
     }
 
     /// The disks of the chunks, the rows and the log.

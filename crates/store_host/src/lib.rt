@@ -6,3 +6,4 @@ mod hosted;
 mod tables;
 
 pub use host::StoreHost;
+pub use store_node::WholeRow;

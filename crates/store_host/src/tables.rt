@@ -12,6 +12,7 @@ ghost use Rattle.world_tables.specs.World.{World as AWorld, owner, is_at_work, b
 ghost use Rattle.world_tables.specs.World.{table_falls, tables_fall, table_starts, tables_start};
 ghost use Rattle.store_host.specs.Holds.{HoldsTables, AreTables, AreUpTables, AllUp, SameFaults, AreLeft, AreStill};
 ghost use Rattle.store_host.specs.Calls.{AreMoved, HasCause, AreCrashed, AreTaken, HasTakeCause, AreShown};
+ghost use Rattle.store_host.specs.Calls.{AreGiven};
 
 use crate::hosted::Hosted;
 use disk_trait::Disk;
@@ -19,7 +20,7 @@ use stab_base::{Node, RowId, Sequence, Step, TableNo};
 use std::alloc::Global;
 use std::collections::BTreeMap;
 use step_tables::Message;
-use store_node::{NodeFault, ShownRow, StoreOut, table_of};
+use store_node::{NodeFault, ShownRow, StoreOut, WholeRow, table_of};
 use table_model::Tables;
 
 /// Whether a table has writes to do.
@@ -224,6 +225,26 @@ pub(crate) fn show_at<D: Disk + Drop>(
 {
     match tables.get_mut(&table) {
         Some(hosted) => hosted.show(row),
+        None => Ok(None),
+    }
+}
+
+/// A row of one of these tables, whole.
+pub(crate) fn row_at<D: Disk + Drop>(
+    tables: &mut BTreeMap<TableNo, Hosted<D>>,
+    table: TableNo,
+    row: &RowId,
+) -> Result<Option<WholeRow>, NodeFault>
+    requires up { AreUpTables D.state tables.old }
+    requires there { IsSome (tree.get nat_cmp tables.old table) }
+    ensures given { (w : AWorld) (numbers : List ℕ) → HoldsTables D.state w numbers tables.old → AllUp w
+        → AreGiven D.state w numbers table row.now tables.new result }
+    ensures cause { HasCause D.state tables.old tables.new result }
+    ensures left { (w : AWorld) (numbers : List ℕ) → HoldsTables D.state w numbers tables.old
+        → AreStill D.state D.images w tables.old tables.new }
+{
+    match tables.get_mut(&table) {
+        Some(hosted) => hosted.row(row),
         None => Ok(None),
     }
 }

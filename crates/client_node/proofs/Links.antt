@@ -1,6 +1,6 @@
 -- What a move makes of a client whose link is up or down, and what its devices know of a table.
 use Rattle.std.proofs.Common.{◌≡◌, ℕ, Bool, true, false, List, [], ◌∷◌, Option, Some, None, refl, sym, ◌∙◌, ap, subst}
-use Rattle.std.specs.Prelude.{not, ◌&&◌, if◌then◌else◌}
+use Rattle.std.specs.Prelude.{not, ◌&&◌, if◌then◌else◌, is_some}
 use Rattle.std.specs.Ordering.{nat_cmp}
 use Rattle.std.specs.Map.{lookup}
 use Rattle.std.specs.BTreeMap.{is_at}
@@ -52,6 +52,10 @@ module _ (c : ℕ) (d : ClientDevs) (disk : ClientDisk) (st : StandsFor c d disk
       pick : (o : Option TableDisk) → table_at (seen disk) table ≡ o → StandsTable None o → table_at (seen disk) table ≡ None
       pick None at s = at
       pick (Some opened) at s = absurd s
+
+  pub is_opened : (o : Option TableRecord) → record_at d table ≡ o → is_some o ≡ is_some (table_at (seen disk) table)
+  is_opened None is = sym (ap (λ (o : Option TableDisk). is_some o) (unopened_is is))
+  is_opened (Some found) is = sym (ap (λ (o : Option TableDisk). is_some o) (opened_is found is).1)
 
   -- and a row's slots, whole
   pub slots_are : (row : List ℕ) → whole_slots st.0 (held_at d table row) ≡ slots_in (table_at (seen disk) table) row

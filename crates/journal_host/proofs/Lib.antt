@@ -11,3 +11,4 @@ pub mod Listed
 pub mod Cuts
 pub mod Draining
 pub mod Ends
+pub mod ReadyClients

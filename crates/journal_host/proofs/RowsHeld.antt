@@ -1,6 +1,6 @@
--- What a client holds of a row.
+-- What a client holds of a row, and which tables it has.
 use Rattle.std.proofs.Common.{◌≡◌, ◌⊎◌, ℕ, Bool, true, false, cond, List, [], ◌∷◌, Option, Some, None, Result, Ok, Err, refl, sym, ap, ◌∙◌, subst, append-nil}
-use Rattle.std.specs.Prelude.{IfOk, IsErrOf, option_map}
+use Rattle.std.specs.Prelude.{IfOk, IsErrOf, is_some, option_map}
 use Rattle.std.specs.Ordering.{nat_cmp}
 use Rattle.std.specs.BTreeMap.{is_at}
 use Rattle.std.specs.BTreeMap as tree
@@ -17,7 +17,7 @@ use Rattle.client_node.specs.Node.{IsClient}
 use Rattle.client_node.specs.Phases.{KeepsPhases}
 use Rattle.world_tables.specs.World.{World, client_at, client_falls, is_cut, is_client_down}
 use Rattle.journal_host.specs.declared.host.ClientHost.{ClientHost}
-use Rattle.journal_host.specs.Calls.{IsMoved, Stays, HasMoveCause, held_by}
+use Rattle.journal_host.specs.Calls.{IsMoved, Stays, HasMoveCause, held_by, has_table}
 use Rattle.journal_host.specs.Holds.{IsHosted, HoldsClients, AreClients, outs_in, faults_at}
 use Rattle.journal_host.specs.Steps.{HasTold, HasNodeCause}
 use Rattle.journal_host.proofs.Clients.{found, not_found, down_is, move_done, held_still, nowhere_held}
@@ -79,6 +79,17 @@ row_found state w old c table row node h is r held =
 -- one that isn't there holds none
 pub nowhere_held_row : {D : Type 0} (state : D → DiskState) (w : World) (old : ClientHost D) (c table : ℕ) (row : List ℕ) → HoldsClients state w old → None ≡ tree.get nat_cmp old.clients c → None ≡ held_by (client_at w c) table row
 nowhere_held_row state w old c table row h none = sym (ap (λ (o : Option Client). held_by o table row) (not_found state w old.clients c h.there none).0)
+
+-- whether the table was found is whether the world's client has it
+pub table_found : {D : Type 0} (state : D → DiskState) (w : World) (old : ClientHost D) (c table : ℕ) (node : ClientNode D) → HoldsClients state w old → Some node ≡ tree.get nat_cmp old.clients c → (r : Result Bool CallFault)
+    → ((s : Client) → IsClient state node s → IfOk r (λ found. found ≡ is_some (table_at (seen s.disk) table))) → IfOk r (λ found. found ≡ has_table (client_at w c) table)
+table_found state w old c table node h is r held =
+    let there = found state w old.clients c h.there node is in
+    subst (λ (o : Option Client). IfOk r (λ found. found ≡ has_table o table)) (sym there.1) (held there.0 there.2.client)
+
+-- one that isn't there has none
+pub nowhere_opened : {D : Type 0} (state : D → DiskState) (w : World) (old : ClientHost D) (c table : ℕ) → HoldsClients state w old → None ≡ tree.get nat_cmp old.clients c → false ≡ has_table (client_at w c) table
+nowhere_opened state w old c table h none = sym (ap (λ (o : Option Client). has_table o table) (not_found state w old.clients c h.there none).0)
 
 pub nowhere_stays : {D : Type 0} (state : D → DiskState) (w : World) (old new : ClientHost D) (c : ℕ) → HoldsClients state w old → None ≡ tree.get nat_cmp old.clients c → new.clients ≡ old.clients → new.outs.items ≡ old.outs.items → Stays state w old new
 nowhere_stays state w old new c h none same outs = record { held = nowhere_held state w old new c h none same outs; outs = ap outs_in outs }

@@ -1,6 +1,6 @@
 -- What the calls of clients on their devices promise, in the moves of the world.
-use Rattle.std.specs.Prelude.{◌≡◌, ◌⊎◌, ℕ, ◌≤◌, ◌++◌, false, List, map, Option, Some, None, Result, IfOk, IfErr}
-use Rattle.std.specs.Prelude.{IsErrOf, option_map}
+use Rattle.std.specs.Prelude.{◌≡◌, ◌⊎◌, ℕ, ◌≤◌, ◌++◌, Bool, false, List, map, Option, Some, None, Result, IfOk}
+use Rattle.std.specs.Prelude.{IfErr, IsErrOf, is_some, option_map}
 use Rattle.std.specs.BTreeMap as tree
 use Rattle.disk_trait.specs.Calls.{DiskState}
 use Rattle.stab_base.specs.declared.limits.TheConstants.{NUMBER_MAX}
@@ -64,6 +64,11 @@ pub record Stays {D : Type 0} (state : D → DiskState) (w : World) (old new : C
 abbrev pub held_by : Option Client → ℕ → List ℕ → Option RowHeld
 held_by None table row = None
 held_by (Some s) table row = option_map (row_held row) (table_at (seen s.disk) table)
+
+-- whether a client is there and has a table opened
+abbrev pub has_table : Option Client → ℕ → Bool
+has_table None table = false
+has_table (Some s) table = is_some (table_at (seen s.disk) table)
 
 -- ---- causes
 

@@ -12,11 +12,12 @@ ghost use Rattle.client_node.specs.declared.fault.CallFault.TheVariants.{Disk as
 ghost use Rattle.world_tables.specs.World.{World as AWorld, client_at, client_tasks, is_down, joined, linked};
 ghost use Rattle.world_tables.specs.World.{worked, all_worked, client_crashes, client_writes, client_until_idle};
 ghost use Rattle.world_tables.specs.World.{next_write, client_pairs, chosen_of, client_falls};
+ghost use Rattle.world_tables.specs.Ready.{is_client_ready};
 ghost use Rattle.journal_host.specs.declared.asking.Request.TheVariants as requests;
 ghost use Rattle.journal_host.specs.declared.fault.ClientFault.TheVariants.{Memory};
 ghost use Rattle.journal_host.specs.Asks.{move_of, asked_by, FitsIn, AreAsked, AsksSome};
 ghost use Rattle.journal_host.specs.Calls.{IsMoved, IsCalled, Comes, Lists, Stays, HasCause, HasMoveCause};
-ghost use Rattle.journal_host.specs.Calls.{HasLuck, IsNumberCause, held_by};
+ghost use Rattle.journal_host.specs.Calls.{HasLuck, IsNumberCause, held_by, has_table};
 ghost use Rattle.journal_host.specs.Holds.{HoldsClients, AreClients, HasSchemas, AreToOpen, SameFaults, disks_at};
 ghost use Rattle.journal_host.specs.Holds.{outs_of, outs_in, faults_at, HavePlansBelow};
 ghost use Rattle.journal_host.specs.Opening.{HasJoinLuck};
@@ -24,7 +25,7 @@ ghost use Rattle.journal_host.specs.Moves.{call_alone, take_alone, start_alone, 
 
 use crate::asking::{Ask, Request, did, numbered};
 use crate::fault::ClientFault;
-use crate::hosted::{answered, call, crash, link, list, start, work};
+use crate::hosted::{answered, call, crash, is_ready, link, list, start, work};
 use crate::opening::joining;
 use crate::out::ClientOut;
 use client_node::{CallFault, ClientNode, RowHeld};
@@ -89,6 +90,16 @@ impl<D: Disk + Drop> ClientHost<D> {
     {
         match self.clients.get(&client) {
             Some(node) => node.is_busy(),
+            None => false,
+        }
+    }
+
+    /// Whether the client takes a message now: it is there and up, its link isn't down, and it has no write to do.
+    pub fn is_ready(&self, client: ClientNo) -> bool
+        ensures { (w : AWorld) → HoldsClients D.state w self.now → result ≡ is_client_ready w client }
+    {
+        match self.clients.get(&client) {
+            Some(node) => is_ready(node),
             None => false,
         }
     }
@@ -356,6 +367,30 @@ impl<D: Disk + Drop> ClientHost<D> {
         match self.clients.get_mut(&client) {
             Some(node) => node.held_row(table, row),
             None => Ok(None),
+        }
+    }
+
+    /// Whether the client has the table opened, whatever is still to be done; one that hasn't joined has none.
+    ///
+    /// # Errors
+    ///
+    /// `Disk`, and the client is down then, and `Memory`.
+    pub fn has_opened(&mut self, client: ClientNo, table: TableNo) -> Result<bool, CallFault>
+        requires clients { AreClients D.state self.old }
+        requires up { (w : AWorld) → HoldsClients D.state w self.old → is_down w (nodes.Client client) ≡ false }
+        ensures held { (w : AWorld) → HoldsClients D.state w self.old
+            → IfOk result (λ found. found ≡ has_table (client_at w client) table) }
+        ensures kept { (w : AWorld) → HoldsClients D.state w self.old → (IsErrOf result DiskFailed → ⊥)
+            → Stays D.state w self.old self.new }
+        ensures fallen { (w : AWorld) → HoldsClients D.state w self.old → IsErrOf result DiskFailed
+            → IsMoved D.state self.old self.new (client_falls client w) }
+        ensures cause { HasMoveCause D.state client self.old.clients self.new.clients result }
+        ensures plans { (n : ℕ) → HavePlansBelow D.state n self.old.clients
+            → HavePlansBelow D.state (suc n) self.new.clients }
+    {
+        match self.clients.get_mut(&client) {
+            Some(node) => node.has_opened(table),
+            None => Ok(false),
         }
     }
 

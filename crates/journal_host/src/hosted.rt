@@ -1,5 +1,5 @@
 //! Calls of one client's node, what it tells put behind what was told.
-ghost use Rattle.std.specs.Prelude.{◌≡◌, ◌⊎◌, ◌∷◌, ◌<◌, ◌++◌, ℕ, suc, Bool, [], Option, Some, true, false, not};
+ghost use Rattle.std.specs.Prelude.{◌≡◌, ◌⊎◌, ◌∷◌, ◌<◌, ◌++◌, ℕ, suc, Bool, [], Option, Some, true, false, not, ◌&&◌};
 ghost use Rattle.std.specs.Prelude.{Ok, IfOk, IfErr, OnErr, IsErrOf};
 ghost use Rattle.std.specs.Vec.{vec_capacity, vec_len};
 ghost use Rattle.stab_base.specs.declared.node.Node.TheVariants as nodes;
@@ -10,6 +10,7 @@ ghost use Rattle.step_tables.specs.Messages as lucks;
 ghost use Rattle.client_node.specs.declared.fault.CallFault.TheVariants.{Disk as DiskFailed};
 ghost use Rattle.client_node.specs.Node.{IsClient, IsNode, told_by, has_task, HasPlansBelow};
 ghost use Rattle.client_node.specs.Phases.{is_open, KeepsPhases};
+ghost use Rattle.world_tables.specs.Ready.{is_idle};
 ghost use Rattle.world_tables.specs.World.{next_write, tasks_in};
 ghost use Rattle.journal_host.specs.declared.fault.ClientFault.TheVariants as faults;
 ghost use Rattle.journal_host.specs.Asks.{asked_by, FitsDisk, AreAsked, AsksSome, answered_as};
@@ -54,6 +55,14 @@ pub(crate) fn answered(found: Result<Answer, CallFault>) -> Result<Answer, Clien
         Err(CallFault::Memory) => return Err(ClientFault::Memory),
     };
     Ok(Answer::Refused(refusal))
+}
+
+/// Whether a client takes a message now: its link isn't down, and it is up and has no write to do.
+pub(crate) fn is_ready<D: Disk + Drop>(node: &ClientNode<D>) -> bool
+    ensures { (cut : Bool) (c : ℕ) (s : Client) → IsHosted D.state cut c s node.now
+        → result ≡ (not cut && is_idle s.agenda) }
+{
+    node.is_linked() && node.is_up() && !node.is_busy()
 }
 
 // Whether there is a fact or a message.

@@ -1,5 +1,6 @@
 //! What a client holds of its rows under the Store's names.
-ghost use Rattle.std.specs.Prelude.{◌≡◌, ◌++◌, ℕ, List, true, Some, option_map, option_copied, IfOk, IfErr, OnOk};
+ghost use Rattle.std.specs.Prelude.{◌≡◌, ◌++◌, ℕ, List, true, Some, is_some, option_map, option_copied};
+ghost use Rattle.std.specs.Prelude.{IfOk, IfErr, OnOk};
 ghost use Rattle.held_value.specs.declared.local_name.LocalName.{LocalName};
 ghost use Rattle.client_journal.specs.Standing.{devs as held_by, writes_of, AreUp, IsReady};
 ghost use Rattle.step_tables.specs.Chunks.{flat};
@@ -152,6 +153,19 @@ fn held_of<D: Disk + Drop>(
     }
 }
 
+// Whether a table is opened.
+fn is_opened<D: Disk + Drop>(devs: &mut Journal<D>, table: TableNo) -> Result<bool, CallFault>
+    requires up { AreUp devs.old }
+    requires ready { IsReady D.state devs.old (writes_of devs.old) }
+    ensures looks { Looks D.state D.images devs.old devs.new result }
+    ensures opened { (c : ℕ) (disk : ClientDisk) → StandsFor c (held_by D.state devs.old) disk
+        → IfOk result (λ found. found ≡ is_some (table_at (seen disk) table)) }
+    ensures refused { IfErr result IsFault }
+{
+    let found = find_table(devs, table)?;
+    Ok(found.is_some())
+}
+
 impl<D: Disk + Drop> ClientNode<D> {
     /// What the client holds of a row under the Store's names: none where the table isn't opened. It may be asked for
     /// whatever is still to be done.
@@ -171,6 +185,26 @@ impl<D: Disk + Drop> ClientNode<D> {
         ensures phases { KeepsPhases self.old self.new }
     {
         let found = held_of(self.alloc, &mut self.devs, table, row);
+        self.settle(found)
+    }
+
+    /// Whether the client has the table opened. It may be asked for whatever is still to be done.
+    ///
+    /// # Errors
+    ///
+    /// `Disk` and `Memory` alone.
+    pub fn has_opened(&mut self, table: TableNo) -> Result<bool, CallFault>
+        requires node { IsNode D.state self.old }
+        requires up { self.old.is_up ≡ true }
+        ensures held { (s : Client) → IsClient D.state self.old s
+            → IfOk result (λ found. found ≡ is_some (table_at (seen s.disk) table)) }
+        ensures reads { (s : Client) → IsClient D.state self.old s
+            → OnlyReads D.state D.images s self.old self.new result }
+        ensures node { IsNode D.state self.new }
+        ensures declared { self.new.is_declared ≡ self.old.is_declared }
+        ensures phases { KeepsPhases self.old self.new }
+    {
+        let found = is_opened(&mut self.devs, table);
         self.settle(found)
     }
 }

@@ -4,3 +4,4 @@ pub mod CallEvents
 pub mod Rows
 pub mod Asked
 pub mod Each
+pub mod AsksNone

@@ -1,7 +1,7 @@
 //! The events of a world's clients.
-ghost use Rattle.std.specs.Prelude.{◌≡◌, ℕ, suc, [], IfErr};
+ghost use Rattle.std.specs.Prelude.{◌≡◌, ◌≢◌, ℕ, suc, [], IfErr};
 ghost use Rattle.stab_base.specs.declared.node.Node.TheVariants as nodes;
-ghost use Rattle.step_tables.specs.ClientMoves.{Conflicts};
+ghost use Rattle.step_tables.specs.ClientMoves.{Conflicts, Next};
 ghost use Rattle.step_tables.specs.Travels.{message_of};
 ghost use Rattle.world_tables.specs.World as calls;
 ghost use Rattle.world_tables.specs.World.{World as AWorld, to_there, started, client_at, has_node};
@@ -14,7 +14,7 @@ ghost use Rattle.client_events.specs.Fits.{FitsMessage};
 use crate::follow::follow;
 use disk_trait::Disk;
 use journal_host::{Ask, ClientFault, ClientHost};
-use stab_base::{ClientNo, TableNo};
+use stab_base::{ClientNo, RowId, Sequence, TableNo};
 use step_tables::Message;
 use table_model::{Answer, RowPairs};
 
@@ -46,6 +46,68 @@ pub fn call<D: Disk + Drop>(
     let was_busy = clients.is_busy(client);
     let found = clients.ask(client, ask);
     follow(clients, is_held, was_busy, client, found)
+}
+
+// Has a client that tells rows as torn ask for some rows whole, and does the work that follows.
+fn ask_whole<D: Disk + Drop>(
+    clients: &mut ClientHost<D>,
+    is_held: bool,
+    client: ClientNo,
+    table: TableNo,
+    tears: Sequence<RowId>,
+    asks: Sequence<RowId>,
+) -> Result<Answer, ClientFault>
+    requires clients { AreClients D.state clients.old }
+    requires some { asks ≢ [] }
+    ensures called { (w : AWorld) → HoldsClients D.state w clients.old
+        → is_held ≡ has_node w.holds (nodes.Client client)
+        → Comes D.state clients.old clients.new (calls.call w client (Next table tears asks)) result }
+    ensures spent { (w : AWorld) (n : ℕ) → HoldsClients D.state w clients.old
+        → HavePlansBelow D.state n clients.old.clients
+        → IfErr result (IsNumberCause n (client_at w client)) }
+    ensures kept { (w : AWorld) → HoldsClients D.state w clients.old
+        → IfErr result (λ e. e ≡ Spent → Stays D.state w clients.old clients.new) }
+    ensures cause { HasCause D.state client clients.old.clients clients.new.clients result }
+    ensures plans { (n : ℕ) → HavePlansBelow D.state n clients.old.clients
+        → HavePlansBelow D.state (suc n) clients.new.clients }
+{
+    let was_busy = clients.is_busy(client);
+    let found = clients.ask_whole(client, table, tears, asks);
+    follow(clients, is_held, was_busy, client, found)
+}
+
+/// Has a client tell rows of a table as torn, and ask for rows whole, in these orders; where it asks for none, for the
+/// table's next change. It does the work that follows.
+///
+/// # Errors
+///
+/// Those of `call`.
+pub fn pull<D: Disk + Drop>(
+    clients: &mut ClientHost<D>,
+    is_held: bool,
+    client: ClientNo,
+    table: TableNo,
+    tears: Sequence<RowId>,
+    asks: Sequence<RowId>,
+) -> Result<Answer, ClientFault>
+    requires clients { AreClients D.state clients.old }
+    requires none { asks ≡ [] → tears ≡ [] }
+    ensures called { (w : AWorld) → HoldsClients D.state w clients.old
+        → is_held ≡ has_node w.holds (nodes.Client client)
+        → Comes D.state clients.old clients.new (calls.call w client (Next table tears asks)) result }
+    ensures spent { (w : AWorld) (n : ℕ) → HoldsClients D.state w clients.old
+        → HavePlansBelow D.state n clients.old.clients
+        → IfErr result (IsNumberCause n (client_at w client)) }
+    ensures kept { (w : AWorld) → HoldsClients D.state w clients.old
+        → IfErr result (λ e. e ≡ Spent → Stays D.state w clients.old clients.new) }
+    ensures cause { HasCause D.state client clients.old.clients clients.new.clients result }
+    ensures plans { (n : ℕ) → HavePlansBelow D.state n clients.old.clients
+        → HavePlansBelow D.state (suc n) clients.new.clients }
+{
+    if asks.len() == 0 {
+        return call(clients, is_held, client, Ask::Pull { table });
+    }
+    ask_whole(clients, is_held, client, table, tears, asks)
 }
 
 /// Lists the rows in conflict of a table whose conflicts the client resolves: how many there are. They are handed over

@@ -1,0 +1,196 @@
+-- What a read of a node's disks comes to, and which nodes may be read.
+use Rattle.std.proofs.Common.{◌≡◌, ℕ, ◌<◌, Bool, true, false, List, [], ◌∷◌, Option, Some, None, Result, Ok, Err, refl, sym, ◌∙◌, ap, subst, rules}
+use Rattle.std.specs.Prelude.{IfOk, IsSome, is_some, not, ◌&&◌}
+use Rattle.std.specs.Ordering.{nat_cmp}
+use Rattle.std.specs.BTreeMap as tree
+use Rattle.disk_trait.specs.Calls.{DiskState}
+use Rattle.stab_base.specs.declared.node.Node.TheVariants as nodes
+use Rattle.table_model.specs.declared.line.Answer.TheVariants as answers
+use Rattle.table_model.specs.declared.line.Refusal.TheVariants as refusals
+use Rattle.step_tables.specs.Facts as facts
+use Rattle.step_tables.specs.Store.{current_of}
+use Rattle.step_tables.specs.StoreMoves.{StoreTask}
+use Rattle.step_tables.specs.ClientMoves.{Client, ClientTask}
+use Rattle.store_node.specs.Calls.{IsRowAt}
+use Rattle.store_node.specs.declared.showing.WholeRow.{WholeRow}
+use Rattle.store_host.specs.declared.host.StoreHost.{StoreHost}
+use Rattle.store_host.specs.declared.hosted.Hosted.{Hosted as Kept}
+use Rattle.store_host.specs.Calls.{IsMoved}
+use Rattle.store_host.specs.Holds.{HoldsStore, HostedThere, SameFaults, RisenFaults}
+use Rattle.client_node.specs.declared.node.ClientNode.{ClientNode}
+use Rattle.journal_host.specs.declared.host.ClientHost.{ClientHost}
+use Rattle.journal_host.specs.Calls as events
+use Rattle.journal_host.specs.Holds.{HoldsClients}
+use Rattle.journal_host.specs.Holds as hosts
+use Rattle.journal_host.proofs.Clients.{found, not_found, up_is, down_is}
+use Rattle.world_tables.specs.Ready.{is_idle, is_idle_table, is_table_ready, is_idle_client, is_client_ready}
+use Rattle.world_tables.specs.World.{no_lucks, Hosted, answering, failing, hosted_at, client_at, schema_at, store_falls, client_falls, owner, the_store, is_down, is_cut, is_client_down, is_at_work}
+use Rattle.world_tables.specs.World as moves
+use Rattle.node_steps.specs.declared.fault.WorldFault.{WorldFault}
+use Rattle.node_steps.specs.declared.told.Read.{Read}
+use Rattle.node_steps.specs.declared.told.Read.TheVariants as reads
+use Rattle.node_steps.specs.declared.told.Told.{Told}
+use Rattle.node_steps.specs.declared.world.World.{World}
+use Rattle.node_steps.specs.Calls.{IsDone, HasTold, HasToldClients}
+use Rattle.node_steps.specs.Faults.{IsCounted}
+use Rattle.node_steps.specs.Holds.{Holds}
+use Rattle.node_steps.specs.Reads.{HasFound, HasFallen, HasRead, IsRowIn, TellsFall}
+use Rattle.node_steps.proofs.Clients.{still_store, still_clients, told_one}
+use Rattle.node_steps.proofs.Counted.{some_failed, tables_counted, client_counted}
+use Rattle.node_steps.proofs.Done.{told_done}
+use Rattle.node_steps.proofs.Going.{failing_goes, store_falls_goes}
+use Rattle.node_steps.proofs.Keeping.{falls_keeps}
+use Rattle.node_steps.proofs.Showing.{some_of, none_of, there_at}
+
+and_first : (a b : Bool) → (a && b) ≡ true → a ≡ true
+and_first true b e = refl
+and_first false b e = absurd cc
+
+and_second : (a b : Bool) → (a && b) ≡ true → b ≡ true
+and_second true b e = e
+and_second false b e = absurd cc
+
+turned : (a b : Bool) → a ≡ not b → a ≡ true → b ≡ false
+turned a true e f = absurd cc
+turned a false e f = refl
+
+-- ---- a table that takes messages now
+
+module _ {D : Type 0} (state : D → DiskState) (w : moves.World) (world : World D) (h : Holds state w world) (table : ℕ) where
+  pub table_up : is_table_ready w table ≡ true → world.store.is_up ≡ true
+  table_up ready = h.store.up ∙ and_first (not (is_down w the_store)) (is_idle_table (hosted_at w table)) ready
+
+  pub table_there : is_table_ready w table ≡ true → IsSome (tree.get nat_cmp world.store.tables table)
+  table_there ready =
+      go (hosted_at w table) (tree.get nat_cmp world.store.tables table) (h.store.tables.there table)
+      (and_second (not (is_down w the_store)) (is_idle_table (hosted_at w table)) ready)
+    where
+      go : (o : Option Hosted) (it : Option (Kept D)) → HostedThere state (schema_at w table) table o it → is_idle_table o ≡ true → IsSome it
+      go None it k e = absurd cc
+      go (Some hosted) None k e = absurd k
+      go (Some hosted) (Some it) k e = search rules
+
+  -- a table that is there, at a Store that is up, is idle where it has no writes to do
+  pub idle_is : world.store.is_up ≡ true → true ≡ is_some (hosted_at w table) → not (is_at_work w table) ≡ is_idle_table (hosted_at w table)
+  idle_is up is =
+      let x = some_of (hosted_at w table) is in
+      let agenda = h.store.ups (turned world.store.is_up (is_down w the_store) h.store.up up) table x.0 x.1 in
+      at x.0 x.1 agenda.0 agenda.1
+    where
+      at : (hosted : Hosted) → hosted_at w table ≡ Some hosted → (tasks : List StoreTask) → hosted.store.agenda ≡ Some tasks → not (is_at_work w table) ≡ is_idle_table (hosted_at w table)
+      at hosted there [] e = rw (there, e) refl
+      at hosted there (task ∷ tasks) e = rw (there, e) refl
+
+  pub not_idle : false ≡ is_some (hosted_at w table) → false ≡ is_idle_table (hosted_at w table)
+  not_idle is = sym (ap is_idle_table (none_of (hosted_at w table) is))
+
+  pub down_ready : true ≡ is_down w the_store → false ≡ is_table_ready w table
+  down_ready is = ap (λ (b : Bool). not b && is_idle_table (hosted_at w table)) is
+
+  pub up_ready : (idle : Bool) → idle ≡ is_idle_table (hosted_at w table) → false ≡ is_down w the_store → idle ≡ is_table_ready w table
+  up_ready idle e is = e ∙ ap (λ (b : Bool). not b && is_idle_table (hosted_at w table)) is
+
+-- ---- a client that takes messages now
+
+-- it isn't down in any world that is held
+pub client_up : {D : Type 0} (state : D → DiskState) (w : moves.World) (host : ClientHost D) (c : ℕ) → HoldsClients state w host → is_client_ready w c ≡ true
+    → (v : moves.World) → HoldsClients state v host → is_down v (nodes.Client c) ≡ false
+client_up {D} state w host c h ready v k = go (tree.get nat_cmp host.clients c) refl
+  where
+    idle_up : (o : Option Client) → is_idle_client o ≡ true → is_client_down o ≡ false
+    idle_up None e = refl
+    idle_up (Some s) e = at s.agenda refl e
+      where
+        at : (agenda : Option (List ClientTask)) → s.agenda ≡ agenda → is_idle s.agenda ≡ true → is_client_down (Some s) ≡ false
+        at None is idle = let no : true ≡ false = sym idle ∙ ap is_idle is in absurd cc
+        at (Some tasks) is idle = rw is refl
+
+    up_at : (node : ClientNode D) → Some node ≡ tree.get nat_cmp host.clients c → node.is_up ≡ true
+    up_at node is = pick node.is_up refl
+      where
+        there : (s : Client) × (client_at w c ≡ Some s) × hosts.IsHosted state (is_cut w c) c s node
+        there = found state w host.clients c h.there node is
+
+        up : is_client_down (Some there.0) ≡ false
+        up = ap is_client_down (sym there.1) ∙ idle_up (client_at w c) (and_second (not (is_cut w c)) (is_idle_client (client_at w c)) ready)
+
+        pick : (b : Bool) → node.is_up ≡ b → node.is_up ≡ true
+        pick true e = e
+        pick false e = let no : true ≡ false = sym (down_is state node there.0.disk there.0.agenda there.2.client e) ∙ up in absurd cc
+
+    go : (o : Option (ClientNode D)) → tree.get nat_cmp host.clients c ≡ o → is_client_down (client_at v c) ≡ false
+    go None e = ap is_client_down (not_found state v host.clients c k.there (sym e)).0
+    go (Some node) e =
+        let there = found state v host.clients c k.there node (sym e) in
+        ap is_client_down there.1 ∙ up_is state node there.0.disk there.0.agenda there.2.client (up_at node (sym e))
+
+-- ---- a row of a table
+
+module _ {D : Type 0} (state : D → DiskState) (w : moves.World) (old : World D) (h : Holds state w old) (table : ℕ) (row : List ℕ) (s : StoreHost D) where
+  pub row_found : (found : Option WholeRow) → IsSome (tree.get nat_cmp old.store.tables table)
+      → ((hosted : Hosted) → hosted_at w table ≡ Some hosted → IsRowAt hosted.store.disk.items row (current_of hosted.store.disk.items row) found)
+      → HoldsStore state w s → s.outs ≡ old.store.outs → SameFaults state old.store.tables s.tables
+      → HasFound state w (IsRowIn (hosted_at w table) row) old (record old { store = s }) found
+  row_found found there is held outs same =
+      let x = there_at state w old.store table h.store there in
+      let still = still_store state w old s h held outs same in record {
+        found = subst (λ (o : Option Hosted). IsRowIn o row found) (sym x.1) (is x.0 x.1);
+        held = still.held;
+        same = still.same;
+      }
+
+  fallen_done : (new : World D) (told : Told) → IsMoved state old.store s (store_falls owner w) → HasTold (record old { store = s }) new (facts.Refuses facts.NoDevice) told
+      → IsDone state w (answering facts.Done (failing (store_falls owner w))) told new
+  fallen_done new told moved t =
+      told_done state w old h (failing (store_falls owner w)) (failing_goes w (store_falls owner w) (store_falls_goes w)) facts.Done s (answers.Refused refusals.NoDevice) (Ok told) new
+      (λ lucks. answering facts.Done (failing (store_falls owner w))) no_lucks refl (record { moved = record { held = moved.held; outs = moved.outs }; answer_is = refl }) t
+
+  store_fell : (new : World D) (told : Told) → IsMoved state old.store s (store_falls owner w) → RisenFaults state old.store.tables s.tables
+      → HasTold (record old { store = s }) new (facts.Refuses facts.NoDevice) told → HasFallen state w (store_falls owner w) old new told
+  store_fell new told moved rose t =
+      let done = fallen_done new told moved t in record {
+        done = done;
+        rose = (tables_counted state (store_falls owner w).world old new true done.held
+            (subst (λ (x : StoreHost D). IsCounted state true old.store.tables x.tables) (sym t.store) (some_failed state old.store.tables s.tables true refl rose))
+            (ap (λ (x : World D). x.clients.clients) t.same)).rose refl;
+      }
+
+  pub row_fallen : (new : World D) (result : Result (Read (Option WholeRow)) WorldFault) → IsMoved state old.store s (store_falls owner w) → RisenFaults state old.store.tables s.tables
+      → IfOk result (TellsFall (HasTold (record old { store = s }) new (facts.Refuses facts.NoDevice)))
+      → IfOk result (HasRead state w (store_falls owner w) (IsRowIn (hosted_at w table) row) old new)
+  row_fallen new (Err e) moved rose t = tt
+  row_fallen new (Ok (reads.Found found)) moved rose t = absurd t
+  row_fallen new (Ok (reads.Fallen told)) moved rose t = store_fell new told moved rose t
+
+-- what is told of a fall leaves the tables as they fell
+pub fallen_tables : {D T : Type 0} (P : tree.BTreeMap ℕ (Kept D) → Type 0) (old new : World D) (s : StoreHost D) (result : Result (Read T) WorldFault) → P s.tables
+    → IfOk result (TellsFall (HasTold (record old { store = s }) new (facts.Refuses facts.NoDevice))) → IfOk result (λ read. P new.store.tables)
+fallen_tables P old new s (Err e) p t = tt
+fallen_tables P old new s (Ok (reads.Found found)) p t = absurd t
+fallen_tables {D} P old new s (Ok (reads.Fallen told)) p t = subst (λ (x : StoreHost D). P x.tables) (sym t.store) p
+
+-- ---- what a client holds
+
+module _ {D T : Type 0} (state : D → DiskState) (w : moves.World) (old : World D) (h : Holds state w old) (c : ℕ) (is : T → Type 0) (mid : ClientHost D) where
+  pub client_found : (found : T) → is found → events.Stays state w old.clients mid → hosts.SameFaults state old.clients.clients mid.clients
+      → HasFound state w is old (record old { clients = mid }) found
+  client_found found it stays same =
+      let still = still_clients state w old mid h stays same in record { found = it; held = still.held; same = still.same }
+
+  client_fell : (new : World D) (told : Told) → events.IsMoved state old.clients mid (client_falls c w) → hosts.RisenFaults state c old.clients.clients mid.clients
+      → HasToldClients state (record old { clients = mid }) new (facts.Refuses facts.NoDevice) told → HasFallen state w (client_falls c w) old new told
+  client_fell new told moved rose t =
+      let done : IsDone state w (answering facts.Done (failing (client_falls c w))) told new =
+      told_one state w old h (answering facts.Done (failing (client_falls c w))) [] (falls_keeps w c) mid (answers.Refused refusals.NoDevice)
+      (record { answer_is = refl; held = moved.held; outs = moved.outs }) new told t in record {
+        done = done;
+        rose = (client_counted state (client_falls c w).world old new c true done.held
+            (λ up. subst (λ (m : tree.BTreeMap ℕ (ClientNode D)). hosts.RisenFaults state c old.clients.clients m) (sym t.nodes) rose) (λ f. absurd cc)
+            (ap (λ (x : World D). x.store) t.same)).rose refl;
+      }
+
+  pub client_fallen : (new : World D) (result : Result (Read T) WorldFault) → events.IsMoved state old.clients mid (client_falls c w) → hosts.RisenFaults state c old.clients.clients mid.clients
+      → IfOk result (TellsFall (HasToldClients state (record old { clients = mid }) new (facts.Refuses facts.NoDevice))) → IfOk result (HasRead state w (client_falls c w) is old new)
+  client_fallen new (Err e) moved rose t = tt
+  client_fallen new (Ok (reads.Found found)) moved rose t = absurd t
+  client_fallen new (Ok (reads.Fallen told)) moved rose t = client_fell new told moved rose t

@@ -1,0 +1,223 @@
+-- What a Store's moves keep of a world: all but its tables, its packets, and whether it is down.
+use Rattle.std.proofs.Common.{◌≡◌, ℕ, zero, suc, Bool, true, false, List, [], ◌∷◌, length, Option, Some, None, refl, ◌∙◌, ap, arith}
+use Rattle.std.specs.Prelude.{if◌then◌else◌, is_some, not, ◌||◌, ◌&&◌, drop}
+use Rattle.std.specs.Ordering.{nat_cmp}
+use Rattle.std.specs.Map.{lookup}
+use Rattle.std.specs.BTreeMap.{is_at, insert_entry}
+use Rattle.std.proofs.lemmas.Bool.Decides.{nat_tests}
+use Rattle.step_tables.specs.Messages.{Luck}
+use Rattle.step_tables.specs.Messages as messages
+use Rattle.step_tables.specs.StoreMoves as store
+use Rattle.step_tables.specs.StoreMoves.{StoreMove, StoreStep}
+use Rattle.step_tables.proofs.Lists.{lookup-insert_nat}
+use Rattle.world_tables.specs.World.{World, Hosted, Moved, owner, the_store, has_node, hosted_at, still, and_then}
+use Rattle.world_tables.specs.World.{and_unless, failing}
+use Rattle.world_tables.specs.World.{history_on, after_table, table_step, move_hosted, move_table, first_luck, other_lucks, tables_of, table_falls, tables_fall, with_down, without_down}
+use Rattle.world_tables.specs.World.{store_falls, or_falls}
+use Rattle.world_tables.specs.World.{busy_table, write_next, store_works, tasks_of, store_until_idle, store_follows, table_follows, is_at_work, declared_late, start_hosted, table_starts}
+use Rattle.world_tables.specs.World.{tables_start, store_starts}
+use Rattle.world_tables.specs.World.{crash_luck, table_crashes, store_crashes}
+use Rattle.node_steps.specs.Outs.{Goes}
+use Rattle.node_steps.proofs.NodeSets.{without_has, same_turned}
+
+-- ---- one after the other
+
+pub still_goes : (w : World) → Goes w (still w)
+still_goes w = record {
+  schemas = refl;
+  clients = refl;
+  holds = refl;
+  cuts = refl;
+  phases = refl;
+  downs = λ node apart. refl;
+  tables = λ table. refl;
+}
+
+pub then_goes : (w : World) (m : Moved) (f : World → Moved) → Goes w m → Goes m.world (f m.world) → Goes w (and_then m f)
+then_goes w m f a b = record {
+  schemas = b.schemas ∙ a.schemas;
+  clients = b.clients ∙ a.clients;
+  holds = b.holds ∙ a.holds;
+  cuts = b.cuts ∙ a.cuts;
+  phases = b.phases ∙ a.phases;
+  downs = λ node apart. b.downs node apart ∙ a.downs node apart;
+  tables = λ table. b.tables table ∙ a.tables table;
+}
+
+pub unless_goes : (w : World) (m : Moved) (f : World → Moved) → Goes w m → Goes m.world (f m.world) → Goes w (and_unless m f)
+unless_goes w m f a b = go m.failed
+  where
+    go : (b : Bool) → Goes w (if b then m else and_then m f)
+    go true = a
+    go false = then_goes w m f a b
+
+pub failing_goes : (w : World) (m : Moved) → Goes w m → Goes w (failing m)
+failing_goes w m a = record {
+  schemas = a.schemas;
+  clients = a.clients;
+  holds = a.holds;
+  cuts = a.cuts;
+  phases = a.phases;
+  downs = a.downs;
+  tables = a.tables;
+}
+
+-- ---- one move
+
+some_after : (tables : List (ℕ × Hosted)) (table : ℕ) (old new : Hosted) (q : ℕ) → lookup (is_at (nat_cmp table)) tables ≡ Some old
+    → is_some (lookup (is_at (nat_cmp q)) (insert_entry nat_cmp tables table new)) ≡ is_some (lookup (is_at (nat_cmp q)) tables)
+some_after tables table old new q at = grind (arith, nat_tests, at, lookup-insert_nat tables table new q)
+
+pub after_goes : (w : World) (table : ℕ) (there hosted : Hosted) (s : StoreStep) → hosted_at w table ≡ Some there → Goes w (after_table w table hosted s)
+after_goes w table there hosted s at = record {
+  schemas = refl;
+  clients = refl;
+  holds = refl;
+  cuts = refl;
+  phases = refl;
+  downs = λ node apart. refl;
+  tables = λ q. some_after w.tables table there new q at;
+}
+  where
+    new : Hosted
+    new = record { store = s.store; history = history_on hosted.history s.facts; made = hosted.made }
+
+pub table_goes : (w : World) (table : ℕ) (move : StoreMove) → Goes w (move_table table move w)
+table_goes w table move = go (hosted_at w table) refl
+  where
+    go : (o : Option Hosted) → hosted_at w table ≡ o → Goes w (move_hosted w table move o)
+    go None at = still_goes w
+    go (Some hosted) at = after_goes w table hosted hosted (table_step w table hosted move) at
+
+-- ---- falls
+
+down_goes : (w : World) → Goes w (still (with_down the_store w))
+down_goes w = record {
+  schemas = refl;
+  clients = refl;
+  holds = refl;
+  cuts = refl;
+  phases = refl;
+  downs = λ node apart. ap (λ (b : Bool). b || has_node w.downs node) apart;
+  tables = λ table. refl;
+}
+
+up_goes : (w : World) → Goes w (still (without_down the_store w))
+up_goes w = record {
+  schemas = refl;
+  clients = refl;
+  holds = refl;
+  cuts = refl;
+  phases = refl;
+  downs = λ node apart. without_has w.downs the_store node ∙ ap (λ (b : Bool). not b && has_node w.downs node) (same_turned node the_store apart);
+  tables = λ table. refl;
+}
+
+pub falls_goes : (tables : List ℕ) (w : World) → Goes w (tables_fall tables w)
+falls_goes [] w = still_goes w
+falls_goes (table ∷ tables) w =
+    let m : Moved = table_falls table w in then_goes w m (tables_fall tables) (table_goes w table (store.Crash messages.FailedBefore)) (falls_goes tables m.world)
+
+pub store_falls_goes : (w : World) → Goes w (store_falls owner w)
+store_falls_goes w =
+    let m : Moved = tables_fall (tables_of w owner) w in
+    then_goes w m (λ x. still (with_down the_store x)) (falls_goes (tables_of w owner) w) (down_goes m.world)
+
+or_falls_goes : (w : World) (m : Moved) → Goes w m → Goes w (or_falls owner m)
+or_falls_goes w m a = go m.failed
+  where
+    go : (b : Bool) → Goes w (if b then and_then m (store_falls owner) else m)
+    go true = then_goes w m (store_falls owner) a (store_falls_goes m.world)
+    go false = a
+
+-- ---- writes
+
+pub write_goes : (luck : Luck) (o : Option ℕ) (w : World) → Goes w (write_next owner luck o w)
+write_goes luck None w = still_goes w
+write_goes luck (Some table) w = or_falls_goes w (move_table table (store.Work luck) w) (table_goes w table (store.Work luck))
+
+works_goes : (count : ℕ) (lucks : List Luck) (w : World) → Goes w (store_works owner count lucks w)
+works_goes zero lucks w = still_goes w
+works_goes (suc more) lucks w =
+    let m : Moved = write_next owner (first_luck lucks) (busy_table w owner) w in
+    unless_goes w m (store_works owner more (other_lucks lucks)) (write_goes (first_luck lucks) (busy_table w owner) w) (works_goes more (other_lucks lucks) m.world)
+
+pub until_idle_goes : (lucks : List Luck) (w : World) → Goes w (store_until_idle owner lucks w)
+until_idle_goes lucks w = works_goes (length (tasks_of w owner)) lucks w
+
+pub follows_goes : (lucks : List Luck) (w : World) → Goes w (store_follows owner lucks w)
+follows_goes lucks w = go (has_node w.holds the_store)
+  where
+    go : (b : Bool) → Goes w (if b then still w else store_until_idle owner lucks w)
+    go true = still_goes w
+    go false = until_idle_goes lucks w
+
+pub table_follows_goes : (table : ℕ) (lucks : List Luck) (w : World) → Goes w (table_follows table lucks w)
+table_follows_goes table lucks w = go (is_at_work w table)
+  where
+    go : (b : Bool) → Goes w (if b then store_follows owner lucks w else still w)
+    go true = follows_goes lucks w
+    go false = still_goes w
+
+-- ---- a crash and a start
+
+pub crashes_goes : (calls : ℕ) (lucks : List Luck) (w : World) → Goes w (store_crashes owner calls lucks w)
+crashes_goes calls lucks w =
+    let m : Moved = table_crashes luck (busy_table w owner) w in then_goes w m (store_falls owner) (one (busy_table w owner)) (store_falls_goes m.world)
+  where
+    luck : Luck
+    luck = crash_luck calls (other_lucks lucks) (first_luck lucks)
+
+    one : (o : Option ℕ) → Goes w (table_crashes luck o w)
+    one None = still_goes w
+    one (Some table) = table_goes w table (store.Crash luck)
+
+start_goes : (w : World) (table : ℕ) → Goes w (start_hosted w table (hosted_at w table))
+start_goes w table = go (hosted_at w table) refl
+  where
+    made : (hosted : Hosted) (b : Bool) → hosted_at w table ≡ Some hosted
+        → Goes w (if b then move_table table store.Start w else after_table w table (record hosted { made = true }) (declared_late table))
+    made hosted true at = table_goes w table store.Start
+    made hosted false at = after_goes w table hosted (record hosted { made = true }) (declared_late table) at
+
+    go : (o : Option Hosted) → hosted_at w table ≡ o → Goes w (start_hosted w table o)
+    go None at = still_goes w
+    go (Some hosted) at = made hosted hosted.made at
+
+table_starts_goes : (table : ℕ) (luck : Luck) (w : World) → Goes w (table_starts table luck w)
+table_starts_goes table messages.Done w = start_goes w table
+table_starts_goes table messages.FailedBefore w = failing_goes w (still w) (still_goes w)
+table_starts_goes table messages.FailedAfter w = failing_goes w (still w) (still_goes w)
+
+pub tables_start_goes : (tables : List ℕ) (lucks : List Luck) (w : World) → Goes w (tables_start tables lucks w)
+tables_start_goes [] lucks w = still_goes w
+tables_start_goes (table ∷ tables) lucks w =
+    let m : Moved = table_starts table (first_luck lucks) w in
+    unless_goes w m (tables_start tables (other_lucks lucks)) (table_starts_goes table (first_luck lucks) w) (tables_start_goes tables (other_lucks lucks) m.world)
+
+pub starts_goes : (lucks : List Luck) (w : World) → Goes w (store_starts owner lucks w)
+starts_goes lucks w = go m.failed
+  where
+    tables : List ℕ
+    tables = tables_of w owner
+
+    m : Moved
+    m = tables_start tables lucks w
+
+    started : Goes w m
+    started = tables_start_goes tables lucks w
+
+    go : (b : Bool) → Goes w (if b then and_then m (tables_fall tables) else and_then m (λ x. store_follows owner (drop (length tables) lucks) (without_down the_store x)))
+    go true = then_goes w m (tables_fall tables) started (falls_goes tables m.world)
+    go false =
+        let up = up_goes m.world in
+        let b = follows_goes (drop (length tables) lucks) (without_down the_store m.world) in
+        then_goes w m (λ x. store_follows owner (drop (length tables) lucks) (without_down the_store x)) started (record {
+          schemas = b.schemas;
+          clients = b.clients;
+          holds = b.holds;
+          cuts = b.cuts;
+          phases = b.phases;
+          downs = λ node apart. b.downs node apart ∙ up.downs node apart;
+          tables = b.tables;
+        })

@@ -1,0 +1,26 @@
+use Rattle.std.proofs.Common.{◌≡◌, Bool, Option, suc}
+use Rattle.world_tables.specs.World.{client_at}
+use Rattle.journal_host.specs.Calls.{has_table}
+use Rattle.node_steps.proofs.Clients.{plans_told}
+use Rattle.node_steps.proofs.Found.{client_up, client_found, client_fallen}
+use Rattle.node_steps.proofs.world.World.has_opened.Goals as goal
+
+pub has_opened-requires-clause-clients : goal.has_opened-requires-clause-clients
+has_opened-requires-clause-clients g c = let k = c.requires.held in (k.0, k.1.clients)
+
+pub has_opened-requires-clause-up : goal.has_opened-requires-clause-up
+has_opened-requires-clause-up g c = let k = c.requires.held in client_up g.D.Disk.state k.0 c.args.self.now.clients c.args.client k.1.clients k.2
+
+pub returns-in-Ok-clause-read : goal.returns-in-Ok-clause-read
+returns-in-Ok-clause-read g c w h =
+    client_found g.D.Disk.state w c.args.self.now h c.args.client (λ (found : Bool). found ≡ has_table (client_at w c.args.client) c.args.table) c.has_opened.new.self c.in-Ok.found (c.in-Ok.ensures.held w h.clients)
+    (c.in-Ok.ensures.kept w h.clients (λ e. absurd cc)) (c.in-Ok.ensures.cause.counted (λ e. absurd cc))
+
+pub returns-in-Err-Disk-clause-read : goal.returns-in-Err-Disk-clause-read
+returns-in-Err-Disk-clause-read g c w h =
+    client_fallen g.D.Disk.state w c.args.self.now h c.args.client (λ (found : Bool). found ≡ has_table (client_at w c.args.client) c.args.table) c.has_opened.new.self c.opening_fallen.new.self c.opening_fallen.result
+    (c.in-Err-Disk.ensures.fallen w h.clients (let is = c.in-Err-Disk.field-0-is in cc)) (c.in-Err-Disk.ensures.cause.cause (let is = c.in-Err-Disk.field-0-is in cc)) c.opening_fallen.ensures.told
+
+pub returns-in-Err-Disk-clause-plans : goal.returns-in-Err-Disk-clause-plans
+returns-in-Err-Disk-clause-plans g c n plans =
+    plans_told g.D.Disk.state c.has_opened.new.self c.opening_fallen.new.self (suc n) c.opening_fallen.ensures.nodes (c.in-Err-Disk.ensures.plans n plans)

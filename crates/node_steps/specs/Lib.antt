@@ -1,0 +1,14 @@
+pub mod Asked
+pub mod Told
+pub mod Nodes
+pub mod Places
+pub mod Numbers
+pub mod Holds
+pub mod Outs
+pub mod Faults
+pub mod Closes
+pub mod Steps
+pub mod Calls
+pub mod Fits
+pub mod Rows
+pub mod Reads

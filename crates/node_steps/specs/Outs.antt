@@ -1,0 +1,46 @@
+-- What a Store's moves come to: what they keep of the world, and what is answered.
+use Rattle.std.specs.Prelude.{◌≡◌, ℕ, false, List, is_some, if◌then◌else◌}
+use Rattle.disk_trait.specs.Calls.{DiskState}
+use Rattle.table_model.specs.declared.line.Answer.{Answer}
+use Rattle.step_tables.specs.Facts as facts
+use Rattle.step_tables.specs.Messages.{Message, Luck, table_of}
+use Rattle.step_tables.specs.Messages as messages
+use Rattle.step_tables.specs.StoreMoves.{Take}
+use Rattle.stab_base.specs.declared.node.Node.{Node}
+use Rattle.step_tables.specs.Lines.{answer_of}
+use Rattle.world_tables.specs.World.{World, Moved, still, failing, store_falls, owner, to_hosted, hosted_at}
+use Rattle.world_tables.specs.World.{answering, same_node, has_node, the_store}
+use Rattle.store_host.specs.declared.host.StoreHost.{StoreHost}
+use Rattle.store_host.specs.Calls.{IsMoved}
+
+-- What a Store's moves keep of a world: all but its tables, its packets, and whether it is down.
+pub record Goes (w : World) (m : Moved) : Type 0 where
+  pub schemas : m.world.schemas ≡ w.schemas
+  pub clients : m.world.clients ≡ w.clients
+  pub holds : m.world.holds ≡ w.holds
+  pub cuts : m.world.cuts ≡ w.cuts
+  pub phases : m.world.phases ≡ w.phases
+  pub downs : (node : Node) → same_node node the_store ≡ false → has_node m.world.downs node ≡ has_node w.downs node
+  pub tables : (table : ℕ) → is_some (hosted_at m.world table) ≡ is_some (hosted_at w table)
+
+-- The Store did these moves. The answer is this one, or that a device failed.
+pub record IsAnswered {D : Type 0} (state : D → DiskState) (old new : StoreHost D) (answer : facts.Answer) (m : Moved)
+    (given : Answer) : Type 0 where
+  pub moved : IsMoved state old new m
+  pub answer_is : answer_of given ≡ (if m.failed then facts.Refuses facts.NoDevice else answer)
+
+-- The same of a message for one of its tables: what the world makes of it is the answer to these moves.
+pub record IsTakenAs {D : Type 0} (state : D → DiskState) (w : World) (from : Node) (message : Message)
+    (lucks : List Luck) (old new : StoreHost D) (given : Answer) : Type 0 where
+  pub answer : facts.Answer
+  pub moves : Moved
+  pub step_is : to_hosted w (table_of message) (Take from message) lucks (hosted_at w (table_of message))
+      ≡ answering answer moves
+  pub answered : IsAnswered state old new answer moves given
+  pub goes : Goes w moves
+
+-- a read of the disks, which may fail
+abbrev pub read_moves : World → Luck → Moved
+read_moves w messages.Done = still w
+read_moves w messages.FailedBefore = failing (store_falls owner w)
+read_moves w messages.FailedAfter = failing (store_falls owner w)

@@ -1,0 +1,126 @@
+//! Messages that are handed to nodes.
+ghost use Rattle.std.specs.Prelude.{◌≡◌, ◌≢◌, ◌⊎◌, ℕ, suc, true, IfOk, IfErr};
+ghost use Rattle.step_tables.specs.Messages.{table_of};
+ghost use Rattle.step_tables.specs.StoreMoves.{Take};
+ghost use Rattle.step_tables.specs.Travels.{message_of};
+ghost use Rattle.world_tables.specs.World.{World as AWorld, carried, the_store, to_hosted, to_there, hosted_at};
+ghost use Rattle.world_tables.specs.World.{client_at, unless_down, move_table};
+ghost use Rattle.world_tables.specs.Passed.{taken_by};
+ghost use Rattle.store_host.specs.Calls.{FitsIn};
+ghost use Rattle.client_events.specs.Fits.{FitsMessage};
+ghost use Rattle.node_steps.specs.declared.fault.WorldFault.TheVariants.{Memory, Limit as LimitPassed};
+ghost use Rattle.node_steps.specs.declared.fault.WorldFault.TheVariants.{Depot as DepotFailed};
+ghost use Rattle.node_steps.specs.Calls.{Comes, by_lucks};
+ghost use Rattle.node_steps.specs.Faults.{AreCounted};
+ghost use Rattle.node_steps.specs.Fits.{FitsNode, packet_with};
+ghost use Rattle.node_steps.specs.Holds.{Holds};
+ghost use Rattle.node_steps.specs.Places.{IsPlace};
+ghost use Rattle.node_steps.specs.Rows.{AreLeftOver};
+ghost use Rattle.node_steps.specs.Steps.{SpendsNumber, IsFull, IsStill, HavePlansBelow};
+
+use crate::fault::WorldFault;
+use crate::holds::STORE;
+use crate::moves::take;
+use crate::told::Told;
+use crate::world::World;
+use client_events::deliver;
+use disk_trait::Disk;
+use row_value::ClientNo;
+use stab_base::Node;
+use step_tables::Message;
+use table_model::Answer;
+
+impl<D: Disk + Drop> World<D> {
+    /// Hands a message to the node that it is for. Where that isn't there it is lost.
+    ///
+    /// `Limit` where a table has given its last version, or a client has made its last write or has begun its last
+    /// plan; it leaves the nodes as they were. What want of memory leaves of them isn't said.
+    pub fn carry(&mut self, from: Node, to: Node, message: Message) -> Result<Told, WorldFault>
+        requires held { (w : AWorld) × Holds D.state w self.old × FitsNode w to message }
+        requires place { IsPlace to }
+        ensures done { (w : AWorld) → Holds D.state w self.old → FitsNode w to message → Comes D.state w
+            (λ lucks. carried w (packet_with from to message) lucks.shape lucks.calls to) result self.new }
+        ensures counted { AreCounted D.state result self.old self.new }
+        ensures rows { (w : AWorld) → Holds D.state w self.old → FitsNode w to message → IfOk result (λ told.
+            AreLeftOver D.state D.images w (taken_by w (packet_with from to message) to) self.old.store.tables
+            self.new.store.tables) }
+        ensures left { (w : AWorld) → Holds D.state w self.old
+            → IfErr result (λ e. e ≢ Memory → IsStill D.state w self.old self.new) }
+        ensures limit { (w : AWorld) (n : ℕ) → Holds D.state w self.old → FitsNode w to message
+            → HavePlansBelow D.state n self.old → IfErr result (λ e. (code count : ℕ) → e ≡ LimitPassed code count
+            → (code ≡ 11) × (IsFull w ⊎ ((c : ℕ) × SpendsNumber n w c))) }
+        ensures plans { (n : ℕ) → HavePlansBelow D.state n self.old → HavePlansBelow D.state (suc n) self.new }
+        ensures only { IfErr result (λ e. e ≢ DepotFailed) }
+    {
+        match to {
+            Node::Store(_) => self.carry_to_store(from, &message),
+            Node::Client(client) => self.carry_to_client(client, message),
+            Node::Gate(_) => self.only(Answer::Done),
+        }
+    }
+
+    fn carry_to_client(&mut self, client: ClientNo, message: Message) -> Result<Told, WorldFault>
+        requires held { (w : AWorld) × Holds D.state w self.old × FitsMessage w client message }
+        ensures done { (w : AWorld) → Holds D.state w self.old → FitsMessage w client message → Comes D.state w
+            (by_lucks (λ shape lucks. to_there w client (message_of message) shape lucks (client_at w client))) result
+            self.new }
+        ensures counted { AreCounted D.state result self.old self.new }
+        ensures store { self.new.store ≡ self.old.store }
+        ensures left { (w : AWorld) → Holds D.state w self.old
+            → IfErr result (λ e. e ≢ Memory → IsStill D.state w self.old self.new) }
+        ensures limit { (w : AWorld) (n : ℕ) → Holds D.state w self.old → FitsMessage w client message
+            → HavePlansBelow D.state n self.old → IfErr result (λ e. (code count : ℕ) → e ≡ LimitPassed code count
+            → (code ≡ 11) × SpendsNumber n w client) }
+        ensures plans { (n : ℕ) → HavePlansBelow D.state n self.old → HavePlansBelow D.state (suc n) self.new }
+        ensures only { IfErr result (λ e. e ≢ DepotFailed) }
+    {
+        let is_held = self.is_held(Node::Client(client));
+        let found = deliver(&mut self.clients, is_held, client, message);
+        self.end(found)
+    }
+
+    fn carry_to_store(&mut self, from: Node, message: &Message) -> Result<Told, WorldFault>
+        requires held { (w : AWorld) × Holds D.state w self.old × FitsIn w message.now }
+        ensures done { (w : AWorld) → Holds D.state w self.old → FitsIn w message.now → Comes D.state w
+            (λ lucks. unless_down w the_store (to_hosted w (table_of (message_of message.now))
+            (Take from (message_of message.now)) lucks.calls (hosted_at w (table_of (message_of message.now)))))
+            result self.new }
+        ensures counted { AreCounted D.state result self.old self.new }
+        ensures rows { (w : AWorld) → Holds D.state w self.old → FitsIn w message.now → IfOk result (λ told.
+            AreLeftOver D.state D.images w (move_table (table_of (message_of message.now))
+            (Take from (message_of message.now)) w).world self.old.store.tables self.new.store.tables) }
+        ensures left { (w : AWorld) → Holds D.state w self.old
+            → IfErr result (λ e. e ≢ Memory → IsStill D.state w self.old self.new) }
+        ensures limit { (w : AWorld) → Holds D.state w self.old → IfErr result (λ e. (code count : ℕ)
+            → e ≡ LimitPassed code count → (code ≡ 11) × IsFull w) }
+        ensures clients { self.new.clients ≡ self.old.clients }
+        ensures only { IfErr result (λ e. e ≢ DepotFailed) }
+    {
+        if self.is_down(STORE) {
+            return self.refuse(STORE);
+        }
+        self.take(from, message)
+    }
+
+    fn take(&mut self, from: Node, message: &Message) -> Result<Told, WorldFault>
+        requires held { (w : AWorld) × Holds D.state w self.old × FitsIn w message.now }
+        requires up { self.old.store.is_up ≡ true }
+        ensures done { (w : AWorld) → Holds D.state w self.old → FitsIn w message.now → Comes D.state w
+            (λ lucks. to_hosted w (table_of (message_of message.now)) (Take from (message_of message.now)) lucks.calls
+            (hosted_at w (table_of (message_of message.now)))) result self.new }
+        ensures counted { AreCounted D.state result self.old self.new }
+        ensures rows { (w : AWorld) → Holds D.state w self.old → FitsIn w message.now → IfOk result (λ told.
+            AreLeftOver D.state D.images w (move_table (table_of (message_of message.now))
+            (Take from (message_of message.now)) w).world self.old.store.tables self.new.store.tables) }
+        ensures left { (w : AWorld) → Holds D.state w self.old
+            → IfErr result (λ e. e ≢ Memory → IsStill D.state w self.old self.new) }
+        ensures limit { (w : AWorld) → Holds D.state w self.old → IfErr result (λ e. (code count : ℕ)
+            → e ≡ LimitPassed code count → (code ≡ 11) × IsFull w) }
+        ensures clients { self.new.clients ≡ self.old.clients }
+        ensures only { IfErr result (λ e. e ≢ DepotFailed) }
+    {
+        let is_held = self.is_held(STORE);
+        let answer = take(&mut self.store, is_held, from, message)?;
+        self.tell(answer)
+    }
+}

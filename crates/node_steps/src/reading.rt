@@ -1,0 +1,154 @@
+//! Reads of the nodes: what a table has of a row, what a client has of it, which of them take messages now.
+ghost use Rattle.std.specs.Prelude.{◌≡◌, ℕ, suc, true, option_copied, IfOk, IfErr};
+ghost use Rattle.step_tables.specs.Facts as facts;
+ghost use Rattle.world_tables.specs.World.{World as AWorld, hosted_at, client_at, schema_at, store_falls, client_falls};
+ghost use Rattle.world_tables.specs.World.{owner};
+ghost use Rattle.world_tables.specs.Ready.{is_table_ready, is_client_ready, is_idle_table};
+ghost use Rattle.store_host.specs.Holds.{AreLeft};
+ghost use Rattle.journal_host.specs.Calls.{held_by, has_table};
+ghost use Rattle.node_steps.specs.declared.fault.WorldFault.TheVariants.{Memory};
+ghost use Rattle.node_steps.specs.Calls.{HasTold, HasToldClients};
+ghost use Rattle.node_steps.specs.Holds.{Holds};
+ghost use Rattle.node_steps.specs.Reads.{HasRead, IsRowIn, TellsFall};
+ghost use Rattle.node_steps.specs.Steps.{HavePlansBelow};
+
+use crate::fault::WorldFault;
+use crate::holds::STORE;
+use crate::told::Read;
+use crate::world::World;
+use client_node::{CallFault, RowHeld};
+use disk_trait::Disk;
+use row_value::{ClientNo, RowId, Schema, TableNo};
+use store_node::{NodeFault, WholeRow};
+use table_model::{Answer, Refusal};
+
+impl<D: Disk + Drop> World<D> {
+    /// Whether a table takes a message now: it is there and up, and has no writes to do.
+    pub fn is_table_ready(&self, table: TableNo) -> bool
+        ensures { (w : AWorld) → Holds D.state w self.now → result ≡ is_table_ready w table }
+    {
+        if self.is_down(STORE) {
+            return false;
+        }
+        self.is_table_idle(table)
+    }
+
+    fn is_table_idle(&self, table: TableNo) -> bool
+        requires up { self.now.store.is_up ≡ true }
+        ensures { (w : AWorld) → Holds D.state w self.now → result ≡ is_idle_table (hosted_at w table) }
+    {
+        if self.store.has(table) {
+            return !self.store.is_busy(table);
+        }
+        false
+    }
+
+    /// Whether a client takes a message now: it is there, up and linked, and has no writes to do.
+    pub fn is_client_ready(&self, client: ClientNo) -> bool
+        ensures { (w : AWorld) → Holds D.state w self.now → result ≡ is_client_ready w client }
+    {
+        self.clients.is_ready(client)
+    }
+
+    /// The schema of a declared table.
+    pub fn schema(&self, table: TableNo) -> Option<&Schema>
+        ensures { (w : AWorld) → Holds D.state w self.now → option_copied result ≡ schema_at w table }
+    {
+        self.schemas.get(&table)
+    }
+
+    /// What a table has of a row, with the names of its chunks and each client's last write.
+    pub fn stored_row(
+        &mut self,
+        table: TableNo,
+        row: &RowId,
+    ) -> Result<Read<Option<WholeRow>>, WorldFault>
+        requires held { (w : AWorld) × Holds D.state w self.old × (is_table_ready w table ≡ true) }
+        ensures read { (w : AWorld) → Holds D.state w self.old
+            → IfOk result (HasRead D.state w (store_falls owner w) (IsRowIn (hosted_at w table) row.now) self.old
+            self.new) }
+        ensures rows { (w : AWorld) → Holds D.state w self.old → IfOk result (λ read.
+            AreLeft D.state D.images w self.old.store.tables self.new.store.tables) }
+        ensures clients { self.new.clients ≡ self.old.clients }
+        ensures memory { IfErr result (λ e. e ≡ Memory) }
+    {
+        match self.store.row(table, row) {
+            Ok(found) => Ok(Read::Found(found)),
+            Err(NodeFault::Disk) => self.store_fallen(),
+            Err(_) => Err(WorldFault::Memory),
+        }
+    }
+
+    // That a disk of the Store has failed.
+    fn store_fallen(&mut self) -> Result<Read<Option<WholeRow>>, WorldFault>
+        ensures told { IfOk result (TellsFall (HasTold self.old self.new (facts.Refuses facts.NoDevice))) }
+        ensures clients { self.new.clients ≡ self.old.clients }
+        ensures memory { IfErr result (λ e. e ≡ Memory) }
+    {
+        let told = self.tell(Answer::Refused(Refusal::NoDevice))?;
+        Ok(Read::Fallen(told))
+    }
+
+    /// What a client holds of a row under the Store's names: none where it hasn't opened the table.
+    pub fn held_row(
+        &mut self,
+        client: ClientNo,
+        table: TableNo,
+        row: &RowId,
+    ) -> Result<Read<Option<RowHeld>>, WorldFault>
+        requires held { (w : AWorld) × Holds D.state w self.old × (is_client_ready w client ≡ true) }
+        ensures read { (w : AWorld) → Holds D.state w self.old
+            → IfOk result (HasRead D.state w (client_falls client w)
+            (λ found. found ≡ held_by (client_at w client) table row.now) self.old self.new) }
+        ensures store { self.new.store ≡ self.old.store }
+        ensures plans { (n : ℕ) → HavePlansBelow D.state n self.old → HavePlansBelow D.state (suc n) self.new }
+        ensures memory { IfErr result (λ e. e ≡ Memory) }
+    {
+        match self.clients.held_row(client, table, row) {
+            Ok(found) => Ok(Read::Found(found)),
+            Err(CallFault::Disk) => self.row_fallen(),
+            Err(_) => Err(WorldFault::Memory),
+        }
+    }
+
+    // That a disk of a client has failed.
+    fn row_fallen(&mut self) -> Result<Read<Option<RowHeld>>, WorldFault>
+        ensures told { IfOk result
+            (TellsFall (HasToldClients D.state self.old self.new (facts.Refuses facts.NoDevice))) }
+        ensures store { self.new.store ≡ self.old.store }
+        ensures nodes { self.new.clients.clients ≡ self.old.clients.clients }
+        ensures memory { IfErr result (λ e. e ≡ Memory) }
+    {
+        let told = self.tell_clients(Answer::Refused(Refusal::NoDevice))?;
+        Ok(Read::Fallen(told))
+    }
+
+    /// Whether a client has a table opened.
+    pub fn has_opened(&mut self, client: ClientNo, table: TableNo) -> Result<Read<bool>, WorldFault>
+        requires held { (w : AWorld) × Holds D.state w self.old × (is_client_ready w client ≡ true) }
+        ensures read { (w : AWorld) → Holds D.state w self.old
+            → IfOk result (HasRead D.state w (client_falls client w)
+            (λ found. found ≡ has_table (client_at w client) table) self.old self.new) }
+        ensures store { self.new.store ≡ self.old.store }
+        ensures plans { (n : ℕ) → HavePlansBelow D.state n self.old → HavePlansBelow D.state (suc n) self.new }
+        ensures memory { IfErr result (λ e. e ≡ Memory) }
+    {
+        match self.clients.has_opened(client, table) {
+            Ok(found) => Ok(Read::Found(found)),
+            Err(CallFault::Disk) => self.opening_fallen(),
+            Err(_) => Err(WorldFault::Memory),
+        }
+    }
+
+    // The same where it was to say whether it has a table opened.
+    fn opening_fallen(&mut self) -> Result<Read<bool>, WorldFault>
+        ensures told { IfOk result
+            (TellsFall (HasToldClients D.state self.old self.new (facts.Refuses facts.NoDevice))) }
+        ensures store { self.new.store ≡ self.old.store }
+        ensures nodes { self.new.clients.clients ≡ self.old.clients.clients }
+        ensures memory { IfErr result (λ e. e ≡ Memory) }
+    {
+        let told = self.tell_clients(Answer::Refused(Refusal::NoDevice))?;
+        Ok(Read::Fallen(told))
+    }
+}

@@ -1,6 +1,6 @@
 -- What a crash leaves of the rows of a world's tables, from call to call, and where that stands in the tables' histories.
 use Rattle.std.proofs.Common.{◌≡◌, ◌⊎◌, inl, inr, ⊎_elim, ℕ, List, Option, Some, Result, Ok, Err, sym, ◌∙◌, ap, subst}
-use Rattle.std.specs.Prelude.{IfOk, slice_get}
+use Rattle.std.specs.Prelude.{IfOk}
 use Rattle.std.specs.Ordering.{nat_cmp}
 use Rattle.std.specs.BTreeMap.{is_at}
 use Rattle.std.specs.BTreeMap as tree
@@ -9,18 +9,16 @@ use Rattle.disk_trait.specs.Image.{IsImage}
 use Rattle.disk_trait.specs.Calls.{DiskState}
 use Rattle.disk_trait.specs.Fuse.{behind, inner_of}
 use Rattle.disk_trait.specs.declared.fuse.FuseDisk.{FuseDisk}
-use Rattle.stab_base.specs.declared.node.Node.{Node}
 use Rattle.row_value.specs.declared.schema.Schema.{Schema}
 use Rattle.row_store.specs.Data.{TableData}
 use Rattle.store_commit.proofs.Moments.{rows_weaker, rows_then}
 use Rattle.table_model.specs.declared.event.Event.{Event}
-use Rattle.table_model.specs.declared.event.Event.TheVariants as events
 use Rattle.table_model.specs.declared.line.Answer.{Answer}
 use Rattle.step_tables.specs.Facts as facts
 use Rattle.step_tables.specs.Messages.{Luck}
 use Rattle.step_tables.specs.StoreMoves.{StoreDisk, TableStore}
 use Rattle.device_laws.specs.Stands.{HasRows}
-use Rattle.world_tables.specs.Passed.{after_tasks, items_behind, taken_by, taken_from, taken_part, first_part}
+use Rattle.world_tables.specs.Passed.{after_tasks, items_behind, first_part}
 use Rattle.world_tables.specs.Turns.{world_from}
 use Rattle.world_tables.specs.World.{Lucks, Packet, Hosted, Moved, WorldStep, schema_at, hosted_at, tasks_in, start, step, owner, tables_of, tables_start, store_starts}
 use Rattle.world_tables.specs.World as moves

@@ -9,9 +9,7 @@ use Rattle.std.specs.List.Sorted.{IsStrictlySortedBy}
 use Rattle.std.proofs.lemmas.List.Elements.{filter-append}
 use Rattle.disk_trait.specs.Calls.{DiskState}
 use Rattle.stab_base.specs.declared.node.Node.{Node}
-use Rattle.row_value.specs.declared.schema.Schema.{Schema}
 use Rattle.row_value.specs.declared.schema.Scheme.{Scheme}
-use Rattle.row_value.specs.Fit.{fit_of}
 use Rattle.table_model.specs.declared.entry.Entry.{Entry}
 use Rattle.table_model.specs.declared.line.Answer.{Answer}
 use Rattle.step_tables.specs.declared.message.Message.{Message}
@@ -24,14 +22,13 @@ use Rattle.step_tables.specs.Store.{Stored, current_of}
 use Rattle.step_tables.specs.Chunks.{is_spelled}
 use Rattle.step_tables.specs.StoreMoves.{StoreDisk, StoreTask, Take, taken, asked, decided, judged, takes, keeps_there, version_of, version_at, yours_in}
 use Rattle.step_tables.specs.StoreMoves as store
-use Rattle.step_tables.specs.Travels.{message_of}
 use Rattle.step_tables.proofs.Lists.{lookup-insert}
 use Rattle.store_node.specs.Calls.{IsAtWork}
 use Rattle.store_node.specs.Reading.{shown_of}
 use Rattle.store_node.specs.declared.showing.ShownRow.{ShownRow}
 use Rattle.store_host.specs.declared.host.StoreHost.{StoreHost}
 use Rattle.store_host.specs.Holds.{HoldsStore, HostedThere, outs_of, outs_in, says_something, said_by}
-use Rattle.store_host.specs.Calls.{IsMoved, FitsIn, IsBusyWith, IsSpentIn}
+use Rattle.store_host.specs.Calls.{IsMoved, IsBusyWith, IsSpentIn}
 use Rattle.store_host.proofs.Maps.{keys_kept, at_same}
 use Rattle.world_tables.specs.World.{World, Moved, Outbox, Packet, Hosted, owner, hosted_at, schema_at, scheme_in, chunk_in, still, and_then, failing, is_fault, table_step}
 use Rattle.world_tables.specs.World.{move_table, move_hosted, store_falls, store_follows, has_node, the_store}

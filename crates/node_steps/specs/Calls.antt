@@ -8,7 +8,6 @@ use Rattle.step_tables.specs.Lines.{line_of}
 use Rattle.step_tables.specs.Messages.{Luck}
 use Rattle.step_tables.specs.ClientMoves.{Shape}
 use Rattle.world_tables.specs.World.{WorldStep, Lucks, no_lucks, hosted_at, client_at}
-use Rattle.store_host.specs.Holds.{outs_of}
 use Rattle.journal_host.specs.declared.out.ClientOut.{ClientOut}
 use Rattle.journal_host.specs.Holds.{HoldsClients}
 use Rattle.journal_host.specs.Holds as clients

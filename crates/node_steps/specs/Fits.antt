@@ -1,5 +1,4 @@
 -- Which messages a node may be given.
-use Rattle.std.specs.Prelude.{ℕ}
 use Rattle.stab_base.specs.declared.node.Node.{Node}
 use Rattle.stab_base.specs.declared.node.Node.TheVariants as nodes
 use Rattle.step_tables.specs.declared.message.Message.{Message}

@@ -1,4 +1,4 @@
-use Rattle.std.proofs.Common.{◌≡◌, Bool, Option, suc}
+use Rattle.std.proofs.Common.{◌≡◌, Bool, suc}
 use Rattle.world_tables.specs.World.{client_at}
 use Rattle.journal_host.specs.Calls.{has_table}
 use Rattle.node_steps.proofs.Clients.{plans_told}

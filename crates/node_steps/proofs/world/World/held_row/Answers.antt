@@ -1,4 +1,4 @@
-use Rattle.std.proofs.Common.{◌≡◌, Bool, Option, suc}
+use Rattle.std.proofs.Common.{◌≡◌, Option, suc}
 use Rattle.client_node.specs.declared.calls.held.RowHeld.{RowHeld}
 use Rattle.world_tables.specs.World.{client_at}
 use Rattle.journal_host.specs.Calls.{held_by}

@@ -1,7 +1,6 @@
 use Rattle.std.proofs.Common.{suc}
 use Rattle.step_tables.specs.ClientMoves.{Next}
-use Rattle.table_model.specs.declared.event.Event.TheVariants as events
-use Rattle.world_tables.specs.World.{call, step}
+use Rattle.world_tables.specs.World.{call}
 use Rattle.node_steps.specs.Calls.{by_lucks}
 use Rattle.node_steps.proofs.Keeping.{call_keeps}
 use Rattle.node_steps.proofs.Clients.{client_comes, client_counts, limit_spent, left_spent, plans_told}

@@ -9,7 +9,6 @@ use Rattle.node_steps.proofs.Counted.{told_counted}
 use Rattle.node_steps.proofs.Clients.{still_store}
 use Rattle.node_steps.proofs.Done.{told_moves}
 use Rattle.node_steps.proofs.Rows.{told_tables}
-use Rattle.node_steps.proofs.Taken.{full_limit}
 use Rattle.node_steps.proofs.world.World.take.Goals as goal
 
 pub take-requires-clause-held : goal.take-requires-clause-held

@@ -19,7 +19,7 @@ use Rattle.plan_log.specs.Spelling.{IsPlan as IsPlanNumber, HasCommit, commit_pa
 use Rattle.plan_log.specs.Journal.{AtWork, Idle, Intended, Committed}
 use Rattle.client_journal.specs.declared.plan.Plan.{Plan}
 use Rattle.client_journal.specs.Names.{Has}
-use Rattle.client_journal.specs.Devs.{ClientDevs, local_in, Write, PutIntend, PutCommit}
+use Rattle.client_journal.specs.Devs.{ClientDevs, local_in, Write, PutIntend, PutChunk, PutCommit}
 use Rattle.client_journal.specs.NamedSlots.{AreDifferent, names_before, names_behind}
 
 -- ---- under its number
@@ -136,12 +136,13 @@ pub record IsPlan (d : ClientDevs) (plan : Plan) : Type 0 where
 
 abbrev pub plan_of : AtWork → ℕ
 plan_of Idle = 0
-plan_of (Intended intend) = intend.plan
+plan_of (Intended intend) = 0
 plan_of (Committed commit) = commit.plan
 
--- the plan that a write begins
+-- the plan that a write begins, brings a chunk of, or commits
 abbrev pub plan_begun : Write → Option ℕ
 plan_begun (PutIntend intend) = Some intend.plan
+plan_begun (PutChunk name bytes) = Some name.plan
 plan_begun (PutCommit commit) = Some commit.plan
 plan_begun _ = None
 
@@ -149,6 +150,6 @@ abbrev pub begun_first : List Write → Option ℕ
 begun_first [] = None
 begun_first (w ∷ ws) = plan_begun w
 
--- that of the next write, or else the one at work, or else 0
+-- that of the next write, or else the committed one, or else 0: a start that drops a plan's chunks has none to end
 abbrev pub plan_at_work : ClientDevs → List Write → ℕ
 plan_at_work d ws = unwrap_or (begun_first ws) (plan_of d.journal.at_work)

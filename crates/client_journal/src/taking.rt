@@ -45,7 +45,7 @@ fn id_or(row: &Option<RowChange>) -> RowId
 }
 
 impl<D: Disk + Drop> Journal<D> {
-    // The plan that the next write begins.
+    // The plan that the next write begins, brings a chunk of, or commits.
     fn next_begun(&self) -> Option<u64>
         ensures { result ≡ begun_first (writes_of self.now) }
     {
@@ -55,7 +55,8 @@ impl<D: Disk + Drop> Journal<D> {
         }
     }
 
-    /// The plan that the next write begins or that is at work, else 0.
+    /// The plan that the next write begins, brings a chunk of, or commits; else the committed one that is at work; else 0,
+    /// as where a start drops the chunks of a plan that wasn't committed.
     pub fn plan_at_work(&self) -> u64
         requires up { IsUp (journals.vault_of self.now.journal) }
         requires looked { journals.IsLookedAt D.state self.now.journal }
@@ -63,9 +64,6 @@ impl<D: Disk + Drop> Journal<D> {
     {
         if let Some(plan) = self.next_begun() {
             return plan;
-        }
-        if let Some(intend) = self.journal.intended() {
-            return intend.plan;
         }
         self.journal.committed_plan().unwrap_or(0)
     }

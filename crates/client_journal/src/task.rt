@@ -41,12 +41,13 @@ impl Task {
         }
     }
 
-    /// The plan that the write begins.
+    /// The plan that the write begins, brings a chunk of, or commits.
     pub(crate) fn begins(&self) -> Option<u64>
         ensures { result ≡ plan_begun (write_of self.now) }
     {
         match self {
             Task::PutIntend(intend) => Some(intend.plan),
+            Task::PutChunk(name, _) => Some(name.plan),
             Task::PutCommit(commit) => Some(commit.plan),
             _ => None,
         }

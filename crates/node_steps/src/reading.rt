@@ -1,8 +1,8 @@
 //! Reads of the nodes: what a table has of a row, what a client has of it, which of them take messages now.
-ghost use Rattle.std.specs.Prelude.{◌≡◌, ℕ, suc, true, option_copied, IfOk, IfErr};
+ghost use Rattle.std.specs.Prelude.{◌≡◌, ℕ, suc, true, option_copied, option_map, IfOk, IfErr};
 ghost use Rattle.step_tables.specs.Facts as facts;
 ghost use Rattle.world_tables.specs.World.{World as AWorld, hosted_at, client_at, schema_at, store_falls, client_falls};
-ghost use Rattle.world_tables.specs.World.{owner};
+ghost use Rattle.world_tables.specs.World.{owner, Hosted as AHosted};
 ghost use Rattle.world_tables.specs.Ready.{is_table_ready, is_client_ready, is_idle_table};
 ghost use Rattle.store_host.specs.Holds.{AreLeft};
 ghost use Rattle.journal_host.specs.Calls.{held_by, has_table};
@@ -20,7 +20,7 @@ use client_node::{CallFault, RowHeld};
 use disk_trait::Disk;
 use row_value::{ClientNo, RowId, Schema, TableNo};
 use store_node::{NodeFault, WholeRow};
-use table_model::{Answer, Refusal};
+use table_model::{Answer, History, Refusal};
 
 impl<D: Disk + Drop> World<D> {
     /// Whether a table takes a message now: it is there and up, and has no writes to do.
@@ -55,6 +55,14 @@ impl<D: Disk + Drop> World<D> {
         ensures { (w : AWorld) → Holds D.state w self.now → option_copied result ≡ schema_at w table }
     {
         self.schemas.get(&table)
+    }
+
+    /// What a declared table has told, in order.
+    pub fn entries(&self, table: TableNo) -> Option<&History>
+        ensures { (w : AWorld) → Holds D.state w self.now
+            → option_copied result ≡ option_map (λ (hosted : AHosted). hosted.history) (hosted_at w table) }
+    {
+        self.store.history(table)
     }
 
     /// What a table has of a row, with the names of its chunks and each client's last write.

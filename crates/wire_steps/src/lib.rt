@@ -9,6 +9,7 @@ mod kinds;
 mod memory;
 mod parts;
 mod pull;
+mod reading;
 mod sending;
 mod start;
 mod views;

@@ -1,0 +1,7 @@
+use Rattle.std.proofs.Common.{take}
+use Rattle.std.specs.List.{AllByRecursion}
+use Rattle.transcript_text.specs.OneForm.{AreBytes}
+use Rattle.line_widths.proofs.values.know_objects.Given as goal
+
+abbrev pub invariant-loop-object : goal.invariant-loop-object
+invariant-loop-object l = AllByRecursion AreBytes (take l.object-index l.objects)

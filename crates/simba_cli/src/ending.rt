@@ -1,9 +1,5 @@
 //! What ended a run, in words for the person at the terminal.
 
-/// How the program is called.
-pub(crate) const USAGE: &str =
-    "usage: simba run < SCRIPT   (the words are the one word `run`; docs/GUIDE.md has the lines of a script)";
-
 /// The number of the line at which the run stopped, and its code or limit, as `stop STATUS LINE NUMBER` tells them.
 #[derive(Drop)]
 pub(crate) struct StopWords<'a> {
@@ -58,9 +54,8 @@ pub(crate) fn limit_text(limit: &str) -> &'static str {
 /// What ended a run whose status says all.
 pub(crate) fn status_text(status: u8) -> &'static str {
     match status {
-        2 => USAGE,
         4 => "the script can't be read to its end: standard input failed",
-        5 => "the transcript can't be written: standard output failed",
+        5 => "the output can't be written: standard output failed",
         6 => "there is no more memory",
         8 => "a disk can't be had: the depot failed",
         _ => "the run ended early",

@@ -1,9 +1,10 @@
-//! The program `simba`: a script on standard input, its transcript on standard output.
+//! The program `simba`: a script on standard input, its transcript or its report on standard output.
 #![tactic(auto)]
 
 mod ending;
 mod noted;
 
+use command_words::{USAGE, command_of};
 use disk_kit::MemDepot;
 use ending::{StopWords, code_text, limit_text, status_text, stop_words};
 use noted::Noted;
@@ -31,6 +32,14 @@ fn tell(rt: &HostRuntime, status: u8, last: &[u8]) -> io::Result<()> {
     }
 }
 
+// Tells how the program is called, and what is wrong with these words.
+fn tell_usage(rt: &HostRuntime, words: &[String]) -> io::Result<()> {
+    match command_of(rt.alloc(), words) {
+        Ok(_command) => { eprintln!(rt; "simba: this command isn't built yet") }
+        Err(fault) => { eprint!(rt; "simba: {fault}") }
+    }
+}
+
 // The words behind the program's name. One that isn't UTF-8 is no word of the program.
 fn words(rt: &HostRuntime) -> Result<Vec<String>, u8> {
     let args = match env::args(rt) {
@@ -50,6 +59,10 @@ fn words(rt: &HostRuntime) -> Result<Vec<String>, u8> {
 fn run(rt: &HostRuntime) -> u8 {
     let words = match words(rt) {
         Ok(words) => words,
+        Err(2) => {
+            let _ = eprint!(rt; "simba: a word isn't UTF-8\n\n{USAGE}");
+            return 2;
+        }
         Err(status) => {
             let _ = tell(rt, status, &[]);
             return status;
@@ -59,7 +72,11 @@ fn run(rt: &HostRuntime) -> u8 {
     let mut sink = Noted::new(WriterSink::new(rt.stdout()));
     let mut depot = MemDepot::new(rt.alloc(), Vec::new(rt.alloc()));
     let status = run_simba(rt.alloc(), &words, &mut source, &mut sink, &mut depot);
-    let _ = tell(rt, status, sink.last());
+    let _ = if status == 2 {
+        tell_usage(rt, &words)
+    } else {
+        tell(rt, status, sink.last())
+    };
     status
 }
 

@@ -10,4 +10,6 @@ pub mod Underway
 pub mod Counts
 pub mod Turns
 pub mod Endings
+pub mod Reports
+pub mod Reporting
 pub mod Statuses

@@ -2,6 +2,7 @@
 use Rattle.std.proofs.Common.{◌≡◌, ℕ, ◌+◌, ◌<◌, Bool, true, false, Option, Some, None, arith, List, [], ◌∷◌, ◌++◌, map, refl, sym, ap, subst, ◌∙◌, append-nil, append_assoc}
 use Rattle.std.proofs.lemmas.List.{map-append}
 use Rattle.std.specs.Prelude.{IfSome}
+use Rattle.std.specs.List.{AllByRecursion}
 use Rattle.disk_trait.specs.Calls.{DiskState}
 use Rattle.table_model.specs.declared.entry.Entry.{Entry}
 use Rattle.table_model.specs.declared.event.Event.{Event}
@@ -29,9 +30,18 @@ use Rattle.wire_steps.specs.declared.world.World.{World}
 use Rattle.wire_steps.specs.Holds.{Holds}
 use Rattle.wire_steps.specs.Reached.{IsReached}
 use Rattle.wire_steps.specs.Steps.{IsMoved, IsStep, IsOver, IsUndone, all_faults}
+use Rattle.line_widths.specs.Widths.{HasWidths}
+use Rattle.line_widths.proofs.Texts.{have_texts}
+use Rattle.form_laws.proofs.Runs.{told_forms}
 use Rattle.simba_top.specs.Ends.{AreToldPhases, IsRun}
 use Rattle.simba_top.specs.Faults.{Matches, Led, IsOnDisks, GoesOver}
 use Rattle.simba_top.specs.Stands.{Leads}
+
+-- ---- widths of lines
+
+all-append : (told lines : List TextLine) → AllByRecursion HasWidths told → AllByRecursion HasWidths lines → AllByRecursion HasWidths (told ++ lines)
+all-append [] lines all more = more
+all-append (line ∷ told) lines all more = (all.0, all-append told lines all.1 more)
 
 -- ---- one event more
 
@@ -73,7 +83,7 @@ one_more faults old new true m rose same = let a = m.few in let r = rose refl in
 one_more faults old new false m rose same =
     let a = m.few in let s = same refl in record { few = omega (arith, a, s); one = λ up. let c = m.one (omega (arith, up, s)) in omega (arith, c) }
 
-told_phases : (run : List Happening) → AreBuilt run → AreToldPhases run
+pub told_phases : (run : List Happening) → AreBuilt run → AreToldPhases run
 told_phases run built front more is client table =
     let b : AreBuilt front = built_front front more (subst AreBuilt is built) in (run_phases front client table b, run_up front client table b)
 
@@ -82,12 +92,13 @@ built-push [] h all here = (here, tt)
 built-push (first ∷ run) h all here = (all.0, built-push run h all.1 here)
 
 -- what holds of every run of a script, and P of this one
-run_with : (P : List Happening → Type 0) (script : List Event) (told : List TextLine) (run : List Happening) → map (λ (h : Happening). h.event) run ≡ script
-    → map line_of told ≡ transcript_of (wire_turns run) → AreBuilt run → P run → IsRun P script told
-run_with P script told run events lines built kept = record {
+abbrev pub run_with : (P : List Happening → Type 0) (script : List Event) (told : List TextLine) (run : List Happening) → map (λ (h : Happening). h.event) run ≡ script
+    → map line_of told ≡ transcript_of (wire_turns run) → AllByRecursion HasWidths told → AreBuilt run → P run → IsRun P script told
+run_with P script told run events lines widths built kept = record {
   run = run;
   events = events;
   lines_are = lines;
+  texts = have_texts told widths (told_forms run told built lines);
   sound = run_sound run built;
   listed = run_listed run built;
   asked = run_asked run built;
@@ -97,9 +108,9 @@ run_with P script told run events lines built kept = record {
 
 module _ {D : Type 0} (state : D → DiskState) (script : List Event) (told : List TextLine) (world : World D) (is_out : ℕ → Bool)
     (leads : Leads state script told world is_out) where
-  pub is_run : IsRun (Led state world) script told
+  abbrev pub is_run : IsRun (Led state world) script told
   is_run =
-      run_with (Led state world) script told leads.run leads.events leads.lines_are leads.built
+      run_with (Led state world) script told leads.run leads.events leads.lines_are leads.widths leads.built
       (record { built = leads.built; held = leads.held.nodes; counted = leads.counted })
 
   pub reached : IsReached (wire_from start leads.run)
@@ -123,9 +134,9 @@ module _ {D : Type 0} (state : D → DiskState) (script : List Event) (told : Li
       counted = counted_on;
     }
 
-  pub leads_on : (images : D → ℕ → List ℕ → Type 0) (event : Event) (lines : List TextLine) (new : World D) (out : ℕ → Bool) → IsBuilt event
+  pub leads_on : (images : D → ℕ → List ℕ → Type 0) (event : Event) (lines : List TextLine) (new : World D) (out : ℕ → Bool) → IsBuilt event → AllByRecursion HasWidths lines
       → IsStep state images (wire_from start leads.run) event lines out world new → Leads state (script ++ event ∷ []) (told ++ lines) new out
-  leads_on images event lines new out built s =
+  leads_on images event lines new out built widths s =
       let h : Happening = record { event = event; lucks = s.lucks } in
       let behind : wire_from start (leads.run ++ h ∷ []) ≡ (wire_step (wire_from start leads.run) event s.lucks).wire = wire_from-push h start leads.run in
       record {
@@ -139,19 +150,20 @@ module _ {D : Type 0} (state : D → DiskState) (script : List Event) (told : Li
         held = subst (λ (v : Wire). Holds state v new) (sym behind) s.held;
         out = subst (λ (w : moves.World). AreOut out w) (sym (world-push h start leads.run)) s.moved.out;
         counted = counted_on images event s.lucks new out built s.moved;
+        widths = all-append told lines leads.widths widths;
       }
 
   -- an event that isn't carried out leaves all as it was
   pub run_still : (new : World D) (out : ℕ → Bool) → IsUndone state (wire_from start leads.run) out world new → IsRun (Led state new) script told
   run_still new out u =
-      run_with (Led state new) script told leads.run leads.events leads.lines_are leads.built
+      run_with (Led state new) script told leads.run leads.events leads.lines_are leads.widths leads.built
       (record { built = leads.built; held = u.held.nodes; counted = subst (λ (n : ℕ). Matches (wire_faults start leads.run) n) (sym u.same) leads.counted })
 
   -- an event sends too much, and the nodes are behind it
   pub run_over : (images : D → ℕ → List ℕ → Type 0) (event : Event) (new : World D) (out : ℕ → Bool) → IsBuilt event
       → IsOver state images (wire_from start leads.run) event out world new → IsRun (GoesOver (Led state new) event) script told
   run_over images event new out built o =
-      run_with (GoesOver (Led state new) event) script told leads.run leads.events leads.lines_are leads.built
+      run_with (GoesOver (Led state new) event) script told leads.run leads.events leads.lines_are leads.widths leads.built
       (record { lucks = o.lucks; over = o.over; kept = led_on images event o.lucks new out built o.moved })
 
 pub nothing_undone : {D : Type 0} (state : D → DiskState) (v : Wire) (is_out : ℕ → Bool) (world : World D) → Holds state v world → AreOut is_out v.world → IsUndone state v is_out world world

@@ -1,9 +1,9 @@
 -- A run goes on by one line.
 use Rattle.std.proofs.Common.{◌≡◌, ◌⊎◌, ⊎_elim, inl, inr, ℕ, ◌+◌, ◌-◌, ◌<◌, ◌≤◌, lit≤, Bool, true, false, cond, List, [], ◌∷◌, ◌++◌, length, map, Option, Some, None, refl, sym, ap, subst, ◌∙◌, append-nil}
 use Rattle.std.proofs.Common.{length-append, arith}
-use Rattle.std.specs.Prelude.{◌==◌, IfSome, IfNone, IfErr, IsSomeAnd, MatchOption, Result, Ok, Err, if◌then◌else◌}
+use Rattle.std.specs.Prelude.{◌==◌, ◌^◌, min, IfSome, IfNone, IfErr, IsSomeAnd, MatchOption, Result, Ok, Err, if◌then◌else◌}
 use Rattle.std.specs.Global.{Vec}
-use Rattle.std.specs.List.{flat_map}
+use Rattle.std.specs.List.{flat_map, AllByRecursion}
 use Rattle.std.specs.Io.KnownBytes.{Keeps}
 use Rattle.std.proofs.lemmas.Bool.{eqb-true}
 use Rattle.std.proofs.lemmas.Grind.{flat_map-append}
@@ -40,6 +40,8 @@ use Rattle.simba_top.specs.Script.{next_in, IsFront, IsWhole}
 use Rattle.script_text.specs.declared.fault.ScriptFault.{ScriptFault}
 use Rattle.script_text.specs.declared.fault.ScriptFault.TheVariants as script_faults
 use Rattle.simba_top.specs.Stops.{of_line, of_script, of_world}
+use Rattle.line_widths.specs.Widths.{HasWidths}
+use Rattle.simba_top.specs.Outputs.{lines_counted}
 use Rattle.simba_top.specs.Ends.{IsFull, IsLimitAt, IsCutOff, IsNext}
 use Rattle.simba_top.specs.Stands.{IsReady, plans_from, IsUnderway, Leads, Stands, HasLine, GoesOn, IsCause}
 use Rattle.wire_steps.specs.declared.world.World.{World}
@@ -74,19 +76,21 @@ leads_new state world is_out held none =
       held = held;
       out = record { tables = λ table k some most few. none _; clients = λ c k some few. none _ };
       counted = counted_new state world is_out held none;
+      widths = tt;
     }
 
 pub stands_new : {D : Type 0} (state : D → DiskState) (input : List ℕ) (run : Run D) (is_out : ℕ → Bool)
     → run.reader ≡ record { used = 0; held = []; stopped = None; limits = record { line = LINE_LIMIT; input = INPUT_LIMIT } }
-    → run.names ≡ no_names → run.count ≡ 0 → HasRows [] run.rows → Holds state start run.world → ((k : ℕ) → is_out k ≡ false)
+    → run.names ≡ no_names → run.count ≡ 0 → run.told ≡ 0 → HasRows [] run.rows → Holds state start run.world → ((k : ℕ) → is_out k ≡ false)
     → Stands state input [] [] run is_out (Some input)
-stands_new state input run is_out reader names count rows world none = record {
+stands_new state input run is_out reader names count told rows world none = record {
   rest = input;
   front = rw (names, count) (front_start input);
   here = ap (λ (r : Reading). ahead r (Some input)) reader;
   used = let e = ap (λ (r : Reading). r.used) reader in omega (arith, e);
   world = leads_new state run.world is_out world none;
   rows = rows;
+  told_is = told;
 }
 
 -- what comes next in the input, as the reader sees it
@@ -137,6 +141,7 @@ module _ {D : Type 0} (state : D → DiskState) (input : List ℕ) (script : Lis
           used = counted ∙ stands.used;
           world = stands.world;
           rows = stands.rows;
+          told_is = stands.told_is;
         }
 
     pub next_found : (found : Option (Vec ℕ)) → IfSome found (λ line. IsNextLine run.reader left line.items after left')
@@ -245,6 +250,10 @@ step_texts told lines texts text =
     ∙ ap (λ (bytes : List ℕ). transcript_text told ++ bytes)
     (sym (ap (λ (ts : List (List ℕ)). flat_map (λ (text : List ℕ). text) ts) text ∙ flat_map-map (λ (text : List ℕ). text) whole lines))
 
+-- the count of the lines that were told goes on, up to its type's end
+more_told : (told lines : List TextLine) (old new : ℕ) → old ≡ lines_counted told → new ≡ min (old + length lines) (2 ^ 64 - 1) → new ≡ lines_counted (told ++ lines)
+more_told told lines old new is next = let longer = length-append told lines in omega (arith, is, next, longer)
+
 -- ---- why an event isn't carried out
 
 -- so does the fault of an event that isn't carried out, of a run that has begun so many plans
@@ -328,17 +337,18 @@ module _ {D : Type 0} (state : D → DiskState) (input : List ℕ) (script : Lis
       used = has.used;
       world = has.world;
       rows = has.rows;
+      told_is = has.told_is;
     },
     sym (append-nil (transcript_text told)),
   )
 
-  pub carries_out : (images : D → ℕ → List ℕ → Type 0) (event : Event) (names : Names) (rows : RowNames) (world : World D) (out : ℕ → Bool) (lines : List TextLine) (texts : List (List ℕ))
+  pub carries_out : (images : D → ℕ → List ℕ → Type 0) (event : Event) (names : Names) (rows : RowNames) (world : World D) (out : ℕ → Bool) (lines : List TextLine) (texts : List (List ℕ)) (count : ℕ)
       → Spells run.names line event → names ≡ with_event run.names event
       → HasRows (script ++ event ∷ []) rows → FewRows (script ++ event ∷ [])
       → IsBuilt event → IsStep state images (wire_from start has.world.run) event lines out run.world world
-      → texts ≡ map (λ (line : TextLine). text_of line ++ 10 ∷ []) lines
-      → GoesOn state input told (record run { names = names; rows = rows; world = world; count = run.count + 1 }) out left texts
-  carries_out images event names rows world out lines texts spells named has_rows few_rows built step text = (
+      → texts ≡ map (λ (line : TextLine). text_of line ++ 10 ∷ []) lines → AllByRecursion HasWidths lines → count ≡ min (run.told + length lines) (2 ^ 64 - 1)
+      → GoesOn state input told (record run { names = names; rows = rows; world = world; told = count; count = run.count + 1 }) out left texts
+  carries_out images event names rows world out lines texts count spells named has_rows few_rows built step text widths counted = (
     script ++ event ∷ [],
     told ++ lines,
     record {
@@ -346,8 +356,9 @@ module _ {D : Type 0} (state : D → DiskState) (input : List ℕ) (script : Lis
       front = rw named (front_event input script run.count run.names has.before line has.rest has.front has.next few event spells few_rows);
       here = has.here;
       used = has.used;
-      world = leads_on state script told run.world is_out has.world images event lines world out built step;
+      world = leads_on state script told run.world is_out has.world images event lines world out built widths step;
       rows = has_rows;
+      told_is = more_told told lines run.told count has.told_is counted;
     },
     step_texts told lines texts text,
   )

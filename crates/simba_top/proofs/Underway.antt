@@ -78,11 +78,11 @@ module _ {D : Type 0} (state : D → DiskState) (is_out : ℕ → Bool) (run : R
   }
 
   -- an event was carried out
-  pub carried_on : (images : D → ℕ → List ℕ → Type 0) (event : Event) (names : Names) (rows : RowNames) (world : World D) (out : ℕ → Bool) (lines : List TextLine) → IsBuilt event
+  pub carried_on : (images : D → ℕ → List ℕ → Type 0) (event : Event) (names : Names) (rows : RowNames) (world : World D) (out : ℕ → Bool) (lines : List TextLine) (told : ℕ) → IsBuilt event
       → IsStep state images (wire_from start here.happenings) event lines out run.world world
       → HavePlansBelow state (may_begin (wire_from start here.happenings).world event + plans_from start here.happenings) world
-      → IsUnderway state out (record run { names = names; rows = rows; world = world; count = run.count + 1 })
-  carried_on images event names rows world out lines built s plans =
+      → IsUnderway state out (record run { names = names; rows = rows; world = world; told = told; count = run.count + 1 })
+  carried_on images event names rows world out lines told built s plans =
       let h : Happening = record { event = event; lucks = s.lucks } in
       record {
         happenings = here.happenings ++ h ∷ [];

@@ -1,7 +1,8 @@
 -- How a run over an input ends, and what it has written then.
-use Rattle.std.specs.Prelude.{◌≡◌, ◌⊎◌, ℕ, ◌+◌, ◌-◌, ◌<◌, ◌≤◌, true, false, List, [], ◌∷◌, ◌++◌, length, map, codes}
+use Rattle.std.specs.Prelude.{◌≡◌, ◌⊎◌, ℕ, ◌+◌, ◌-◌, ◌<◌, ◌≤◌, true, false, List, [], ◌∷◌, ◌++◌, length, map}
 use Rattle.std.specs.Prelude.{Option}
 use Rattle.std.specs.Io.KnownBytes.{Appends}
+use Rattle.std.specs.List.{AllByRecursion}
 use Rattle.table_model.specs.declared.event.Event.{Event}
 use Rattle.table_model.specs.declared.line.TextLine.{TextLine}
 use Rattle.step_tables.specs.Lines.{line_of}
@@ -18,11 +19,14 @@ use Rattle.stab_io.specs.Lines.{Line, LineTooLong, InputTooLong, HasNoNewline}
 use Rattle.script_text.specs.declared.fault.BadLine.{BadLine}
 use Rattle.script_text.specs.Names.{Names}
 use Rattle.script_text.specs.Grammar.{Spells, IsFault, PassesLimit}
-use Rattle.transcript_text.specs.Text.{stop_text, transcript_text}
+use Rattle.transcript_text.specs.OneForm.{HasText}
+use Rattle.transcript_text.specs.Text.{stop_text}
 use Rattle.simba_top.specs.declared.run.TheConstants.{MOST_LINES}
+use Rattle.simba_top.specs.declared.output.Output.{Output}
 use Rattle.simba_top.specs.Faults.{GoesOver}
+use Rattle.simba_top.specs.Outputs.{text_so_far, text_at_end}
 use Rattle.simba_top.specs.RowNames.{NamesTooMany, FewRows}
-use Rattle.simba_top.specs.Script.{next_in, IsFront}
+use Rattle.simba_top.specs.Script.{next_in, IsFront, IsWhole}
 
 -- ---- what is written
 
@@ -35,32 +39,39 @@ AreToldPhases run = (front more : List Happening) → run ≡ front ++ more → 
     → is_away (client_at (wire_from start front).world client) ≡ false)
 
 -- A run of a script that has P, whose packets are parts of messages: its events, each with the lucks of its device
--- calls, and what the lines of it are. They are sound, where chunks are listed at a quiet Store they are those that its
--- rows name, a row is told as resolved only where its client was asked to, and the phases in which clients resolve are
--- those that the lines tell
+-- calls, and what the lines of it are. Each of these has the text of one line alone. They are sound, where chunks are
+-- listed at a quiet Store they are those that its rows name, a row is told as resolved only where its client was asked
+-- to, and the phases in which clients resolve are those that the lines tell
 pub record IsRun (P : List Happening → Type 0) (script : List Event) (lines : List TextLine) : Type 0 where
   pub run : List Happening
   pub events : map (λ (h : Happening). h.event) run ≡ script
   pub lines_are : map line_of lines ≡ transcript_of (wire_turns run)
+  pub texts : AllByRecursion HasText lines
   pub sound : IsSound (wire_turns run)
   pub listed : AreListed (wire_turns run)
   pub asked : AreAsked (wire_turns run)
   pub phases : AreToldPhases run
   pub kept : P run
 
--- where the sink tells its bytes: the transcript of a run of this script was added to them
-abbrev pub Tells : (List Happening → Type 0) → List Event → Option (List ℕ) → Option (List ℕ) → Type 0
-Tells P script before after =
-    (lines : List TextLine) × IsRun P script lines × Appends before after (transcript_text lines)
+-- where the sink tells its bytes: what is written of a run of this script that goes on was added to them
+abbrev pub Tells : Output → (List Happening → Type 0) → List Event → Option (List ℕ) → Option (List ℕ) → Type 0
+Tells output P script before after =
+    (lines : List TextLine) × IsRun P script lines × Appends before after (text_so_far output lines)
 
--- a transcript, and behind it the line that says why the run stopped
-abbrev pub stopped_text : List TextLine → ℕ → ℕ → ℕ → List ℕ
-stopped_text lines status line code = transcript_text lines ++ (stop_text status line code ++ 10 ∷ [])
+-- the same of a run that came to its end
+abbrev pub TellsAll : Output → (List Happening → Type 0) → List Event → Option (List ℕ) → Option (List ℕ) → Type 0
+TellsAll output P script before after =
+    (lines : List TextLine) × (run : IsRun P script lines) × Appends before after (text_at_end output run.run lines)
+
+-- what is written of a run that goes on, and behind it the line that says why it stopped
+abbrev pub stopped_text : Output → List TextLine → ℕ → ℕ → ℕ → List ℕ
+stopped_text output lines status line code = text_so_far output lines ++ (stop_text status line code ++ 10 ∷ [])
 
 -- the same, with the line that says why the run stopped
-abbrev pub TellsStop : (List Happening → Type 0) → List Event → ℕ → ℕ → ℕ → Option (List ℕ) → Option (List ℕ) → Type 0
-TellsStop P script status line code before after =
-    (lines : List TextLine) × IsRun P script lines × Appends before after (stopped_text lines status line code)
+abbrev pub TellsStop : Output → (List Happening → Type 0) → List Event → ℕ → ℕ → ℕ → Option (List ℕ)
+    → Option (List ℕ) → Type 0
+TellsStop output P script status line code before after = (lines : List TextLine) × IsRun P script lines
+    × Appends before after (stopped_text output lines status line code)
 
 -- ---- how it ends
 
@@ -122,24 +133,24 @@ pub record IsCutOff (input : List ℕ) (script : List Event) (left : List ℕ) :
   pub fits : length input - length left ≤ INPUT_LIMIT
   pub few : (count < MOST_LINES) ⊎ (held ≡ [])
 
--- the transcript of the first lines, and behind it the line that says that the event of the next one sends too much:
+-- what is written of the first lines, and behind it the line that says that the event of the next one sends too much:
 -- limit 10 is of the bytes of all packets. P holds of the run with that event
-abbrev pub TellsOver : (List Happening → Type 0) → List ℕ → Option (List ℕ) → Option (List ℕ) → Type 0
-TellsOver P input before after = (script : List Event) × (count : ℕ) × (event : Event) × IsNext input script count event
-    × TellsStop (GoesOver P event) script 7 (count + 1) 10 before after
+abbrev pub TellsOver : Output → (List Happening → Type 0) → List ℕ → Option (List ℕ) → Option (List ℕ) → Type 0
+TellsOver output P input before after =
+    (script : List Event) × (count : ℕ) × (event : Event) × IsNext input script count event
+    × TellsStop output (GoesOver P event) script 7 (count + 1) 10 before after
 
--- a text that a run over this input may write: the transcript of its first lines, with its stop line where it has one
-abbrev pub IsTextOf : (List Happening → Type 0) → List ℕ → List ℕ → Type 0
-IsTextOf P input text = ((script : List Event) × (lines : List TextLine) × IsRun P script lines × (
+-- a text that a run over this input may write: what is written of its first lines, with its stop line where it has one,
+-- or of all of it
+abbrev pub IsTextOf : Output → (List Happening → Type 0) → List ℕ → List ℕ → Type 0
+IsTextOf output P input text = ((script : List Event) × (lines : List TextLine) × (run : IsRun P script lines) × (
     ((count : ℕ) × (names : Names) × (rest : List ℕ) × IsFront input script count names rest
-    × (text ≡ transcript_text lines))
+    × (text ≡ text_so_far output lines))
     ⊎ (((count : ℕ) × (fault : BadLine) × IsBadAt input script count fault
-    × (text ≡ stopped_text lines 3 (count + 1) fault.code))
-    ⊎ ((count limit : ℕ) × IsLimitAt input script count limit × (text ≡ stopped_text lines 7 (count + 1) limit)))))
+    × (text ≡ stopped_text output lines 3 (count + 1) fault.code))
+    ⊎ (((count limit : ℕ) × IsLimitAt input script count limit
+    × (text ≡ stopped_text output lines 7 (count + 1) limit))
+    ⊎ (IsWhole input script × (text ≡ text_at_end output run.run lines))))))
     ⊎ ((script : List Event) × (lines : List TextLine) × (count : ℕ) × (event : Event)
     × IsNext input script count event × IsRun (GoesOver P event) script lines
-    × (text ≡ stopped_text lines 7 (count + 1) 10))
-
--- the words are the one word `run`
-abbrev pub AreRun : List (List ℕ) → Type 0
-AreRun words = words ≡ codes "run" ∷ []
+    × (text ≡ stopped_text output lines 7 (count + 1) 10))

@@ -1,6 +1,7 @@
 pub mod RowNames
 pub mod Script
 pub mod Faults
+pub mod Outputs
 pub mod Ends
 pub mod Stops
 pub mod Stands

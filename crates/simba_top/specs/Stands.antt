@@ -1,6 +1,6 @@
 -- Where a run stands over an input, and how it ends there.
 use Rattle.std.specs.Prelude.{◌≡◌, ℕ, ◌+◌, ◌<◌, ◌≤◌, Bool, List, [], ◌∷◌, ◌++◌, length, map, Option, Some, None, IfSome}
-use Rattle.std.specs.List.{flat_map}
+use Rattle.std.specs.List.{flat_map, AllByRecursion}
 use Rattle.std.specs.Io.KnownBytes.{Appends}
 use Rattle.disk_trait.specs.Calls.{DiskState}
 use Rattle.table_model.specs.declared.event.Event.{Event}
@@ -17,6 +17,7 @@ use Rattle.stab_io.specs.Reading.{ahead}
 use Rattle.stab_io.specs.declared.limits.TheConstants.{LINE_LIMIT, INPUT_LIMIT}
 use Rattle.script_text.specs.Names.{Names}
 use Rattle.transcript_text.specs.Text.{transcript_text}
+use Rattle.line_widths.specs.Widths.{HasWidths}
 use Rattle.simba_top.specs.declared.run.TheConstants.{MOST_LINES}
 use Rattle.simba_top.specs.declared.stop.Stop.{Stop}
 use Rattle.simba_top.specs.declared.stop.Stop.TheVariants.{Read, Put, Depot, Memory, BadLine, Limit, Sent}
@@ -28,7 +29,9 @@ use Rattle.wire_steps.specs.Steps.{all_faults, HavePlansBelow, may_begin}
 use Rattle.simba_top.specs.Faults.{Matches, AnyRun, GoesOver}
 use Rattle.simba_top.specs.RowNames.{HasRows}
 use Rattle.simba_top.specs.Script.{next_in, IsFront, IsWhole}
-use Rattle.simba_top.specs.Ends.{Tells, TellsStop, TellsOver, IsNext, IsBadAt, IsLimitAt, IsCutOff, IsTextOf}
+use Rattle.simba_top.specs.declared.output.Output.{Output}
+use Rattle.simba_top.specs.Outputs.{lines_counted}
+use Rattle.simba_top.specs.Ends.{Tells, TellsAll, TellsStop, TellsOver, IsNext, IsBadAt, IsLimitAt, IsCutOff, IsTextOf}
 
 -- the reader answers, at the limits of a script, and the lines are no more than a script's
 pub record IsReady {D : Type 0} (run : Run D) : Type 0 where
@@ -61,6 +64,7 @@ pub record Leads {D : Type 0} (state : D → DiskState) (script : List Event) (t
   pub held : Holds state (wire_from start run) world
   pub out : AreOut is_out (wire_from start run).world
   pub counted : Matches (wire_faults start run) (all_faults state world)
+  pub widths : AllByRecursion HasWidths told
 
 -- the lines so far are the first of the input and spell the script, and the bytes ahead are the rest
 pub record Stands {D : Type 0} (state : D → DiskState) (input : List ℕ) (script : List Event) (told : List TextLine)
@@ -71,6 +75,7 @@ pub record Stands {D : Type 0} (state : D → DiskState) (input : List ℕ) (scr
   pub used : run.reader.used + length rest ≡ length input
   pub world : Leads state script told run.world is_out
   pub rows : HasRows script run.rows
+  pub told_is : run.told ≡ lines_counted told
 
 -- the same, where a line has been read that isn't carried out
 pub record HasLine {D : Type 0} (state : D → DiskState) (input : List ℕ) (script : List Event) (told : List TextLine)
@@ -83,6 +88,7 @@ pub record HasLine {D : Type 0} (state : D → DiskState) (input : List ℕ) (sc
   pub used : run.reader.used + length rest ≡ length input
   pub world : Leads state script told run.world is_out
   pub rows : HasRows script run.rows
+  pub told_is : run.told ≡ lines_counted told
 
 -- the run goes on to a longer script, whose transcript goes on by these texts
 abbrev pub GoesOn : {D : Type 0} → (D → DiskState) → List ℕ → List TextLine → Run D → (ℕ → Bool) → Option (List ℕ)
@@ -101,31 +107,31 @@ IsCause (BadLine fault) input script count left = IsBadAt input script count fau
 IsCause (Limit limit) input script count left = IsLimitAt input script count limit
 IsCause Sent input script count left = (event : Event) × IsNext input script count event
 
--- and what it has written then: the transcript of a run that has P, where memory wasn't refused; `before` and `after`
--- are the bytes of the sink
-abbrev pub EndedBy : (List Happening → Type 0) → Stop → List ℕ → ℕ → Option (List ℕ) → Option (List ℕ)
+-- and what it has written then of a run that has P, where memory wasn't refused; `before` and `after` are the bytes of the
+-- sink
+abbrev pub EndedBy : Output → (List Happening → Type 0) → Stop → List ℕ → ℕ → Option (List ℕ) → Option (List ℕ)
     → Option (List ℕ) → Type 0
-EndedBy P Put input count left before after =
-    (text : List ℕ) × IsTextOf P input text × AppendsFront before after text
-EndedBy P Memory input count left before after =
-    (script : List Event) × IsCause Memory input script count left × Tells AnyRun script before after
-EndedBy P Sent input count left before after = (script : List Event) × (event : Event)
-    × IsNext input script count event × Tells (GoesOver P event) script before after
-EndedBy P stop input count left before after =
-    (script : List Event) × IsCause stop input script count left × Tells P script before after
+EndedBy output P Put input count left before after =
+    (text : List ℕ) × IsTextOf output P input text × AppendsFront before after text
+EndedBy output P Memory input count left before after =
+    (script : List Event) × IsCause Memory input script count left × Tells output AnyRun script before after
+EndedBy output P Sent input count left before after = (script : List Event) × (event : Event)
+    × IsNext input script count event × Tells output (GoesOver P event) script before after
+EndedBy output P stop input count left before after =
+    (script : List Event) × IsCause stop input script count left × Tells output P script before after
 
 -- the same at the end, where the line that says why the run stopped is written too
-abbrev pub Stopped : (List Happening → Type 0) → Stop → List ℕ → Option (List ℕ) → Option (List ℕ)
+abbrev pub Stopped : Output → (List Happening → Type 0) → Stop → List ℕ → Option (List ℕ) → Option (List ℕ)
     → Option (List ℕ) → Type 0
-Stopped P Read input left before after = EndedBy P Read input 0 left before after
-Stopped P Put input left before after = EndedBy P Put input 0 left before after
-Stopped P Depot input left before after = (count : ℕ) × EndedBy P Depot input count left before after
-Stopped P Memory input left before after = (count : ℕ) × EndedBy P Memory input count left before after
-Stopped P (BadLine fault) input left before after = (script : List Event) × (count : ℕ)
-    × IsBadAt input script count fault × TellsStop P script 3 (count + 1) fault.code before after
-Stopped P (Limit limit) input left before after = (script : List Event) × (count : ℕ)
-    × IsLimitAt input script count limit × TellsStop P script 7 (count + 1) limit before after
-Stopped P Sent input left before after = TellsOver P input before after
+Stopped output P Read input left before after = EndedBy output P Read input 0 left before after
+Stopped output P Put input left before after = EndedBy output P Put input 0 left before after
+Stopped output P Depot input left before after = (count : ℕ) × EndedBy output P Depot input count left before after
+Stopped output P Memory input left before after = (count : ℕ) × EndedBy output P Memory input count left before after
+Stopped output P (BadLine fault) input left before after = (script : List Event) × (count : ℕ)
+    × IsBadAt input script count fault × TellsStop output P script 3 (count + 1) fault.code before after
+Stopped output P (Limit limit) input left before after = (script : List Event) × (count : ℕ)
+    × IsLimitAt input script count limit × TellsStop output P script 7 (count + 1) limit before after
+Stopped output P Sent input left before after = TellsOver output P input before after
 
 -- the transcript of the lines so far has been added to the bytes of the sink
 abbrev pub Goes : {D : Type 0} → (D → DiskState) → List ℕ → Run D → (ℕ → Bool) → Option (List ℕ) → Option (List ℕ)
@@ -133,9 +139,15 @@ abbrev pub Goes : {D : Type 0} → (D → DiskState) → List ℕ → Run D → 
 Goes state input run is_out left before now = (script : List Event) × (told : List TextLine)
     × Stands state input script told run is_out left × Appends before now (transcript_text told)
 
--- the input was read to its end, and its transcript written
-abbrev pub IsDone : (List Happening → Type 0) → List ℕ → Option (List ℕ) → Option (List ℕ) → Type 0
-IsDone P input before after = (script : List Event) × IsWhole input script × Tells P script before after
+-- the input was read to its end, and what is written of the whole run was
+abbrev pub IsDone : Output → (List Happening → Type 0) → List ℕ → Option (List ℕ) → Option (List ℕ) → Type 0
+IsDone output P input before after =
+    (script : List Event) × IsWhole input script × TellsAll output P script before after
+
+-- the input was read to its end, and its script led to the world of this run
+abbrev pub IsFinished : {D : Type 0} → (D → DiskState) → List ℕ → Run D → (ℕ → Bool) → Type 0
+IsFinished state input run is_out = (script : List Event) × (told : List TextLine) × IsWhole input script
+    × Leads state script told run.world is_out × (run.told ≡ lines_counted told)
 
 -- a count of faults of the source, of the sink, or of the depot rises where this stop says so, and else stays
 abbrev pub CountsReads : Stop → ℕ → ℕ → Type 0

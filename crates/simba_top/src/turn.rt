@@ -1,6 +1,6 @@
 ghost use Rattle.std.specs.Prelude.{◌≡◌, ◌≢◌, ◌⊎◌, ◌+◌, ◌<◌, ◌≤◌, ◌++◌, ◌∷◌, [], ℕ, Bool, false, List, Option, Some};
 ghost use Rattle.std.specs.Prelude.{map, OnOk, OnErr, IfOk, IfErr, IfSome, IfNone, MatchResult, MatchOption, MatchBool};
-ghost use Rattle.std.specs.List.{flat_map};
+ghost use Rattle.std.specs.List.{flat_map, AllByRecursion};
 ghost use Rattle.std.specs.Io.KnownBytes.{Appends, IsAtEnd};
 ghost use Rattle.table_model.specs.declared.event.Event.{Event as AnEvent};
 ghost use Rattle.table_model.specs.declared.line.TextLine.{TextLine as ALine};
@@ -16,17 +16,21 @@ ghost use Rattle.node_steps.specs.Rows.{AreRowsBack};
 ghost use Rattle.wire_steps.specs.Holds.{Holds};
 ghost use Rattle.wire_steps.specs.Reached.{IsReached};
 ghost use Rattle.wire_steps.specs.Steps.{IsUndone};
+ghost use Rattle.line_widths.specs.Widths.{HasWidths};
+ghost use Rattle.simba_top.specs.declared.output.Output.{Output as AnOutput};
+ghost use Rattle.simba_top.specs.declared.output.Output.TheVariants as outputs;
 ghost use Rattle.simba_top.specs.Ends.{IsNext, IsRun};
 ghost use Rattle.simba_top.specs.Faults.{Led, GoesOver};
 ghost use Rattle.stab_io.specs.Faults.{Rose, AppendsFront};
 ghost use Rattle.simba_top.specs.Script.{IsWhole};
 ghost use Rattle.simba_top.specs.Stands.{IsReady, IsUnderway, Stands, HasLine, Goes, GoesOn, IsCause, EndedBy, Stopped};
-ghost use Rattle.simba_top.specs.Stands.{IsDone, CountsReads, CountsPuts, CountsDepots};
+ghost use Rattle.simba_top.specs.Stands.{IsDone, IsFinished, CountsReads, CountsPuts, CountsDepots};
 
 use crate::row_names::RowNames;
 use crate::run::MOST_LINES;
 use crate::stop::Stop;
 use disk_trait::{Depot, Disk};
+use line_widths::know_line;
 use node_steps::Lines;
 use row_value::Bytes;
 use script_text::{Declared, line_text, parse_line, stop_text};
@@ -41,22 +45,27 @@ pub(crate) struct Run<D: Disk> {
     reader: LineReader,
     names: Declared,
     rows: RowNames,
-    world: World<D>,
+    pub(crate) world: World<D>,
     // the lines so far
-    count: u64,
-    alloc: Global,
+    pub(crate) count: u64,
+    // how many lines were told; the count stands still at its type's end
+    pub(crate) told: u64,
+    pub(crate) alloc: Global,
 }
 
 fn whole_text(alloc: Global, line: &TextLine) -> Result<Bytes, AllocError>
-    ensures { IfOk result (λ text. text ≡ text_of line.now ++ 10 ∷ []) }
+    ensures text { IfOk result (λ text. text ≡ text_of line.now ++ 10 ∷ []) }
+    ensures widths { OnOk result (HasWidths line.now) }
 {
+    know_line(line);
     let mut text = line_text(alloc, line)?;
     text.push(b'\n')?;
     Ok(text)
 }
 
 fn texts_of(alloc: Global, lines: &Lines) -> Result<Vec<Bytes>, AllocError>
-    ensures { IfOk result (λ texts. texts.items ≡ map (λ (line : ALine). text_of line ++ 10 ∷ []) lines.now) }
+    ensures texts { IfOk result (λ texts. texts.items ≡ map (λ (line : ALine). text_of line ++ 10 ∷ []) lines.now) }
+    ensures widths { OnOk result (AllByRecursion HasWidths lines.now) }
 {
     let mut texts = Vec::new(alloc);
     for line in lines.as_slice() {
@@ -91,6 +100,7 @@ impl<D: Disk + Drop> Run<D> {
             rows: RowNames::new(alloc),
             world: World::new(alloc),
             count: 0,
+            told: 0,
             alloc,
         }
     }
@@ -108,10 +118,14 @@ impl<D: Disk + Drop> Run<D> {
         ensures few { self.new.count ≤ MOST_LINES }
         ensures done { (input : List ℕ)
             → Stands D.state input [] [] self.old (P.state depot.old).is_out (S.left source.old)
-            → OnOk result (IsDone (Led D.state self.new.world) input (K.holds sink.old) (K.holds sink.new)) }
+            → OnOk result (IsDone outputs.Transcript (Led D.state self.new.world) input
+            (K.holds sink.old) (K.holds sink.new)) }
+        ensures finished { (input : List ℕ)
+            → Stands D.state input [] [] self.old (P.state depot.old).is_out (S.left source.old)
+            → OnOk result (IsFinished D.state input self.new (P.state depot.new).is_out) }
         ensures ends { (input : List ℕ)
             → Stands D.state input [] [] self.old (P.state depot.old).is_out (S.left source.old)
-            → IfErr result (λ stop. EndedBy (Led D.state self.new.world) stop input self.new.count
+            → IfErr result (λ stop. EndedBy outputs.Transcript (Led D.state self.new.world) stop input self.new.count
             (S.left source.new) (K.holds sink.old) (K.holds sink.new)) }
         ensures held { OnOk result (IsWorld D.state (P.state depot.new).is_out self.new.world.nodes) }
         ensures left { IfErr result (λ stop. stop ≢ Stop.Memory
@@ -130,9 +144,9 @@ impl<D: Disk + Drop> Run<D> {
     /// Writes the line that says why the run stopped, where it has one. The answer is why the run ends then.
     pub(crate) fn end<K: Sink>(&self, sink: &mut K, stop: Stop) -> Stop
         requires { self.now.count ≤ MOST_LINES }
-        ensures ends { (input : List ℕ) (left before : Option (List ℕ))
-            → EndedBy (Led D.state self.now.world) stop input self.now.count left before (K.holds sink.old)
-            → Stopped (Led D.state self.now.world) result input left before (K.holds sink.new) }
+        ensures ends { (output : AnOutput) (input : List ℕ) (left before : Option (List ℕ))
+            → EndedBy output (Led D.state self.now.world) stop input self.now.count left before (K.holds sink.old)
+            → Stopped output (Led D.state self.now.world) result input left before (K.holds sink.new) }
         ensures reads { (old new : ℕ) → CountsReads stop old new → CountsReads result old new }
         ensures puts { (old : ℕ) → CountsPuts stop old (K.faults sink.old) → CountsPuts result old (K.faults sink.new) }
         ensures depots { (old new : ℕ) → CountsDepots stop old new → CountsDepots result old new }
@@ -178,10 +192,13 @@ impl<D: Disk + Drop> Run<D> {
             → Goes D.state input self.old (P.state depot.old).is_out (S.left source.old) before (K.holds sink.old)
             → IfOk result (λ more. MatchBool more
             (Goes D.state input self.new (P.state depot.new).is_out (S.left source.new) before (K.holds sink.new))
-            (IsDone (Led D.state self.new.world) input before (K.holds sink.new))) }
+            (IsDone outputs.Transcript (Led D.state self.new.world) input before (K.holds sink.new))) }
+        ensures finished { (input : List ℕ) (before : Option (List ℕ))
+            → Goes D.state input self.old (P.state depot.old).is_out (S.left source.old) before (K.holds sink.old)
+            → IfOk result (λ more. more ≡ false → IsFinished D.state input self.new (P.state depot.new).is_out) }
         ensures ends { (input : List ℕ) (before : Option (List ℕ))
             → Goes D.state input self.old (P.state depot.old).is_out (S.left source.old) before (K.holds sink.old)
-            → IfErr result (λ stop. EndedBy (Led D.state self.new.world) stop input self.new.count
+            → IfErr result (λ stop. EndedBy outputs.Transcript (Led D.state self.new.world) stop input self.new.count
             (S.left source.new) before (K.holds sink.new)) }
         ensures left { IfErr result (λ stop. stop ≢ Stop.Memory
             → IsWorld D.state (P.state depot.new).is_out self.new.world.nodes) }
@@ -339,6 +356,7 @@ impl<D: Disk + Drop> Run<D> {
         self.rows.add(event)?;
         let lines = self.world.step(depot, event)?;
         let texts = texts_of(self.alloc, &lines)?;
+        self.told = self.told.saturating_add(lines.len() as u64);
         self.count += 1;
         Ok(texts)
     }

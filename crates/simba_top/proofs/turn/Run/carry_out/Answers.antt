@@ -1,5 +1,6 @@
 use Rattle.std.proofs.lemmas.Result.{err_from_is_err_and}
-use Rattle.std.proofs.Common.{refl, ap, inr}
+use Rattle.std.proofs.Common.{ℕ, ◌+◌, ◌-◌, ◌^◌, ◌∙◌, refl, ap, inr}
+use Rattle.std.specs.Prelude.{min}
 use Rattle.wire_tables.specs.Wire.{start}
 use Rattle.wire_tables.specs.Runs.{wire_from}
 use Rattle.node_steps.specs.Holds.{IsWorld}
@@ -23,7 +24,7 @@ returns-clause-held g c =
     let new = (g.P.Depot.state c.step.new.depot).is_out in
     let v = wire_from start here.happenings in
     let was = underway.reached state out c.args.self.now here in
-    carried_on state out c.args.self.now here g.D.Disk.images c.args.event.now c.add.new.self c.add-2.new.self c.step.new.self new c.in_ok-lines.lines c.requires.built
+    carried_on state out c.args.self.now here g.D.Disk.images c.args.event.now c.add.new.self c.add-2.new.self c.step.new.self new c.in_ok-lines.lines c.saturating_add-self.result c.requires.built
     (c.in_ok-lines.ensures.done v was here.held here.out) (c.in_ok-lines.ensures.plans v (plans_from start here.happenings) was here.held here.plans)
 
 pub returns-clause-texts : goal.returns-clause-texts
@@ -33,9 +34,10 @@ returns-clause-texts g c = λ input script told line left has spells.
     let new = (g.P.Depot.state c.step.new.depot).is_out in
     let l = has.world in
     carries_out state input script told line c.args.self.now out left has c.requires.few g.D.Disk.images c.args.event.now c.add.new.self c.add-2.new.self c.step.new.self new
-    c.in_ok-lines.lines c.in_ok-texts.texts.items
+    c.in_ok-lines.lines c.in_ok-texts.texts.items c.saturating_add-self.result
     spells c.in_ok-add.ensures.ok (c.in_ok-add-2.ensures.rows script has.rows) (c.in_ok-add-2.ensures.few script has.rows has.front.rows) c.requires.built
-    (c.in_ok-lines.ensures.done (wire_from start l.run) (reached state script told c.args.self.now.world out l) l.held l.out) c.in_ok-texts.ensures
+    (c.in_ok-lines.ensures.done (wire_from start l.run) (reached state script told c.args.self.now.world out l) l.held l.out) c.in_ok-texts.ensures.texts c.in_ok-texts.ensures.widths
+    (c.saturating_add-self.ensures ∙ ap (λ (n : ℕ). min (c.args.self.now.told + n) (2 ^ 64 - 1)) c.len.ensures)
 
 pub returns-in_err-add-2-clause-texts : goal.returns-in_err-add-2-clause-texts
 returns-in_err-add-2-clause-texts g c = λ input script told line left has spells.

@@ -2,9 +2,10 @@ use Rattle.std.proofs.lemmas.Result.{err_from_is_err_and}
 use Rattle.wire_tables.specs.Wire.{start}
 use Rattle.wire_tables.specs.Runs.{wire_from}
 use Rattle.simba_top.specs.Faults.{Led}
+use Rattle.simba_top.specs.declared.output.Output.TheVariants.{Transcript}
 use Rattle.simba_top.proofs.Sounds.{reached}
 use Rattle.simba_top.proofs.Underway.{are_nodes, line_read}
-use Rattle.simba_top.proofs.Endings.{same_count, ended, ended_left, still_tells, tells, tells_same, put_done, put_failed}
+use Rattle.simba_top.proofs.Endings.{same_count, ended, ended_left, still_tells, tells, tells_same, finished, put_done, put_failed}
 use Rattle.simba_top.proofs.turn.Run.turn.Goals as goal
 
 pub returns-in_err-line-clause-ends : goal.returns-in_err-line-clause-ends
@@ -13,7 +14,7 @@ returns-in_err-line-clause-ends g c = λ input before goes.
     let left = g.S.Source.left c.args.source.now in
     let now = g.K.Sink.holds c.args.sink.now in
     let p = err_from_is_err_and c.from_residual.result c.from_residual.ensures.1 in
-    rw (p.1, p.2) (ended (Led g.D.Disk.state c.next_line.new.self.world) c.in_err-line.field-0.0 input goes.0 c.args.self.now.count c.next_line.new.self.count
+    rw (p.1, p.2) (ended Transcript (Led g.D.Disk.state c.next_line.new.self.world) c.in_err-line.field-0.0 input goes.0 c.args.self.now.count c.next_line.new.self.count
     (g.S.Source.left c.next_line.new.source) before now
     (same_count c.args.self.now c.next_line.new.self c.in_err-line.ensures.same) (c.in_err-line.ensures.found input goes.0 goes.1 out goes.2)
     c.in_err-line.ensures.sent
@@ -29,6 +30,12 @@ returns-in_default-clause-goes g c = λ input before goes.
       tells_same g.D.Disk.state input c.args.self.now out left before now goes c.next_line.new.self c.in_ok-line.ensures.same,
     )
 
+pub returns-in_default-clause-finished : goal.returns-in_default-clause-finished
+returns-in_default-clause-finished g c = λ input before goes false.
+    let out = (g.P.Depot.state c.args.depot.now).is_out in
+    finished g.D.Disk.state input c.args.self.now out (g.S.Source.left c.args.source.now) before (g.K.Sink.holds c.args.sink.now) goes
+    c.next_line.new.self c.in_ok-line.ensures.same (rw c.in_default.is at (c.in_ok-line.ensures.found input goes.0 goes.1 out goes.2))
+
 pub returns-in_err-texts-clause-ends : goal.returns-in_err-texts-clause-ends
 returns-in_err-texts-clause-ends g c = λ input before goes.
     let out = (g.P.Depot.state c.args.depot.now).is_out in
@@ -36,7 +43,7 @@ returns-in_err-texts-clause-ends g c = λ input before goes.
     let now = g.K.Sink.holds c.args.sink.now in
     let p = err_from_is_err_and c.from_residual-in_err-texts.result c.from_residual-in_err-texts.ensures.1 in
     let has = rw c.in-Some.is at (c.in_ok-line.ensures.found input goes.0 goes.1 out goes.2) in
-    rw (p.1, p.2) (ended_left (Led g.D.Disk.state c.event_texts.new.self.world) (Led g.D.Disk.state c.args.self.now.world) c.in_err-texts.field-0.0 input goes.0 c.next_line.new.self.count
+    rw (p.1, p.2) (ended_left Transcript (Led g.D.Disk.state c.event_texts.new.self.world) (Led g.D.Disk.state c.args.self.now.world) c.in_err-texts.field-0.0 input goes.0 c.next_line.new.self.count
     c.event_texts.new.self.count (g.S.Source.left c.next_line.new.source) before now
     c.in_err-texts.ensures.few (c.in_err-texts.ensures.texts input goes.0 goes.1 (g.S.Source.left c.next_line.new.source) (rw c.deref.ensures.value has))
     (tells g.D.Disk.state input c.args.self.now out left before now goes)

@@ -20,3 +20,8 @@ returns-clause-done g c = λ input stands.
 
 pub returns-clause-held : goal.returns-clause-held
 returns-clause-held g c = are_nodes g.D.Disk.state (g.P.Depot.state c.turn.new.depot).is_out c.turn.new.self c.in_ok-turn.ensures.held
+
+pub returns-clause-finished : goal.returns-clause-finished
+returns-clause-finished g c = λ input stands.
+    let holds = g.K.Sink.holds c.args.sink.now in
+    c.in_ok-turn.ensures.finished input holds (c.lines.invariant.goes input holds ([], [], stands, Appends-nil holds)) c.if-branch.false

@@ -1,13 +1,13 @@
 #!/usr/bin/env python3
-"""The plain program: the step tables of crates/step_tables and crates/world_tables in Python, as they are written
-there, without speed. It reads a script on standard input and prints the transcript that the program must print.
+"""The plain program: the step tables of crates/step_tables and crates/world_tables, and those of messages in parts,
+crates/part_tables and crates/wire_tables, in Python, as they are written there, without speed. It reads a script on
+standard input and prints the transcript that the program must print.
 
 It knows the lines of one Store and its wired clients, and lines that are in the grammar: at any other it gives up.
 Its disks never fail but in a crash, and are those in memory: of the four calls of a device write the third lands the
 mark, so that a crash with K of 3 and more finds the write done, with K of 2 where a byte of the mark landed.
 
-Of an object only the chunks that have changed travel, each in a packet of its own. With the one word `--whole` contents
-travel whole: chunks go in the packet of their message, and of an answer with a row each counts as changed."""
+Of an object only the chunks that have changed travel, each in a packet of its own."""
 import hashlib
 import itertools
 import sys
@@ -196,23 +196,17 @@ Task = namedtuple('Task', 'step arg facts sends', defaults=(None, (), ()))
 
 
 class Node:
-    """What a Store's table and a client have in common: an agenda of device writes, None where the node is down; the
-    world's list of what its moves told and sent; and whether contents travel whole."""
+    """What a Store's table and a client have in common: an agenda of device writes, None where the node is down; and the
+    world's list of what its moves told and sent."""
 
-    def __init__(self, name, out, is_whole):
+    def __init__(self, name, out):
         self.name = name
         self.agenda = []
         self.out = out
-        self.is_whole = is_whole
 
     def tell(self, facts, sends):
         """What one move tells and sends."""
         self.out.append((self.name, facts, sends))
-
-    def keeps(self, answer):
-        """Which chunks of an answer with a row are kept: those up to the position that was asked from. An answer to a
-        row that was torn keeps none."""
-        return is_kept_up_to(answer.origin if type(answer) is Pulled and not self.is_whole else 0)
 
     def work(self):
         """Does the next device write, and gives its name."""
@@ -311,6 +305,12 @@ def is_kept_up_to(position):
     return lambda piece: piece.name.version <= position
 
 
+def keeps(answer):
+    """Which pieces of an answer with a row are kept: those up to the position that was asked from. An answer to a row
+    that was torn keeps none."""
+    return is_kept_up_to(answer.origin if type(answer) is Pulled else 0)
+
+
 def fragments_of(client, table, row, key, content, keeps, objects):
     """The fresh chunks of a spelled content, by rising column, then place."""
     return [Fragment(client, table, row, key, column, place, objects[column - len(content.cells)][place].data)
@@ -366,8 +366,8 @@ def entry_words(table, item):
 
 
 class StoreTable(Node):
-    def __init__(self, table, schema, out, is_whole):
-        super().__init__('S1', out, is_whole)
+    def __init__(self, table, schema, out):
+        super().__init__('S1', out)
         self.table = table
         self.schema = schema
         self.items = []
@@ -529,7 +529,7 @@ class StoreTable(Node):
 
     def with_fragments(self, sender, answer, item):
         fresh = fragments_of(answer.client, answer.table, item.row, item.version, answer.header.content,
-                             self.keeps(answer), item.objects) if item else []
+                             keeps(answer), item.objects) if item else []
         return [(sender, message) for message in [answer] + fresh]
 
     def pulled(self, sender, q):
@@ -574,25 +574,25 @@ def local_names(slots):
 
 
 def stored_chunks(slots):
-    """The chunks that slots hold, by the Store's names and their lengths: those of the Store's rows go before those of
-    writes."""
+    """The chunks that slots hold, by the Store's names and their lengths: what is shown goes first, then what was read
+    last, and the row in conflict. One that only a write holds which waits for its answer has no local name here."""
     held = {}
-    for slot in (slots.shadow, slots.conflict, slots.main, slots.out):
+    for slot in (slots.main, slots.shadow, slots.conflict, slots.out):
         for chunk in [chunk for chunks in slot.held.objects for chunk in chunks] if slot else []:
-            held.setdefault((chunk.stored, len(chunk.data)), chunk)
+            held.setdefault((chunk.stored, len(chunk.data)), chunk._replace(name=None) if slot is slots.out else chunk)
     return held
 
 
 def held_against(shown, objects, plan):
-    """What holds some chunks. Those without a local name: one that equals the chunk at its place of what is shown has
-    that one's, and the others are brought by a plan, by rising ordinal."""
+    """What holds some chunks: one that equals the chunk at its place of what is shown has that one's local name, another
+    one its own, and those without are brought by a plan, by rising ordinal."""
     ordinals = itertools.count()
 
     def held_by(old, chunk):
-        if chunk.name:
-            return chunk
         if same_data(old, chunk):
             return chunk._replace(name=old.name, stored=chunk.stored or old.stored)
+        if chunk.name:
+            return chunk
         return chunk._replace(name=LocalName(plan, next(ordinals)))
     return against(shown, objects, held_by)
 
@@ -624,8 +624,8 @@ class OpenTable:
 
 
 class Client(Node):
-    def __init__(self, number, tables, out, is_whole):
-        super().__init__('C%d' % number, out, is_whole)
+    def __init__(self, number, tables, out):
+        super().__init__('C%d' % number, out)
         self.number = number
         self.last = 0
         self.tables = tables
@@ -735,7 +735,7 @@ class Client(Node):
             self.agenda += self.put_tasks(self.plan, [])
         elif state == 'intended':
             facts = [self.torn_words(*torn)] if torn else []
-            self.torn = {torn} if torn and not self.is_whole else set()
+            self.torn = {torn} if torn else set()
             self.agenda += [Task('chunk-drop', name) for name in sorted(self.chunks) if name[0] == number]
         self.agenda[-1] = self.agenda[-1]._replace(facts=['recovered ' + self.name])
         self.tell(facts, [])
@@ -959,7 +959,7 @@ class Client(Node):
             self.end(q, None)
             return
         header, size = q.header, self.opened(q.table).schema.chunk
-        assembly = assembly_of(size, q, header.row, header.version, header.content, self.keeps(q))
+        assembly = assembly_of(size, q, header.row, header.version, header.content, keeps(q))
         if not has_kept(assembly, self.kept_in(assembly)):
             self.torn.add((q.table, header.row))
             self.ask_whole(q.table, [header.row], [header.row])
@@ -1033,13 +1033,10 @@ class Client(Node):
 # ---- the world: all nodes, every packet that was ever sent, holds, links and phases
 
 class World:
-    def __init__(self, is_whole=False):
-        self.is_whole = is_whole
+    def __init__(self):
         self.tables = {}
         self.clients = {}
         self.packets = []
-        # where contents travel whole: the fragments that go in a packet, by its number
-        self.carried = {}
         self.holds = set()
         self.cuts = set()
         self.phases = set()
@@ -1104,9 +1101,6 @@ class World:
         for name, facts, sends in self.out:
             lines += facts
             for to, message in sends:
-                if self.is_whole and type(message) is Fragment:
-                    self.carried.setdefault(len(self.packets) - 1, []).append(message)
-                    continue
                 lines.append('sent %d %s %s %s' % (len(self.packets), name, to, NAMES[type(message)]))
                 self.packets.append((name, to, message))
         return lines
@@ -1198,24 +1192,16 @@ class World:
         if int(number) >= len(self.packets):
             raise Refused(29, len(self.packets))
         sender, to, message = self.packets[int(number)]
-        messages = [message] + self.carried.get(int(number), [])
         if to[0] == 'C':
-            self.call(to, lambda c: self.taken(c, messages, lambda m: c.take(m, to in self.cuts)))
+            self.call(to, lambda c: c.take(message, to in self.cuts))
             return 'ok'
         self.unless_down(to)
         if message.table in self.tables:
             table = self.tables[message.table]
-            self.taken(table, messages, lambda m: table.take(sender, m))
+            table.take(sender, message)
             if table.agenda:
                 self.follow(to)
         return 'ok'
-
-    def taken(self, node, messages, take):
-        """A node takes what is in a packet, until it has writes to do."""
-        take(messages[0])
-        for message in messages[1:]:
-            if not node.agenda:
-                take(message)
 
     def on_sshow(self, table, row):
         self.unless_down('S1')
@@ -1281,21 +1267,21 @@ class World:
         if words[0] == 'table':
             number = int(words[1][1:])
             columns = [Column(*word.split(':')) for word in words[5:]]
-            self.tables[number] = StoreTable(number, Schema(words[3], int(words[4]), columns), self.out, self.is_whole)
+            self.tables[number] = StoreTable(number, Schema(words[3], int(words[4]), columns), self.out)
         elif words[0] == 'client':
             number = int(words[1][1:])
             names = [] if words[3] == '-' else words[3].split(',')
             tables = {int(name[1:]): OpenTable(self.tables[int(name[1:])].schema) for name in names}
             if words[2] != '-':
                 raise ValueError('a client with a gateway')
-            self.clients[number] = Client(number, tables, self.out, self.is_whole)
+            self.clients[number] = Client(number, tables, self.out)
         elif words != ['store', 'S1']:
             raise ValueError('a Store with another number')
 
 
-def transcript(script, is_whole=False):
+def transcript(script):
     """The lines of the transcript of a script."""
-    world = World(is_whole)
+    world = World()
     for line in script.split('\n'):
         words = [word for word in line.split(' ') if word]
         if not words or line[0] == '#':
@@ -1307,7 +1293,7 @@ def transcript(script, is_whole=False):
 
 
 if __name__ == '__main__':
-    if sys.argv[1:] not in ([], ['--whole']):
-        sys.exit('usage: plain.py [--whole] < SCRIPT')
-    for text in transcript(sys.stdin.read(), sys.argv[1:] == ['--whole']):
+    if sys.argv[1:]:
+        sys.exit('usage: plain.py < SCRIPT')
+    for text in transcript(sys.stdin.read()):
         print(text)

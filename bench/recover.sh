@@ -13,15 +13,14 @@ def row_id(row):
     return "00000000-0000-4000-8000-%012x" % row
 
 def filled(rows):
-    """A Store with so many rows of one table."""
+    """A Store with so many rows of one table. Each is sent as a header and a fragment, and answered by a packet."""
     yield "store S1"
     yield "table T1 notes eventual 64 n:int o:object"
     yield "client C1 - T1"
     for row in range(rows):
         yield f"write C1 T1 {row_id(row)} {row} h:00"
         yield "sync C1 T1"
-        yield f"deliver {2 * row}"
-        yield f"deliver {2 * row + 1}"
+        yield from (f"deliver {3 * row + packet}" for packet in range(3))
 
 def crashed(rows, crashes):
     """The same, and then crashes inside the write of a row that is put again, each undone by a start."""
@@ -30,7 +29,7 @@ def crashed(rows, crashes):
     yield "sync C1 T1"
     yield "hold S1"
     for _ in range(crashes):
-        yield f"deliver {2 * rows}"
+        yield from (f"deliver {3 * rows + packet}" for packet in range(2))
         yield "work S1"
         yield "work S1"
         yield "crash S1 1 0"

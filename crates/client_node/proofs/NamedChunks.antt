@@ -63,7 +63,7 @@ some_size n (inr (inl is)) = omega (arith, is)
 some_size n (inr (inr is)) = omega (arith, is)
 
 -- the chunks of the row in conflict are there
-conflict_there : (meaning : LocalName → List ℕ) (d : ClientDevs) → NamedSlots meaning d → (table : ℕ) (row : List ℕ) (slots : HeldSlots) → slots ≡ held_at d table row → AreThereIf meaning d (content_read slots.conflict)
+pub conflict_there : (meaning : LocalName → List ℕ) (d : ClientDevs) → NamedSlots meaning d → (table : ℕ) (row : List ℕ) (slots : HeldSlots) → slots ≡ held_at d table row → AreThereIf meaning d (content_read slots.conflict)
 conflict_there meaning d named table row slots here = pick slots.conflict refl
   where
     pick : (o : Option HeldShadow) → slots.conflict ≡ o → AreThereIf meaning d (content_read o)

@@ -11,6 +11,7 @@ use Rattle.table_model.specs.declared.message.Yours.{Yours as RowYours}
 use Rattle.value_codec.specs.Spelling.{HasNameSpelling}
 use Rattle.held_codec.specs.Spelling.{HasHeldPiece}
 use Rattle.held_value.specs.declared.local_name.LocalName.{LocalName}
+use Rattle.held_value.specs.declared.content.HeldPiece.{HeldPiece}
 use Rattle.held_value.specs.declared.content.HeldContent.{HeldContent}
 use Rattle.held_value.specs.declared.content.HeldContent.TheVariants as held_as
 use Rattle.held_value.specs.declared.slots.Main.{Main as HeldMain}
@@ -31,10 +32,11 @@ use Rattle.client_tables.specs.Plan.{IsPlan as IsRowPlanOf, AreKnown, names_with
 use Rattle.client_tables.specs.Shown.{shown_content, content_by}
 use Rattle.client_tables.specs.Transitions.{taken}
 use Rattle.client_journal.specs.Devs.{ClientDevs}
-use Rattle.client_journal.specs.Names.{Has, names_of, names_in, names_of_main, names_of_shadow, names_of_out}
+use Rattle.client_journal.specs.Names.{Has, names_of, names_of_pieces, names_in, names_of_main, names_of_shadow, names_of_out}
 use Rattle.client_journal.specs.Redone.{redone}
 use Rattle.client_journal.specs.There.{repeats}
-use Rattle.client_journal.proofs.Wholes.{has_left, has_right}
+use Rattle.client_journal.specs.NamedSlots.{NamedSlots}
+use Rattle.client_journal.proofs.Wholes.{has_left, has_right, has_either}
 use Rattle.step_tables.specs.declared.message.RowHeader.{RowHeader}
 use Rattle.step_tables.specs.Chunks.{is_named, is_of_each, objects_of, are_apart, flat}
 use Rattle.step_tables.specs.Facts as facts
@@ -42,22 +44,25 @@ use Rattle.step_tables.specs.Messages.{Header, Send}
 use Rattle.step_tables.specs.ClientMoves.{TableDisk, Plan, ClientDisk, Slots, table_at, slots_at, slots_in, seen, top, row_placed}
 use Rattle.step_tables.specs.Travels.{header_of as table_header}
 use Rattle.journal_laws.specs.Holds.{IsRecordOf, Say}
-use Rattle.journal_laws.specs.Moves.{header_of, plan_meaning}
+use Rattle.journal_laws.specs.Moves.{AreShownChunks, header_of, plan_meaning}
 use Rattle.journal_laws.specs.Whole.{whole_slots}
 use Rattle.journal_laws.proofs.Takes.{row_plans}
 use Rattle.journal_laws.proofs.Transitions.{seen_whole}
 use Rattle.held_contents.specs.declared.holding.HeldNew.{HeldNew}
 use Rattle.held_contents.specs.Holding.{AreShown, pieces_shown, names_shown, brought_name}
-use Rattle.held_contents.specs.Reading.{AreThereIf, chunks_shown}
+use Rattle.held_contents.specs.Reading.{AreThereIf, chunks_shown, content_read}
+use Rattle.held_contents.proofs.Pieces.{joined}
+use Rattle.kept_chunks.proofs.HeldRows.{pieces_joined}
+use Rattle.kept_chunks.proofs.SoFar.{both_all}
 use Rattle.plan_limits.specs.Fit.{IsFitRow, IsFitContent, AreOlder, HaveWords, IsWord}
 use Rattle.plan_limits.proofs.Commits.{chunks_short}
-use Rattle.plan_limits.proofs.New.{are_shown, names_are_shown, shown_spelled, shown_once, new_fit}
-use Rattle.plan_limits.proofs.Rows.{each_fit}
+use Rattle.plan_limits.proofs.New.{are_shown, names_are_shown, shown_spelled, shown_once}
+use Rattle.plan_limits.proofs.Rows.{FitShadow, each_fit}
 use Rattle.client_node.specs.declared.planning.Planned.{Planned}
 use Rattle.client_node.specs.declared.waiting.Waiting.{Waiting}
 use Rattle.client_node.specs.Answering.{yours_in}
 use Rattle.client_node.specs.Answers.{record_at, held_at}
-use Rattle.client_node.specs.Placing.{HoldsRow}
+use Rattle.client_node.specs.Placing.{IsRowThere, HoldsRow, read_behind, chunks_behind}
 use Rattle.client_node.specs.Readied.{IsOfRow, IsReadied, IsIdleAt, IsIdle}
 use Rattle.client_node.specs.Taking.{FitsTable}
 use Rattle.value_codec.specs.SchemaSpelling.{HasSchemaSpelling, IsChunkSize}
@@ -72,7 +77,9 @@ use Rattle.client_node.specs.Tells.{with_position}
 use Rattle.client_node.proofs.NewerRows.{PutsRow, puts_row}
 use Rattle.client_node.proofs.RowPlans.{names_same}
 use Rattle.client_node.proofs.RowReady.{seen_is, last_is, opened_now, whole_now, whole_here, older_now, fit_here, schema_spelled, row_readied}
+use Rattle.client_node.proofs.NamedChunks.{conflict_there}
 use Rattle.client_node.proofs.Shown.{there_shown}
+use Rattle.client_node.proofs.SpelledRows.{read_there}
 
 pub some_is : {X : Type 0} (x y : X) → Some x ≡ Some y → x ≡ y
 some_is x y is = cc
@@ -121,6 +128,78 @@ module _ (meaning : LocalName → List ℕ) (number : ℕ) (table : Option Table
           (λ name has. subst (λ (x : Option HeldShadow). Has (names_in (record { main = m; shadow = x; out = o; conflict = k })) name) (sym at)
           (has_right (names_of_main m) (names_of row.content ++ (names_of_out o ++ names_of_shadow k)) name (has_left (names_of row.content) (names_of_out o ++ names_of_shadow k) name has)))
       pick None None is at = record { are = tt; spelled = tt; once = refl; known = λ name has. absurd cc }
+
+-- ---- what slots hold is there
+
+row_there : (meaning : LocalName → List ℕ) (d : ClientDevs) → NamedSlots meaning d → (table : ℕ) (row : List ℕ) (slots : HeldSlots) → slots ≡ held_at d table row → IsRowThere meaning d slots
+row_there meaning d named table row slots here = record { shown = there_shown meaning d named table row slots here; read = behind slots.main; conflict = conflict_there meaning d named table row slots here }
+  where
+    behind : (m : Option HeldMain) → AreThereIf meaning d (read_behind m slots.shadow)
+    behind None = tt
+    behind (Some m) = read_there meaning d named table row slots here
+
+-- ---- what fit slots hold
+
+module _ (meaning : LocalName → List ℕ) (number : ℕ) (table : Option TableRecord) (slots : HeldSlots) where
+  -- the chunks that are shown, and behind them the others
+  abbrev all_held : List (List (HeldPiece × List ℕ))
+  all_held = chunks_shown meaning (shown_content slots) ++ chunks_behind meaning slots
+
+  pub record IsHeldFit : Type 0 where
+    pub are : AreShown meaning number all_held
+    pub spelled : AllByRecursion HasHeldPiece (pieces_shown all_held)
+    pub once : repeats [] (names_shown (chunks_shown meaning (shown_content slots))) ≡ false
+    pub known : (name : LocalName) → Has (names_shown all_held) name → Has (names_in slots) name
+
+  abbrev Shows : Option HeldContent → Type 0
+  Shows o = IsShownFit meaning number table slots.main slots.shadow slots.out slots.conflict o
+
+  -- the chunks of two lists are each so
+  record AreBoth (a b : List (List (HeldPiece × List ℕ))) : Type 0 where
+    are : AreShown meaning number (a ++ b)
+    spelled : AllByRecursion HasHeldPiece (pieces_shown (a ++ b))
+    known : (name : LocalName) → Has (names_shown (a ++ b)) name → Has (names_in slots) name
+
+  are_both : (a b : List (List (HeldPiece × List ℕ))) → AreShown meaning number a → AreShown meaning number b → AllByRecursion HasHeldPiece (pieces_shown a) → AllByRecursion HasHeldPiece (pieces_shown b)
+      → ((name : LocalName) → Has (names_shown a) name → Has (names_in slots) name) → ((name : LocalName) → Has (names_shown b) name → Has (names_in slots) name) → AreBoth a b
+  are_both a b h k s t p q = record {
+    are = both_all (AreShownChunks meaning number) a b h k;
+    spelled = subst (λ (l : List HeldPiece). AllByRecursion HasHeldPiece l) (sym (pieces_joined a b)) (both_all HasHeldPiece (pieces_shown a) (pieces_shown b) s t);
+    known = λ name has. ⊎_elim (λ x. p name x) (λ x. q name x)
+        (has_either (names_shown a) (names_shown b) name (subst (λ (l : List LocalName). Has l name) (ap names_of_pieces (pieces_joined a b) ∙ joined (pieces_shown a) (pieces_shown b)) has));
+  }
+
+  module _ (fit : IsFitRow meaning table slots) (older : AreOlder number (names_in slots)) where
+    -- a row of the Store that the slots hold
+    row_shown : (o : Option HeldShadow) → IfSome o (λ row. IsFitContent meaning table row.content) → ((name : LocalName) → Has (names_of_shadow o) name → Has (names_in slots) name) → Shows (content_read o)
+    row_shown None fits has = record { are = tt; spelled = tt; once = refl; known = λ name no. absurd cc }
+    row_shown (Some row) fits has = content_shown meaning number table slots.main slots.shadow slots.out slots.conflict row.content fits older has
+
+    fits_shadow : (o : Option HeldShadow) → IfSome o (FitShadow meaning table) → IfSome o (λ row. IsFitContent meaning table row.content)
+    fits_shadow None h = tt
+    fits_shadow (Some row) h = h.1
+
+    shadow_shown : Shows (content_read slots.shadow)
+    shadow_shown = row_shown slots.shadow (fits_shadow slots.shadow (each_fit meaning table slots fit).shadow)
+        (λ name has. has_right (names_of_main slots.main) (names_of_shadow slots.shadow ++ (names_of_out slots.out ++ names_of_shadow slots.conflict)) name
+        (has_left (names_of_shadow slots.shadow) (names_of_out slots.out ++ names_of_shadow slots.conflict) name has))
+
+    conflict_shown : Shows (content_read slots.conflict)
+    conflict_shown = row_shown slots.conflict (fits_shadow slots.conflict (each_fit meaning table slots fit).conflict)
+        (λ name has. has_right (names_of_main slots.main) (names_of_shadow slots.shadow ++ (names_of_out slots.out ++ names_of_shadow slots.conflict)) name
+        (has_right (names_of_shadow slots.shadow) (names_of_out slots.out ++ names_of_shadow slots.conflict) name (has_right (names_of_out slots.out) (names_of_shadow slots.conflict) name has)))
+
+    behind_shown : (m : Option HeldMain) → Shows (read_behind m slots.shadow)
+    behind_shown None = record { are = tt; spelled = tt; once = refl; known = λ name no. absurd cc }
+    behind_shown (Some m) = shadow_shown
+
+    pub held_fit : IsHeldFit
+    held_fit =
+        let shown : Shows (shown_content slots) = shown_fit meaning number table slots.main slots.shadow slots.out slots.conflict fit older in
+        let read = behind_shown slots.main in
+        let rest = are_both (chunks_shown meaning (read_behind slots.main slots.shadow)) (chunks_shown meaning (content_read slots.conflict)) read.are conflict_shown.are read.spelled conflict_shown.spelled read.known conflict_shown.known in
+        let all = are_both (chunks_shown meaning (shown_content slots)) (chunks_behind meaning slots) shown.are rest.are shown.spelled rest.spelled shown.known rest.known in
+        record { are = all.are; spelled = all.spelled; once = shown.once; known = all.known }
 
 some_size : (n : ℕ) → IsChunkSize n → 0 < n
 some_size n (inl is) = omega (arith, is)
@@ -219,7 +298,7 @@ module _ (d : ClientDevs) (c table : ℕ) (found : TableRecord) (opened : record
       seen_at = sym (ap (λ (s : Slots). top s.conflict s.shadow) whole_at) ∙ seen_whole c idle.stands.0 disk table header.row now.conflict now.shadow
 
     module _ (fit : fit_of found.schema header.content ≡ Ok tt) (newer : nat_le header.version (seen_in now.conflict now.shadow) ≡ false) (last : ℕ) (number_is : last ≡ (redone d).last) (held : HeldNew)
-        (holds : (meaning : LocalName → List ℕ) → AreThereIf meaning d (shown_content now) → HoldsRow found.schema.chunk (chunks_shown meaning (shown_content now)) header.content header.names held) (words : HaveWords header.content) (spelled : AllByRecursion (AllByRecursion HasNameSpelling) header.names) (wide : IsWord header.version) (wide_yours : IsWord header.yours.version)
+        (holds : (meaning : LocalName → List ℕ) → IsRowThere meaning d now → HoldsRow meaning found.schema.chunk now header.content header.names held) (words : HaveWords header.content) (spelled : AllByRecursion (AllByRecursion HasNameSpelling) header.names) (wide : IsWord header.version) (wide_yours : IsWord header.yours.version)
         (made : RowPlan) (is : IsRowPlanOf now (taken found.schema.scheme now (yours_in header.yours) (record { version = header.version; content = held.content })) held.brought made) (len : length header.row ≡ 16) (position : Option ℕ) (few : IsOption IsPosition position) (sends : List Send)
         (known : (scheme : Scheme) (slots : HeldSlots) (event : SlotEvent) (count : ℕ) → AreKnown slots count (names_with event) → AreKnown slots count (tree_names (slots_behind scheme slots event))) (planned : Planned)
         (o : IsOfRow c table header.row last position made sends planned) where
@@ -242,15 +321,14 @@ module _ (d : ClientDevs) (c table : ℕ) (found : TableRecord) (opened : record
         schema : HasSchemaSpelling found.schema
         schema = schema_spelled c d disk idle.stands idle.rests table header.row found opened w idle.steady
 
-        k : HoldsRow found.schema.chunk (chunks_shown idle.stands.0 (shown_content now)) header.content header.names held
-        k = holds idle.stands.0 (there_shown idle.stands.0 d idle.stands.1.named table header.row now refl)
+        k : HoldsRow idle.stands.0 found.schema.chunk now header.content header.names held
+        k = holds idle.stands.0 (row_there idle.stands.0 d idle.stands.1.named table header.row now refl)
 
-        shown : IsShownFit idle.stands.0 (d.journal.greatest + 1) (Some found) now.main now.shadow now.out now.conflict (shown_content now)
-        shown =
-            shown_fit idle.stands.0 (d.journal.greatest + 1) (Some found) now.main now.shadow now.out now.conflict (fit_here c d disk idle.stands idle.rests table header.row found opened) (older_now c d disk idle.stands idle.rests table header.row)
+        shown : IsHeldFit idle.stands.0 (d.journal.greatest + 1) (Some found) now
+        shown = held_fit idle.stands.0 (d.journal.greatest + 1) (Some found) now (fit_here c d disk idle.stands idle.rests table header.row found opened) (older_now c d disk idle.stands idle.rests table header.row)
 
         content_fit : IsFitContent (plan_meaning idle.stands.0 (d.journal.greatest + 1) held.brought) (Some found) held.content
-        content_fit = new_fit idle.stands.0 (d.journal.greatest + 1) found (chunks_shown idle.stands.0 (shown_content now)) header.names schema shown.are shown.spelled spelled shown.once header.content held.content held.brought fit words k.against
+        content_fit = k.fit idle.stands.0 (d.journal.greatest + 1) shown.are found refl schema fit words spelled shown.spelled shown.once
 
         puts : PutsRow found.schema.scheme now yours x (taken found.schema.scheme now yours x)
         puts = puts_row found.schema.scheme now yours x newer
@@ -261,7 +339,7 @@ module _ (d : ClientDevs) (c table : ℕ) (found : TableRecord) (opened : record
         known_names : AreKnown now (length held.brought) (tree_names_of held.content)
         known_names name has =
             ⊎_elim (λ old. inl (subst (λ (l : List LocalName). Has l name) (sym (names_same now)) (shown.known name old))) (λ new. inr new)
-            (k.names name (subst (λ (l : List LocalName). Has l name) (content_names held.content) has))
+            (k.names idle.stands.0 (d.journal.greatest + 1) shown.are name (subst (λ (l : List LocalName). Has l name) (content_names held.content) has))
 
         brings : (ordinal : ℕ) → ordinal < length held.brought → Has (names_in o.behind) (brought_name ordinal)
         brings ordinal less = subst (λ (y : HeldSlots). Has (names_in y) (brought_name ordinal)) behind_is (puts.names (brought_name ordinal) (k.all_brought ordinal less))
@@ -305,7 +383,7 @@ module _ (d : ClientDevs) (c table : ℕ) (found : TableRecord) (opened : record
     -- ---- of what is found
 
     module _ (slots : HeldSlots) (here : slots ≡ held_at d table header.row) (fit : fit_of found.schema header.content ≡ Ok tt) (newer : nat_le header.version (seen_in slots.conflict slots.shadow) ≡ false) (last : ℕ) (number_is : last ≡ (redone d).last) (held : HeldNew)
-        (holds : (meaning : LocalName → List ℕ) → AreThereIf meaning d (shown_content slots) → HoldsRow found.schema.chunk (chunks_shown meaning (shown_content slots)) header.content header.names held) (words : HaveWords header.content) (spelled : AllByRecursion (AllByRecursion HasNameSpelling) header.names) (version : ℕ) (same_version : version ≡ header.version) (wide : IsWord header.version)
+        (holds : (meaning : LocalName → List ℕ) → IsRowThere meaning d slots → HoldsRow meaning found.schema.chunk slots header.content header.names held) (words : HaveWords header.content) (spelled : AllByRecursion (AllByRecursion HasNameSpelling) header.names) (version : ℕ) (same_version : version ≡ header.version) (wide : IsWord header.version)
         (row_yours : RowYours) (same_yours : row_yours ≡ yours_in header.yours) (wide_yours : row_yours.version < 2 ^ 64) (made : RowPlan) (is : IsRowPlanOf slots (taken found.schema.scheme slots row_yours (record { version = version; content = held.content })) held.brought made) (len : length header.row ≡ 16) (position : Option ℕ) (few : IsOption IsPosition position)
         (known : (scheme : Scheme) (slots : HeldSlots) (event : SlotEvent) (count : ℕ) → AreKnown slots count (names_with event) → AreKnown slots count (tree_names (slots_behind scheme slots event))) (sends : List Send) where
       newest_row : nat_le header.version (seen_in (held_at d table header.row).conflict (held_at d table header.row).shadow) ≡ false
@@ -317,8 +395,8 @@ module _ (d : ClientDevs) (c table : ℕ) (found : TableRecord) (opened : record
           (subst (λ (y : RowYours). IsRowPlanOf slots (taken found.schema.scheme slots y (record { version = header.version; content = held.content })) held.brought made) same_yours
           (subst (λ (v : ℕ). IsRowPlanOf slots (taken found.schema.scheme slots row_yours (record { version = v; content = held.content })) held.brought made) same_version is))
 
-      holds_now : (meaning : LocalName → List ℕ) → AreThereIf meaning d (shown_content (held_at d table header.row)) → HoldsRow found.schema.chunk (chunks_shown meaning (shown_content (held_at d table header.row))) header.content header.names held
-      holds_now meaning = subst (λ (s : HeldSlots). AreThereIf meaning d (shown_content s) → HoldsRow found.schema.chunk (chunks_shown meaning (shown_content s)) header.content header.names held) here (holds meaning)
+      holds_now : (meaning : LocalName → List ℕ) → IsRowThere meaning d (held_at d table header.row) → HoldsRow meaning found.schema.chunk (held_at d table header.row) header.content header.names held
+      holds_now meaning = subst (λ (s : HeldSlots). IsRowThere meaning d s → HoldsRow meaning found.schema.chunk s header.content header.names held) here (holds meaning)
 
       -- a newer row changes its slots
       changes : (taken found.schema.scheme slots row_yours (record { version = version; content = held.content })).slots ≡ None → {P : Type 0} → P

@@ -1,29 +1,30 @@
 -- What is prepared of a row from the Store: what holds its content, the plan of a table's new position, and that of the
 -- row.
-use Rattle.std.specs.Prelude.{◌≡◌, ◌⊎◌, ℕ, ◌<◌, ◌≤◌, List, [], ◌∷◌, length, map, true, Option, Some, None, Ok, IfSome}
-use Rattle.std.specs.List.{AllByRecursion}
+use Rattle.std.specs.Prelude.{◌≡◌, ℕ, List, [], ◌∷◌, ◌++◌, map, true, Option, Some, None, Ok, IfSome}
 use Rattle.stab_base.specs.declared.chunk_name.ChunkName.{ChunkName}
 use Rattle.row_value.specs.declared.content.Content.{Content}
 use Rattle.row_value.specs.Fit.{fit_of}
 use Rattle.held_value.specs.declared.local_name.LocalName.{LocalName}
 use Rattle.held_value.specs.declared.content.HeldPiece.{HeldPiece}
+use Rattle.held_value.specs.declared.content.HeldContent.{HeldContent}
+use Rattle.held_value.specs.declared.slots.Main.{Main as HeldMain}
+use Rattle.held_value.specs.declared.slots.Shadow.{Shadow as HeldShadow}
+use Rattle.held_value.specs.declared.slots.Slots.{Slots as HeldSlots}
 use Rattle.held_value.specs.declared.tell.Tell.TheVariants as tell
 use Rattle.slot_store.specs.declared.held.TableRecord.{TableRecord}
 use Rattle.step_tables.specs.declared.message.RowHeader.{RowHeader}
 use Rattle.step_tables.specs.Chunks.{is_named}
-use Rattle.step_tables.specs.ClientMoves.{TableDisk, Plan, ClientDisk, Placed, known, table_at, slots_at, row_placed}
+use Rattle.step_tables.specs.ClientMoves.{TableDisk, Plan, ClientDisk, Placed, table_at, slots_at, row_placed}
 use Rattle.step_tables.specs.ClientMoves.{row_plan, torn_plan}
 use Rattle.step_tables.specs.Facts as facts
 use Rattle.step_tables.specs.Messages.{Header, Send}
 use Rattle.step_tables.specs.Lines.{fact_of}
 use Rattle.step_tables.specs.Travels.{send_of, header_of}
-use Rattle.client_tables.specs.Plan.{IsBrought}
+use Rattle.client_tables.specs.Shown.{shown_content}
 use Rattle.client_journal.specs.Devs.{ClientDevs}
-use Rattle.client_journal.specs.Names.{Has, names_of}
-use Rattle.journal_laws.specs.Moves.{plan_meaning}
-use Rattle.journal_laws.specs.Whole.{whole, names_known, HaveLens}
 use Rattle.held_contents.specs.declared.holding.HeldNew.{HeldNew}
-use Rattle.held_contents.specs.Holding.{IsNamedAgainst, AreShown, names_shown, brought_name}
+use Rattle.held_contents.specs.Reading.{AreThereIf, chunks_shown, content_read}
+use Rattle.kept_chunks.specs.Kept.{HoldsKept}
 use Rattle.client_node.specs.Readied.{IsIdleAt, IsReadied}
 use Rattle.client_node.specs.declared.planning.Planned.{Planned}
 use Rattle.client_node.specs.declared.waiting.Waiting.{Waiting}
@@ -41,21 +42,26 @@ pub record IsOfPosition (c table last position : ℕ) (sends : List Send) (plann
   pub facts_are : map fact_of planned.facts.items ≡ facts.Client (facts.Position c table position) ∷ []
   pub sends_are : map send_of planned.messages.items ≡ sends
 
--- What holds the content of a row where these chunks are shown: it is whole under a plan of any number above those of
--- the chunks that are shown, and it names these and the chunks that it brings. Its chunks have the Store's names.
-pub record HoldsRow (size : ℕ) (shown : List (List (HeldPiece × List ℕ))) (content : Content)
-    (given : List (List ChunkName)) (made : HeldNew) : Type 0 where
-  pub against : IsNamedAgainst size shown given content made.content made.brought
-  pub whole_is : (meaning : LocalName → List ℕ) (number : ℕ) → AreShown meaning number shown
-      → whole (plan_meaning meaning number made.brought) made.content ≡ content
-  pub lens : (meaning : LocalName → List ℕ) (number : ℕ) → AreShown meaning number shown
-      → HaveLens (plan_meaning meaning number made.brought) made.content
-  pub named : names_known made.content ≡ known given
-  pub names : (name : LocalName) → Has (names_of made.content) name
-      → Has (names_shown shown) name ⊎ IsBrought (length made.brought) name
-  pub all_brought : (ordinal : ℕ) → ordinal < length made.brought
-      → Has (names_of made.content) (brought_name ordinal)
-  pub small : AllByRecursion (λ bytes. length bytes ≤ size) made.brought
+-- the content that was read last, where the client's own write is shown
+abbrev pub read_behind : Option HeldMain → Option HeldShadow → Option HeldContent
+read_behind None shadow = None
+read_behind (Some main) shadow = content_read shadow
+
+-- each chunk that a row's slots hold is on the device, that of a write that waits for an answer apart
+pub record IsRowThere (meaning : LocalName → List ℕ) (d : ClientDevs) (slots : HeldSlots) : Type 0 where
+  pub shown : AreThereIf meaning d (shown_content slots)
+  pub read : AreThereIf meaning d (read_behind slots.main slots.shadow)
+  pub conflict : AreThereIf meaning d (content_read slots.conflict)
+
+-- the chunks that are held behind those that are shown
+abbrev pub chunks_behind : (LocalName → List ℕ) → HeldSlots → List (List (HeldPiece × List ℕ))
+chunks_behind meaning slots = chunks_shown meaning (read_behind slots.main slots.shadow)
+    ++ chunks_shown meaning (content_read slots.conflict)
+
+-- What holds the content of a row from the Store against a row's slots. Its chunks have the Store's names.
+abbrev pub HoldsRow : (LocalName → List ℕ) → ℕ → HeldSlots → Content → List (List ChunkName) → HeldNew → Type 0
+HoldsRow meaning size slots content given made =
+    HoldsKept size (chunks_shown meaning (shown_content slots)) (chunks_behind meaning slots) content given made
 
 -- A row that fits the table, and is named chunk by chunk.
 pub record IsWhole (opened : TableRecord) (header : RowHeader) : Type 0 where

@@ -1,12 +1,11 @@
 //! What a client makes of a row from the Store.
 ghost use Rattle.std.specs.Prelude.{◌≡◌, ◌<◌, ◌^◌, ℕ, List, map, nat_le, true, false, Some, None, Ok, IfOk, IfErr, OnOk};
-ghost use Rattle.std.specs.Prelude.{IfSome};
+ghost use Rattle.std.specs.Prelude.{◌++◌, IfSome, option_copied};
 ghost use Rattle.std.specs.List.{AllByRecursion};
 ghost use Rattle.row_value.specs.Fit.{fit_of};
 ghost use Rattle.value_codec.specs.Spelling.{HasNameSpelling};
 ghost use Rattle.held_value.specs.declared.local_name.LocalName.{LocalName};
 ghost use Rattle.client_tables.specs.Change.{seen_in};
-ghost use Rattle.client_tables.specs.Shown.{shown_content};
 ghost use Rattle.client_journal.specs.Redone.{redone};
 ghost use Rattle.client_journal.specs.Standing.{devs as held_by, writes_of, AreUp, IsReady};
 ghost use Rattle.step_tables.specs.Chunks.{is_of_each, objects_of};
@@ -18,22 +17,25 @@ ghost use Rattle.plan_log.specs.Spelling.{IsPosition};
 ghost use Rattle.plan_limits.specs.Fit.{HasWord, HaveWords};
 ghost use Rattle.client_node.specs.Answering.{yours_in};
 ghost use Rattle.held_contents.specs.Holding.{IsFit};
-ghost use Rattle.held_contents.specs.Reading.{AreThereIf, chunks_shown};
 ghost use Rattle.client_node.specs.Answers.{record_at, held_at, IsFault};
 ghost use Rattle.client_node.specs.Looks.{Looks};
-ghost use Rattle.client_node.specs.Placing.{IsOfPosition, HoldsRow, IsWhole, IsNext, PlansRow};
+ghost use Rattle.client_node.specs.Placing.{IsOfPosition, IsRowThere, HoldsRow, IsWhole, IsNext, PlansRow};
+ghost use Rattle.client_node.specs.Placing.{read_behind, chunks_behind};
 ghost use Rattle.client_node.specs.Readied.{IsIdle, Readies};
 
+use crate::calls::held::chunks_of;
 use crate::calls::pulling::request_from;
 use crate::fault::CallFault;
 use crate::looking::row_slots;
 use crate::planning::Planned;
 use crate::row_plan::{find_table, last_write, plan_of_row};
+use crate::spelling::content_read;
 use client_journal::{Journal, Plan};
-use client_tables::{plan_header, shown_content};
+use client_tables::{ShownChunks, plan_header, shown_content};
 use disk_trait::Disk;
-use held_contents::{HeldNew, hold_named, read_chunks};
-use held_value::{Shadow, Slots, Tell};
+use held_contents::HeldNew;
+use held_value::{HeldContent, Shadow, Slots, Tell};
+use kept_chunks::hold_kept;
 use row_pieces::is_named;
 use row_value::{Cell, Content, fits};
 use slot_store::TableRecord;
@@ -249,7 +251,36 @@ fn comes_next(
     is_whole(alloc, opened, header)
 }
 
-// What holds the content of a row, against what the client shows of it, with the Store's names of its chunks.
+// The content that was read last, where the client's own write is shown.
+fn read_behind(slots: &Slots) -> Option<&HeldContent>
+    ensures { option_copied result ≡ read_behind slots.now.main slots.now.shadow }
+{
+    match &slots.main {
+        None => None,
+        Some(_main) => content_read(&slots.shadow),
+    }
+}
+
+// The chunks that a row holds behind those that it shows: those that were read last, and those of the row in conflict.
+fn chunks_behind<D: Disk + Drop>(
+    alloc: Global,
+    devs: &mut Journal<D>,
+    slots: &Slots,
+) -> Result<(Sequence<ShownChunks>, Sequence<ShownChunks>), CallFault>
+    requires up { AreUp devs.old }
+    requires ready { IsReady D.state devs.old (writes_of devs.old) }
+    ensures looks { Looks D.state D.images devs.old devs.new result }
+    ensures chunks { IfOk result (λ behind. (meaning : LocalName → List ℕ)
+        → IsRowThere meaning (held_by D.state devs.old) slots.now
+        → behind.0 ++ behind.1 ≡ chunks_behind meaning slots.now) }
+    ensures refused { IfErr result IsFault }
+{
+    let read = chunks_of(alloc, devs, read_behind(slots))?;
+    let conflict = chunks_of(alloc, devs, content_read(&slots.conflict))?;
+    Ok((read, conflict))
+}
+
+// What holds the content of a row, against what the client holds of it, with the Store's names of its chunks.
 fn hold_row<D: Disk + Drop>(
     alloc: Global,
     devs: &mut Journal<D>,
@@ -265,16 +296,17 @@ fn hold_row<D: Disk + Drop>(
     requires named { is_of_each size names.now (objects_of content.now) ≡ true }
     ensures looks { Looks D.state D.images devs.old devs.new result }
     ensures holds { IfOk result (λ made. (meaning : LocalName → List ℕ)
-        → AreThereIf meaning (held_by D.state devs.old) (shown_content slots.now)
-        → HoldsRow size (chunks_shown meaning (shown_content slots.now)) content.now names.now made) }
+        → IsRowThere meaning (held_by D.state devs.old) slots.now
+        → HoldsRow meaning size slots.now content.now names.now made) }
     ensures words { OnOk result (HaveWords content.now) }
     ensures spelled { OnOk result (AllByRecursion (AllByRecursion HasNameSpelling) names.now) }
     ensures refused { IfErr result IsFault }
 {
     know_words(content);
     know_names(names.as_slice());
-    let shown = read_chunks(alloc, devs, shown_content(slots))?;
-    let held = hold_named(alloc, size, &shown, content, names)?;
+    let shown = chunks_of(alloc, devs, shown_content(slots))?;
+    let (read, conflict) = chunks_behind(alloc, devs, slots)?;
+    let held = hold_kept(alloc, size, shown, read, conflict, content, names)?;
     Ok(held)
 }
 

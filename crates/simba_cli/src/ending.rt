@@ -50,6 +50,7 @@ pub(crate) fn limit_text(limit: &str) -> &'static str {
         "7" => "a Store's number is above 16",
         "8" => "a table has more than 32 columns",
         "9" => "the script names more than 65,536 rows of one table",
+        "10" => "the packets have more than 268,435,456 bytes",
         _ => "the script passes a limit",
     }
 }

@@ -239,6 +239,7 @@ fn end(
     show(&mut played, case, found)?;
     add(&mut played.script, case.tail)?;
     match found {
+        Found::Undone { is_begun: true, .. } => add(&mut played.transcript, case.begun)?,
         Found::Undone { .. } => add(&mut played.transcript, case.undone)?,
         _ => add(&mut played.transcript, case.done)?,
     }

@@ -21,9 +21,11 @@ pub(crate) struct PlanCase {
     /// The line that shows its row, and what is shown without the plan and with it.
     pub(crate) show: &'static str,
     pub(crate) shows: [&'static str; 2],
-    /// Lines behind the client's recovery, and what they write where the plan was undone and where it was done.
+    /// Lines behind the client's recovery, and what they write where the plan had not been begun, where it had and was
+    /// undone, and where it was done.
     pub(crate) tail: &'static str,
     pub(crate) undone: &'static str,
+    pub(crate) begun: &'static str,
     pub(crate) done: &'static str,
 }
 
@@ -57,6 +59,7 @@ pub(crate) const CASES: [PlanCase; 12] = [
         ],
         tail: "write C1 T1 00000000-0000-4000-8000-000000000001 h:\n",
         undone: "ok 1\n",
+        begun: "ok 1\n",
         done: "ok 2\n",
     },
     // A write over one that waits: its chunk takes the place of the old one.
@@ -86,6 +89,7 @@ pub(crate) const CASES: [PlanCase; 12] = [
         shows: ["ok mine 1 h:00\n", "ok mine 2 h:01\n"],
         tail: "write C1 T1 00000000-0000-4000-8000-000000000001 h:\n",
         undone: "ok 2\n",
+        begun: "ok 2\n",
         done: "ok 3\n",
     },
     // A patch at the front of an object of two chunks: the first one changes.
@@ -122,6 +126,7 @@ pub(crate) const CASES: [PlanCase; 12] = [
         ],
         tail: "write C1 T1 00000000-0000-4000-8000-000000000001 h:\n",
         undone: "ok 2\n",
+        begun: "ok 2\n",
         done: "ok 3\n",
     },
     // A patch of its last byte: the second one changes.
@@ -158,6 +163,7 @@ pub(crate) const CASES: [PlanCase; 12] = [
         ],
         tail: "write C1 T1 00000000-0000-4000-8000-000000000001 h:\n",
         undone: "ok 2\n",
+        begun: "ok 2\n",
         done: "ok 3\n",
     },
     // A patch that goes past its end, behind one that begins there and is refused.
@@ -196,6 +202,7 @@ pub(crate) const CASES: [PlanCase; 12] = [
         ],
         tail: "write C1 T1 00000000-0000-4000-8000-000000000001 h:\n",
         undone: "ok 2\n",
+        begun: "ok 2\n",
         done: "ok 3\n",
     },
     // A patch at the end of an object of one whole chunk: nothing is dropped.
@@ -232,6 +239,7 @@ pub(crate) const CASES: [PlanCase; 12] = [
         ],
         tail: "write C1 T1 00000000-0000-4000-8000-000000000001 h:\n",
         undone: "ok 2\n",
+        begun: "ok 2\n",
         done: "ok 3\n",
     },
     // A deletion of a row with two chunks.
@@ -266,6 +274,7 @@ pub(crate) const CASES: [PlanCase; 12] = [
         ],
         tail: "write C1 T1 00000000-0000-4000-8000-000000000001 h:\n",
         undone: "ok 2\n",
+        begun: "",
         done: "ok 3\n",
     },
     // A write that is about to be sent.
@@ -286,7 +295,8 @@ pub(crate) const CASES: [PlanCase; 12] = [
         table: false,
         drops: 0,
         facts: ["", ""],
-        sent: "sent 0 C1 S1 syncRequest\n",
+        sent: "sent 0 C1 S1 syncRequest\n\
+        sent 1 C1 S1 objectFragment\n",
         torn: "",
         show: "show C1 T1 00000000-0000-4000-8000-000000000001\n",
         shows: ["ok mine 1 h:00\n", "ok mine 1 h:00\n"],
@@ -295,6 +305,7 @@ pub(crate) const CASES: [PlanCase; 12] = [
         undone: "ok 2\n\
         ok 6\n\
         wrote C1 2 T1 00000000-0000-4000-8000-000000000001 0 h:01\n",
+        begun: "",
         done: "ok 2\n\
         ok 5\n\
         wrote C1 2 T1 00000000-0000-4000-8000-000000000001 0 h:01\n",
@@ -308,27 +319,33 @@ pub(crate) const CASES: [PlanCase; 12] = [
         sync C1 T1\n\
         deliver 0\n\
         deliver 1\n\
+        deliver 2\n\
         write C1 T1 00000000-0000-4000-8000-000000000001 h:01\n\
         sync C1 T1\n\
-        deliver 2\n\
+        deliver 3\n\
+        deliver 4\n\
         hold C1\n\
-        deliver 3\n",
+        deliver 5\n",
         told: "ok 1\n\
         wrote C1 1 T1 00000000-0000-4000-8000-000000000001 0 h:00\n\
         ok 1\n\
         sent 0 C1 S1 syncRequest\n\
+        sent 1 C1 S1 objectFragment\n\
+        ok\n\
         ok\n\
         accepted T1 1 00000000-0000-4000-8000-000000000001 C1 1 0\n\
-        sent 1 S1 C1 syncResponse\n\
+        sent 2 S1 C1 syncResponse\n\
         ok\n\
         acked C1 1 T1 00000000-0000-4000-8000-000000000001 1\n\
         ok 2\n\
         wrote C1 2 T1 00000000-0000-4000-8000-000000000001 1 h:01\n\
         ok 1\n\
-        sent 2 C1 S1 syncRequest\n\
+        sent 3 C1 S1 syncRequest\n\
+        sent 4 C1 S1 objectFragment\n\
+        ok\n\
         ok\n\
         accepted T1 2 00000000-0000-4000-8000-000000000001 C1 2 1\n\
-        sent 3 S1 C1 syncResponse\n\
+        sent 5 S1 C1 syncResponse\n\
         ok\n\
         ok\n",
         client: "C1",
@@ -342,15 +359,17 @@ pub(crate) const CASES: [PlanCase; 12] = [
         show: "show C1 T1 00000000-0000-4000-8000-000000000001\n",
         shows: ["ok mine 2 h:01\n", "ok clean 2 h:01\n"],
         tail: "sync C1 T1\n\
-        deliver 3\n\
+        deliver 5\n\
         do C1\n\
         show C1 T1 00000000-0000-4000-8000-000000000001\n",
         undone: "ok 1\n\
-        sent 4 C1 S1 syncRequest\n\
+        sent 6 C1 S1 syncRequest\n\
+        sent 7 C1 S1 objectFragment\n\
         ok\n\
         ok 4\n\
         acked C1 2 T1 00000000-0000-4000-8000-000000000001 2\n\
         ok clean 2 h:01\n",
+        begun: "",
         done: "ok 0\n\
         ok\n\
         ok 0\n\
@@ -365,22 +384,34 @@ pub(crate) const CASES: [PlanCase; 12] = [
         write C1 T1 00000000-0000-4000-8000-000000000001 r:65:01\n\
         sync C1 T1\n\
         deliver 0\n\
-        pull C2 T1\n\
+        deliver 1\n\
         deliver 2\n\
+        pull C2 T1\n\
+        deliver 4\n\
         hold C2\n\
-        deliver 3\n",
+        deliver 5\n\
+        deliver 6\n\
+        deliver 7\n",
         told: "ok 1\n\
-        wrote C1 1 T1 00000000-0000-4000-8000-000000000001 0 h:01010101010101010101010101010101010101010\
-        10101010101010101010101010101010101010101010101010101010101010101010101010101010101010101\n\
+        wrote C1 1 T1 00000000-0000-4000-8000-000000000001 0 h:0101010101010101010101010101010101010101010101010101010\
+        101010101010101010101010101010101010101010101010101010101010101010101010101\n\
         ok 1\n\
         sent 0 C1 S1 syncRequest\n\
+        sent 1 C1 S1 objectFragment\n\
+        sent 2 C1 S1 objectFragment\n\
+        ok\n\
+        ok\n\
         ok\n\
         accepted T1 1 00000000-0000-4000-8000-000000000001 C1 1 0\n\
-        sent 1 S1 C1 syncResponse\n\
+        sent 3 S1 C1 syncResponse\n\
         ok\n\
-        sent 2 C2 S1 pullRequest\n\
+        sent 4 C2 S1 pullRequest\n\
         ok\n\
-        sent 3 S1 C2 pullResponse\n\
+        sent 5 S1 C2 pullResponse\n\
+        sent 6 S1 C2 objectFragment\n\
+        sent 7 S1 C2 objectFragment\n\
+        ok\n\
+        ok\n\
         ok\n\
         ok\n",
         client: "C2",
@@ -402,27 +433,49 @@ pub(crate) const CASES: [PlanCase; 12] = [
         ],
         tail: "free C2\n\
         pull C2 T1\n\
-        deliver 4\n\
-        deliver 5\n\
+        deliver 8\n\
+        deliver 9\n\
+        deliver 10\n\
+        deliver 11\n\
         show C2 T1 00000000-0000-4000-8000-000000000001\n",
         undone: "ok\n\
         ok\n\
-        sent 4 C2 S1 pullRequest\n\
+        sent 8 C2 S1 pullRequest\n\
         ok\n\
-        sent 5 S1 C2 pullResponse\n\
+        sent 9 S1 C2 pullResponse\n\
+        sent 10 S1 C2 objectFragment\n\
+        sent 11 S1 C2 objectFragment\n\
+        ok\n\
+        ok\n\
         ok\n\
         new C2 T1 00000000-0000-4000-8000-000000000001 1\n\
         position C2 T1 1\n\
-        ok clean 1 h:01010101010101010101010101010101010101010101010101010101010101010101010101010101010\
-        10101010101010101010101010101010101010101010101\n",
+        ok clean 1 h:0101010101010101010101010101010101010101010101010101010101010101010101010101010101010101010101010\
+        101010101010101010101010101010101\n",
+        begun: "ok\n\
+        ok\n\
+        sent 8 C2 S1 tornRowRequest\n\
+        ok\n\
+        sent 9 S1 C2 tornRowResponse\n\
+        sent 10 S1 C2 objectFragment\n\
+        sent 11 S1 C2 objectFragment\n\
+        ok\n\
+        ok\n\
+        ok\n\
+        new C2 T1 00000000-0000-4000-8000-000000000001 1\n\
+        sent 12 C2 S1 pullRequest\n\
+        ok clean 1 h:0101010101010101010101010101010101010101010101010101010101010101010101010101010101010101010101010\
+        101010101010101010101010101010101\n",
         done: "ok\n\
         ok\n\
-        sent 4 C2 S1 pullRequest\n\
+        sent 8 C2 S1 pullRequest\n\
         ok\n\
-        sent 5 S1 C2 pullResponse\n\
+        sent 9 S1 C2 pullResponse\n\
         ok\n\
-        ok clean 1 h:01010101010101010101010101010101010101010101010101010101010101010101010101010101010\
-        10101010101010101010101010101010101010101010101\n",
+        no 29 10\n\
+        no 29 10\n\
+        ok clean 1 h:0101010101010101010101010101010101010101010101010101010101010101010101010101010101010101010101010\
+        101010101010101010101010101010101\n",
     },
     // A newer version of a row that the client has: one chunk takes the place of another.
     PlanCase {
@@ -433,28 +486,36 @@ pub(crate) const CASES: [PlanCase; 12] = [
         write C1 T1 00000000-0000-4000-8000-000000000001 h:00\n\
         sync C1 T1\n\
         deliver 0\n\
-        pull C2 T1\n\
-        deliver 2\n\
-        deliver 3\n\
         deliver 1\n\
+        pull C2 T1\n\
+        deliver 3\n\
+        deliver 4\n\
+        deliver 5\n\
+        deliver 2\n\
         write C1 T1 00000000-0000-4000-8000-000000000001 h:01\n\
         sync C1 T1\n\
-        deliver 4\n\
-        pull C2 T1\n\
         deliver 6\n\
+        deliver 7\n\
+        pull C2 T1\n\
+        deliver 9\n\
         hold C2\n\
-        deliver 7\n",
+        deliver 10\n\
+        deliver 11\n",
         told: "ok 1\n\
         wrote C1 1 T1 00000000-0000-4000-8000-000000000001 0 h:00\n\
         ok 1\n\
         sent 0 C1 S1 syncRequest\n\
+        sent 1 C1 S1 objectFragment\n\
+        ok\n\
         ok\n\
         accepted T1 1 00000000-0000-4000-8000-000000000001 C1 1 0\n\
-        sent 1 S1 C1 syncResponse\n\
+        sent 2 S1 C1 syncResponse\n\
         ok\n\
-        sent 2 C2 S1 pullRequest\n\
+        sent 3 C2 S1 pullRequest\n\
         ok\n\
-        sent 3 S1 C2 pullResponse\n\
+        sent 4 S1 C2 pullResponse\n\
+        sent 5 S1 C2 objectFragment\n\
+        ok\n\
         ok\n\
         new C2 T1 00000000-0000-4000-8000-000000000001 1\n\
         position C2 T1 1\n\
@@ -463,14 +524,18 @@ pub(crate) const CASES: [PlanCase; 12] = [
         ok 2\n\
         wrote C1 2 T1 00000000-0000-4000-8000-000000000001 1 h:01\n\
         ok 1\n\
-        sent 4 C1 S1 syncRequest\n\
+        sent 6 C1 S1 syncRequest\n\
+        sent 7 C1 S1 objectFragment\n\
+        ok\n\
         ok\n\
         accepted T1 2 00000000-0000-4000-8000-000000000001 C1 2 1\n\
-        sent 5 S1 C1 syncResponse\n\
+        sent 8 S1 C1 syncResponse\n\
         ok\n\
-        sent 6 C2 S1 pullRequest\n\
+        sent 9 C2 S1 pullRequest\n\
         ok\n\
-        sent 7 S1 C2 pullResponse\n\
+        sent 10 S1 C2 pullResponse\n\
+        sent 11 S1 C2 objectFragment\n\
+        ok\n\
         ok\n\
         ok\n",
         client: "C2",
@@ -488,24 +553,39 @@ pub(crate) const CASES: [PlanCase; 12] = [
         shows: ["ok clean 1 h:00\n", "ok clean 2 h:01\n"],
         tail: "free C2\n\
         pull C2 T1\n\
-        deliver 8\n\
-        deliver 9\n\
+        deliver 12\n\
+        deliver 13\n\
+        deliver 14\n\
         show C2 T1 00000000-0000-4000-8000-000000000001\n",
         undone: "ok\n\
         ok\n\
-        sent 8 C2 S1 pullRequest\n\
+        sent 12 C2 S1 pullRequest\n\
         ok\n\
-        sent 9 S1 C2 pullResponse\n\
+        sent 13 S1 C2 pullResponse\n\
+        sent 14 S1 C2 objectFragment\n\
+        ok\n\
         ok\n\
         new C2 T1 00000000-0000-4000-8000-000000000001 2\n\
         position C2 T1 2\n\
         ok clean 2 h:01\n",
+        begun: "ok\n\
+        ok\n\
+        sent 12 C2 S1 tornRowRequest\n\
+        ok\n\
+        sent 13 S1 C2 tornRowResponse\n\
+        sent 14 S1 C2 objectFragment\n\
+        ok\n\
+        ok\n\
+        new C2 T1 00000000-0000-4000-8000-000000000001 2\n\
+        sent 15 C2 S1 pullRequest\n\
+        ok clean 2 h:01\n",
         done: "ok\n\
         ok\n\
-        sent 8 C2 S1 pullRequest\n\
+        sent 12 C2 S1 pullRequest\n\
         ok\n\
-        sent 9 S1 C2 pullResponse\n\
+        sent 13 S1 C2 pullResponse\n\
         ok\n\
+        no 29 14\n\
         ok clean 2 h:01\n",
     },
     // The client's own row, which it knows to be accepted: its position alone moves.
@@ -517,23 +597,27 @@ pub(crate) const CASES: [PlanCase; 12] = [
         sync C1 T1\n\
         deliver 0\n\
         deliver 1\n\
-        pull C1 T1\n\
         deliver 2\n\
+        pull C1 T1\n\
+        deliver 3\n\
         hold C1\n\
-        deliver 3\n",
+        deliver 4\n",
         told: "ok 1\n\
         wrote C1 1 T1 00000000-0000-4000-8000-000000000001 0 h:00\n\
         ok 1\n\
         sent 0 C1 S1 syncRequest\n\
+        sent 1 C1 S1 objectFragment\n\
+        ok\n\
         ok\n\
         accepted T1 1 00000000-0000-4000-8000-000000000001 C1 1 0\n\
-        sent 1 S1 C1 syncResponse\n\
+        sent 2 S1 C1 syncResponse\n\
         ok\n\
         acked C1 1 T1 00000000-0000-4000-8000-000000000001 1\n\
         ok\n\
-        sent 2 C1 S1 pullRequest\n\
+        sent 3 C1 S1 pullRequest\n\
         ok\n\
-        sent 3 S1 C1 pullResponse\n\
+        sent 4 S1 C1 pullResponse\n\
+        sent 5 S1 C1 objectFragment\n\
         ok\n\
         ok\n",
         client: "C1",
@@ -548,20 +632,22 @@ pub(crate) const CASES: [PlanCase; 12] = [
         shows: ["ok clean 1 h:00\n", "ok clean 1 h:00\n"],
         tail: "free C1\n\
         pull C1 T1\n\
-        deliver 4\n\
-        deliver 5\n",
+        deliver 6\n\
+        deliver 7\n",
         undone: "ok\n\
         ok\n\
-        sent 4 C1 S1 pullRequest\n\
+        sent 6 C1 S1 pullRequest\n\
         ok\n\
-        sent 5 S1 C1 pullResponse\n\
+        sent 7 S1 C1 pullResponse\n\
+        sent 8 S1 C1 objectFragment\n\
         ok\n\
         position C1 T1 1\n",
+        begun: "",
         done: "ok\n\
         ok\n\
-        sent 4 C1 S1 pullRequest\n\
+        sent 6 C1 S1 pullRequest\n\
         ok\n\
-        sent 5 S1 C1 pullResponse\n\
+        sent 7 S1 C1 pullResponse\n\
         ok\n",
     },
 ];

@@ -14,10 +14,13 @@ write C1 T1 00000000-0000-4000-8000-000000000001 h:00\n\
 sync C1 T1\n\
 deliver 0\n\
 deliver 1\n\
+deliver 2\n\
 write C1 T1 00000000-0000-4000-8000-000000000001 r:65:01\n\
 sync C1 T1\n\
 hold S1\n\
-deliver 2\n";
+deliver 3\n\
+deliver 4\n\
+deliver 5\n";
 
 const UPDATE: [&str; 6] = [
     "log-open",
@@ -106,9 +109,12 @@ impl Played {
     // Up to the update, of which no write is done.
     fn begun(alloc: Global) -> Result<Played, Fail> {
         let told = format!(in alloc;
-            "ok 1\nwrote C1 1 T1 {ROW} 0 h:00\nok 1\nsent 0 C1 S1 syncRequest\n\
-            ok\naccepted T1 1 {ROW} C1 1 0\nsent 1 S1 C1 syncResponse\nok\nacked C1 1 T1 {ROW} 1\n\
-            ok 2\nwrote C1 2 T1 {ROW} 1 h:{OBJECT}\nok 1\nsent 2 C1 S1 syncRequest\nok\nok\n"
+            "ok 1\nwrote C1 1 T1 {ROW} 0 h:00\n\
+            ok 1\nsent 0 C1 S1 syncRequest\nsent 1 C1 S1 objectFragment\n\
+            ok\nok\naccepted T1 1 {ROW} C1 1 0\nsent 2 S1 C1 syncResponse\nok\nacked C1 1 T1 {ROW} 1\n\
+            ok 2\nwrote C1 2 T1 {ROW} 1 h:{OBJECT}\n\
+            ok 1\nsent 3 C1 S1 syncRequest\nsent 4 C1 S1 objectFragment\nsent 5 C1 S1 objectFragment\n\
+            ok\nok\nok\nok\n"
         )?;
         Ok(Played {
             script: texts(alloc, &[BEGUN])?,
@@ -127,7 +133,7 @@ impl Played {
                     &mut self.transcript,
                     "\naccepted T1 2 00000000-0000-4000-8000-000000000001 C1 2 1\n",
                 )?,
-                "log-close" => add(&mut self.transcript, "\nsent 3 S1 C1 syncResponse\n")?,
+                "log-close" => add(&mut self.transcript, "\nsent 6 S1 C1 syncResponse\n")?,
                 _ => add(&mut self.transcript, "\n")?,
             }
         }

@@ -49,25 +49,29 @@ impl Depot for FusedDepot {
     }
 }
 
-// A write that is delivered three times, with a start of the Store before each.
+// A write that is delivered three times, its header and its fragment, with a start of the Store before each.
 const SCRIPT: &str = "store S1\n\
 table T1 notes eventual 64 n:int o:object\n\
 client C1 - T1\n\
 write C1 T1 00000000-0000-4000-8000-000000000001 5 h:00\n\
 sync C1 T1\n\
 deliver 0\n\
+deliver 1\n\
 start S1\n\
 start S1\n\
 deliver 0\n\
+deliver 1\n\
 start S1\n\
 deliver 0\n\
+deliver 1\n\
 sshow T1 00000000-0000-4000-8000-000000000001\n\
 history T1\n";
 
 const WROTE: &str = "ok 1\n\
 wrote C1 1 T1 00000000-0000-4000-8000-000000000001 0 5 h:00\n\
 ok 1\n\
-sent 0 C1 S1 syncRequest\n";
+sent 0 C1 S1 syncRequest\n\
+sent 1 C1 S1 objectFragment\n";
 
 const LAST: &str = "ok 1 5 h:00\n\
 ok 1\n\

@@ -10,6 +10,10 @@ mod crashes;
 #[cfg(test)]
 mod disks;
 #[cfg(test)]
+mod fragment_cases;
+#[cfg(test)]
+mod fragments;
+#[cfg(test)]
 mod limits;
 #[cfg(test)]
 mod runs;

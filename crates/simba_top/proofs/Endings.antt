@@ -10,21 +10,21 @@ use Rattle.table_model.specs.declared.event.Event.{Event}
 use Rattle.table_model.specs.declared.line.TextLine.{TextLine}
 use Rattle.stab_io.specs.Faults.{AppendsFront}
 use Rattle.simba_top.specs.declared.stop.Stop.{Stop}
-use Rattle.simba_top.specs.declared.stop.Stop.TheVariants.{Read, Put, Depot, Memory, BadLine, Limit}
+use Rattle.simba_top.specs.declared.stop.Stop.TheVariants.{Read, Put, Depot, Memory, BadLine, Limit, Sent}
 use Rattle.simba_top.specs.declared.turn.Run.{Run}
 use Rattle.world_tables.specs.Turns.{Happening}
-use Rattle.simba_top.specs.Ends.{IsRun, Tells, IsTextOf}
-use Rattle.simba_top.specs.Faults.{Led, AnyRun}
+use Rattle.simba_top.specs.Ends.{IsRun, IsNext, Tells, IsTextOf}
+use Rattle.simba_top.specs.Faults.{Led, AnyRun, GoesOver}
 use Rattle.script_text.specs.declared.fault.BadLine.{BadLine as ABadLine}
 use Rattle.script_text.specs.Names.{Names}
 use Rattle.transcript_text.specs.Text.{stop_text, transcript_text}
 use Rattle.simba_top.specs.Script.{IsFront}
 use Rattle.simba_top.specs.Stands.{Goes, GoesOn, IsCause, EndedBy, Stopped, IsDone, Leads}
 use Rattle.simba_top.proofs.Puts.{added_then}
-use Rattle.world_tables.specs.World.{start}
-use Rattle.world_tables.specs.Turns.{world_from}
-use Rattle.world_steps.specs.declared.world.World.{World}
-use Rattle.world_steps.specs.Faults.{IsUndone}
+use Rattle.wire_tables.specs.Wire.{start}
+use Rattle.wire_tables.specs.Runs.{wire_from}
+use Rattle.wire_steps.specs.declared.world.World.{World}
+use Rattle.wire_steps.specs.Steps.{IsUndone}
 use Rattle.simba_top.proofs.Sounds.{is_run, run_still}
 
 pub same_count : {D : Type 0} (old new : Run D) → new ≡ record old { reader = new.reader } → new.count ≡ old.count
@@ -32,50 +32,61 @@ same_count {D} old new same = ap (λ (run : Run D). run.count) same
 
 -- ---- runs of which less is said
 
-module _ (P Q : List Happening → Type 0) (f : (run : List Happening) → P run → Q run) where
-  run_map : (script : List Event) (lines : List TextLine) → IsRun P script lines → IsRun Q script lines
-  run_map script lines r = record { run = r.run; events = r.events; lines_are = r.lines_are; sound = r.sound; listed = r.listed; asked = r.asked; phases = r.phases; kept = f r.run r.kept }
+pub run_map : (P Q : List Happening → Type 0) → ((run : List Happening) → P run → Q run) → (script : List Event) (lines : List TextLine) → IsRun P script lines → IsRun Q script lines
+run_map P Q f script lines r = record { run = r.run; events = r.events; lines_are = r.lines_are; sound = r.sound; listed = r.listed; asked = r.asked; phases = r.phases; kept = f r.run r.kept }
 
-  tells_map : (script : List Event) (before after : Option (List ℕ)) → Tells P script before after → Tells Q script before after
-  tells_map script before after t = (t.0, run_map script t.0 t.1, t.2)
+tells_map : (P Q : List Happening → Type 0) → ((run : List Happening) → P run → Q run) → (script : List Event) (before after : Option (List ℕ)) → Tells P script before after → Tells Q script before after
+tells_map P Q f script before after t = (t.0, run_map P Q f script t.0 t.1, t.2)
+
+module _ (P Q : List Happening → Type 0) (f : (run : List Happening) → P run → Q run) where
+  over_map : (event : Event) (run : List Happening) → GoesOver P event run → GoesOver Q event run
+  over_map event run o = record { lucks = o.lucks; over = o.over; kept = f (run ++ record { event = event; lucks = o.lucks } ∷ []) o.kept }
+
+  text_map : (input text : List ℕ) → IsTextOf P input text → IsTextOf Q input text
+  text_map input text (inl t) = inl (t.0, t.1, run_map P Q f t.0 t.1 t.2, t.3)
+  text_map input text (inr t) = inr (t.0, t.1, t.2, t.3, t.4, run_map (GoesOver P t.3) (GoesOver Q t.3) (over_map t.3) t.0 t.1 t.5, t.6)
 
   pub ended_map : (stop : Stop) (input : List ℕ) (count : ℕ) (left before after : Option (List ℕ)) → EndedBy P stop input count left before after → EndedBy Q stop input count left before after
-  ended_map Read input count left before after e = (e.0, e.1, tells_map e.0 before after e.2)
-  ended_map Put input count left before after e = (e.0, (e.1.0, e.1.1, run_map e.1.0 e.1.1 e.1.2, e.1.3), e.2)
-  ended_map Depot input count left before after e = (e.0, e.1, tells_map e.0 before after e.2)
+  ended_map Read input count left before after e = (e.0, e.1, tells_map P Q f e.0 before after e.2)
+  ended_map Put input count left before after e = (e.0, text_map input e.0 e.1, e.2)
+  ended_map Depot input count left before after e = (e.0, e.1, tells_map P Q f e.0 before after e.2)
   ended_map Memory input count left before after e = e
-  ended_map (BadLine fault) input count left before after e = (e.0, e.1, tells_map e.0 before after e.2)
-  ended_map (Limit limit) input count left before after e = (e.0, e.1, tells_map e.0 before after e.2)
+  ended_map (BadLine fault) input count left before after e = (e.0, e.1, tells_map P Q f e.0 before after e.2)
+  ended_map (Limit limit) input count left before after e = (e.0, e.1, tells_map P Q f e.0 before after e.2)
+  ended_map Sent input count left before after e = (e.0, e.1, e.2, tells_map (GoesOver P e.1) (GoesOver Q e.1) (over_map e.1) e.0 before after e.3)
 
   pub done_map : (input : List ℕ) (before after : Option (List ℕ)) → IsDone P input before after → IsDone Q input before after
-  done_map input before after d = (d.0, d.1, tells_map d.0 before after d.2)
+  done_map input before after d = (d.0, d.1, tells_map P Q f d.0 before after d.2)
 
 tells_any : (P : List Happening → Type 0) (script : List Event) (before after : Option (List ℕ)) → Tells P script before after → Tells AnyRun script before after
 tells_any P script before after t = tells_map P AnyRun (λ run kept. tt) script before after t
 
 -- a run that stops before a line is carried out has written the transcript of the lines before it
 pub ended : (P : List Happening → Type 0) (stop : Stop) (input : List ℕ) (script : List Event) (count count' : ℕ) (left before now : Option (List ℕ)) → count' ≡ count
-    → IsCause stop input script count left → Tells P script before now → EndedBy P stop input count' left before now
-ended P Read input script count count' left before now same cause told = (script, cause, told)
-ended P Put input script count count' left before now same cause told = absurd cause
-ended P Depot input script count count' left before now same cause told = (script, rw same cause, told)
-ended P Memory input script count count' left before now same cause told = (script, rw same cause, tells_any P script before now told)
-ended P (BadLine fault) input script count count' left before now same cause told = (script, rw same cause, told)
-ended P (Limit limit) input script count count' left before now same cause told = (script, rw same cause, told)
+    → IsCause stop input script count left → stop ≢ Sent → Tells P script before now → EndedBy P stop input count' left before now
+ended P Read input script count count' left before now same cause other told = (script, cause, told)
+ended P Put input script count count' left before now same cause other told = absurd cause
+ended P Depot input script count count' left before now same cause other told = (script, rw same cause, told)
+ended P Memory input script count count' left before now same cause other told = (script, rw same cause, tells_any P script before now told)
+ended P (BadLine fault) input script count count' left before now same cause other told = (script, rw same cause, told)
+ended P (Limit limit) input script count count' left before now same cause other told = (script, rw same cause, told)
+ended P Sent input script count count' left before now same cause other told = absurd (other refl)
 
 -- memory was refused, or the transcript is of a run that has P
 pub ended_left : (P Q : List Happening → Type 0) (stop : Stop) (input : List ℕ) (script : List Event) (count count' : ℕ) (left before now : Option (List ℕ)) → count' ≡ count
-    → IsCause stop input script count left → Tells Q script before now → (stop ≢ Memory → Tells P script before now) → EndedBy P stop input count' left before now
-ended_left P Q Read input script count count' left before now same cause told f = (script, cause, f (λ is. absurd cc))
-ended_left P Q Put input script count count' left before now same cause told f = absurd cause
-ended_left P Q Depot input script count count' left before now same cause told f = (script, rw same cause, f (λ is. absurd cc))
-ended_left P Q Memory input script count count' left before now same cause told f = (script, rw same cause, tells_any Q script before now told)
-ended_left P Q (BadLine fault) input script count count' left before now same cause told f = (script, rw same cause, f (λ is. absurd cc))
-ended_left P Q (Limit limit) input script count count' left before now same cause told f = (script, rw same cause, f (λ is. absurd cc))
+    → IsCause stop input script count left → Tells Q script before now → (stop ≢ Memory → stop ≢ Sent → Tells P script before now)
+    → (stop ≡ Sent → (event : Event) × IsNext input script count event × Tells (GoesOver P event) script before now) → EndedBy P stop input count' left before now
+ended_left P Q Read input script count count' left before now same cause told f over = (script, cause, f (λ is. absurd cc) (λ is. absurd cc))
+ended_left P Q Put input script count count' left before now same cause told f over = absurd cause
+ended_left P Q Depot input script count count' left before now same cause told f over = (script, rw same cause, f (λ is. absurd cc) (λ is. absurd cc))
+ended_left P Q Memory input script count count' left before now same cause told f over = (script, rw same cause, tells_any Q script before now told)
+ended_left P Q (BadLine fault) input script count count' left before now same cause told f over = (script, rw same cause, f (λ is. absurd cc) (λ is. absurd cc))
+ended_left P Q (Limit limit) input script count count' left before now same cause told f over = (script, rw same cause, f (λ is. absurd cc) (λ is. absurd cc))
+ended_left P Q Sent input script count count' left before now same cause told f over = let o = over refl in (script, o.0, rw same o.1, o.2)
 
 -- an event isn't carried out
 pub still_tells : {D : Type 0} (state : D → DiskState) (script : List Event) (told : List TextLine) (world new : World D) (is_out out : ℕ → Bool) (before now : Option (List ℕ))
-    → (leads : Leads state script told world is_out) → IsUndone state (world_from start leads.run) out world new → Appends before now (transcript_text told) → Tells (Led state new) script before now
+    → (leads : Leads state script told world is_out) → IsUndone state (wire_from start leads.run) out world new → Appends before now (transcript_text told) → Tells (Led state new) script before now
 still_tells state script told world new is_out out before now leads u was = (told, run_still state script told world is_out leads new out u, was)
 
 world_same : {D : Type 0} (old new : Run D) → new ≡ record old { reader = new.reader } → new.world ≡ old.world
@@ -104,7 +115,7 @@ module _ {D : Type 0} (state : D → DiskState) (input : List ℕ) (told : List 
   pub put_failed : AppendsFront mid now (flat_map (λ (text : List ℕ). text) texts) → (text : List ℕ) × IsTextOf (Led state run.world) input text × AppendsFront before now text
   put_failed put = (
     transcript_text goes.1,
-    (goes.0, goes.1, is_run state goes.0 goes.1 run.world is_out goes.2.world, inl (run.count, run.names, goes.2.rest, goes.2.front, refl)),
+    inl (goes.0, goes.1, is_run state goes.0 goes.1 run.world is_out goes.2.world, inl (run.count, run.names, goes.2.rest, goes.2.front, refl)),
     subst (λ (text : List ℕ). AppendsFront before now text) (sym goes.3)
         (added_then before mid now (transcript_text told) (flat_map (λ (text : List ℕ). text) texts) was put),
   )
@@ -139,7 +150,7 @@ stopped_bad P input left before mid now count fault (Err stop) ended (inl refuse
 stopped_bad P input left before mid now count fault (Err stop) ended (inr failed) =
     let t = ended.2 in
     rw failed.0 (no_put input left before mid now ended.0 count (stop_text 3 (count + 1) fault.code ++ 10 ∷ []) P t
-    (ended.0, t.0, t.1, inr (inl (count, fault, ended.1, refl))) failed.1)
+    (inl (ended.0, t.0, t.1, inr (inl (count, fault, ended.1, refl)))) failed.1)
 
 pub stopped_limit : (P : List Happening → Type 0) (input : List ℕ) (left before mid now : Option (List ℕ)) (count limit : ℕ) (put : Result (Unit {0}) Stop)
     → EndedBy P (Limit limit) input count left before mid → Written mid now (stop_text 7 (count + 1) limit ++ 10 ∷ []) put
@@ -152,7 +163,24 @@ stopped_limit P input left before mid now count limit (Err stop) ended (inl refu
 stopped_limit P input left before mid now count limit (Err stop) ended (inr failed) =
     let t = ended.2 in
     rw failed.0 (no_put input left before mid now ended.0 count (stop_text 7 (count + 1) limit ++ 10 ∷ []) P t
-    (ended.0, t.0, t.1, inr (inr (count, limit, ended.1, refl))) failed.1)
+    (inl (ended.0, t.0, t.1, inr (inr (count, limit, ended.1, refl)))) failed.1)
+
+pub stopped_over : (P : List Happening → Type 0) (input : List ℕ) (left before mid now : Option (List ℕ)) (count : ℕ) (put : Result (Unit {0}) Stop)
+    → EndedBy P Sent input count left before mid → Written mid now (stop_text 7 (count + 1) 10 ++ 10 ∷ []) put
+    → Stopped P (unwrap_or (result_err put) Sent) input left before now
+stopped_over P input left before mid now count (Ok done) ended put =
+    let t = ended.3 in
+    (ended.0, count, ended.1, ended.2, (t.0, t.1, Appends-trans before mid now (transcript_text t.0) (stop_text 7 (count + 1) 10 ++ 10 ∷ []) t.2 put))
+stopped_over P input left before mid now count (Err stop) ended (inl refused) =
+    rw refused.0 (no_memory input left before mid now ended.0 count (stop_text 7 (count + 1) 10 ++ 10 ∷ []) (GoesOver P ended.1) ended.3 ended.2.names ended.2.rest ended.2.front refused.1)
+stopped_over P input left before mid now count (Err stop) ended (inr failed) =
+    let t = ended.3 in
+    let text = stop_text 7 (count + 1) 10 ++ 10 ∷ [] in
+    rw failed.0 (
+      transcript_text t.0 ++ text,
+      inr (ended.0, t.0, count, ended.1, ended.2, t.1, refl),
+      added_then before mid now (transcript_text t.0) text t.2 failed.1,
+    )
 
 -- the same at the end
 pub stopped_map : (P Q : List Happening → Type 0) → ((run : List Happening) → P run → Q run) → (stop : Stop) (input : List ℕ) (left before after : Option (List ℕ))
@@ -163,3 +191,4 @@ stopped_map P Q f Depot input left before after s = (s.0, ended_map P Q f Depot 
 stopped_map P Q f Memory input left before after s = s
 stopped_map P Q f (BadLine fault) input left before after s = (s.0, s.1, s.2, (s.3.0, run_map P Q f s.0 s.3.0 s.3.1, s.3.2))
 stopped_map P Q f (Limit limit) input left before after s = (s.0, s.1, s.2, (s.3.0, run_map P Q f s.0 s.3.0 s.3.1, s.3.2))
+stopped_map P Q f Sent input left before after s = (s.0, s.1, s.2, s.3, (s.4.0, run_map (GoesOver P s.2) (GoesOver Q s.2) (over_map P Q f s.2) s.0 s.4.0 s.4.1, s.4.2))

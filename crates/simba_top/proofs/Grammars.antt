@@ -1,6 +1,6 @@
 -- A line has one meaning behind the same names: it is passed over, spells one event, is at fault, or passes a
 -- limit.
-use Rattle.script_text.specs.Words.{words_of}
+use Rattle.script_words.specs.Words.{words_of}
 use Rattle.script_text.proofs.Spelled.{one_event}
 use Rattle.script_text.proofs.FaultLaws.{passed_event, fault_apart, limit_event, one_fault, one_limit}
 use Rattle.simba_top.proofs.Fronts.{Grammar}

@@ -5,7 +5,6 @@ pub mod Grammars
 pub mod Complete
 pub mod OneEnd
 pub mod Puts
-pub mod Histories
 pub mod Sounds
 pub mod Underway
 pub mod Counts

@@ -7,11 +7,11 @@ use Rattle.stab_io.specs.Faults.{Rose}
 use Rattle.script_text.specs.declared.fault.BadLine.{BadLine as ABadLine}
 use Rattle.script_text.specs.Names.{Names}
 use Rattle.simba_top.specs.declared.stop.Stop.{Stop}
-use Rattle.simba_top.specs.declared.stop.Stop.TheVariants.{Read, Put, Depot, Memory, BadLine, Limit}
+use Rattle.simba_top.specs.declared.stop.Stop.TheVariants.{Read, Put, Depot, Memory, BadLine, Limit, Sent}
 use Rattle.simba_top.specs.Script.{IsFront, IsWhole}
 use Rattle.world_tables.specs.Turns.{Happening}
 use Rattle.simba_top.specs.Faults.{AnyRun}
-use Rattle.simba_top.specs.Ends.{IsBadAt, IsLimitAt, IsCutOff, Tells, TellsStop}
+use Rattle.simba_top.specs.Ends.{IsBadAt, IsLimitAt, IsCutOff, Tells, TellsStop, TellsOver}
 use Rattle.simba_top.specs.Stops.{status_of}
 use Rattle.simba_top.specs.Stands.{Stopped, IsDone, CountsReads, CountsPuts, CountsDepots}
 use Rattle.simba_top.proofs.Fronts.{Grammar}
@@ -46,6 +46,7 @@ module _ (P : List Happening → Type 0) (left left' held held' : Option (List �
   done (Err Memory) came is = absurd (omega arith)
   done (Err (BadLine fault)) came is = absurd (omega arith)
   done (Err (Limit limit)) came is = absurd (omega arith)
+  done (Err Sent) came is = absurd (omega arith)
 
   abbrev BadLineOf : List ℕ → Type 0
   BadLineOf input = (script : List Event) × (count : ℕ) × (fault : ABadLine) × IsBadAt input script count fault
@@ -61,15 +62,17 @@ module _ (P : List Happening → Type 0) (left left' held held' : Option (List �
   bad_line (Err Depot) came is = absurd (omega arith)
   bad_line (Err Memory) came is = absurd (omega arith)
   bad_line (Err (Limit limit)) came is = absurd (omega arith)
+  bad_line (Err Sent) came is = absurd (omega arith)
 
   abbrev LimitOf : List ℕ → Type 0
-  LimitOf input = (script : List Event) × (count limit : ℕ) × IsLimitAt input script count limit
-      × TellsStop P script 7 (count + 1) limit held held'
+  LimitOf input = ((script : List Event) × (count limit : ℕ) × IsLimitAt input script count limit
+      × TellsStop P script 7 (count + 1) limit held held') ⊎ TellsOver P input held held'
 
   pub limit_passed : (ended : Result (Unit {0}) Stop) → Came ended → status_of ended ≡ 7 → IfSome left LimitOf
   limit_passed (Err (Limit limit)) came is =
       if_some_map (λ input. Stopped P (Limit limit) input left' held held') LimitOf left
-      (λ input at. (at.0, at.1, limit, at.2, at.3)) came.stopped
+      (λ input at. inl (at.0, at.1, limit, at.2, at.3)) came.stopped
+  limit_passed (Err Sent) came is = if_some_map (λ input. Stopped P Sent input left' held held') LimitOf left (λ input at. inr at) came.stopped
   limit_passed (Ok over) came is = absurd (omega arith)
   limit_passed (Err Read) came is = absurd (omega arith)
   limit_passed (Err Put) came is = absurd (omega arith)
@@ -93,6 +96,7 @@ module _ (P : List Happening → Type 0) (left left' held held' : Option (List �
   read (Err Memory) came is = absurd (omega arith)
   read (Err (BadLine fault)) came is = absurd (omega arith)
   read (Err (Limit limit)) came is = absurd (omega arith)
+  read (Err Sent) came is = absurd (omega arith)
 
   abbrev NoMemory : List ℕ → Type 0
   NoMemory input = (script : List Event) × (count : ℕ) × (names : Names) × (rest : List ℕ) × IsFront input script count names rest × Tells AnyRun script held held'
@@ -110,6 +114,7 @@ module _ (P : List Happening → Type 0) (left left' held held' : Option (List �
   memory (Err Put) came is = absurd (omega arith)
   memory (Err (BadLine fault)) came is = absurd (omega arith)
   memory (Err (Limit limit)) came is = absurd (omega arith)
+  memory (Err Sent) came is = absurd (omega arith)
 
   pub depot : (ended : Result (Unit {0}) Stop) → Came ended → status_of ended ≡ 8 → (depots < depots') × IfSome left NoDepot
   depot (Err Depot) came is = (
@@ -123,18 +128,20 @@ module _ (P : List Happening → Type 0) (left left' held held' : Option (List �
   depot (Err Memory) came is = absurd (omega arith)
   depot (Err (BadLine fault)) came is = absurd (omega arith)
   depot (Err (Limit limit)) came is = absurd (omega arith)
+  depot (Err Sent) came is = absurd (omega arith)
 
   -- where the whole input spells a script and no fault came
   abbrev Completes : ℕ → List ℕ → Type 0
   Completes status input = (script : List Event) → IsWhole input script
-      → reads' ≡ reads → reads < 2 ^ 64 - 1 → puts' ≡ puts → puts < 2 ^ 64 - 1 → depots' ≡ depots → (status ≡ 0) ⊎ (status ≡ 6)
+      → reads' ≡ reads → reads < 2 ^ 64 - 1 → puts' ≡ puts → puts < 2 ^ 64 - 1 → depots' ≡ depots
+      → (status ≡ 0) ⊎ ((status ≡ 6) ⊎ ((status ≡ 7) × TellsOver P input held held'))
 
   given : (R : List ℕ → Type 0) → ((input : List ℕ) → R input) → IfSome left R
   given R f = elim left as (λ (o : Option (List ℕ)). IfSome o R) [ None ↦ tt | Some input ↦ f input ]
 
   pub complete : Grammar → (ended : Result (Unit {0}) Stop) → Came ended → IfSome left (Completes (status_of ended))
   complete grammar (Ok over) came = given (Completes 0) (λ input script whole r rb p pb d. inl refl)
-  complete grammar (Err Memory) came = given (Completes 6) (λ input script whole r rb p pb d. inr refl)
+  complete grammar (Err Memory) came = given (Completes 6) (λ input script whole r rb p pb d. inr (inl refl))
   complete grammar (Err Read) came =
       given (Completes 4) (λ input script whole r rb p pb d. absurd (unrisen reads (subst (Rose reads) r came.reads_counted) rb))
   complete grammar (Err Put) came =
@@ -147,6 +154,9 @@ module _ (P : List Happening → Type 0) (left left' held held' : Option (List �
   complete grammar (Err (Limit limit)) came =
       if_some_map (λ input. Stopped P (Limit limit) input left' held held') (Completes 7) left
       (λ input at script whole r rb p pb d. absurd (not_limit grammar input at.0 script at.1 limit at.2 whole)) came.stopped
+  complete grammar (Err Sent) came =
+      if_some_map (λ input. Stopped P Sent input left' held held') (Completes 7) left
+      (λ input at script whole r rb p pb d. inr (inr (refl, at))) came.stopped
 
   -- each disk has gone back, unless memory was refused
   pub backed : (is_out : ℕ → Bool) (ended : Result (Unit {0}) Stop) → OnOk ended ((k : ℕ) → is_out k ≡ false) → IfErr ended (λ stop. stop ≢ Memory → (k : ℕ) → is_out k ≡ false)
@@ -158,3 +168,4 @@ module _ (P : List Happening → Type 0) (left left' held held' : Option (List �
   backed is_out (Err Depot) ok err other = err (λ is. absurd cc)
   backed is_out (Err (BadLine fault)) ok err other = err (λ is. absurd cc)
   backed is_out (Err (Limit limit)) ok err other = err (λ is. absurd cc)
+  backed is_out (Err Sent) ok err other = err (λ is. absurd cc)

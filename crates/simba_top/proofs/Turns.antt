@@ -1,7 +1,7 @@
 -- A run goes on by one line.
-use Rattle.std.proofs.Common.{◌≡◌, ◌⊎◌, inl, inr, ℕ, ◌+◌, ◌-◌, ◌<◌, ◌≤◌, lit≤, Bool, true, false, cond, List, [], ◌∷◌, ◌++◌, length, map, Option, Some, None, refl, sym, ap, subst, ◌∙◌, append-nil}
+use Rattle.std.proofs.Common.{◌≡◌, ◌⊎◌, ⊎_elim, inl, inr, ℕ, ◌+◌, ◌-◌, ◌<◌, ◌≤◌, lit≤, Bool, true, false, cond, List, [], ◌∷◌, ◌++◌, length, map, Option, Some, None, refl, sym, ap, subst, ◌∙◌, append-nil}
 use Rattle.std.proofs.Common.{length-append, arith}
-use Rattle.std.specs.Prelude.{IfSome, IfNone, IsSomeAnd, MatchOption}
+use Rattle.std.specs.Prelude.{◌==◌, IfSome, IfNone, IfErr, IsSomeAnd, MatchOption, Result, Ok, Err, if◌then◌else◌}
 use Rattle.std.specs.Global.{Vec}
 use Rattle.std.specs.List.{flat_map}
 use Rattle.std.specs.Io.KnownBytes.{Keeps}
@@ -11,8 +11,8 @@ use Rattle.std.proofs.lemmas.List.Folds.{flat_map-map}
 use Rattle.table_model.specs.declared.event.Event.{Event}
 use Rattle.table_model.specs.declared.line.TextLine.{TextLine}
 use Rattle.disk_trait.specs.Calls.{DiskState}
-use Rattle.world_tables.specs.World.{start}
-use Rattle.world_tables.specs.Turns.{world_from}
+use Rattle.wire_tables.specs.Wire.{start}
+use Rattle.wire_tables.specs.Runs.{wire_from}
 use Rattle.stab_io.specs.Lines.{Next, Line, End, LineTooLong, InputTooLong, next_of}
 use Rattle.stab_io.specs.Reading.{Reading, ahead, IsNextLine, ComesNext, CountsAll, IsFirstPast, IsUnfinished}
 use Rattle.stab_io.specs.declared.line_fault.LineFault.{LineFault}
@@ -28,20 +28,21 @@ use Rattle.simba_top.specs.declared.stop.Stop.TheVariants as stops
 use Rattle.simba_top.specs.declared.turn.Run.{Run}
 use Rattle.simba_top.specs.declared.run.TheConstants.{MOST_LINES}
 use Rattle.fair_laws.specs.Reached.{IsBuilt}
-use Rattle.world_steps.specs.Holds.{Holds}
-use Rattle.world_steps.specs.Steps.{IsStep, Spends}
-use Rattle.world_steps.specs.Faults.{all_faults}
-use Rattle.world_steps.proofs.Counted.{no_faults}
+use Rattle.node_steps.specs.declared.fault.WorldFault.{WorldFault}
+use Rattle.node_steps.specs.declared.fault.WorldFault.TheVariants as world_faults
+use Rattle.node_steps.proofs.Counted.{no_faults}
+use Rattle.wire_steps.specs.Holds.{Holds}
+use Rattle.wire_steps.specs.Steps.{IsStep, Spends, all_faults}
 use Rattle.simba_top.specs.Faults.{Matches}
-use Rattle.world_steps.specs.declared.fault.WorldFault.{WorldFault}
-use Rattle.world_steps.specs.declared.fault.WorldFault.TheVariants as world_faults
 use Rattle.simba_top.specs.RowNames.{HasRows, FewRows, IsRowCause}
 use Rattle.simba_top.specs.declared.row_names.RowNames.{RowNames}
 use Rattle.simba_top.specs.Script.{next_in, IsFront, IsWhole}
-use Rattle.simba_top.specs.Stops.{of_line, of_world}
-use Rattle.simba_top.specs.Ends.{IsFull, IsLimitAt, IsCutOff}
+use Rattle.script_text.specs.declared.fault.ScriptFault.{ScriptFault}
+use Rattle.script_text.specs.declared.fault.ScriptFault.TheVariants as script_faults
+use Rattle.simba_top.specs.Stops.{of_line, of_script, of_world}
+use Rattle.simba_top.specs.Ends.{IsFull, IsLimitAt, IsCutOff, IsNext}
 use Rattle.simba_top.specs.Stands.{IsReady, plans_from, IsUnderway, Leads, Stands, HasLine, GoesOn, IsCause}
-use Rattle.world_steps.specs.declared.world.World.{World}
+use Rattle.wire_steps.specs.declared.world.World.{World}
 use Rattle.simba_top.proofs.Fronts.{front_start, front_passed, front_event}
 use Rattle.simba_top.proofs.Sounds.{leads_on}
 use Rattle.simba_top.proofs.Counts.{not_spent}
@@ -60,7 +61,7 @@ known (Some x) f = f x refl
 
 -- a world of which nothing was asked has no disks
 counted_new : {D : Type 0} (state : D → DiskState) (world : World D) (is_out : ℕ → Bool) → Holds state start world → ((k : ℕ) → is_out k ≡ false) → Matches 0 (all_faults state world)
-counted_new state world is_out held none = let z = no_faults state world held in record { few = omega arith; one = λ up. absurd (omega (arith, up, z)) }
+counted_new state world is_out held none = let z = no_faults state world.nodes held.nodes in record { few = omega arith; one = λ up. absurd (omega (arith, up, z)) }
 
 -- the run at its start
 leads_new : {D : Type 0} (state : D → DiskState) (world : World D) (is_out : ℕ → Bool) → Holds state start world → ((k : ℕ) → is_out k ≡ false) → Leads state [] [] world is_out
@@ -244,18 +245,75 @@ step_texts told lines texts text =
     ∙ ap (λ (bytes : List ℕ). transcript_text told ++ bytes)
     (sym (ap (λ (ts : List (List ℕ)). flat_map (λ (text : List ℕ). text) ts) text ∙ flat_map-map (λ (text : List ℕ). text) whole lines))
 
+-- ---- why an event isn't carried out
+
+-- so does the fault of an event that isn't carried out, of a run that has begun so many plans
+abbrev pub IsSpent : {D : Type 0} (state : D → DiskState) (is_out : ℕ → Bool) (run : Run D) → IsUnderway state is_out run → Event → WorldFault → Type 0
+IsSpent state is_out run here event fault = (code count : ℕ) → fault ≡ world_faults.Limit code count
+    → (code ≡ 10) ⊎ ((code ≡ 11) × Spends (plans_from start here.happenings) (wire_from start here.happenings).world event)
+
+limits_as : (code : ℕ) → code ≡ 10 → of_world (world_faults.Limit code 0) ≡ stops.Sent
+limits_as code is = ap (λ (n : ℕ). of_world (world_faults.Limit n 0)) is
+
 -- no number is spent yet
 module _ {D : Type 0} (state : D → DiskState) (is_out : ℕ → Bool) (run : Run D) (here : IsUnderway state is_out run) (few : run.count < MOST_LINES) (event : Event) where
-  not_past : (code count : ℕ) → (code ≡ 11) × Spends (plans_from start here.happenings) (world_from start here.happenings) event → ⊥
-  not_past code count spent = not_spent here.happenings (let least = here.few in omega (arith, least, few)) event spent.1
+  not_past : Spends (plans_from start here.happenings) (wire_from start here.happenings).world event → ⊥
+  not_past spent = not_spent here.happenings here.built (let least = here.few in omega (arith, least, few)) event spent
 
-  -- so the depot failed, where memory sufficed
-  pub depot_failed : (fault : WorldFault) → (of_world fault ≡ stops.Memory → ⊥)
-      → ((code count : ℕ) → fault ≡ world_faults.Limit code count → (code ≡ 11) × Spends (plans_from start here.happenings) (world_from start here.happenings) event)
-      → fault ≡ world_faults.Depot
-  depot_failed world_faults.Memory ample spent = absurd (ample refl)
-  depot_failed world_faults.Depot ample spent = refl
-  depot_failed (world_faults.Limit code count) ample spent = absurd (not_past code count (spent code count refl))
+  -- so a limit is of the bytes that were sent
+  pub is_sent : (code count : ℕ) → IsSpent state is_out run here event (world_faults.Limit code count) → code ≡ 10
+  is_sent code count spent = ⊎_elim (λ is. is) (λ past. absurd (not_past past.1)) (spent code count refl)
+
+  -- and else the depot failed, where memory sufficed
+  pub depot_failed : (fault : WorldFault) → (of_world fault ≡ stops.Memory → ⊥) → (of_world fault ≡ stops.Sent → ⊥) → IsSpent state is_out run here event fault → fault ≡ world_faults.Depot
+  depot_failed world_faults.Memory ample sent spent = absurd (ample refl)
+  depot_failed world_faults.Depot ample sent spent = refl
+  depot_failed (world_faults.Limit code count) ample sent spent = absurd (sent (limits_as code (is_sent code count spent)))
+
+-- a run that sends too much stops for it
+pub stops_sent : (fault : WorldFault) → of_world fault ≡ stops.Sent → (count : ℕ) × (fault ≡ world_faults.Limit 10 count)
+stops_sent world_faults.Memory is = absurd cc
+stops_sent world_faults.Depot is = absurd cc
+stops_sent (world_faults.Limit code count) is = (count, ap (λ (n : ℕ). world_faults.Limit n count) (eqb-true code 10 (go (code == 10) is)))
+  where
+    go : (b : Bool) → (if b then stops.Sent else stops.Limit code) ≡ stops.Sent → b ≡ true
+    go true e = refl
+    go false e = absurd cc
+
+-- a fault is limit 10, or another
+pub no_limit_ten : (fault : WorldFault) → (of_world fault ≡ stops.Sent → ⊥) → (count : ℕ) → fault ≡ world_faults.Limit 10 count → ⊥
+no_limit_ten fault other count is = other (ap of_world is)
+
+pub by_sent : {P : Type 0} (fault : WorldFault) → ((count : ℕ) → fault ≡ world_faults.Limit 10 count → P) → ((of_world fault ≡ stops.Sent → ⊥) → P) → P
+by_sent world_faults.Memory sent other = other (λ is. absurd cc)
+by_sent world_faults.Depot sent other = other (λ is. absurd cc)
+by_sent {P} (world_faults.Limit code count) sent other = go (code == 10) refl
+  where
+    go : (b : Bool) → (code == 10) ≡ b → P
+    go true e = sent count (ap (λ (n : ℕ). world_faults.Limit n count) (eqb-true code 10 e))
+    go false e = other (λ is. let bad : stops.Limit code ≡ stops.Sent = sym (ap (λ (b : Bool). if b then stops.Sent else stops.Limit code) e) ∙ is in absurd cc)
+
+-- nor is what is wrong in a line
+pub script_not_sent : {P : Type 0} (fault : ScriptFault) → of_script fault ≡ stops.Sent → P
+script_not_sent script_faults.Memory is = absurd cc
+script_not_sent (script_faults.Limit limit) is = absurd cc
+script_not_sent (script_faults.BadLine fault) is = absurd cc
+
+-- which event it is
+pub event_over : {T : Type 0} (result : Result T Stop) (event : Event) (P Q : Event → Type 0) → IfErr result (λ stop. stop ≡ stops.Sent → P event × Q event)
+    → IfErr result (λ stop. stop ≡ stops.Sent → (e : Event) × P e × Q e)
+event_over (Ok done) event P Q k = tt
+event_over (Err stop) event P Q k = λ is. let both = k is in (event, both.0, both.1)
+
+-- a line that names one row too many isn't such a one
+pub row_not_sent : {P : Type 0} (script : List Event) (event : Event) (stop : Stop) → IsRowCause script event stop → stop ≡ stops.Sent → P
+row_not_sent script event stops.Memory cause is = absurd cc
+row_not_sent script event (stops.Limit limit) cause is = absurd cc
+row_not_sent script event stops.Read cause is = absurd cause
+row_not_sent script event stops.Put cause is = absurd cause
+row_not_sent script event stops.Depot cause is = absurd cause
+row_not_sent script event (stops.BadLine fault) cause is = absurd cause
+row_not_sent script event stops.Sent cause is = absurd cause
 
 module _ {D : Type 0} (state : D → DiskState) (input : List ℕ) (script : List Event) (told : List TextLine) (line : List ℕ) (run : Run D) (is_out : ℕ → Bool)
     (left : Option (List ℕ)) (has : HasLine state input script told line run is_out left) (few : run.count < MOST_LINES) where
@@ -277,7 +335,7 @@ module _ {D : Type 0} (state : D → DiskState) (input : List ℕ) (script : Lis
   pub carries_out : (images : D → ℕ → List ℕ → Type 0) (event : Event) (names : Names) (rows : RowNames) (world : World D) (out : ℕ → Bool) (lines : List TextLine) (texts : List (List ℕ))
       → Spells run.names line event → names ≡ with_event run.names event
       → HasRows (script ++ event ∷ []) rows → FewRows (script ++ event ∷ [])
-      → IsBuilt event → IsStep state images (world_from start has.world.run) event lines out run.world world
+      → IsBuilt event → IsStep state images (wire_from start has.world.run) event lines out run.world world
       → texts ≡ map (λ (line : TextLine). text_of line ++ 10 ∷ []) lines
       → GoesOn state input told (record run { names = names; rows = rows; world = world; count = run.count + 1 }) out left texts
   carries_out images event names rows world out lines texts spells named has_rows few_rows built step text = (
@@ -308,10 +366,26 @@ module _ {D : Type 0} (state : D → DiskState) (input : List ℕ) (script : Lis
   row_stops event stops.Put spells cause = absurd cause
   row_stops event stops.Depot spells cause = absurd cause
   row_stops event (stops.BadLine fault) spells cause = absurd cause
+  row_stops event stops.Sent spells cause = absurd cause
 
-  pub world_stops : (here : IsUnderway state is_out run) (event : Event) (fault : WorldFault)
-      → ((code count : ℕ) → fault ≡ world_faults.Limit code count → (code ≡ 11) × Spends (plans_from start here.happenings) (world_from start here.happenings) event)
-      → IsCause (of_world fault) input script run.count left
-  world_stops here event world_faults.Memory spent = (run.names, has.before, has.front)
-  world_stops here event world_faults.Depot spent = (run.names, has.before, has.front)
-  world_stops here event (world_faults.Limit code count) spent = absurd (not_past state is_out run here few event code count (spent code count refl))
+  -- this event is the next
+  pub event_is_next : (event : Event) → Spells run.names line event → FewRows (script ++ event ∷ []) → IsNext input script run.count event
+  event_is_next event spells few_rows = record {
+    names = run.names;
+    rest = has.before;
+    front = has.front;
+    line = line;
+    left = has.rest;
+    next = has.next;
+    few = few;
+    spelled = spells;
+    rows = few_rows;
+  }
+
+  pub world_stops : (here : IsUnderway state is_out run) (event : Event) (fault : WorldFault) → Spells run.names line event → FewRows (script ++ event ∷ [])
+      → IsSpent state is_out run here event fault → IsCause (of_world fault) input script run.count left
+  world_stops here event world_faults.Memory spells few_rows spent = (run.names, has.before, has.front)
+  world_stops here event world_faults.Depot spells few_rows spent = (run.names, has.before, has.front)
+  world_stops here event (world_faults.Limit code count) spells few_rows spent =
+      subst (λ (stop : Stop). IsCause stop input script run.count left) (sym (limits_as code (is_sent state is_out run here few event code count spent)))
+      (event, event_is_next event spells few_rows)

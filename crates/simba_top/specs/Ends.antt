@@ -5,8 +5,10 @@ use Rattle.std.specs.Io.KnownBytes.{Appends}
 use Rattle.table_model.specs.declared.event.Event.{Event}
 use Rattle.table_model.specs.declared.line.TextLine.{TextLine}
 use Rattle.step_tables.specs.Lines.{line_of}
-use Rattle.world_tables.specs.World.{start, client_at, is_resolving}
-use Rattle.world_tables.specs.Turns.{Happening, turns, world_from, transcript_of}
+use Rattle.world_tables.specs.World.{client_at, is_resolving}
+use Rattle.world_tables.specs.Turns.{Happening, transcript_of}
+use Rattle.wire_tables.specs.Wire.{start}
+use Rattle.wire_tables.specs.Runs.{wire_from, wire_turns}
 use Rattle.world_tables.specs.Sound.{IsSound}
 use Rattle.world_tables.specs.Quiet.{AreListed}
 use Rattle.asked_laws.specs.Asked.{AreAsked}
@@ -18,7 +20,8 @@ use Rattle.script_text.specs.Names.{Names}
 use Rattle.script_text.specs.Grammar.{Spells, IsFault, PassesLimit}
 use Rattle.transcript_text.specs.Text.{stop_text, transcript_text}
 use Rattle.simba_top.specs.declared.run.TheConstants.{MOST_LINES}
-use Rattle.simba_top.specs.RowNames.{NamesTooMany}
+use Rattle.simba_top.specs.Faults.{GoesOver}
+use Rattle.simba_top.specs.RowNames.{NamesTooMany, FewRows}
 use Rattle.simba_top.specs.Script.{next_in, IsFront}
 
 -- ---- what is written
@@ -27,19 +30,21 @@ use Rattle.simba_top.specs.Script.{next_in, IsFront}
 -- it, and then the client is up
 abbrev pub AreToldPhases : List Happening → Type 0
 AreToldPhases run = (front more : List Happening) → run ≡ front ++ more → (client table : ℕ)
-    → (is_resolving (world_from start front) client table ≡ has_phase (turns front) client table)
-    × (has_phase (turns front) client table ≡ true → is_away (client_at (world_from start front) client) ≡ false)
+    → (is_resolving (wire_from start front).world client table ≡ has_phase (wire_turns front) client table)
+    × (has_phase (wire_turns front) client table ≡ true
+    → is_away (client_at (wire_from start front).world client) ≡ false)
 
--- A run of a script that has P: its events, each with the lucks of its device calls, and what the lines of it are. They
--- are sound, where chunks are listed at a quiet Store they are those that its rows name, a row is told as resolved only
--- where its client was asked to, and the phases in which clients resolve are those that the lines tell
+-- A run of a script that has P, whose packets are parts of messages: its events, each with the lucks of its device
+-- calls, and what the lines of it are. They are sound, where chunks are listed at a quiet Store they are those that its
+-- rows name, a row is told as resolved only where its client was asked to, and the phases in which clients resolve are
+-- those that the lines tell
 pub record IsRun (P : List Happening → Type 0) (script : List Event) (lines : List TextLine) : Type 0 where
   pub run : List Happening
   pub events : map (λ (h : Happening). h.event) run ≡ script
-  pub lines_are : map line_of lines ≡ transcript_of (turns run)
-  pub sound : IsSound (turns run)
-  pub listed : AreListed (turns run)
-  pub asked : AreAsked (turns run)
+  pub lines_are : map line_of lines ≡ transcript_of (wire_turns run)
+  pub sound : IsSound (wire_turns run)
+  pub listed : AreListed (wire_turns run)
+  pub asked : AreAsked (wire_turns run)
   pub phases : AreToldPhases run
   pub kept : P run
 
@@ -69,6 +74,18 @@ pub record IsBadAt (input : List ℕ) (script : List Event) (count : ℕ) (fault
   pub next : next_in (length input) rest ≡ Line line left
   pub few : count < MOST_LINES
   pub bad : IsFault names line fault
+
+-- the line behind these spells this event: it is line `count + 1`
+pub record IsNext (input : List ℕ) (script : List Event) (count : ℕ) (event : Event) : Type 0 where
+  pub names : Names
+  pub rest : List ℕ
+  pub front : IsFront input script count names rest
+  pub line : List ℕ
+  pub left : List ℕ
+  pub next : next_in (length input) rest ≡ Line line left
+  pub few : count < MOST_LINES
+  pub spelled : Spells names line event
+  pub rows : FewRows (script ++ event ∷ [])
 
 -- before these bytes of the input stand as many as an input may have
 abbrev pub IsFull : List ℕ → List ℕ → Type 0
@@ -105,14 +122,23 @@ pub record IsCutOff (input : List ℕ) (script : List Event) (left : List ℕ) :
   pub fits : length input - length left ≤ INPUT_LIMIT
   pub few : (count < MOST_LINES) ⊎ (held ≡ [])
 
+-- the transcript of the first lines, and behind it the line that says that the event of the next one sends too much:
+-- limit 10 is of the bytes of all packets. P holds of the run with that event
+abbrev pub TellsOver : (List Happening → Type 0) → List ℕ → Option (List ℕ) → Option (List ℕ) → Type 0
+TellsOver P input before after = (script : List Event) × (count : ℕ) × (event : Event) × IsNext input script count event
+    × TellsStop (GoesOver P event) script 7 (count + 1) 10 before after
+
 -- a text that a run over this input may write: the transcript of its first lines, with its stop line where it has one
 abbrev pub IsTextOf : (List Happening → Type 0) → List ℕ → List ℕ → Type 0
-IsTextOf P input text = (script : List Event) × (lines : List TextLine) × IsRun P script lines × (
+IsTextOf P input text = ((script : List Event) × (lines : List TextLine) × IsRun P script lines × (
     ((count : ℕ) × (names : Names) × (rest : List ℕ) × IsFront input script count names rest
     × (text ≡ transcript_text lines))
     ⊎ (((count : ℕ) × (fault : BadLine) × IsBadAt input script count fault
     × (text ≡ stopped_text lines 3 (count + 1) fault.code))
-    ⊎ ((count limit : ℕ) × IsLimitAt input script count limit × (text ≡ stopped_text lines 7 (count + 1) limit))))
+    ⊎ ((count limit : ℕ) × IsLimitAt input script count limit × (text ≡ stopped_text lines 7 (count + 1) limit)))))
+    ⊎ ((script : List Event) × (lines : List TextLine) × (count : ℕ) × (event : Event)
+    × IsNext input script count event × IsRun (GoesOver P event) script lines
+    × (text ≡ stopped_text lines 7 (count + 1) 10))
 
 -- the words are the one word `run`
 abbrev pub AreRun : List (List ℕ) → Type 0

@@ -10,7 +10,7 @@ use Rattle.table_model.specs.declared.event.Event.TheVariants as events
 use Rattle.simba_top.specs.declared.row_names.RowNames.{RowNames}
 use Rattle.simba_top.specs.declared.row_names.TheConstants.{MOST_ROWS}
 use Rattle.simba_top.specs.declared.stop.Stop.{Stop}
-use Rattle.simba_top.specs.declared.stop.Stop.TheVariants.{Read, Put, Depot, Memory, BadLine, Limit}
+use Rattle.simba_top.specs.declared.stop.Stop.TheVariants.{Read, Put, Depot, Memory, BadLine, Limit, Sent}
 
 -- the row that an event names, and its table
 abbrev pub row_in : Event → Option (ℕ × List ℕ)
@@ -83,3 +83,4 @@ IsRowCause script event Read = ⊥
 IsRowCause script event Put = ⊥
 IsRowCause script event Depot = ⊥
 IsRowCause script event (BadLine fault) = ⊥
+IsRowCause script event Sent = ⊥

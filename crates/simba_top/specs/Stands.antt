@@ -1,14 +1,16 @@
 -- Where a run stands over an input, and how it ends there.
 use Rattle.std.specs.Prelude.{◌≡◌, ℕ, ◌+◌, ◌<◌, ◌≤◌, Bool, List, [], ◌∷◌, ◌++◌, length, map, Option, Some, None, IfSome}
-use Rattle.std.specs.List.{flat_map, AllByRecursion}
+use Rattle.std.specs.List.{flat_map}
 use Rattle.std.specs.Io.KnownBytes.{Appends}
 use Rattle.disk_trait.specs.Calls.{DiskState}
 use Rattle.table_model.specs.declared.event.Event.{Event}
 use Rattle.table_model.specs.declared.line.TextLine.{TextLine}
 use Rattle.step_tables.specs.Lines.{line_of}
-use Rattle.world_tables.specs.World.{start, step}
-use Rattle.world_tables.specs.World as moves
-use Rattle.world_tables.specs.Turns.{Happening, turns, world_from, transcript_of}
+use Rattle.world_tables.specs.Turns.{Happening, transcript_of}
+use Rattle.wire_tables.specs.Wire.{Wire, start, wire_step}
+use Rattle.wire_tables.specs.Runs.{wire_from, wire_turns}
+use Rattle.wire_tables.specs.Faults.{wire_faults}
+use Rattle.wire_laws.specs.Runs.{AreBuilt}
 use Rattle.stab_io.specs.Faults.{Rose, AppendsFront}
 use Rattle.stab_io.specs.Lines.{Line}
 use Rattle.stab_io.specs.Reading.{ahead}
@@ -17,18 +19,16 @@ use Rattle.script_text.specs.Names.{Names}
 use Rattle.transcript_text.specs.Text.{transcript_text}
 use Rattle.simba_top.specs.declared.run.TheConstants.{MOST_LINES}
 use Rattle.simba_top.specs.declared.stop.Stop.{Stop}
-use Rattle.simba_top.specs.declared.stop.Stop.TheVariants.{Read, Put, Depot, Memory, BadLine, Limit}
+use Rattle.simba_top.specs.declared.stop.Stop.TheVariants.{Read, Put, Depot, Memory, BadLine, Limit, Sent}
 use Rattle.simba_top.specs.declared.turn.Run.{Run}
-use Rattle.world_steps.specs.declared.world.World.{World}
-use Rattle.world_tables.specs.Faults.{device_faults}
-use Rattle.world_steps.specs.Faults.{all_faults}
-use Rattle.fair_laws.specs.Reached.{IsBuilt}
-use Rattle.world_steps.specs.Holds.{Holds, AreOut}
-use Rattle.world_steps.specs.Steps.{HavePlansBelow, may_begin}
-use Rattle.simba_top.specs.Faults.{Matches, AnyRun}
+use Rattle.node_steps.specs.Holds.{AreOut}
+use Rattle.wire_steps.specs.declared.world.World.{World}
+use Rattle.wire_steps.specs.Holds.{Holds}
+use Rattle.wire_steps.specs.Steps.{all_faults, HavePlansBelow, may_begin}
+use Rattle.simba_top.specs.Faults.{Matches, AnyRun, GoesOver}
 use Rattle.simba_top.specs.RowNames.{HasRows}
 use Rattle.simba_top.specs.Script.{next_in, IsFront, IsWhole}
-use Rattle.simba_top.specs.Ends.{Tells, TellsStop, IsBadAt, IsLimitAt, IsCutOff, IsTextOf}
+use Rattle.simba_top.specs.Ends.{Tells, TellsStop, TellsOver, IsNext, IsBadAt, IsLimitAt, IsCutOff, IsTextOf}
 
 -- the reader answers, at the limits of a script, and the lines are no more than a script's
 pub record IsReady {D : Type 0} (run : Run D) : Type 0 where
@@ -37,18 +37,18 @@ pub record IsReady {D : Type 0} (run : Run D) : Type 0 where
   pub few : run.count ≤ MOST_LINES
 
 -- how many plans the events of a run may begin
-abbrev pub plans_from : moves.World → List Happening → ℕ
-plans_from w [] = 0
-plans_from w (h ∷ more) = may_begin w h.event + plans_from (step w h.event h.lucks).world more
+abbrev pub plans_from : Wire → List Happening → ℕ
+plans_from v [] = 0
+plans_from v (h ∷ more) = may_begin v.world h.event + plans_from (wire_step v h.event h.lucks).wire more
 
 -- Events led to the world of a run, with some lucks, no more of them than there were lines; the disks that are out are
 -- its own; and no client has begun more plans than the events may
 pub record IsUnderway {D : Type 0} (state : D → DiskState) (is_out : ℕ → Bool) (run : Run D) : Type 0 where
   pub happenings : List Happening
-  pub built : AllByRecursion (λ (h : Happening). IsBuilt h.event) happenings
+  pub built : AreBuilt happenings
   pub few : length happenings ≤ run.count
-  pub held : Holds state (world_from start happenings) run.world
-  pub out : AreOut is_out (world_from start happenings)
+  pub held : Holds state (wire_from start happenings) run.world
+  pub out : AreOut is_out (wire_from start happenings).world
   pub plans : HavePlansBelow state (plans_from start happenings) run.world
 
 -- the events of a script led to this world, with some lucks, and wrote these lines; the disks that are out are its own
@@ -56,11 +56,11 @@ pub record Leads {D : Type 0} (state : D → DiskState) (script : List Event) (t
     (is_out : ℕ → Bool) : Type 0 where
   pub run : List Happening
   pub events : map (λ (h : Happening). h.event) run ≡ script
-  pub lines_are : map line_of told ≡ transcript_of (turns run)
-  pub built : AllByRecursion (λ (h : Happening). IsBuilt h.event) run
-  pub held : Holds state (world_from start run) world
-  pub out : AreOut is_out (world_from start run)
-  pub counted : Matches (device_faults start run) (all_faults state world)
+  pub lines_are : map line_of told ≡ transcript_of (wire_turns run)
+  pub built : AreBuilt run
+  pub held : Holds state (wire_from start run) world
+  pub out : AreOut is_out (wire_from start run).world
+  pub counted : Matches (wire_faults start run) (all_faults state world)
 
 -- the lines so far are the first of the input and spell the script, and the bytes ahead are the rest
 pub record Stands {D : Type 0} (state : D → DiskState) (input : List ℕ) (script : List Event) (told : List TextLine)
@@ -99,6 +99,7 @@ IsCause Depot input script count left = (names : Names) × (rest : List ℕ) × 
 IsCause Memory input script count left = (names : Names) × (rest : List ℕ) × IsFront input script count names rest
 IsCause (BadLine fault) input script count left = IsBadAt input script count fault
 IsCause (Limit limit) input script count left = IsLimitAt input script count limit
+IsCause Sent input script count left = (event : Event) × IsNext input script count event
 
 -- and what it has written then: the transcript of a run that has P, where memory wasn't refused; `before` and `after`
 -- are the bytes of the sink
@@ -108,6 +109,8 @@ EndedBy P Put input count left before after =
     (text : List ℕ) × IsTextOf P input text × AppendsFront before after text
 EndedBy P Memory input count left before after =
     (script : List Event) × IsCause Memory input script count left × Tells AnyRun script before after
+EndedBy P Sent input count left before after = (script : List Event) × (event : Event)
+    × IsNext input script count event × Tells (GoesOver P event) script before after
 EndedBy P stop input count left before after =
     (script : List Event) × IsCause stop input script count left × Tells P script before after
 
@@ -122,6 +125,7 @@ Stopped P (BadLine fault) input left before after = (script : List Event) × (co
     × IsBadAt input script count fault × TellsStop P script 3 (count + 1) fault.code before after
 Stopped P (Limit limit) input left before after = (script : List Event) × (count : ℕ)
     × IsLimitAt input script count limit × TellsStop P script 7 (count + 1) limit before after
+Stopped P Sent input left before after = TellsOver P input before after
 
 -- the transcript of the lines so far has been added to the bytes of the sink
 abbrev pub Goes : {D : Type 0} → (D → DiskState) → List ℕ → Run D → (ℕ → Bool) → Option (List ℕ) → Option (List ℕ)

@@ -7,12 +7,12 @@ ghost use Rattle.script_text.specs.declared.fault.BadLine.{BadLine as ABadLine};
 ghost use Rattle.script_text.specs.Names.{Names};
 ghost use Rattle.stab_io.specs.Faults.{Rose, AppendsFront};
 ghost use Rattle.simba_top.specs.Script.{IsFront, IsWhole};
-ghost use Rattle.simba_top.specs.Ends.{AreRun, IsBadAt, IsLimitAt, IsCutOff, Tells, TellsStop, IsTextOf};
+ghost use Rattle.simba_top.specs.Ends.{AreRun, IsBadAt, IsLimitAt, IsCutOff, Tells, TellsStop, TellsOver, IsTextOf};
 ghost use Rattle.simba_top.specs.Stops.{status_of};
 ghost use Rattle.simba_top.specs.Faults.{IsOnDisks, AnyRun, Led};
 ghost use Rattle.simba_top.specs.Stands.{IsDone, EndedBy, Stopped, CountsReads, CountsPuts, CountsDepots};
 ghost use Rattle.simba_top.specs.declared.stop.Stop.TheVariants as AStop;
-ghost use Rattle.world_steps.specs.Holds.{IsWorld};
+ghost use Rattle.node_steps.specs.Holds.{IsWorld};
 
 use crate::stop::Stop;
 use crate::turn::Run;
@@ -43,6 +43,8 @@ pub const MOST_LINES: u64 = 1_048_576;
 /// | 6 | memory was refused |
 /// | 7 | a limit was passed; `stop 7 LINE LIMIT` is written last |
 /// | 8 | the depot failed to hand out a disk |
+///
+/// Limit 10 is of the bytes of all packets: the disks are then those of the run with the event of that line.
 pub fn run_simba<S: Source, K: Sink, P: Depot>(
     alloc: Global,
     words: &[String],
@@ -62,15 +64,17 @@ pub fn run_simba<S: Source, K: Sink, P: Depot>(
         (script : List AnEvent) × IsWhole input script
         × Tells (IsOnDisks P.Disk.state (P.returned depot.new)) script (K.holds sink.old) (K.holds sink.new)) }
 
-    // 3 and 7: the first line that is in no grammar, or passes a limit, ended the run.
+    // 3 and 7: the first line that is in no grammar, or passes a limit, ended the run, or whose event sends more bytes
+    // than may be sent.
     ensures bad_line { result ≡ 3 → IfSome (S.left source.old) (λ input.
         (script : List AnEvent) × (count : ℕ) × (fault : ABadLine) × IsBadAt input script count fault
         × TellsStop (IsOnDisks P.Disk.state (P.returned depot.new)) script 3 (count + 1) fault.code
         (K.holds sink.old) (K.holds sink.new)) }
     ensures limit { result ≡ 7 → IfSome (S.left source.old) (λ input.
-        (script : List AnEvent) × (count limit : ℕ) × IsLimitAt input script count limit
+        ((script : List AnEvent) × (count limit : ℕ) × IsLimitAt input script count limit
         × TellsStop (IsOnDisks P.Disk.state (P.returned depot.new)) script 7 (count + 1) limit
-        (K.holds sink.old) (K.holds sink.new)) }
+        (K.holds sink.old) (K.holds sink.new))
+        ⊎ TellsOver (IsOnDisks P.Disk.state (P.returned depot.new)) input (K.holds sink.old) (K.holds sink.new)) }
 
     // 4: the source failed; all lines that it gave whole were carried out.
     ensures read { result ≡ 4 → Rose (S.faults source.old) (S.faults source.new)
@@ -107,13 +111,14 @@ pub fn run_simba<S: Source, K: Sink, P: Depot>(
     ensures sink_faults { result ≢ 5 → K.faults sink.new ≡ K.faults sink.old }
     ensures depot_faults { result ≢ 8 → (P.state depot.new).faults ≡ (P.state depot.old).faults }
 
-    // Valid input, where no fault came, gives 0 or want of memory.
+    // Valid input, where no fault came, gives 0 or want of memory, unless it sends more bytes than may be sent.
     ensures complete { AreRun (map string_bytes words.now)
         → IfSome (S.left source.old) (λ input. (script : List AnEvent) → IsWhole input script
         → S.faults source.new ≡ S.faults source.old → S.faults source.old < 2 ^ 64 - 1
         → K.faults sink.new ≡ K.faults sink.old → K.faults sink.old < 2 ^ 64 - 1
         → (P.state depot.new).faults ≡ (P.state depot.old).faults
-        → (result ≡ 0) ⊎ (result ≡ 6)) }
+        → (result ≡ 0) ⊎ ((result ≡ 6) ⊎ ((result ≡ 7)
+        × TellsOver (IsOnDisks P.Disk.state (P.returned depot.new)) input (K.holds sink.old) (K.holds sink.new)))) }
 {
     if !is_run(words) {
         return 2;
@@ -139,7 +144,7 @@ fn status_of(ended: Result<(), Stop>) -> u8
         Err(Stop::Read) => 4,
         Err(Stop::Put) => 5,
         Err(Stop::Memory) => 6,
-        Err(Stop::Limit(_)) => 7,
+        Err(Stop::Limit(_)) | Err(Stop::Sent) => 7,
         Err(Stop::Depot) => 8,
     }
 }
@@ -187,7 +192,7 @@ fn ended<K: Sink, D: Disk + Drop, P: Depot<Disk = D>>(
     stop: Stop,
 ) -> Stop
     requires few { run.count ≤ MOST_LINES }
-    requires held { stop ≢ AStop.Memory → IsWorld D.state (P.state depot.old).is_out run.world }
+    requires held { stop ≢ AStop.Memory → IsWorld D.state (P.state depot.old).is_out run.world.nodes }
     ensures ends { (input : List ℕ) (left before : Option (List ℕ))
         → EndedBy (Led D.state run.world) stop input run.count left before (K.holds sink.old)
         → Stopped (IsOnDisks D.state (P.returned depot.new)) result input left before (K.holds sink.new) }

@@ -2,10 +2,10 @@ ghost use Rattle.std.specs.Prelude.{◌≡◌};
 ghost use Rattle.simba_top.specs.declared.stop.Stop.TheVariants as stops;
 ghost use Rattle.simba_top.specs.Stops.{of_line, of_script, of_world};
 
+use node_steps::WorldFault;
 use script_text::{BadLine, ScriptFault};
 use stab_io::{Failed, LineFault};
 use std::alloc::{AllocError, AllocFailed};
-use world_steps::WorldFault;
 
 /// Why a run ends before the end of its script.
 #[derive(Drop, Clone, Copy)]
@@ -22,6 +22,8 @@ pub(crate) enum Stop {
     BadLine(BadLine),
     /// The next line passes the limit of this number.
     Limit(u32),
+    /// The event of the next line sends more bytes than may be sent: limit 10.
+    Sent,
 }
 
 impl From<LineFault> for Stop {
@@ -54,6 +56,7 @@ impl From<WorldFault> for Stop {
 
     fn from(fault: WorldFault) -> Stop {
         match fault {
+            WorldFault::Limit { code: 10, .. } => Stop::Sent,
             WorldFault::Limit { code, .. } => Stop::Limit(code),
             WorldFault::Depot => Stop::Depot,
             WorldFault::Memory => Stop::Memory,

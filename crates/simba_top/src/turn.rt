@@ -7,11 +7,17 @@ ghost use Rattle.table_model.specs.declared.line.TextLine.{TextLine as ALine};
 ghost use Rattle.script_text.specs.Grammar.{Spells};
 ghost use Rattle.transcript_text.specs.Text.{text_of, stop_text};
 ghost use Rattle.world_tables.specs.World.{World as AWorld};
-ghost use Rattle.world_steps.specs.Faults.{IsUndone, all_faults, all_faults_back};
-ghost use Rattle.fair_laws.specs.Reached.{IsBuilt, IsReached};
-ghost use Rattle.world_steps.specs.Holds.{Holds, AreOut, IsWorld};
-ghost use Rattle.world_steps.specs.Rows.{AreRowsBack};
-ghost use Rattle.simba_top.specs.Faults.{Led};
+ghost use Rattle.fair_laws.specs.Reached.{IsBuilt, IsReached as IsReachedWorld};
+ghost use Rattle.wire_tables.specs.Wire.{Wire};
+ghost use Rattle.node_steps.specs.Faults.{all_faults, all_faults_back};
+ghost use Rattle.node_steps.specs.Holds.{AreOut, IsWorld};
+ghost use Rattle.node_steps.specs.Holds as nodes;
+ghost use Rattle.node_steps.specs.Rows.{AreRowsBack};
+ghost use Rattle.wire_steps.specs.Holds.{Holds};
+ghost use Rattle.wire_steps.specs.Reached.{IsReached};
+ghost use Rattle.wire_steps.specs.Steps.{IsUndone};
+ghost use Rattle.simba_top.specs.Ends.{IsNext, IsRun};
+ghost use Rattle.simba_top.specs.Faults.{Led, GoesOver};
 ghost use Rattle.stab_io.specs.Faults.{Rose, AppendsFront};
 ghost use Rattle.simba_top.specs.Script.{IsWhole};
 ghost use Rattle.simba_top.specs.Stands.{IsReady, IsUnderway, Stands, HasLine, Goes, GoesOn, IsCause, EndedBy, Stopped};
@@ -21,12 +27,13 @@ use crate::row_names::RowNames;
 use crate::run::MOST_LINES;
 use crate::stop::Stop;
 use disk_trait::{Depot, Disk};
+use node_steps::Lines;
 use row_value::Bytes;
 use script_text::{Declared, line_text, parse_line, stop_text};
 use stab_io::{Failed, LineReader, Sink, Source};
 use std::alloc::{AllocError, Global};
 use table_model::{Event, TextLine};
-use world_steps::{Lines, World};
+use wire_steps::World;
 
 /// A run over a script: what its lines so far have made.
 #[derive(Drop)]
@@ -106,9 +113,9 @@ impl<D: Disk + Drop> Run<D> {
             → Stands D.state input [] [] self.old (P.state depot.old).is_out (S.left source.old)
             → IfErr result (λ stop. EndedBy (Led D.state self.new.world) stop input self.new.count
             (S.left source.new) (K.holds sink.old) (K.holds sink.new)) }
-        ensures held { OnOk result (IsWorld D.state (P.state depot.new).is_out self.new.world) }
+        ensures held { OnOk result (IsWorld D.state (P.state depot.new).is_out self.new.world.nodes) }
         ensures left { IfErr result (λ stop. stop ≢ Stop.Memory
-            → IsWorld D.state (P.state depot.new).is_out self.new.world) }
+            → IsWorld D.state (P.state depot.new).is_out self.new.world.nodes) }
         ensures reads { MatchResult result (λ _. S.faults source.new ≡ S.faults source.old)
             (λ stop. CountsReads stop (S.faults source.old) (S.faults source.new)) }
         ensures puts { MatchResult result (λ _. K.faults sink.new ≡ K.faults sink.old)
@@ -133,6 +140,7 @@ impl<D: Disk + Drop> Run<D> {
         match stop {
             Stop::BadLine(fault) => self.put_stop(sink, 3, fault.code).err().unwrap_or(stop),
             Stop::Limit(limit) => self.put_stop(sink, 7, limit).err().unwrap_or(stop),
+            Stop::Sent => self.put_stop(sink, 7, 10).err().unwrap_or(stop),
             Stop::Read | Stop::Put | Stop::Depot | Stop::Memory => stop,
         }
     }
@@ -176,7 +184,7 @@ impl<D: Disk + Drop> Run<D> {
             → IfErr result (λ stop. EndedBy (Led D.state self.new.world) stop input self.new.count
             (S.left source.new) before (K.holds sink.new)) }
         ensures left { IfErr result (λ stop. stop ≢ Stop.Memory
-            → IsWorld D.state (P.state depot.new).is_out self.new.world) }
+            → IsWorld D.state (P.state depot.new).is_out self.new.world.nodes) }
         ensures reads { MatchResult result (λ _. S.faults source.new ≡ S.faults source.old)
             (λ stop. CountsReads stop (S.faults source.old) (S.faults source.new)) }
         ensures puts { MatchResult result (λ _. K.faults sink.new ≡ K.faults sink.old)
@@ -194,11 +202,11 @@ impl<D: Disk + Drop> Run<D> {
 
     /// Gives each disk back to the depot. It takes no memory.
     pub(crate) fn close<P: Depot<Disk = D>>(self, depot: &mut P)
-        requires { IsWorld D.state (P.state depot.old).is_out self.world }
+        requires { IsWorld D.state (P.state depot.old).is_out self.world.nodes }
         ensures back { (k : ℕ) → (P.state depot.new).is_out k ≡ false }
-        ensures told { (w : AWorld) → Holds D.state w self.world → IfSome (P.returned depot.new)
-            (λ disks. all_faults_back D.state disks w ≡ all_faults D.state self.world) }
-        ensures rows { (w : AWorld) → IsReached w → Holds D.state w self.world
+        ensures told { (w : AWorld) → nodes.Holds D.state w self.world.nodes → IfSome (P.returned depot.new)
+            (λ disks. all_faults_back D.state disks w ≡ all_faults D.state self.world.nodes) }
+        ensures rows { (w : AWorld) → IsReachedWorld w → nodes.Holds D.state w self.world.nodes
             → IfSome (P.returned depot.new) (λ disks. AreRowsBack D.state disks w) }
         ensures faults { (P.state depot.new).faults ≡ (P.state depot.old).faults }
     {
@@ -221,6 +229,7 @@ impl<D: Disk + Drop> Run<D> {
         ensures reads { MatchResult result (λ _. S.faults source.new ≡ S.faults source.old)
             (λ stop. (stop ≢ Stop.Put) × (stop ≢ Stop.Depot)
             × CountsReads stop (S.faults source.old) (S.faults source.new)) }
+        ensures sent { IfErr result (λ stop. stop ≢ Stop.Sent) }
     {
         if self.count >= MOST_LINES {
             self.end_due(source)?;
@@ -244,6 +253,7 @@ impl<D: Disk + Drop> Run<D> {
         ensures reads { MatchResult result (λ _. S.faults source.new ≡ S.faults source.old)
             (λ stop. (stop ≢ Stop.Put) × (stop ≢ Stop.Depot)
             × CountsReads stop (S.faults source.old) (S.faults source.new)) }
+        ensures sent { IfErr result (λ stop. stop ≢ Stop.Sent) }
     {
         if self.reader.goes_on(source)? {
             return Err(Stop::Limit(2));
@@ -268,9 +278,16 @@ impl<D: Disk + Drop> Run<D> {
             → MatchResult result
             (λ texts. GoesOn D.state input told self.new (P.state depot.new).is_out left texts.items)
             (λ stop. IsCause stop input script self.old.count left) }
-        ensures left { (w : AWorld) → IsReached w → Holds D.state w self.old.world
-            → AreOut (P.state depot.old).is_out w → IfErr result (λ stop. stop ≢ Stop.Memory
-            → IsUndone D.state w (P.state depot.new).is_out self.old.world self.new.world) }
+        ensures over { (input : List ℕ) (script : List AnEvent) (told : List ALine) (left : Option (List ℕ))
+            → HasLine D.state input script told line.now self.old (P.state depot.old).is_out left
+            → IfErr result (λ stop. stop ≡ Stop.Sent → (event : AnEvent)
+            × IsNext input script self.old.count event
+            × IsRun (GoesOver (Led D.state self.new.world) event) script told) }
+        ensures left { (v : Wire) → IsReached v → Holds D.state v self.old.world
+            → AreOut (P.state depot.old).is_out v.world → IfErr result (λ stop. stop ≢ Stop.Memory → stop ≢ Stop.Sent
+            → IsUndone D.state v (P.state depot.new).is_out self.old.world self.new.world) }
+        ensures nodes { IfErr result (λ stop. stop ≢ Stop.Memory
+            → IsWorld D.state (P.state depot.new).is_out self.new.world.nodes) }
         ensures fault { IfErr result (λ stop. (stop ≢ Stop.Read) × (stop ≢ Stop.Put)) }
         ensures depots { MatchResult result (λ _. (P.state depot.new).faults ≡ (P.state depot.old).faults)
             (λ stop. CountsDepots stop (P.state depot.old).faults (P.state depot.new).faults) }
@@ -303,9 +320,17 @@ impl<D: Disk + Drop> Run<D> {
             → MatchResult result
             (λ texts. GoesOn D.state input told self.new (P.state depot.new).is_out left texts.items)
             (λ stop. IsCause stop input script self.old.count left) }
-        ensures left { (w : AWorld) → IsReached w → Holds D.state w self.old.world
-            → AreOut (P.state depot.old).is_out w → IfErr result (λ stop. stop ≢ Stop.Memory
-            → IsUndone D.state w (P.state depot.new).is_out self.old.world self.new.world) }
+        ensures over { (input : List ℕ) (script : List AnEvent) (told : List ALine) (line : List ℕ)
+            (left : Option (List ℕ))
+            → HasLine D.state input script told line self.old (P.state depot.old).is_out left
+            → Spells self.old.names line event.now
+            → IfErr result (λ stop. stop ≡ Stop.Sent → IsNext input script self.old.count event.now
+            × IsRun (GoesOver (Led D.state self.new.world) event.now) script told) }
+        ensures left { (v : Wire) → IsReached v → Holds D.state v self.old.world
+            → AreOut (P.state depot.old).is_out v.world → IfErr result (λ stop. stop ≢ Stop.Memory → stop ≢ Stop.Sent
+            → IsUndone D.state v (P.state depot.new).is_out self.old.world self.new.world) }
+        ensures nodes { IfErr result (λ stop. stop ≢ Stop.Memory
+            → IsWorld D.state (P.state depot.new).is_out self.new.world.nodes) }
         ensures fault { IfErr result (λ stop. (stop ≢ Stop.Read) × (stop ≢ Stop.Put)) }
         ensures depots { MatchResult result (λ _. (P.state depot.new).faults ≡ (P.state depot.old).faults)
             (λ stop. CountsDepots stop (P.state depot.old).faults (P.state depot.new).faults) }

@@ -44,8 +44,8 @@ pub struct RowHeld {
     pub held: NewChunks,
 }
 
-// The chunks of each object of a content, if there is one.
-fn chunks_of<D: Disk + Drop>(
+/// The chunks of each object of a content, if there is one.
+pub(crate) fn chunks_of<D: Disk + Drop>(
     alloc: Global,
     devs: &mut Journal<D>,
     held: Option<&HeldContent>,

@@ -3,9 +3,8 @@ use Rattle.std.proofs.lemmas.Result.{err_from_is_err_and}
 use Rattle.client_journal.specs.Devs.{ClientDevs}
 use Rattle.client_journal.specs.Standing.{devs}
 use Rattle.step_tables.specs.Travels.{send_of}
-use Rattle.client_tables.specs.Shown.{shown_content}
-use Rattle.held_contents.specs.Reading.{AreThereIf}
 use Rattle.client_node.specs.declared.fault.CallFault.TheVariants as call
+use Rattle.client_node.specs.Placing.{IsRowThere}
 use Rattle.client_node.proofs.Serving.{looks_err, looks_other, looks_then}
 use Rattle.client_node.proofs.RowsTaken.{chunk_some, of_each, plans_found}
 use Rattle.client_node.proofs.placing.plan_row.Goals as goal
@@ -66,5 +65,5 @@ returns-clause-plans g c =
     let d = devs s c.args.devs.now in
     let same = c.in_ok-last.ensures.looks.serves.same (λ is. cc) in
     plans_found d c.args.client c.args.table c.args.opened.now c.requires.opened c.args.header.now c.args.slots.now c.requires.held c.requires.whole.fits c.requires.newer c.in_ok-last.last c.in_ok-last.ensures.last c.in_ok-held.held
-    (λ meaning there. c.in_ok-held.ensures.holds meaning (subst (λ (x : ClientDevs). AreThereIf meaning x (shown_content c.args.slots.now)) (sym same) there)) c.in_ok-held.ensures.words c.in_ok-held.ensures.spelled c.of_64_bits-version.result c.of_64_bits-version.ensures.same c.of_64_bits-version.ensures.few c.yours_in-yours.result c.yours_in-yours.ensures.same c.yours_in-yours.ensures.few
+    (λ meaning there. c.in_ok-held.ensures.holds meaning (subst (λ (x : ClientDevs). IsRowThere meaning x c.args.slots.now) (sym same) there)) c.in_ok-held.ensures.words c.in_ok-held.ensures.spelled c.of_64_bits-version.result c.of_64_bits-version.ensures.same c.of_64_bits-version.ensures.few c.yours_in-yours.result c.yours_in-yours.ensures.same c.yours_in-yours.ensures.few
     c.in_ok-made.made c.in_ok-made.ensures c.in_ok-found.ensures.len c.args.position c.requires.few c.in_ok-found.ensures.known (map send_of c.args.messages.items) c.in_ok-found.found c.in_ok-found.ensures.none c.in_ok-found.ensures.some

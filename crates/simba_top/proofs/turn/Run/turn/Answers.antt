@@ -1,10 +1,9 @@
 use Rattle.std.proofs.lemmas.Result.{err_from_is_err_and}
-use Rattle.world_tables.specs.World.{start}
-use Rattle.world_tables.specs.Turns.{world_from}
+use Rattle.wire_tables.specs.Wire.{start}
+use Rattle.wire_tables.specs.Runs.{wire_from}
 use Rattle.simba_top.specs.Faults.{Led}
 use Rattle.simba_top.proofs.Sounds.{reached}
-use Rattle.simba_top.proofs.Underway as underway
-use Rattle.simba_top.proofs.Underway.{is_world, line_read, world_still}
+use Rattle.simba_top.proofs.Underway.{are_nodes, line_read}
 use Rattle.simba_top.proofs.Endings.{same_count, ended, ended_left, still_tells, tells, tells_same, put_done, put_failed}
 use Rattle.simba_top.proofs.turn.Run.turn.Goals as goal
 
@@ -17,6 +16,7 @@ returns-in_err-line-clause-ends g c = λ input before goes.
     rw (p.1, p.2) (ended (Led g.D.Disk.state c.next_line.new.self.world) c.in_err-line.field-0.0 input goes.0 c.args.self.now.count c.next_line.new.self.count
     (g.S.Source.left c.next_line.new.source) before now
     (same_count c.args.self.now c.next_line.new.self c.in_err-line.ensures.same) (c.in_err-line.ensures.found input goes.0 goes.1 out goes.2)
+    c.in_err-line.ensures.sent
     (tells_same g.D.Disk.state input c.args.self.now out left before now goes c.next_line.new.self c.in_err-line.ensures.same))
 
 pub returns-in_default-clause-goes : goal.returns-in_default-clause-goes
@@ -40,8 +40,9 @@ returns-in_err-texts-clause-ends g c = λ input before goes.
     c.event_texts.new.self.count (g.S.Source.left c.next_line.new.source) before now
     c.in_err-texts.ensures.few (c.in_err-texts.ensures.texts input goes.0 goes.1 (g.S.Source.left c.next_line.new.source) (rw c.deref.ensures.value has))
     (tells g.D.Disk.state input c.args.self.now out left before now goes)
-    (λ no. still_tells g.D.Disk.state goes.0 goes.1 c.next_line.new.self.world c.event_texts.new.self.world out (g.P.Depot.state c.event_texts.new.depot).is_out before now has.world
-    (c.in_err-texts.ensures.left (world_from start has.world.run) (reached g.D.Disk.state goes.0 goes.1 c.next_line.new.self.world out has.world) has.world.held has.world.out no) goes.3))
+    (λ no sent. still_tells g.D.Disk.state goes.0 goes.1 c.next_line.new.self.world c.event_texts.new.self.world out (g.P.Depot.state c.event_texts.new.depot).is_out before now has.world
+    (c.in_err-texts.ensures.left (wire_from start has.world.run) (reached g.D.Disk.state goes.0 goes.1 c.next_line.new.self.world out has.world) has.world.held has.world.out no sent) goes.3)
+    (λ is. let o = c.in_err-texts.ensures.over input goes.0 goes.1 (g.S.Source.left c.next_line.new.source) (rw c.deref.ensures.value has) is in (o.0, o.1, (goes.1, o.2, goes.3))))
 
 pub returns-in_err-put_all-clause-ends : goal.returns-in_err-put_all-clause-ends
 returns-in_err-put_all-clause-ends g c = λ input before goes.
@@ -66,22 +67,18 @@ pub returns-in_err-line-clause-left : goal.returns-in_err-line-clause-left
 returns-in_err-line-clause-left g c =
     let p = err_from_is_err_and c.from_residual.result c.from_residual.ensures.1 in
     let out = (g.P.Depot.state c.args.depot.now).is_out in
-    rw (p.1, p.2) (λ no. is_world g.D.Disk.state out c.next_line.new.self
+    rw (p.1, p.2) (λ no. are_nodes g.D.Disk.state out c.next_line.new.self
     (line_read g.D.Disk.state out c.args.self.now c.requires.held c.next_line.new.self c.in_err-line.ensures.same))
 
 pub returns-in_err-texts-clause-left : goal.returns-in_err-texts-clause-left
 returns-in_err-texts-clause-left g c =
     let p = err_from_is_err_and c.from_residual-in_err-texts.result c.from_residual-in_err-texts.ensures.1 in
-    let state = g.D.Disk.state in
-    let out = (g.P.Depot.state c.args.depot.now).is_out in
-    let here = line_read state out c.args.self.now c.requires.held c.next_line.new.self c.in_ok-line.ensures.same in
-    rw (p.1, p.2) (λ no. world_still state out c.next_line.new.self here (g.P.Depot.state c.event_texts.new.depot).is_out c.event_texts.new.self.world
-    (c.in_err-texts.ensures.left (world_from start here.happenings) (underway.reached state out c.next_line.new.self here) here.held here.out no))
+    rw (p.1, p.2) c.in_err-texts.ensures.nodes
 
 pub returns-in_err-put_all-clause-left : goal.returns-in_err-put_all-clause-left
 returns-in_err-put_all-clause-left g c =
     let p = err_from_is_err_and c.from_residual-in_err-put_all.result c.from_residual-in_err-put_all.ensures.1 in
-    rw (p.1, p.2) (λ no. is_world g.D.Disk.state (g.P.Depot.state c.event_texts.new.depot).is_out c.event_texts.new.self c.in_ok-texts.ensures.held)
+    rw (p.1, p.2) (λ no. are_nodes g.D.Disk.state (g.P.Depot.state c.event_texts.new.depot).is_out c.event_texts.new.self c.in_ok-texts.ensures.held)
 
 pub event_texts-requires-clause-held : goal.event_texts-requires-clause-held
 event_texts-requires-clause-held g c =

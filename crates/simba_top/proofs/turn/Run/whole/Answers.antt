@@ -1,6 +1,6 @@
 use Rattle.std.proofs.Common.{[], ◌∙◌}
 use Rattle.std.proofs.KnownBytes.{Appends-nil}
-use Rattle.simba_top.proofs.Underway.{is_world}
+use Rattle.simba_top.proofs.Underway.{are_nodes}
 use Rattle.simba_top.proofs.turn.Run.whole.Goals as goal
 
 pub lines-preserved : goal.lines-preserved
@@ -19,4 +19,4 @@ returns-clause-done g c = λ input stands.
     rw c.if-branch.false at (c.in_ok-turn.ensures.goes input holds (c.lines.invariant.goes input holds ([], [], stands, Appends-nil holds)))
 
 pub returns-clause-held : goal.returns-clause-held
-returns-clause-held g c = is_world g.D.Disk.state (g.P.Depot.state c.turn.new.depot).is_out c.turn.new.self c.in_ok-turn.ensures.held
+returns-clause-held g c = are_nodes g.D.Disk.state (g.P.Depot.state c.turn.new.depot).is_out c.turn.new.self c.in_ok-turn.ensures.held

@@ -1,0 +1,3 @@
+pub mod SoFar
+pub mod Renamed
+pub mod HeldRows

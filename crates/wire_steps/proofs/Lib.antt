@@ -1,0 +1,17 @@
+pub mod Orders
+pub mod Lasting
+pub mod Remembering
+pub mod Sent
+pub mod Told
+pub mod Handed
+pub mod Answered
+pub mod Brought
+pub mod Viewed
+pub mod Delivered
+pub mod Pulled
+pub mod Seen
+pub mod Ended
+pub mod Coming
+pub mod Started
+pub mod Stepped
+pub mod Maps

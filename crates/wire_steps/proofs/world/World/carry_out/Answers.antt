@@ -1,0 +1,81 @@
+use Rattle.std.proofs.Common.{◌≡◌, ◌⊎◌, refl, ◌∙◌}
+use Rattle.std.proofs.lemmas.Result.{err_from_is_err_and}
+use Rattle.world_laws.specs.Begun.{IsSingle}
+use Rattle.node_steps.specs.declared.fault.WorldFault.TheVariants.{Depot as DepotFailed}
+use Rattle.wire_steps.specs.Steps.{IsUndone}
+use Rattle.wire_steps.proofs.Started.{nodes_stand, own_reached, own_undone, own_not_over, own_limit, own_plans, carried_tells, carried_done, carried_over, sends_alone}
+use Rattle.wire_steps.proofs.world.World.carry_out.Goals as goal
+
+pub step-requires-clause-held : goal.step-requires-clause-held
+step-requires-clause-held g c = nodes_stand g.D.Disk.state (g.P.Depot.state c.args.depot.now).is_out c.args.self.now c.requires.held
+
+pub returns-in_err-told-clause-over : goal.returns-in_err-told-clause-over
+returns-in_err-told-clause-over g c v r h out =
+    let p = err_from_is_err_and c.from_residual.result c.from_residual.ensures.1 in
+    rw (p.1, p.2) (own_not_over g.D.Disk.state v c.args.event.now c.args.self.now h g.D.Disk.images (g.P.Depot.state c.step.new.depot).is_out _ c.in_err-told.field-0.0
+    (λ n below. c.in_err-told.ensures.limit v.world n (own_reached v r) h.nodes below))
+
+pub returns-in_err-told-clause-limit : goal.returns-in_err-told-clause-limit
+returns-in_err-told-clause-limit g c v n r h below =
+    let p = err_from_is_err_and c.from_residual.result c.from_residual.ensures.1 in
+    rw (p.1, p.2) (own_limit g.D.Disk.state v c.args.event.now c.args.self.now h n c.in_err-told.field-0.0
+    (λ m least. c.in_err-told.ensures.limit v.world m (own_reached v r) h.nodes least) below)
+
+pub returns-in_err-told-clause-plans : goal.returns-in_err-told-clause-plans
+returns-in_err-told-clause-plans g c v n r h below =
+    own_plans g.D.Disk.state v.world c.args.event.now n c.step.new.self c.step.new.self c.requires.own refl
+    (c.in_err-told.ensures.plans v.world n (own_reached v r) h.nodes below)
+
+pub returns-in_err-told-clause-left : goal.returns-in_err-told-clause-left
+returns-in_err-told-clause-left g c v r h out =
+    let p = err_from_is_err_and c.from_residual.result c.from_residual.ensures.1 in
+    rw (p.1, p.2) (λ memory limit alone. own_undone g.D.Disk.state v c.args.event.now c.args.self.now h (g.P.Depot.state c.step.new.depot).is_out c.step.new.self
+    (c.in_err-told.ensures.left v.world (own_reached v r) h.nodes out memory alone))
+
+pub returns-in_err-forget-clause-plans : goal.returns-in_err-forget-clause-plans
+returns-in_err-forget-clause-plans g c v n r h below =
+    own_plans g.D.Disk.state v.world c.args.event.now n c.step.new.self c.forget.new.self.nodes c.requires.own c.in_err-forget.ensures.nodes
+    (c.in_ok-told.ensures.plans v.world n (own_reached v r) h.nodes below)
+
+pub tell-requires : goal.tell-requires
+tell-requires g c =
+    let x = c.requires.held in
+    let v = x.v in
+    let r = own_reached v x.reached in
+    record {
+      told = carried_tells g.D.Disk.state g.D.Disk.images v r c.args.event.now c.requires.built c.requires.own (g.P.Depot.state c.step.new.depot).is_out c.args.self.now c.step.new.self
+          c.forget.new.self c.in_ok-told.told x.held (c.in_ok-told.ensures.done v.world r x.held.nodes x.out) c.in_ok-forget.ensures.nodes c.restarted-restarted.result
+          (c.restarted-restarted.ensures v.world x.held.nodes) c.in_ok-forget.ensures.forgets;
+    }
+
+pub returns-clause-done : goal.returns-clause-done
+returns-clause-done g c v reached h out =
+    let r = own_reached v reached in
+    let k = c.in_ok-told.ensures.done v.world r h.nodes out in
+    let is = c.restarted-restarted.ensures v.world h.nodes in
+    carried_done g.D.Disk.state g.D.Disk.images v r c.args.event.now c.requires.built c.requires.own (g.P.Depot.state c.step.new.depot).is_out c.args.self.now c.step.new.self
+    c.forget.new.self c.in_ok-told.told h k c.in_ok-forget.ensures.nodes c.restarted-restarted.result is c.in_ok-forget.ensures.forgets
+    c.tell.new.self c.tell.ensures.nodes c.tell.result
+    (c.tell.ensures.told (carried_tells g.D.Disk.state g.D.Disk.images v r c.args.event.now c.requires.built c.requires.own (g.P.Depot.state c.step.new.depot).is_out c.args.self.now c.step.new.self
+    c.forget.new.self c.in_ok-told.told h k c.in_ok-forget.ensures.nodes c.restarted-restarted.result is c.in_ok-forget.ensures.forgets))
+
+pub returns-clause-over : goal.returns-clause-over
+returns-clause-over g c v reached h out =
+    let r = own_reached v reached in
+    let k = c.in_ok-told.ensures.done v.world r h.nodes out in
+    let is = c.restarted-restarted.ensures v.world h.nodes in
+    carried_over g.D.Disk.state g.D.Disk.images v r c.args.event.now c.requires.built c.requires.own (g.P.Depot.state c.step.new.depot).is_out c.args.self.now c.step.new.self
+    c.forget.new.self c.in_ok-told.told h k c.in_ok-forget.ensures.nodes c.restarted-restarted.result is c.in_ok-forget.ensures.forgets
+    c.tell.new.self c.tell.ensures.nodes c.tell.result
+    (c.tell.ensures.over (carried_tells g.D.Disk.state g.D.Disk.images v r c.args.event.now c.requires.built c.requires.own (g.P.Depot.state c.step.new.depot).is_out c.args.self.now c.step.new.self
+    c.forget.new.self c.in_ok-told.told h k c.in_ok-forget.ensures.nodes c.restarted-restarted.result is c.in_ok-forget.ensures.forgets))
+
+pub returns-clause-plans : goal.returns-clause-plans
+returns-clause-plans g c v n r h below =
+    own_plans g.D.Disk.state v.world c.args.event.now n c.step.new.self c.tell.new.self.nodes c.requires.own (c.tell.ensures.nodes ∙ c.in_ok-forget.ensures.nodes)
+    (c.in_ok-told.ensures.plans v.world n (own_reached v r) h.nodes below)
+
+pub returns-clause-left : goal.returns-clause-left
+returns-clause-left g c v r h out =
+    sends_alone (IsUndone g.D.Disk.state v (g.P.Depot.state c.step.new.depot).is_out c.args.self.now c.tell.new.self)
+    (λ e. IsSingle c.args.event.now ⊎ (e ≡ DepotFailed)) c.tell.result c.tell.ensures.only

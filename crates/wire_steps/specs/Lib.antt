@@ -1,0 +1,9 @@
+pub mod Reached
+pub mod Holds
+pub mod Steps
+pub mod Kinds
+pub mod Sending
+pub mod Calls
+pub mod Delivering
+pub mod Views
+pub mod Starting

@@ -3,12 +3,14 @@ import json
 import sys
 
 from .load import load
-from .script import DECIMAL, BadLine, LimitPassed, read_words, words_of
+from .script import DECIMAL, BadLine, LimitPassed, words_of
 from .world import World
 
 USAGE = 'usage: plain.py [run | report | load N]'
 DONE, BAD_WORDS, BAD_LINE, PASSED_LIMIT = 0, 2, 3, 7
-INPUT_LIMIT, LINES_LIMIT, LINE_LIMIT = (1, 67108864), (2, 1048576), (3, 34603008)
+INPUT_MOST, INPUT_LIMIT = 67108864, 1
+LINES_MOST, LINES_LIMIT = 1048576, 2
+LINE_MOST, LINE_LIMIT = 34603008, 3
 
 
 class Run:
@@ -17,40 +19,42 @@ class Run:
     def __init__(self, script):
         self.script = script
         self.world = World()
+        self.number = 0
         self.status = DONE
 
     def lines(self):
         """The lines of its transcript."""
-        number = 0
         try:
-            for number, line in enumerate(script_lines(self.script), 1):
+            for line in self.read_lines():
                 words = words_of(line)
                 yield from self.world.run(words) if words else ()
         except BadLine as fault:
-            yield self.stop(BAD_LINE, number, fault.code)
+            yield self.stop(BAD_LINE, fault.code)
         except LimitPassed as fault:
-            yield self.stop(PASSED_LIMIT, number + getattr(fault, 'is_next', 0), fault.limit)
+            yield self.stop(PASSED_LIMIT, fault.limit)
 
-    def stop(self, status, number, code):
+    def stop(self, status, code):
         self.status = status
-        return 'stop %d %d %d' % (status, number, code)
+        return 'stop %d %d %d' % (status, self.number, code)
 
+    def read_lines(self):
+        """The lines of the script, up to the first byte past a limit."""
+        begin = 0
+        while begin < len(self.script):
+            self.number += 1
+            end = self.script.find(b'\n', begin)
+            end = len(self.script) if end < 0 else end
+            self.check_limits(begin, end)
+            yield self.script[begin:end]
+            begin = end + 1
 
-def script_lines(script):
-    """The lines of a script, up to the first byte past a limit."""
-    begin, count = 0, 0
-    while begin < len(script):
-        count += 1
-        end = script.find(b'\n', begin)
-        end = len(script) if end < 0 else end
-        passed = [limit for length, (limit, most) in ((end + 1, INPUT_LIMIT), (count, LINES_LIMIT),
-                                                      (end - begin, LINE_LIMIT)) if length > most]
+    def check_limits(self, begin, end):
+        """A line's end is a byte of the script, and not of the line."""
+        passed = [(begin, LINES_LIMIT)] if self.number > LINES_MOST else []
+        passed += [(INPUT_MOST, INPUT_LIMIT)] if min(end + 1, len(self.script)) > INPUT_MOST else []
+        passed += [(begin + LINE_MOST, LINE_LIMIT)] if end - begin > LINE_MOST else []
         if passed:
-            fault = LimitPassed(passed[0])
-            fault.is_next = 1
-            raise fault
-        yield script[begin:end]
-        begin = end + 1
+            raise LimitPassed(min(passed)[1])
 
 
 def transcript(script):

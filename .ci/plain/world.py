@@ -1,15 +1,19 @@
 """The world: all nodes, every packet that was ever sent, and which nodes are on hold."""
 from . import settling
 from .client import Client
+from .frames import frame_len
 from .gateway import Gateway
 from .messages import NAMES
 from .node import IDLE, OWNER
 from .ring import owner_of
-from .script import DECLARATIONS, Declared, read_words
+from .script import DECLARATIONS, Declared, LimitPassed, read_words
 from .slots import OpenTable
 from .store import DRAFT, LIVE, Store, StoreTable, entry_words
 from .values import GONE, Refused, patched, updated
 from .words import content_words, sum_word
+
+
+PACKETS_MOST, PACKETS_LIMIT = 268435456, 10
 
 
 class Directory:
@@ -48,6 +52,7 @@ class World:
         self.clients = {}
         self.is_begun = False
         self.packets = []
+        self.packet_bytes = 0
         self.holds = set()
         # what the moves of an event told and sent, each with its node
         self.out = []
@@ -158,8 +163,14 @@ class World:
             for to, message in sends:
                 to = self.directory.owner_name(message.table) if to == OWNER else to
                 self.lines.append('sent %d %s %s %s' % (len(self.packets), name, to, NAMES[type(message)]))
-                self.packets.append((name, to, message))
+                self.send(name, to, message)
         self.out.clear()
+
+    def send(self, name, to, message):
+        self.packet_bytes += frame_len(message)
+        if self.packet_bytes > PACKETS_MOST:
+            raise LimitPassed(PACKETS_LIMIT)
+        self.packets.append((name, to, message))
 
     # ---- a client's calls
 

@@ -1,7 +1,7 @@
 """The plain program: the step tables of crates/step_tables and crates/world_tables, those of messages in parts,
 crates/part_tables and crates/wire_tables, and those of gateways, crates/gate_tables, in Python, with several Stores and
-all that stands around them: tables that are made and dropped, subscriptions and timers, selections, settling, a report and
-a load.
+all that stands around them: tables that are made and dropped, subscriptions and timers, selections, settling, a report
+and a load.
 
 Its disks never fail but in a crash, and are those in memory: of the four calls of a device write the third lands the
 mark, so that a crash with K of 3 and more finds the write done, with K of 2 where a byte of the mark landed."""

@@ -9,9 +9,9 @@ ChunkName = namedtuple('ChunkName', 'version ordinal')
 LocalName = namedtuple('LocalName', 'plan ordinal')
 Chunk = namedtuple('Chunk', 'name data')
 
-# In a request a piece names a chunk that the Store has, or numbers a fresh one; in an answer each piece names its chunk,
-# and which ones are fresh is told by their versions. Where a piece stands is told by its column and its place in that
-# object
+# In a request a piece names a chunk that the Store has, or numbers a fresh one; in an answer each piece names its
+# chunk, and which ones are fresh is told by their versions. Where a piece stands is told by its column and its place in
+# that object
 Keep = namedtuple('Keep', 'name')
 Fresh = namedtuple('Fresh', 'ordinal')
 Spelled = namedtuple('Spelled', 'length pieces')

@@ -1,9 +1,9 @@
 """A client: what an app asks of it, and what it makes of messages."""
-from .journal import CLOSED, OPENED, Devices
-from .messages import (DONE, KINDS, NO_TABLE, UNREGISTERED, Answer, Create, Drop, Fragment, Notify, Pull, Pulled, Register,
-                       Request, Response, Subscribe, TornPull, TornPulled, Unsubscribe, add_fragment, assembly_of,
-                       completed, fragments_of, has_kept, is_complete, keeps, waits_for)
 from .chunks import is_kept, joined, len_at
+from .journal import CLOSED, OPENED, Devices
+from .messages import (DONE, KINDS, NO_TABLE, UNREGISTERED, Answer, Create, Drop, Fragment, Notify, Pull, Pulled,
+                       Register, Request, Response, Subscribe, TornPull, TornPulled, Unsubscribe, add_fragment,
+                       assembly_of, completed, fragments_of, has_kept, is_complete, keeps, waits_for)
 from .node import OWNER
 from .selection import holds, parsed
 from .slots import (Held, HeldChunk, InFlight, Main, Shadow, accepted_at, all_fresh, changed_in, freed, held_against,
@@ -14,7 +14,8 @@ from .words import content_words, whole_word
 
 
 class Client(Devices):
-    """A client with a gateway, or a wired one, whose gate is None: that is always registered, and its link begins up."""
+    """A client with a gateway, or a wired one, whose gate is None: that is always registered, and its link begins
+    up."""
 
     def __init__(self, number, gate, tables, out):
         super().__init__(number, tables, out)
@@ -305,7 +306,7 @@ class Client(Devices):
 
     # ---- messages
 
-    def take(self, message):
+    def take(self, sender, message):
         if not self.link_up:
             raise Refused(24)
         self.unless_busy()

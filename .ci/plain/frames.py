@@ -1,7 +1,7 @@
 """How many bytes messages have as frames: a length of four bytes, a kind of one, and the body."""
-from .messages import (Answer, Changed, Create, Drop, Fragment, Notify, Pull, Pulled, Register, Request, Response, Restore,
-                       Save, Subscribe, TornPull, TornPulled, Unsubscribe)
 from .chunks import is_kept, placed_pieces
+from .messages import (Answer, Changed, Create, Drop, Fragment, Notify, Pull, Pulled, Register, Request, Response,
+                       Restore, Save, Subscribe, TornPull, TornPulled, Unsubscribe)
 from .values import GONE, spelled_len
 
 HEAD = 5

@@ -90,7 +90,8 @@ class Gateway:
                     Answer(message.client, message.table, answered_kind(message), status, message.token, None))])
 
     def passed(self, session, message):
-        """What goes to the owner: the client's message as it is, or what its subscription is. The timer goes with it."""
+        """What goes to the owner: the client's message as it is, or what its subscription is. The session's timer is
+        made or taken away with it."""
         if type(message) is Subscribe:
             session.timers[message.table] = Timer(message.period, message.tolerance)
             return Save(message.client, self.number, message.table, True, message.period, message.tolerance)

@@ -5,8 +5,8 @@ from .node import Node, Task, Vault, compaction
 from .slots import EMPTY, OpenTable, local_names
 from .values import Refused
 
-# A plan changes a row's slots, its table's position, or whether the table is opened (OPENED or CLOSED, and its schema). An
-# intent is a plan that brings chunks and isn't committed; where its row came from the Store, that is torn without it.
+# A plan changes a row's slots, its table's position, or whether the table is opened (OPENED or CLOSED, and its schema).
+# An intent is a plan that brings chunks and isn't committed; where its row came from the Store, that is torn without it.
 Plan = namedtuple('Plan', 'number last table row slots position state schema facts drops')
 Intent = namedtuple('Intent', 'number torn names')
 OPENED, CLOSED = 'opened', 'dropped'
@@ -114,7 +114,8 @@ class Devices(Node):
     def begin_of_table(self, table, state, schema=None):
         """Begins the plan that opens a table, or closes it."""
         facts = ['%s %s T%d' % (state, self.name, table)]
-        self.begin_plan(Plan(self.plans + 1, self.last, table, None, None, None, state, schema, facts, []), [], None, [])
+        plan = Plan(self.plans + 1, self.last, table, None, None, None, state, schema, facts, [])
+        self.begin_plan(plan, [], None, [])
 
     def begin_plan(self, plan, brought, torn, sends):
         self.plans += 1

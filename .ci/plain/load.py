@@ -110,5 +110,5 @@ class Transcript:
 def counts(world, number, table):
     """A table's versions, its rows, and the conflicts over all clients."""
     history = table.history
-    conflicts = sum(len(client.tables[number].conflicted) for client in world.clients.values() if number in client.tables)
-    return len(history), len({entry.row for entry in history}), conflicts
+    opened = [client.tables[number] for client in world.clients.values() if number in client.tables]
+    return len(history), len({entry.row for entry in history}), sum(len(table.conflicted) for table in opened)

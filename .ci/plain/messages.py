@@ -3,9 +3,9 @@ from collections import namedtuple
 
 from .chunks import filled, is_kept_up_to, len_at, placed_pieces
 
-# What a client sends names it by its number, and its session by a token, which is 0 where it has none. A header spells a
-# row by the names of its chunks. A fragment is a chunk on its way; its key is the number of the write on the way to the
-# Store, and the version of the row on the way to a client.
+# What a client sends names it by its number, and its session by a token, which is 0 where it has none. A header spells
+# a row by the names of its chunks. A fragment is a chunk on its way; its key is the number of the write on the way to
+# the Store, and the version of the row on the way to a client.
 Register = namedtuple('Register', 'client')
 Create = namedtuple('Create', 'client token table schema')
 Drop = namedtuple('Drop', 'client token table')

@@ -1,4 +1,5 @@
-"""What a Store's table and a client have in common: device writes, the vaults that they fill, and crashes inside them."""
+"""What a Store's table and a client have in common: device writes, the vaults that they fill, and crashes inside
+them."""
 from collections import namedtuple
 
 # A device write by its name, with what it writes, what it tells and what it sends. A send is an address and a message;

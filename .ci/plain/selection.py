@@ -1,14 +1,16 @@
 """Selections: predicates that are read word by word, and whether a content meets one.
 
-A predicate is made of tests `COLUMN OP VALUE`, of `not`, `and`, `or` and parentheses; `and` binds closer than `or`. Here it
-is a function from cells to a truth value."""
+A predicate is made of tests `COLUMN OP VALUE`, of `not`, `and`, `or` and parentheses; `and` binds closer than `or`.
+Here it is a function from cells to a truth value."""
 import operator
 
 from .values import GONE, Refused, cell_columns, cell_kind
 from .words import value_of
 
 NESTED_MOST = 64
-OPERATORS = {'=': operator.eq, '!=': operator.ne, '<': operator.lt, '<=': operator.le, '>': operator.gt, '>=': operator.ge}
+OPERATORS = {
+    '=': operator.eq, '!=': operator.ne, '<': operator.lt, '<=': operator.le, '>': operator.gt, '>=': operator.ge,
+}
 
 
 def holds(predicate, content):

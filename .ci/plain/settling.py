@@ -1,4 +1,5 @@
-"""Settling: all nodes are up, and send, pull and take until nothing is left. Nodes on hold work too, and stay on hold."""
+"""Settling: all nodes are up, and send, pull and take until nothing is left. Nodes on hold work too, and stay on
+hold."""
 from .values import Refused
 
 
@@ -56,7 +57,7 @@ class Settling:
             self.next += 1
             node = self.world.node(to)
             try:
-                self.world.give(node, sender, message)
+                node.take(sender, message)
             except Refused:
                 pass
             self.work(node)

@@ -54,7 +54,8 @@ def shown_in(slots):
 
 
 def stored_chunks(slots):
-    """The chunks that slots hold, by the Store's names and their lengths. Of several under one name the first counts."""
+    """The chunks that slots hold, by the Store's names and their lengths. Of several under one name the first
+    counts."""
     if KEEPS_WHAT_IS_SHOWN:
         nameless = slots.out and slots.out._replace(held=without_names(slots.out.held))
         found = (slots.main, slots.shadow, slots.conflict, nameless)
@@ -73,8 +74,8 @@ def without_names(held):
 
 
 def held_against(shown, objects, plan):
-    """What holds some chunks: one that equals the chunk at its place of what is shown has that one's local name, another
-    one its own, and those without are brought by a plan, by rising ordinal."""
+    """What holds some chunks: one that equals the chunk at its place of what is shown has that one's local name,
+    another one its own, and those without are brought by a plan, by rising ordinal."""
     ordinals = itertools.count()
 
     def held_by(old, chunk):

@@ -329,6 +329,10 @@ class Store:
         for number in sorted(self.tables):
             self.tables[number].start()
 
+    def part_for(self, message):
+        """What takes a message: the table that it names, or the Store as a whole."""
+        return self if type(message) is Restore else self.tables[message.table]
+
     def take(self, sender, message):
         if type(message) is Restore:
             self.restore(sender, message)

@@ -1,4 +1,5 @@
-"""Values of rows: cells, objects, contents and schemas, whether a content fits a schema, and what an edit makes of it."""
+"""Values of rows: cells, objects, contents and schemas, whether a content fits a schema, and what an edit makes of
+it."""
 from collections import namedtuple
 
 # A row has cells (numbers, truth values, texts as their bytes) and objects; GONE is a row that is deleted. OBJECT is a

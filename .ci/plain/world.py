@@ -25,11 +25,10 @@ class Directory:
 
     def place(self, tables, stores):
         self.tables = tables
-        numbers = [int(name[1:]) for name in stores]
         for number, table in tables.items():
-            store = owner_of(numbers, table.schema.name)
+            store = owner_of(stores, table.schema.name)
             self.stores[number] = store
-            stores['S%d' % store].own(table)
+            stores[store].own(table)
 
     def owner_name(self, table):
         return 'S%d' % self.stores[table]
@@ -60,17 +59,18 @@ class World:
     # ---- nodes
 
     def node(self, name):
-        if name[0] == 'C':
-            return self.client(name)
-        return self.stores[name] if name[0] == 'S' else self.gates[name]
+        return {'S': self.stores, 'G': self.gates, 'C': self.clients}[name[0]][int(name[1:])]
 
     def client(self, name):
         return self.clients[int(name[1:])]
 
+    def gates_and_clients(self):
+        """By rising number."""
+        return in_order(self.gates) + in_order(self.clients)
+
     def nodes(self):
         """All nodes: Stores, gateways, clients, each by rising number."""
-        return [node for nodes in (self.stores, self.gates, self.clients)
-                for _, node in sorted(nodes.items(), key=by_number)]
+        return in_order(self.stores) + self.gates_and_clients()
 
     def up(self, name):
         """A node that isn't down."""
@@ -84,26 +84,27 @@ class World:
         self.up(self.directory.owner_name(table))
         return self.tables[table]
 
-    def busy(self, name='S1'):
-        return self.stores[name].busy()
+    def busy(self, store=1):
+        """The table of a Store that works next."""
+        return self.stores[store].busy()
 
     def follow(self, node):
         """The work that follows where a node isn't on hold."""
         if node.name not in self.holds:
             work_all(node)
 
-    def moved(self, node, agenda, move):
-        """A move of a node, and the work that follows where it gave an agenda to the part of it that had none."""
-        was_idle = not agenda()
+    def moved(self, node, part, move):
+        """A move of a node, and the work that follows where the part of it that moves had no agenda and has one now."""
+        was_idle = not part.agenda
         answer = move()
-        if was_idle and agenda():
+        if was_idle and part.agenda:
             self.follow(node)
         return answer
 
     def call(self, name, made):
         """A call of a client, and the work that follows."""
         client = self.up(name)
-        return self.moved(client, lambda: client.agenda, lambda: made(client))
+        return self.moved(client, client, lambda: made(client))
 
     # ---- declarations
 
@@ -111,10 +112,12 @@ class World:
         self.step(*read_words(words, self.declared))
 
     def on_store(self, name):
-        self.stores[name] = Store(int(name[1:]), self.out)
+        number = int(name[1:])
+        self.stores[number] = Store(number, self.out)
 
     def on_gate(self, name):
-        self.gates[name] = Gateway(int(name[1:]), self.directory, self.out)
+        number = int(name[1:])
+        self.gates[number] = Gateway(number, self.directory, self.out)
 
     def on_table(self, name, schema, state=LIVE):
         number = int(name[1:])
@@ -242,19 +245,9 @@ class World:
             raise Refused(29, len(self.packets))
         sender, to, message = self.packets[number]
         node = self.up(to)
-        self.moved(node, self.agenda_for(node, message), lambda: self.give(node, sender, message))
+        part = node.part_for(message) if type(node) is Store else node
+        self.moved(node, part, lambda: node.take(sender, message))
         return 'ok'
-
-    def agenda_for(self, node, message):
-        """The agenda that a message can give: of a Store, that of the table which the message names."""
-        table = node.tables.get(getattr(message, 'table', None)) if type(node) is Store else None
-        return (lambda: table.agenda) if table else (lambda: node.agenda)
-
-    def give(self, node, sender, message):
-        if type(node) is Client:
-            node.take(message)
-        else:
-            node.take(sender, message)
 
     # ---- what Stores have
 
@@ -304,18 +297,17 @@ class World:
 
     def on_tick(self):
         """Each gateway that is up, then each client that is up; the work of one is done before the next one."""
-        for node in self.nodes():
-            if type(node) is not Store and not node.is_down:
-                self.moved(node, lambda node=node: node.agenda, node.tick)
+        for node in self.gates_and_clients():
+            if not node.is_down:
+                self.moved(node, node, node.tick)
         return 'ok'
 
     def on_settle(self):
         return 'ok %d' % settling.settle(self)
 
 
-def by_number(named):
-    name, _ = named
-    return name if type(name) is int else int(name[1:])
+def in_order(nodes):
+    return [node for _, node in sorted(nodes.items())]
 
 
 def work_all(node):

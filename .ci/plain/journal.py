@@ -6,7 +6,8 @@ from .slots import EMPTY, OpenTable, local_names
 from .values import Refused
 
 # A plan changes a row's slots, its table's position, or whether the table is opened (OPENED or CLOSED, and its schema).
-# An intent is a plan that brings chunks and isn't committed; where its row came from the Store, that is torn without it.
+# An intent is a plan that brings chunks and isn't committed; where its row came from the Store, that is torn without
+# it.
 Plan = namedtuple('Plan', 'number last table row slots position state schema facts drops')
 Intent = namedtuple('Intent', 'number torn names')
 OPENED, CLOSED = 'opened', 'dropped'

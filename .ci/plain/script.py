@@ -339,13 +339,13 @@ def of_table(line):
 
 
 FORMS = {
-    'store': store, 'gate': gate, 'table': table, 'draft': table, 'client': client, 'link': link, 'write': write,
-    'update': update, 'patch': patch, 'delete': at_row, 'show': at_row, 'sum': at_row, 'select': select,
-    'sync': at_table, 'pull': at_table, 'create': at_table, 'drop': at_table, 'subscribe': subscribe, 'unsubscribe': at_table,
-    'writesync': write_timer, 'begin_cr': at_table, 'conflicts': at_table, 'end_cr': at_table, 'resolve': resolve,
-    'resolve_all': resolve_all, 'deliver': deliver, 'hold': at_node, 'free': at_node, 'work': at_node, 'do': at_node,
-    'crash': crash, 'start': at_node, 'tick': nothing, 'settle': nothing, 'sshow': of_row, 'chunks': of_table,
-    'history': of_table,
+    'store': store, 'gate': gate, 'table': table, 'draft': table, 'client': client, 'link': link,
+    'write': write, 'update': update, 'patch': patch, 'delete': at_row, 'show': at_row, 'sum': at_row, 'select': select,
+    'sync': at_table, 'pull': at_table, 'create': at_table, 'drop': at_table,
+    'subscribe': subscribe, 'unsubscribe': at_table, 'writesync': write_timer,
+    'begin_cr': at_table, 'conflicts': at_table, 'end_cr': at_table, 'resolve': resolve, 'resolve_all': resolve_all,
+    'deliver': deliver, 'hold': at_node, 'free': at_node, 'work': at_node, 'do': at_node, 'crash': crash,
+    'start': at_node, 'tick': nothing, 'settle': nothing, 'sshow': of_row, 'chunks': of_table, 'history': of_table,
 }
 
 

@@ -5,6 +5,7 @@ and a load.
 
 Its disks never fail but in a crash, and are those in memory: of the four calls of a device write the third lands the
 mark, so that a crash with K of 3 and more finds the write done, with K of 2 where a byte of the mark landed."""
+# What the checks beside it use.
 from .chunks import is_kept, names_in, placed_pieces
 from .messages import Fragment, Pull, Pulled, Request, Response, TornPull, TornPulled, has_kept, is_complete
 from .program import main, transcript

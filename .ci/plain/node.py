@@ -42,6 +42,8 @@ class Node:
         self.name = name
         self.agenda = []
         self.out = out
+        # the vault that each device write adds a payload to
+        self.vaults = {}
 
     @property
     def is_down(self):

@@ -55,6 +55,7 @@ class World:
         self.holds = set()
         # what the moves of an event told and sent, each with its node
         self.out = []
+        self.lines = []
 
     # ---- nodes
 

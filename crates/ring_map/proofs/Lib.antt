@@ -1,3 +1,4 @@
 mod Places
 mod Rings
 mod Owners
+pub mod Computed

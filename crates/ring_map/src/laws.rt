@@ -2,6 +2,7 @@
 ghost use Rattle.std.specs.Prelude.{◌≡◌, ◌≢◌, ℕ, List};
 ghost use Rattle.std.specs.Ordering.{nat_cmp};
 ghost use Rattle.std.specs.FinSet as set;
+ghost use Rattle.ring_map.specs.Owners.{owner_on};
 ghost use Rattle.ring_map.specs.Ring.{IsOwner};
 
 /// A table has one owner. (Does nothing: its clause is a law.)
@@ -17,4 +18,10 @@ pub fn joins_and_leaves_move_few_tables()
         → IsOwner stores name before → IsOwner (set.insert stores store) name after → after ≢ before → after ≡ store }
     ensures leave { (stores : set.FinSet nat_cmp) (name : List ℕ) (store before after : ℕ)
         → IsOwner stores name before → IsOwner (set.remove stores store) name after → after ≢ before → before ≡ store }
+{}
+
+/// The owner of a table is computed of the Stores, one after the other. (Does nothing: its clause is a law.)
+pub fn an_owner_is_computed()
+    ensures { (stores name : List ℕ) (store : ℕ)
+        → IsOwner (set.from_list stores) name store → store ≡ owner_on name stores }
 {}

@@ -1,18 +1,12 @@
-use Rattle.std.proofs.Common.{◌≡◌, ℕ, Bool, true, false, ◌||◌, ◌&&◌, not, sym, ◌∙◌, arith, inl, inr, refl, true≢false}
+use Rattle.std.proofs.Common.{◌≡◌, ℕ, Bool, true, false, ◌||◌, ◌&&◌, not, sym, ◌∙◌, refl, true≢false}
 use Rattle.std.specs.Ordering.{nat_cmp, eq_by_cmp}
 use Rattle.std.specs.Cmp.{nat_cmp_total}
 use Rattle.std.specs.FinSet as set
 use Rattle.std.proofs.lemmas.Map.Lookups.{exact_unsigned}
 use Rattle.std.proofs.lemmas.Map.Views.{tells_apart}
 use Rattle.ring_map.specs.Place.{position_of}
-use Rattle.ring_map.specs.Ring.{ComesFirst}
+use Rattle.ring_map.proofs.Computed.{both_first}
 use Rattle.ring_map.proofs.laws.joins_and_leaves_move_few_tables.Goals as goal
-
-both_first : (from a b : ℕ) → ComesFirst from a b → ComesFirst from b a → a ≡ b
-both_first from a b (inl x) (inl y) = absurd (omega arith)
-both_first from a b (inl x) (inr y) = absurd (omega arith)
-both_first from a b (inr x) (inl y) = absurd (omega arith)
-both_first from a b (inr x) (inr y) = omega arith
 
 -- the same Store, or what holds of the others
 same_or : (a b : ℕ) (rest : Bool) (P : Type 0) → (a ≡ b → P) → (rest ≡ true → P) → (eq_by_cmp nat_cmp a b || rest) ≡ true → P

@@ -21,6 +21,7 @@ use Rattle.step_tables.specs.ClientMoves.{Client, ClientTask, TableDisk, table_a
 use Rattle.step_tables.specs.Messages.{Luck, Message, Pull, PullRequest, table_of}
 use Rattle.step_tables.specs.Messages as messages
 use Rattle.world_tables.specs.World.{World, Packet, Hosted, Outbox, WorldStep, Lucks, step, schema_at, hosted_at}
+use Rattle.world_tables.specs.World.{hosted_by}
 use Rattle.world_tables.specs.World.{client_at, scheme_in, chunk_in, is_down, is_cut, carried, call, first_luck}
 use Rattle.world_tables.specs.World.{is_client_down}
 use Rattle.world_tables.specs.World as world
@@ -238,7 +239,7 @@ by_client v c p lucks (Some node) = by_agenda node.agenda
 abbrev pub brought : Wire → PartPacket → Lucks → Node → WireStep
 brought v p lucks (nodes.Store number) =
     if is_down v.world (nodes.Store number) then untaken v p lucks
-    else by_hosted v p lucks (hosted_at v.world (part_table p.part))
+    else by_hosted v p lucks (hosted_by v.world number (part_table p.part))
 brought v p lucks (nodes.Client c) =
     if is_cut v.world c then untaken v p lucks
     else by_client v c p lucks (client_at v.world c)
@@ -285,8 +286,13 @@ started v c lucks = if is_client_down (client_at v.world c)
     then started_with v c (step v.world (events.Start (nodes.Client c)) lucks)
     else spread v (step v.world (events.Start (nodes.Client c)) lucks)
 
+-- a Store that joins may take tables, and has nothing in memory: what was gathered is lost
+abbrev pub store_joined : Wire → ℕ → Lucks → WireStep
+store_joined v number lucks = spread (record v { gathered = [] }) (step v.world (events.Store number) lucks)
+
 -- what an event makes of the world, where its device calls go so
 abbrev pub wire_step : Wire → Event → Lucks → WireStep
+wire_step v (events.Store number) lucks = store_joined v number lucks
 wire_step v (events.Deliver packet) lucks = delivered v lucks (slice_get v.packets packet)
 wire_step v (events.Pull c table) lucks = pulled v c table lucks
 wire_step v (events.Start (nodes.Client c)) lucks = started v c lucks

@@ -23,6 +23,7 @@ use Rattle.table_model.specs.declared.line.RowPair.{RowPair}
 use Rattle.table_model.specs.declared.event.Event.{Event}
 use Rattle.table_model.specs.declared.event.Event.TheVariants as events
 use Rattle.table_model.specs.History.{same_row}
+use Rattle.ring_map.specs.Owners.{owner_on}
 use Rattle.step_tables.specs.Slots.{Main}
 use Rattle.step_tables.specs.Slots.{Shadow}
 use Rattle.step_tables.specs.Store.{current_of}
@@ -53,10 +54,11 @@ pub record Hosted : Type 0 where
   pub history : List Entry
   pub made : Bool
 
--- the declared tables with their schemas, the clients, every packet that was ever sent, in order: each may be delivered
--- at any time, again, or never; the nodes on hold, the Stores that are down, the clients whose link is down, and the
--- phases that are open, each of a client with its table
+-- the declared Stores, the last one first, and tables with their schemas, the clients, every packet that was ever sent,
+-- in order: each may be delivered at any time, again, or never; the nodes on hold, the Stores that a crash or a disk has
+-- taken down, the clients whose link is down, and the phases that are open, each of a client with its table
 pub record World : Type 0 where
+  pub stores : List ℕ
   pub schemas : List (ℕ × Schema)
   pub tables : List (ℕ × Hosted)
   pub clients : List (ℕ × Client)
@@ -67,7 +69,17 @@ pub record World : Type 0 where
   pub phases : List (ℕ × ℕ)
 
 abbrev pub start : World
-start = record { schemas = []; tables = []; clients = []; packets = []; holds = []; downs = []; cuts = []; phases = [] }
+start = record {
+  stores = [];
+  schemas = [];
+  tables = [];
+  clients = [];
+  packets = [];
+  holds = [];
+  downs = [];
+  cuts = [];
+  phases = [];
+}
 
 abbrev pub schema_at : World → ℕ → Option Schema
 schema_at w table = lookup (is_at (nat_cmp table)) w.schemas
@@ -87,16 +99,26 @@ abbrev pub chunk_in : Option Schema → ℕ
 chunk_in None = 0
 chunk_in (Some schema) = schema.chunk
 
--- the one Store owns every table
-abbrev pub owner : ℕ
-owner = 1
+-- ---- which Store keeps a table: its owner on the ring of those that are declared
 
-abbrev pub the_store : Node
-the_store = nodes.Store owner
+abbrev pub owner_by : List ℕ → Option Schema → ℕ
+owner_by stores None = 0
+owner_by stores (Some schema) = owner_on schema.name stores
+
+abbrev pub owner_of : World → ℕ → ℕ
+owner_of w table = owner_by w.stores (schema_at w table)
+
+abbrev pub has_store : World → ℕ → Bool
+has_store w number = list_any (λ store. number == store) w.stores
 
 -- the tables of a Store, by rising number
 abbrev pub tables_of : World → ℕ → List ℕ
-tables_of w number = if number == owner then keys_of w.tables else []
+tables_of w number =
+    if has_store w number then filter (λ table. owner_of w table == number) (keys_of w.tables) else []
+
+-- a table, where this Store keeps it
+abbrev pub hosted_by : World → ℕ → ℕ → Option Hosted
+hosted_by w number table = if owner_of w table == number then hosted_at w table else None
 
 -- ---- holds, and nodes that are down
 
@@ -120,8 +142,21 @@ is_client_down (Some node) = has_none node.agenda
     has_none None = true
     has_none (Some agenda) = false
 
+abbrev pub is_unmade : Option Hosted → Bool
+is_unmade None = false
+is_unmade (Some hosted) = not hosted.made
+
+-- whether a Store keeps a table whose declaration failed, which its next start makes
+abbrev pub has_unmade : World → ℕ → Bool
+has_unmade w number = list_any (λ table. is_unmade (hosted_at w table)) (tables_of w number)
+
+-- a Store that isn't declared is down too
+abbrev pub is_store_down : World → ℕ → Bool
+is_store_down w number =
+    not (has_store w number) || (has_node w.downs (nodes.Store number) || has_unmade w number)
+
 abbrev pub is_down : World → Node → Bool
-is_down w (nodes.Store number) = has_node w.downs (nodes.Store number)
+is_down w (nodes.Store number) = is_store_down w number
 is_down w (nodes.Client c) = is_client_down (client_at w c)
 is_down w (nodes.Gate gate) = false
 
@@ -203,13 +238,14 @@ is_fault (facts.Refuses refusal) = is_device refusal
 
 -- ---- moves
 
-abbrev pub address : Option Node → Node
-address None = the_store
-address (Some node) = node
+-- a message goes to a node, or to the owner of its table
+abbrev pub address : (ℕ → ℕ) → Option Node → Message → Node
+address owners None message = nodes.Store (owners (table_of message))
+address owners (Some node) message = node
 
-abbrev pub packets_from : Node → List Send → List Packet
-packets_from from sends =
-    map (λ (send : Send). record { from = from; to = address send.to; message = send.message }) sends
+abbrev pub packets_from : (ℕ → ℕ) → Node → List Send → List Packet
+packets_from owners from sends = map
+    (λ (send : Send). record { from = from; to = address owners send.to send.message; message = send.message }) sends
 
 -- the history goes on by the entries that facts tell
 abbrev pub goes_on : List Entry → Saying → List Entry
@@ -222,7 +258,7 @@ history_on history (fact ∷ more) = history_on (goes_on history (saying fact)) 
 
 abbrev pub after_table : World → ℕ → Hosted → StoreStep → Moved
 after_table w table hosted s =
-    let packets : List Packet = packets_from the_store s.sends in
+    let packets : List Packet = packets_from (owner_of w) (nodes.Store (owner_of w table)) s.sends in
     record {
       world = record w {
         tables =
@@ -237,7 +273,7 @@ after_table w table hosted s =
 abbrev pub table_step : World → ℕ → Hosted → StoreMove → StoreStep
 table_step w table hosted move =
     let schema : Option Schema = schema_at w table in
-    store_step owner (scheme_in schema) (chunk_in schema) table hosted.store move
+    store_step (owner_of w table) (scheme_in schema) (chunk_in schema) table hosted.store move
 
 abbrev pub move_hosted : World → ℕ → StoreMove → Option Hosted → Moved
 move_hosted w table move None = still w
@@ -248,7 +284,7 @@ move_table table move w = move_hosted w table move (hosted_at w table)
 
 abbrev pub after_client : World → ℕ → ClientStep → Moved
 after_client w c s =
-    let packets : List Packet = packets_from (nodes.Client c) s.sends in
+    let packets : List Packet = packets_from (owner_of w) (nodes.Client c) s.sends in
     record {
       world = record w { clients = insert_entry nat_cmp w.clients c s.client; packets = w.packets ++ packets };
       outs = record { facts = s.facts; packets = packets } ∷ [];
@@ -385,21 +421,21 @@ store_follows number lucks w =
 
 -- behind a step of a table that had no writes to do: where it has some now
 abbrev pub table_follows : ℕ → List Luck → World → Moved
-table_follows table lucks w = if is_at_work w table then store_follows owner lucks w else still w
+table_follows table lucks w = if is_at_work w table then store_follows (owner_of w table) lucks w else still w
 
 -- a table whose declaration failed is declared, and has recovered
-abbrev pub declared_late : ℕ → StoreStep
-declared_late table = record {
+abbrev pub declared_late : ℕ → ℕ → StoreStep
+declared_late number table = record {
   store = record { disk = record { items = []; pending = None; left = [] }; agenda = Some [] };
   answer = facts.Done;
-  facts = facts.StoreRecovered owner table ∷ [];
+  facts = facts.StoreRecovered number table ∷ [];
   sends = [];
 }
 
 abbrev pub start_hosted : World → ℕ → Option Hosted → Moved
 start_hosted w table None = still w
 start_hosted w table (Some hosted) = if hosted.made then move_table table store.Start w
-    else after_table w table (record hosted { made = true }) (declared_late table)
+    else after_table w table (record hosted { made = true }) (declared_late (owner_of w table) table)
 
 -- a table is started, where what is read of its disks can be
 abbrev pub table_starts : ℕ → Luck → World → Moved
@@ -412,12 +448,13 @@ tables_start [] lucks w = still w
 tables_start (table ∷ tables) lucks w =
     and_unless (table_starts table (first_luck lucks) w) (tables_start tables (other_lucks lucks))
 
--- all tables of a Store are started, one after the other; where one isn't the Store is still down, with all of them
+-- all tables of a Store are started, one after the other; where one isn't the Store is down, with all of them. A Store
+-- that is down by a declaration alone loses the tables that are up first
 abbrev pub store_starts : ℕ → List Luck → World → Moved
 store_starts number lucks w =
     let tables : List ℕ = tables_of w number in
-    let m : Moved = tables_start tables lucks w in
-    if m.failed then and_then m (tables_fall tables)
+    let m : Moved = and_then (tables_fall tables w) (tables_start tables lucks) in
+    if m.failed then and_then m (store_falls number)
     else and_then m (λ x. store_follows number (drop (length tables) lucks) (without_down (nodes.Store number) x))
 
 -- how the write at work goes in a crash in which so many calls of its disk pass: where no disk fails by itself it is
@@ -474,21 +511,29 @@ abbrev pub agenda_of : Bool → Option (List StoreTask)
 agenda_of true = Some []
 agenda_of false = None
 
-abbrev pub with_table : World → ℕ → Schema → Bool → Bool → World
-with_table w table schema made up = record w {
+-- a table that is made is up; one that isn't is down, and its owner with it
+abbrev pub with_table : World → ℕ → Schema → Bool → World
+with_table w table schema made = record w {
   schemas = insert_entry nat_cmp w.schemas table schema;
   tables = insert_entry nat_cmp w.tables table (record {
-    store = record { disk = record { items = []; pending = None; left = [] }; agenda = agenda_of up };
+    store = record { disk = record { items = []; pending = None; left = [] }; agenda = agenda_of made };
     history = [];
     made = made;
   });
 }
 
--- a new table is up where its Store is; a disk that fails takes the Store down
 abbrev pub made_with : World → ℕ → Schema → Luck → World
-made_with w table schema messages.Done = with_table w table schema true (not (is_down w the_store))
-made_with w table schema messages.FailedBefore = (store_falls owner (with_table w table schema false false)).world
-made_with w table schema messages.FailedAfter = (store_falls owner (with_table w table schema false false)).world
+made_with w table schema messages.Done = with_table w table schema true
+made_with w table schema messages.FailedBefore = with_table w table schema false
+made_with w table schema messages.FailedAfter = with_table w table schema false
+
+-- a Store that joins while one is down is down too
+abbrev pub joining : ℕ → List Node → List Node
+joining number [] = []
+joining number (node ∷ more) = nodes.Store number ∷ node ∷ more
+
+abbrev pub with_store : ℕ → World → World
+with_store number w = record w { stores = number ∷ w.stores; downs = joining number w.downs }
 
 -- a table that is there already stays as it is, and so does a client
 abbrev pub declared : World → ℕ → Schema → Luck → Option Hosted → World
@@ -638,8 +683,10 @@ resolve_all w c table by shapes lucks s = by_answer s.answer
 abbrev pub take_read : World → ℕ → Hosted → StoreMove → List Luck → Luck → WorldStep
 take_read w table hosted move lucks messages.Done =
     answering (table_step w table hosted move).answer (and_then (move_table table move w) (table_follows table lucks))
-take_read w table hosted move lucks messages.FailedBefore = answering facts.Done (failing (store_falls owner w))
-take_read w table hosted move lucks messages.FailedAfter = answering facts.Done (failing (store_falls owner w))
+take_read w table hosted move lucks messages.FailedBefore =
+    answering facts.Done (failing (store_falls (owner_of w table) w))
+take_read w table hosted move lucks messages.FailedAfter =
+    answering facts.Done (failing (store_falls (owner_of w table) w))
 
 abbrev pub take_at : World → ℕ → Hosted → StoreMove → List Luck → Option (List StoreTask) → WorldStep
 take_at w table hosted move lucks (Some []) = take_read w table hosted move (other_lucks lucks) (first_luck lucks)
@@ -659,7 +706,7 @@ abbrev pub carried : World → Packet → Shape → List Luck → Node → World
 carried w packet shape lucks (nodes.Store number) =
     unless_down w (nodes.Store number)
     (to_hosted w (table_of packet.message) (store.Take packet.from packet.message) lucks
-    (hosted_at w (table_of packet.message)))
+    (hosted_by w number (table_of packet.message)))
 carried w packet shape lucks (nodes.Client c) = to_there w c packet.message shape lucks (client_at w c)
 carried w packet shape lucks (nodes.Gate gate) = answered w facts.Done
 
@@ -672,14 +719,17 @@ row_shown None = facts.Refuses facts.NoRow
 row_shown (Some item) = facts.Stores item.entry.version item.content
 
 -- the Store reads its disks for a row
-abbrev pub row_read : World → Hosted → List ℕ → Luck → WorldStep
-row_read w hosted row messages.Done = answered w (row_shown (current_of hosted.store.disk.items row))
-row_read w hosted row messages.FailedBefore = answering facts.Done (failing (store_falls owner w))
-row_read w hosted row messages.FailedAfter = answering facts.Done (failing (store_falls owner w))
+abbrev pub row_read : World → ℕ → Hosted → List ℕ → Luck → WorldStep
+row_read w table hosted row messages.Done = answered w (row_shown (current_of hosted.store.disk.items row))
+row_read w table hosted row messages.FailedBefore =
+    answering facts.Done (failing (store_falls (owner_of w table) w))
+row_read w table hosted row messages.FailedAfter =
+    answering facts.Done (failing (store_falls (owner_of w table) w))
 
-abbrev pub store_shows : World → List ℕ → List Luck → Option Hosted → WorldStep
-store_shows w row lucks None = refused w facts.NoTable
-store_shows w row lucks (Some hosted) = unless_down w the_store (row_read w hosted row (first_luck lucks))
+abbrev pub store_shows : World → ℕ → List ℕ → List Luck → Option Hosted → WorldStep
+store_shows w table row lucks None = refused w facts.NoTable
+store_shows w table row lucks (Some hosted) =
+    unless_down w (nodes.Store (owner_of w table)) (row_read w table hosted row (first_luck lucks))
 
 -- each row that the items are of, once
 abbrev pub rows_in : List items.Stored → List (List ℕ)
@@ -701,7 +751,7 @@ names_answer (name ∷ names) = facts.Names (name ∷ names)
 abbrev pub chunk_names : World → ℕ → Option Hosted → WorldStep
 chunk_names w table None = refused w facts.NoTable
 chunk_names w table (Some hosted) =
-    unless_down w the_store
+    unless_down w (nodes.Store (owner_of w table))
     (answered w (names_answer (names_on (chunk_in (schema_at w table)) hosted.store.disk)))
 
 abbrev pub entry_lines : ℕ → List Entry → List Line
@@ -751,9 +801,9 @@ crashed w calls lucks (nodes.Store number) = answering facts.Done (store_crashes
 crashed w calls lucks (nodes.Client c) = answering facts.Done (client_crashes c calls lucks w)
 crashed w calls lucks (nodes.Gate gate) = answered w facts.Done
 
--- a node that is up goes on
+-- a node that is up goes on; a Store that isn't declared doesn't start
 abbrev pub started : World → Shape → List Luck → Node → WorldStep
-started w shape lucks (nodes.Store number) = if is_down w (nodes.Store number)
+started w shape lucks (nodes.Store number) = if has_store w number && is_down w (nodes.Store number)
     then answering facts.Done (store_starts number lucks w)
     else answered w facts.Done
 started w shape lucks (nodes.Client c) = if is_down w (nodes.Client c)
@@ -782,7 +832,7 @@ no_lucks = record { calls = []; shape = no_shape; shapes = []; tears = []; asks 
 
 -- what an event makes of the world, where its device calls go so
 abbrev pub step : World → Event → Lucks → WorldStep
-step w (events.Store number) lucks = silent w
+step w (events.Store number) lucks = silent (with_store number w)
 step w (events.Table table schema) lucks =
     silent (declared w table schema (first_luck lucks.calls) (hosted_at w table))
 step w (events.Client c gate tables) lucks =
@@ -804,7 +854,7 @@ step w (events.ResolveAll c table by) lucks =
     (call w c (client.ResolveAll table by) lucks.shape lucks.calls)
 step w (events.Link c up) lucks = linked w c up (client_at w c)
 step w (events.Deliver packet) lucks = delivered w lucks.shape lucks.calls (slice_get w.packets packet)
-step w (events.StoreShow table row) lucks = store_shows w row lucks.calls (hosted_at w table)
+step w (events.StoreShow table row) lucks = store_shows w table row lucks.calls (hosted_at w table)
 step w (events.History table) lucks = history_lines w table (hosted_at w table)
 step w (events.Chunks table) lucks = chunk_names w table (hosted_at w table)
 step w (events.Hold node) lucks =
